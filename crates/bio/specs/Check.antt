@@ -1,0 +1,21 @@
+use Rattle.std.specs.Prelude.{ℕ, ◌+◌, ◌/◌, ◌%◌, ◌==◌, length, Result, Ok, Err, nat_lt, if◌then◌else◌}
+use Rattle.bio.specs.declared.request.Bio.{Bio}
+use Rattle.bio.specs.declared.request.Bio.TheVariants.{Write, Flush, Discard, Read}
+use Rattle.bio.specs.declared.request.BadBio.{BadBio}
+use Rattle.bio.specs.declared.request.BadBio.TheVariants.{NotWhole, TooLong, PastEnd}
+
+-- the answer for whole sectors: at least one, at most 2,048, and all within the device
+abbrev pub range_answer : ℕ → ℕ → ℕ → Result (Unit {0}) BadBio
+range_answer first count sectors =
+    if count == 0 then Err NotWhole
+    else if nat_lt 2048 count then Err TooLong
+    else if nat_lt sectors (first + count) then Err PastEnd
+    else Ok tt
+
+-- whether a request may be sent to a device of so many sectors, and else the first reason against it
+abbrev pub check_answer : Bio → ℕ → Result (Unit {0}) BadBio
+check_answer (Write first bytes flush fua meta) sectors =
+    if length bytes % 512 == 0 then range_answer first (length bytes / 512) sectors else Err NotWhole
+check_answer Flush sectors = Ok tt
+check_answer (Discard first count) sectors = range_answer first count sectors
+check_answer (Read first count) sectors = range_answer first count sectors

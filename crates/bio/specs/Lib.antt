@@ -1,0 +1,9 @@
+pub mod Refusals
+pub mod Check
+pub mod Places
+pub mod Requests
+pub mod Events
+pub mod Lawful
+pub mod Content
+pub mod PlaceLaws
+pub mod EventLaws

@@ -1,0 +1,50 @@
+use Rattle.std.specs.Prelude.{ℕ, ◌+◌, ◌/◌, Bool, true, false, ◌&&◌, length, nat_lt, nat_le}
+use Rattle.bio.specs.declared.request.Bio.{Bio}
+use Rattle.bio.specs.declared.request.Bio.TheVariants.{Write, Flush, Discard, Read}
+
+-- whether the recorder follows it to its end: a write, a discard or a flush
+abbrev pub is_tracked : Bio → Bool
+is_tracked (Write first bytes flush fua meta) = true
+is_tracked Flush = true
+is_tracked (Discard first count) = true
+is_tracked (Read first count) = false
+
+-- whether the device's cache is flushed: by a flush, and by a write that asks for it
+abbrev pub has_flush : Bio → Bool
+has_flush (Write first bytes flush fua meta) = flush
+has_flush Flush = true
+has_flush (Discard first count) = false
+has_flush (Read first count) = false
+
+-- whether its data is to be durable at its end
+abbrev pub has_fua : Bio → Bool
+has_fua (Write first bytes flush fua meta) = fua
+has_fua Flush = false
+has_fua (Discard first count) = false
+has_fua (Read first count) = false
+
+-- the first sector of a request
+abbrev pub first_sector : Bio → ℕ
+first_sector (Write first bytes flush fua meta) = first
+first_sector Flush = 0
+first_sector (Discard first count) = first
+first_sector (Read first count) = first
+
+-- how many sectors a request has
+abbrev pub sector_count : Bio → ℕ
+sector_count (Write first bytes flush fua meta) = length bytes / 512
+sector_count Flush = 0
+sector_count (Discard first count) = count
+sector_count (Read first count) = count
+
+-- a write or a discard puts a value in the sector
+abbrev pub covers : Bio → ℕ → Bool
+covers bio sector =
+    is_tracked bio && nat_le (first_sector bio) sector && nat_lt sector (first_sector bio + sector_count bio)
+
+-- two writes or discards put values in one sector
+abbrev pub overlaps : Bio → Bio → Bool
+overlaps a b =
+    is_tracked a && is_tracked b
+    && nat_lt (first_sector a) (first_sector b + sector_count b)
+    && nat_lt (first_sector b) (first_sector a + sector_count a)

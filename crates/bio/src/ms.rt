@@ -1,0 +1,31 @@
+ghost use Rattle.std.specs.Prelude.{◌≡◌, ℕ};
+
+use std::marker::Model;
+
+/// A moment, in milliseconds, from 0 to 2^64 - 1. Contracts see it as that number.
+#[derive(Clone, Copy, Debug, PartialEq, Eq)]
+pub struct Ms {
+    milliseconds: u64,
+}
+
+impl Model for Ms {
+    ghost Value = { ℕ };
+
+    ghost view = { λ moment. moment.milliseconds };
+
+    ghost inverse = { λ milliseconds. record { milliseconds = milliseconds } };
+}
+
+impl Ms {
+    pub fn new(milliseconds: u64) -> Ms
+        ensures { result ≡ milliseconds }
+    {
+        Ms { milliseconds }
+    }
+
+    pub fn milliseconds(self) -> u64
+        ensures { result ≡ self }
+    {
+        self.milliseconds
+    }
+}

@@ -1,0 +1,10 @@
+pub mod Rows
+pub mod Prefix
+pub mod OneStep
+pub mod Waiting
+pub mod Counts
+pub mod Meaning
+pub mod CoreSteps
+pub mod PlainQueue
+pub mod Readable
+pub mod Order

@@ -1,0 +1,13 @@
+pub use Rattle.bio.specs.Requests
+pub use Rattle.bio.specs.Events
+pub use Rattle.bio.specs.Lawful
+pub use Rattle.bio.specs.Check
+pub use Rattle.log_format.specs.Entries
+pub mod QueueEvent
+pub mod CompletionList
+pub mod Held
+pub mod Steps
+pub mod Meaning
+pub mod CoreState
+pub mod Stands
+pub mod Refusals

@@ -1,0 +1,143 @@
+use super::*;
+use bio::{Bio, Bytes, End, Id, Refusal};
+use log_format::Entry;
+use std::alloc::Global;
+use std::test::Fail;
+
+fn write(alloc: Global, first: u64, byte: u8, fua: bool) -> Result<Bio, Fail> {
+    Ok(Bio::Write {
+        first,
+        bytes: Bytes::from_vec(vec![in alloc; byte; 512]?),
+        flush: false,
+        fua,
+        meta: false,
+    })
+}
+
+// The place that a submission got; a passed one has none.
+fn place_of(answer: Submitted) -> u64 {
+    match answer {
+        Submitted::Tracked(id) => id.place(),
+        Submitted::Passed => u64::MAX,
+    }
+}
+
+// Submits a request and ends it at once.
+fn finish(core: &mut Core, bio: &Bio, ok: bool) -> Result<(), Fail> {
+    if let Submitted::Tracked(id) = core.submit(bio)? {
+        if core.is_open(id) {
+            core.complete(id, ok);
+        }
+    }
+    Ok(())
+}
+
+// The places of all that can be taken.
+fn taken(alloc: Global, core: &mut Core) -> Result<Vec<u64>, Fail> {
+    let mut places = Vec::new(alloc);
+    for _ in 0..100 {
+        let Some((id, _entry)) = core.take() else {
+            break;
+        };
+        places.push(id.place())?;
+    }
+    Ok(places)
+}
+
+#[test]
+fn a_flush_takes_what_ended_before_it(rt: HostRuntime) -> Result<(), Fail> {
+    let alloc = rt.alloc();
+    let mut core = Core::new(alloc)?;
+    let late = core.submit(&write(alloc, 10, 17, false)?)?;
+    let second = core.submit(&write(alloc, 20, 34, false)?)?;
+    let third = core.submit(&write(alloc, 30, 51, false)?)?;
+    for answer in [third, second] {
+        let id = Id::new(place_of(answer));
+        if core.is_open(id) {
+            core.complete(id, true);
+        }
+    }
+    let flush = core.submit(&Bio::Flush)?;
+    for answer in [late, flush] {
+        let id = Id::new(place_of(answer));
+        if core.is_open(id) {
+            core.complete(id, true);
+        }
+    }
+    assert_eq!(rt; core.close(), Ok(()));
+    assert_eq!(rt; core.events().len(), 9);
+    assert_eq!(rt;
+        taken(alloc, &mut core)?.as_slice(),
+        [2, 1, 5, 0, 8].as_slice()
+    );
+    Ok(())
+}
+
+#[test]
+fn what_is_taken_has_its_entry(rt: HostRuntime) -> Result<(), Fail> {
+    let alloc = rt.alloc();
+    let mut core = Core::new(alloc)?;
+    finish(&mut core, &write(alloc, 5, 65, true)?, false)?;
+    let Some(
+        (
+            id,
+            Entry {
+                sector,
+                nr_sectors,
+                flags,
+                body,
+            },
+        ),
+    ) = core.take()
+    else {
+        panic!(rt; "a FUA write is queued at its end");
+    };
+    assert_eq!(rt;
+        (id.place(), sector, nr_sectors, flags.fua, body.len()),
+        (0, 5, 1, true, 512)
+    );
+    assert!(rt; core.take().is_none());
+    Ok(())
+}
+
+#[test]
+fn a_busy_core_is_not_closed(rt: HostRuntime) -> Result<(), Fail> {
+    let alloc = rt.alloc();
+    let mut core = Core::new(alloc)?;
+    let first = core.submit(&Bio::Discard { first: 1, count: 2 })?;
+    assert_eq!(rt; core.close(), Err(CloseError::Busy));
+    assert_eq!(rt; Refusal::from(CloseError::Busy), Refusal::Busy);
+    let id = Id::new(place_of(first));
+    if core.is_open(id) {
+        core.complete(id, true);
+    }
+    assert!(rt; !core.is_open(id));
+    assert_eq!(rt; core.close(), Ok(()));
+    assert_eq!(rt; core.close(), Ok(()));
+    assert_eq!(rt; core.submit(&Bio::Flush)?, Submitted::Passed);
+    assert_eq!(rt; core.events().len(), 3);
+    Ok(())
+}
+
+#[test]
+fn nothing_is_queued_after_a_stop(rt: HostRuntime) -> Result<(), Fail> {
+    let alloc = rt.alloc();
+    let mut core = Core::new(alloc)?;
+    assert_eq!(rt;
+        core.submit(&Bio::Read { first: 0, count: 1 })?,
+        Submitted::Passed
+    );
+    finish(&mut core, &write(alloc, 5, 65, false)?, true)?;
+    let flush = core.submit(&Bio::Flush)?;
+    core.stop(End::Device);
+    core.stop(End::Full);
+    let id = Id::new(place_of(flush));
+    if core.is_open(id) {
+        core.complete(id, true);
+    }
+    assert_eq!(rt; core.submit(&Bio::Flush)?, Submitted::Passed);
+    assert_eq!(rt; core.close(), Ok(()));
+    assert!(rt; core.take().is_none());
+    assert_eq!(rt; core.events().len(), 6);
+    Ok(())
+}

@@ -7,3 +7,4 @@ pub mod Lawful
 pub mod Content
 pub mod PlaceLaws
 pub mod EventLaws
+pub mod ContentLaws

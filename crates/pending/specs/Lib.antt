@@ -6,6 +6,7 @@ pub use Rattle.log_format.specs.Entries
 pub mod QueueEvent
 pub mod CompletionList
 pub mod Held
+pub mod Slots
 pub mod Steps
 pub mod Meaning
 pub mod CoreState

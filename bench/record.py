@@ -1,0 +1,82 @@
+#!/usr/bin/env python3
+"""Measures `dmlw record`: makes scripts of about 1, 2 and 4 MiB, runs the program on them, and prints times, the
+ratio to the script of half the size, and the peak memory beside what it is made of. Needs nothing but Python 3.
+
+usage: bench/record.py            (builds the program where needed, by ./dmlw)
+"""
+
+import os
+import subprocess
+import sys
+import tempfile
+import time
+
+ROOT = os.path.dirname(os.path.dirname(os.path.abspath(__file__)))
+MIB = 1 << 20
+
+
+def script(size, flush_every):
+    """A script of at most so many bytes: writes of one sector, each ended at once; each so many requests a flush.
+    Returns its bytes, its requests, the bytes of data that they write, and the log's sectors that it needs."""
+    head, tail = "data 1048576\nlog %07d\n", "close\n"
+    room = size - len(head % 0) - len(tail)
+    lines, requests, writes = [], 0, 0
+    while True:
+        name = f"r{requests:06d}"
+        if flush_every and requests % flush_every == flush_every - 1:
+            text = f"f {name}\nc {name}\n"
+        else:
+            text = f"w {name} {requests % 1000000} 1 5a\nc {name}\n"
+        if len(text) > room:
+            break
+        room -= len(text)
+        lines.append(text)
+        requests += 1
+        writes += text.startswith("w")
+    log = 3 + requests + writes
+    return (head % log + "".join(lines) + tail).encode(), requests, writes * 512, log
+
+
+def run(program, text):
+    """Seconds and the peak of the resident memory, in bytes, of one run."""
+    with tempfile.TemporaryDirectory() as folder:
+        with open(f"{folder}/script", "wb") as it:
+            it.write(text)
+        child = os.fork()
+        start = time.monotonic()
+        if child == 0:
+            os.chdir(folder)
+            out = os.open(os.devnull, os.O_WRONLY)
+            os.dup2(out, 1)
+            os.execv(program, [program, "record", "script", "log"])
+        _, status, used = os.wait4(child, 0)
+        seconds = time.monotonic() - start
+        if status != 0:
+            sys.exit(f"the program ended with {status}")
+        return seconds, used.ru_maxrss * 1024
+
+
+def main():
+    subprocess.run([f"{ROOT}/dmlw", "--version"], check=True, stdout=subprocess.DEVNULL)
+    program = f"{ROOT}/crates/dmlw/out/dmlw"
+    print("script     requests   seconds  ratio   peak MiB = image + data twice + rest   rest a request")
+    for flush_every in (0, 10, 1):
+        kind = {0: "writes", 10: "a flush every 10", 1: "flushes alone"}[flush_every]
+        print(f"{kind}:")
+        before = None
+        for size in (MIB, 2 * MIB, 4 * MIB):
+            text, requests, data, log = script(size, flush_every)
+            seconds, peak = min(run(program, text) for _ in range(3))
+            rest = peak - log * 512 - 2 * data
+            ratio = f"{seconds / before:5.2f}" if before else "     "
+            before = seconds
+            bound = log * 512 + 300 * requests + 3 * len(text)
+            print(
+                f"{len(text) / MIB:4.1f} MiB {requests:9d} {seconds:9.2f} {ratio} {peak / MIB:10.1f} = {log * 512 / MIB:.1f}"
+                f" + {2 * data / MIB:.1f} + {rest / MIB:.1f}   {(rest - 3 * len(text)) / requests:6.0f} bytes beside 3 scripts"
+                f"   (image + 300 a request + 3 scripts: {bound / MIB:.1f})"
+            )
+
+
+if __name__ == "__main__":
+    main()

@@ -1,0 +1,10 @@
+pub mod Exits
+pub mod Faults
+pub mod Files
+pub mod FileErrors
+pub mod Image
+pub mod CommandLine
+pub mod Tasks
+pub mod Commands
+pub mod Recorded
+pub mod Recordings

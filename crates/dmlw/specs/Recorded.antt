@@ -1,0 +1,62 @@
+-- What a script records, apart from how it is run.
+use Rattle.std.specs.Prelude.{◌≡◌, ℕ, ◌+◌, ◌*◌, Bool, true, false, List, [], ◌∷◌, Ok, map, replicate, slice_index, if◌then◌else◌}
+use Rattle.std.specs.List.{list_any}
+use Rattle.bio.specs.declared.event.CoreEvent.{CoreEvent}
+use Rattle.bio.specs.declared.event.CoreEvent.TheVariants as events
+use Rattle.bio.specs.declared.request.Bio.TheVariants as bios
+use Rattle.bio.specs.Check.{range_answer}
+use Rattle.dmlw_script.specs.declared.command.Command.{Command}
+use Rattle.dmlw_script.specs.declared.command.Command.TheVariants.{Write, Flush, Complete, Close}
+use Rattle.dmlw_script.specs.Plans.{is_submission}
+use Rattle.log_format.specs.declared.entry.Entry.{Entry}
+use Rattle.pending.specs.CompletionList.{completion_list}
+use Rattle.pending.specs.QueueEvent.{recorded}
+
+-- a write passes the test of its sectors, for the largest disk
+abbrev pub IsWithin : Command → Type 0
+IsWithin (Write first count byte) = range_answer first count 1048576 ≡ Ok tt
+IsWithin Flush = Unit {0}
+IsWithin (Complete request) = Unit {0}
+IsWithin Close = Unit {0}
+
+-- the command ends the recording
+abbrev pub is_close : Command → Bool
+is_close Close = true
+is_close (Write first count byte) = false
+is_close Flush = false
+is_close (Complete request) = false
+
+-- a command ends the recording
+abbrev pub has_close : List Command → Bool
+has_close = list_any is_close
+
+-- the commands up to and with the first that ends the recording
+abbrev pub until_close : List Command → List Command
+until_close [] = []
+until_close (command ∷ body) = command ∷ (if is_close command then [] else until_close body)
+
+-- where the requests are submitted by commands of which the first has this place
+abbrev pub submitted_from : ℕ → List Command → List ℕ
+submitted_from place [] = []
+submitted_from place (command ∷ body) =
+    if is_submission command then place ∷ submitted_from (place + 1) body else submitted_from (place + 1) body
+
+-- where the requests of a script are submitted: as long as it records, each command records an event, so the place of
+-- a request's command is its id
+abbrev pub ids_of : List Command → List ℕ
+ids_of body = submitted_from 0 body
+
+-- the event that a command records, in a script with these ids
+abbrev pub event_of : List ℕ → Command → CoreEvent
+event_of ids (Write first count byte) = events.Submit (bios.Write first (replicate (count * 512) byte) false false false)
+event_of ids Flush = events.Submit bios.Flush
+event_of ids (Complete request) = events.Complete (slice_index ids request) true
+event_of ids Close = events.Close
+
+-- the events that a script records
+abbrev pub events_of : List Command → List CoreEvent
+events_of body = map (event_of (ids_of body)) (until_close body)
+
+-- the entries of a script's log: those of the completion list of its events, and none where it isn't closed
+abbrev pub entries_of : List Command → List Entry
+entries_of body = if has_close body then map (λ item. item.1) (completion_list recorded (events_of body)) else []

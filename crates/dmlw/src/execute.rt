@@ -1,0 +1,106 @@
+ghost use Rattle.std.specs.Prelude.{◌≡◌, IfErr, List, map, true, ℕ};
+ghost use Rattle.std.specs.IoError.{error_kind};
+ghost use Rattle.clap.specs.Words.{kind_of};
+ghost use Rattle.dmlw.specs.CommandLine.{is_plain, record_words};
+ghost use Rattle.dmlw.specs.Commands.{EndsCommand, EndsRecording, EndsUntasked, IsFileFault, unread_exit};
+ghost use Rattle.dmlw.specs.Exits.{status_of};
+ghost use Rattle.dmlw.specs.Faults.{exit_by, exit_of};
+
+use crate::command_line::{Task, read_words};
+use crate::exit::Exit;
+use crate::fault::Fault;
+use crate::files::Files;
+use crate::record::record;
+use bio::Refusal;
+use clap::Error;
+use clap::error::ErrorKind;
+use std::alloc::Global;
+use std::convert::AsStr;
+use std::io;
+use std::io::Write;
+
+/// Does what a command line asks for, and answers the exit status: 0 done, 1 refused, 2 a command
+/// line that isn't one of the program's, 3 logging ended before its time. `words` begin with the
+/// program's name. What the user is to read goes to `out`; faults go to `err`. Where `out` can't be
+/// written the command is refused, as by a file that can't be.
+pub fn execute<'a, S: AsStr, F: Files, O: Write, E: Write>(
+    alloc: Global,
+    words: &'a [S],
+    files: &mut F,
+    out: &mut O,
+    err: &mut E,
+) -> u8
+    ensures command { EndsCommand (F.writes files.old) (F.writes files.new) result }
+    ensures record { (program script log : List ℕ) →
+        map S.text words.entry.now ≡ record_words program script log →
+        is_plain script ≡ true → is_plain log ≡ true →
+        EndsRecording (F.held files.old script) log (F.writes files.old) (F.writes files.new) result }
+{
+    let exit = match read_words(alloc, words) {
+        Task::Record { script, log } => {
+            let recorded = record(alloc, script, log, files, out);
+            end(recorded, out, err)
+        }
+        Task::Show(text) => show(text, out, err),
+    };
+    exit.status()
+}
+
+/// Answers the exit status of a command line that can't be read: 2 where a word isn't UTF-8 text, else
+/// 1, and says so.
+pub fn refuse_words<E: Write>(error: io::Error, err: &mut E) -> u8
+    ensures { result ≡ status_of (unread_exit (error_kind error)) }
+{
+    let exit = match error.kind() {
+        io::ErrorKind::InvalidData => {
+            let _ = writeln!(err, "error: a word of the command line isn't UTF-8 text");
+            Exit::Usage
+        }
+        _ => tell(Fault::from(error), err),
+    };
+    exit.status()
+}
+
+// How a command ends that did this. A fault is told, behind what was printed before it.
+fn end<O: Write, E: Write>(done: Result<(), Fault>, out: &mut O, err: &mut E) -> Exit
+    ensures { result ≡ exit_by done }
+{
+    match done {
+        Ok(()) => Exit::Done,
+        Err(fault) => {
+            let _ = out.flush();
+            tell(fault, err)
+        }
+    }
+}
+
+// Tells a fault. Where that fails too nobody is left to be told.
+fn tell<E: Write>(fault: Fault, err: &mut E) -> Exit
+    ensures { result ≡ exit_of fault }
+{
+    let _ = writeln!(err, "{fault}");
+    let _ = err.flush();
+    fault.exit()
+}
+
+// Shows the text of a command line that has no other task.
+fn show<O: Write, E: Write>(text: Error, out: &mut O, err: &mut E) -> Exit
+    ensures { EndsUntasked (kind_of text) result }
+{
+    match text.kind() {
+        ErrorKind::OutOfMemory => tell(Fault::refused(Refusal::Memory), err),
+        ErrorKind::DisplayHelp | ErrorKind::DisplayVersion => end(print(&text, out), out, err),
+        _ => {
+            let _ = print(&text, err);
+            Exit::Usage
+        }
+    }
+}
+
+fn print<W: Write>(text: &Error, to: &mut W) -> Result<(), Fault>
+    ensures { IfErr result IsFileFault }
+{
+    write!(to, "{text}")?;
+    to.flush()?;
+    Ok(())
+}

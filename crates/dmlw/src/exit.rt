@@ -1,0 +1,29 @@
+ghost use Rattle.std.specs.Prelude.{◌≡◌};
+ghost use Rattle.dmlw.specs.Exits.{status_of};
+
+/// How a command ended.
+#[derive(Clone, Copy, Debug, PartialEq, Eq)]
+pub enum Exit {
+    /// It did what it was asked.
+    Done,
+    /// It was refused.
+    Refused,
+    /// The command line isn't one of the program's.
+    Usage,
+    /// Logging ended before its time.
+    LoggingEnded,
+}
+
+impl Exit {
+    /// The exit status, from 0 to 3.
+    pub fn status(self) -> u8
+        ensures { result ≡ status_of self }
+    {
+        match self {
+            Exit::Done => 0,
+            Exit::Refused => 1,
+            Exit::Usage => 2,
+            Exit::LoggingEnded => 3,
+        }
+    }
+}

@@ -1,0 +1,61 @@
+ghost use Rattle.std.specs.Prelude.{◌≡◌, ◌≤◌, IfOk, List, Option, vec_len, ℕ};
+ghost use Rattle.std.specs.IoError.{error_kind};
+ghost use Rattle.dmlw.specs.Files.{IsHeld, Write, one_more};
+ghost use Rattle.dmlw.specs.FileErrors.{file_error, file_refusal};
+
+use bio::Refusal;
+use std::alloc::Global;
+use std::io;
+use thiserror::Error;
+
+/// Why a file wasn't read or written.
+#[derive(Clone, Copy, Debug, PartialEq, Eq, Error)]
+pub enum FileError {
+    /// It can't be opened, read or written, or it is too long.
+    #[error("the file can't be read or written, or is too long")]
+    Unusable,
+    /// There was no memory for it.
+    #[error("no memory for the file")]
+    Memory,
+}
+
+impl From<io::Error> for FileError {
+    ghost from_gives = { λ io_error error. error ≡ file_error (error_kind io_error) };
+
+    fn from(error: io::Error) -> FileError {
+        match error.kind() {
+            io::ErrorKind::OutOfMemory => FileError::Memory,
+            _ => FileError::Unusable,
+        }
+    }
+}
+
+impl From<FileError> for Refusal {
+    ghost from_gives = { λ error refusal. refusal ≡ file_refusal error };
+
+    fn from(error: FileError) -> Refusal {
+        match error {
+            FileError::Unusable => Refusal::File,
+            FileError::Memory => Refusal::Memory,
+        }
+    }
+}
+
+/// The files that a command reads and writes, by name.
+pub trait Files {
+    /// What the file of a name holds, where it is known.
+    ghost held: { Self → List ℕ → Option (List ℕ) };
+
+    /// The writes that were asked for, in order, where they are known.
+    ghost writes: { Self → Option (List Write) };
+
+    /// The whole of a file of at most `limit` bytes.
+    fn read(&mut self, alloc: Global, name: &str, limit: u64) -> Result<Vec<u8>, FileError>
+        ensures held { IfOk result (λ bytes. IsHeld (held self.old name.now) bytes.items) }
+        ensures within { IfOk result (λ bytes. vec_len bytes ≤ limit) }
+        ensures writes { writes self.new ≡ writes self.old };
+
+    /// Makes the file hold these bytes and no others. After an error it may hold a part of them.
+    fn write(&mut self, name: &str, bytes: &[u8]) -> Result<(), FileError>
+        ensures writes { writes self.new ≡ one_more (writes self.old) name.now bytes.now };
+}

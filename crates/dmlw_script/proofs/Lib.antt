@@ -1,0 +1,9 @@
+pub mod WordLemmas
+pub mod DraftLemmas
+pub mod LineLemmas
+pub mod SentenceLaws
+pub mod BodyLaws
+pub mod ReadingLaws
+pub mod FaultLaws
+pub mod TextLaws
+pub mod SpellingLaws

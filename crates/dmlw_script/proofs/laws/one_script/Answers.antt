@@ -1,0 +1,5 @@
+use Rattle.dmlw_script.proofs.TextLaws.{one_script_of}
+use Rattle.dmlw_script.proofs.laws.one_script.Goals as goal
+
+pub returns : goal.returns
+returns c = one_script_of

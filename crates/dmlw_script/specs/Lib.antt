@@ -1,0 +1,10 @@
+pub mod Words
+pub mod Names
+pub mod Lines
+pub mod Sentences
+pub mod Plans
+pub mod Drafts
+pub mod Readers
+pub mod Grammar
+pub mod Reading
+pub mod Spelling

@@ -1,0 +1,39 @@
+-- The lines of a text.
+use Rattle.std.specs.Prelude.{◌≡◌, ℕ, ◌+◌, ◌==◌, Bool, true, not, ◌&&◌, List, [], ◌∷◌, ◌++◌, Option, filter, flat_map, nat_lt, slice_get, if◌then◌else◌}
+use Rattle.std.specs.List.{list_all, onto_first}
+
+-- the lines of a text: each ends at a line feed, which the last may lack
+abbrev pub lines_of : List ℕ → List (List ℕ)
+lines_of [] = []
+lines_of (byte ∷ bytes) = if byte == 10 then [] ∷ lines_of bytes else onto_first byte (lines_of bytes)
+
+-- the bytes of a line are ASCII, and not zero
+abbrev pub is_plain : List ℕ → Bool
+is_plain line = list_all (λ byte. nat_lt 0 byte && nat_lt byte 128) line
+
+-- an empty line, or a comment
+abbrev pub is_skipped : List ℕ → Bool
+is_skipped [] = true
+is_skipped (byte ∷ line) = byte == 35
+
+-- the lines that aren't skipped
+abbrev pub kept : List (List ℕ) → List (List ℕ)
+kept lines = filter (λ line. not (is_skipped line)) lines
+
+-- the numbers of the lines that aren't skipped, where the first line has this number
+abbrev pub kept_numbers : ℕ → List (List ℕ) → List ℕ
+kept_numbers number [] = []
+kept_numbers number (line ∷ lines) =
+    if is_skipped line then kept_numbers (number + 1) lines else number ∷ kept_numbers (number + 1) lines
+
+-- the number of the line that the command at this place was read from: two lines of the head stand before the body
+abbrev pub command_line : List ℕ → ℕ → Option ℕ
+command_line text place = slice_get (kept_numbers 1 (lines_of text)) (place + 2)
+
+-- no line feed stands in the line
+abbrev pub IsUnbroken : List ℕ → Type 0
+IsUnbroken line = list_all (λ byte. not (byte == 10)) line ≡ true
+
+-- the text of these lines, with a line feed behind each
+abbrev pub ended : List (List ℕ) → List ℕ
+ended lines = flat_map (λ line. line ++ 10 ∷ []) lines

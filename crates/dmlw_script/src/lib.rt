@@ -1,0 +1,31 @@
+//! The scripts of `dmlw record`: texts that say the sizes of the disks, which requests are made, and
+//! when they end.
+//!
+//! `read_script` reads a text, or answers the first line that is wrong; `print_script` writes the one
+//! spelling of a script. A request's number is the place of its submission among the script's
+//! submissions, counted from 0, so whoever goes over the commands needs no map of ids.
+//!
+//! `specs/Grammar` is the grammar, a relation between texts and scripts, and `specs/Plans` says what
+//! a script is. A new kind of line is a case of `Sentence`, of `Says` and of `Command`.
+#![tactic(auto)]
+
+pub use command::Command;
+pub use fault::ScriptFault;
+pub use name::Name;
+pub use printer::print_script;
+pub use reader::{Kind, line_of, read_script};
+pub use script::{MAX_DISK_SECTORS, Script};
+
+mod command;
+mod draft;
+mod fault;
+pub mod laws;
+mod name;
+mod printer;
+mod reader;
+mod script;
+mod sentence;
+mod stop;
+#[cfg(test)]
+mod tests;
+mod words;

@@ -1,0 +1,180 @@
+ghost use Rattle.std.specs.Prelude.{◌≡◌, ◌<◌, ◌+◌, ◌^◌, ◌++◌, ◌∷◌, [], decimal, flat_map, length, IfOk, OnOk};
+ghost use Rattle.dmlw_script.specs.Grammar.{Spells};
+ghost use Rattle.dmlw_script.specs.Names.{letters_of};
+ghost use Rattle.dmlw_script.specs.Plans.{behind_command, body_sentences, sentence_at as the_sentence_at, HasName};
+ghost use Rattle.dmlw_script.specs.Spelling.{ended_line, line_text, spelling};
+ghost use Rattle.dmlw_script.specs.Words.{byte_text, hex_digit as the_hex_digit};
+
+use crate::command::Command;
+use crate::name::Name;
+use crate::script::Script;
+use crate::sentence::Sentence;
+use std::alloc::{AllocError, Global};
+
+/// The one spelling of a script: no comments, no empty lines, no leading zeroes, and a line feed
+/// behind each line. Reading it gives the same script.
+pub fn print_script(alloc: Global, script: &Script) -> Result<Vec<u8>, AllocError>
+    ensures spelled { IfOk result (λ text. text.items ≡ spelling script.now) }
+    // What is printed is a text of this script, and so read as it.
+    ensures again { IfOk result (λ text. Spells text.items script.now) }
+{
+    let mut out = Vec::new(alloc);
+    push_line(
+        &mut out,
+        Sentence::Data {
+            sectors: script.data_sectors(),
+        },
+    )?;
+    push_line(
+        &mut out,
+        Sentence::Log {
+            sectors: script.log_sectors(),
+        },
+    )?;
+    push_body(&mut out, script)?;
+    Ok(out)
+}
+
+// The lines of a script's body.
+fn push_body(out: &mut Vec<u8>, script: &Script) -> Result<(), AllocError>
+    ensures { OnOk result (out.new.items ≡ out.old.items ++ flat_map ended_line (body_sentences script.now.names 0 script.now.commands)) }
+{
+    let names = script.names();
+    let mut before = 0;
+    for command in script.commands() {
+        push_line(out, sentence_at(names, before, *command))?;
+        before = behind(before, *command);
+    }
+    Ok(())
+}
+
+// What the line of a command says, before which so many requests were submitted.
+fn sentence_at(names: &[Name], before: usize, command: Command) -> Sentence
+    requires { HasName (length names.now) before command }
+    ensures { result ≡ the_sentence_at names.now before command }
+{
+    match command {
+        Command::Write { first, count, byte } => Sentence::Write {
+            name: names[before],
+            first: u64::from(first),
+            count: u64::from(count),
+            byte,
+        },
+        Command::Flush => Sentence::Flush {
+            name: names[before],
+        },
+        Command::Complete { request } => Sentence::Complete {
+            name: names[request],
+        },
+        Command::Close => Sentence::Close,
+    }
+}
+
+// A line.
+fn push_line(out: &mut Vec<u8>, sentence: Sentence) -> Result<(), AllocError>
+    ensures { OnOk result (out.new.items ≡ out.old.items ++ ended_line sentence) }
+{
+    match sentence {
+        Sentence::Data { sectors } => push_size(out, b"data ", sectors)?,
+        Sentence::Log { sectors } => push_size(out, b"log ", sectors)?,
+        Sentence::Write {
+            name,
+            first,
+            count,
+            byte,
+        } => push_write(out, name, first, count, byte)?,
+        Sentence::Flush { name } => push_name(out, b"f ", name)?,
+        Sentence::Complete { name } => push_name(out, b"c ", name)?,
+        Sentence::Close => out.extend_from_slice(b"close")?,
+    }
+    out.push(b'\n')?;
+    Ok(())
+}
+
+// A line's first word and space, and a number.
+fn push_size(out: &mut Vec<u8>, verb: &[u8], sectors: u64) -> Result<(), AllocError>
+    ensures { OnOk result (out.new.items ≡ out.old.items ++ (verb.now ++ decimal sectors)) }
+{
+    out.extend_from_slice(verb)?;
+    push_number(out, sectors)
+}
+
+// A line's first word and space, and an id.
+fn push_name(out: &mut Vec<u8>, verb: &[u8], name: Name) -> Result<(), AllocError>
+    ensures { OnOk result (out.new.items ≡ out.old.items ++ (verb.now ++ letters_of name)) }
+{
+    out.extend_from_slice(verb)?;
+    out.extend_from_slice(name.letters())
+}
+
+// The line of a write, but for its line feed.
+fn push_write(
+    out: &mut Vec<u8>,
+    name: Name,
+    first: u64,
+    count: u64,
+    byte: u8,
+) -> Result<(), AllocError>
+    ensures { OnOk result (out.new.items ≡ out.old.items ++ line_text (Sentence.Write name first count byte)) }
+{
+    push_name(out, b"w ", name)?;
+    out.push(b' ')?;
+    push_number(out, first)?;
+    out.push(b' ')?;
+    push_number(out, count)?;
+    out.push(b' ')?;
+    push_byte(out, byte)
+}
+
+// The decimal digits of a number.
+#[tactic(auto, using(std::proofs::lemmas::Fmt::decimal_step, std::proofs::lemmas::Fmt::decimal_digit))]
+fn push_number(out: &mut Vec<u8>, number: u64) -> Result<(), AllocError>
+    ensures { OnOk result (out.new.items ≡ out.old.items ++ decimal number) }
+{
+    if number < 10 {
+        return push_digit(out, number as u8);
+    }
+    push_number(out, number / 10)?;
+    push_digit(out, (number % 10) as u8)
+}
+
+// A decimal digit.
+fn push_digit(out: &mut Vec<u8>, digit: u8) -> Result<(), AllocError>
+    requires { digit < 10 }
+    ensures { OnOk result (out.new.items ≡ out.old.items ++ (48 + digit) ∷ []) }
+{
+    out.push(b'0' + digit)?;
+    Ok(())
+}
+
+// Two hexadecimal digits.
+fn push_byte(out: &mut Vec<u8>, byte: u8) -> Result<(), AllocError>
+    ensures { OnOk result (out.new.items ≡ out.old.items ++ byte_text byte) }
+{
+    out.push(hex_digit(byte / 16))?;
+    out.push(hex_digit(byte % 16))?;
+    Ok(())
+}
+
+// The lower case hexadecimal digit of a value.
+fn hex_digit(half: u8) -> u8
+    requires { half < 16 }
+    ensures { result ≡ the_hex_digit half }
+{
+    if half < 10 {
+        b'0' + half
+    } else {
+        b'a' + (half - 10)
+    }
+}
+
+// How many requests were submitted behind a command, before which there were so many.
+fn behind(before: usize, command: Command) -> usize
+    requires { before + 1 < 2 ^ 64 }
+    ensures { result ≡ behind_command before command }
+{
+    match command {
+        Command::Write { .. } | Command::Flush => before + 1,
+        Command::Complete { .. } | Command::Close => before,
+    }
+}

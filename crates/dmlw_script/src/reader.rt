@@ -1,0 +1,262 @@
+ghost use Rattle.std.specs.Prelude.{◌≡◌, ◌<◌, ◌≤◌, ◌∷◌, [], None, IfErr, IfOk, MatchOption, OnOk, length};
+ghost use Rattle.dmlw_script.specs.Lines.{command_line, lines_of, is_plain as is_plain_line, is_skipped as is_a_skipped_line};
+ghost use Rattle.dmlw_script.specs.Grammar.{Spells};
+ghost use Rattle.dmlw_script.specs.Plans.{is_disk_size as is_a_disk_size, Plan};
+ghost use Rattle.dmlw_script.specs.Reading.{IsFaultOf, IsReadAs, IsRunFaultOf};
+ghost use Rattle.dmlw_script.specs.Readers.{data_size as the_data_size, fault_of, log_size as the_log_size, read_text, Reads};
+
+use crate::draft::Draft;
+use crate::fault::ScriptFault;
+use crate::script::{MAX_DISK_SECTORS, Script};
+use crate::sentence::{Sentence, sentence_of};
+use crate::stop::Stop;
+use crate::words::cut;
+use bio::Refusal;
+use std::alloc::Global;
+
+// The lines of a head.
+const HEAD_LINES: usize = 2;
+
+/// What a script is for.
+#[derive(Clone, Copy, Debug, PartialEq, Eq)]
+pub enum Kind {
+    /// One recorder, whose calls come in the order of the lines.
+    Record,
+    /// Several seats. There are no such scripts yet: their texts are refused behind the head.
+    Run,
+}
+
+// A script, as far as it was read.
+#[derive(Drop)]
+struct Reader {
+    kind: Kind,
+    data_sectors: Option<u64>,
+    log_sectors: Option<u64>,
+    draft: Draft,
+}
+
+impl Reader {
+    ghost use Rattle.dmlw_script.specs.Drafts.{Follows};
+    ghost use Rattle.dmlw_script.specs.Readers.{body_line, finish_step, line_step, progress_of, sentence_step, Finishes, IsReader};
+    ghost use Rattle.dmlw_script.specs.Plans.{IsPlan};
+
+    fn new(alloc: Global, kind: Kind) -> Reader
+        ensures reader { IsReader result }
+        ensures kind { result.kind ≡ kind }
+        ensures empty { progress_of result ≡ record { data_sectors = None; log_sectors = None; body = record { names = []; body = [] } } }
+    {
+        Reader {
+            kind,
+            data_sectors: None,
+            log_sectors: None,
+            draft: Draft::new(alloc),
+        }
+    }
+
+    // Reads the next line.
+    fn read_line(&mut self, line: &[u8]) -> Result<(), Stop>
+        requires { IsReader self.old }
+        ensures reader { OnOk result (IsReader self.new) }
+        ensures kind { OnOk result (self.new.kind ≡ self.old.kind) }
+        ensures step { Follows result (progress_of self.new) (line_step self.old.kind (progress_of self.old) line.now) }
+    {
+        if !is_plain(line) {
+            return Err(Stop::Fault(Refusal::BadLine));
+        }
+        if is_skipped(line) {
+            return Ok(());
+        }
+        let sentence = sentence_of(line).ok_or(Refusal::BadLine)?;
+        self.read_sentence(sentence)
+    }
+
+    // Reads the next line that isn't skipped.
+    fn read_sentence(&mut self, sentence: Sentence) -> Result<(), Stop>
+        requires { IsReader self.old }
+        ensures reader { OnOk result (IsReader self.new) }
+        ensures kind { OnOk result (self.new.kind ≡ self.old.kind) }
+        ensures step { Follows result (progress_of self.new)
+            (sentence_step self.old.kind self.old.data_sectors self.old.log_sectors (progress_of self.old) sentence) }
+    {
+        match (self.data_sectors, self.log_sectors) {
+            (None, _) => {
+                self.data_sectors = Some(data_size(sentence).ok_or(Refusal::BadLine)?);
+                Ok(())
+            }
+            (Some(_), None) => {
+                self.log_sectors = Some(log_size(sentence).ok_or(Refusal::BadLine)?);
+                Ok(())
+            }
+            (Some(sectors), Some(_)) => self.read_body(sentence, sectors),
+        }
+    }
+
+    // Reads the next line of the body.
+    fn read_body(&mut self, sentence: Sentence, sectors: u64) -> Result<(), Stop>
+        requires disk { sectors ≤ 1048576 }
+        requires reader { IsReader self.old }
+        ensures reader { OnOk result (IsReader self.new) }
+        ensures kind { OnOk result (self.new.kind ≡ self.old.kind) }
+        ensures step { Follows result (progress_of self.new) (body_line self.old.kind sectors (progress_of self.old) sentence) }
+    {
+        match self.kind {
+            Kind::Record => self.draft.read(sentence, sectors),
+            Kind::Run => Err(Stop::Fault(Refusal::BadLine)),
+        }
+    }
+
+    // The text ends here.
+    fn finish(self) -> Result<Script, Stop>
+        requires { IfOk (finish_step self.kind (progress_of self)) IsPlan }
+        ensures { Finishes result (finish_step self.kind (progress_of self)) }
+    {
+        let Reader {
+            kind,
+            data_sectors,
+            log_sectors,
+            draft,
+        } = self;
+        match (kind, data_sectors, log_sectors) {
+            (Kind::Record, Some(data_sectors), Some(log_sectors)) => {
+                Ok(draft.into_script(data_sectors, log_sectors))
+            }
+            _ => Err(Stop::Fault(Refusal::BadLine)),
+        }
+    }
+}
+
+/// Reads a text, in time linear in its length; nothing is read behind a fault.
+///
+/// A line is refused, in this order, as `BadLine` where it isn't of the grammar at its place (also
+/// in a comment, if a byte is zero or not ASCII; and behind the last line, where the head isn't
+/// whole), as `BadId` where an id is submitted again or isn't open at its end, and as `NotWhole`,
+/// `TooLong` or `PastEnd` where `bio::check` refuses a write's sectors for the data disk. Want of
+/// memory is `Memory`, and names no line.
+pub fn read_script(alloc: Global, text: &[u8], kind: Kind) -> Result<Script, ScriptFault>
+    // What is read is a recorder's script, and so spelled.
+    ensures found { IfOk result (λ script. (kind ≡ Kind.Record) × Spells text.now script) }
+    // What is so spelled is read, unless memory runs out.
+    ensures only { kind ≡ Kind.Record → (plan : Plan) → Spells text.now plan → IsReadAs plan result }
+    // A fault is told with the first line at which no continuation is a script.
+    ensures fault { IfErr result (λ fault. kind ≡ Kind.Record → IsFaultOf text.now fault fault.line) }
+    // A run's text is refused behind its head.
+    ensures run { IfErr result (λ fault. kind ≡ Kind.Run → IsRunFaultOf text.now fault fault.line) }
+{
+    read(alloc, text, kind)
+}
+
+// Reads the lines of a text in turn.
+fn read(alloc: Global, text: &[u8], kind: Kind) -> Result<Script, ScriptFault>
+    ensures { Reads result (read_text kind text.now) }
+{
+    let mut reader = Reader::new(alloc, kind);
+    let mut number: u64 = 1;
+    let mut rest = text;
+    while let Some((line, after)) = next_line(rest) {
+        if let Err(stop) = reader.read_line(line) {
+            return Err(fault_at(number, stop));
+        }
+        number += 1;
+        rest = after;
+    }
+    match reader.finish() {
+        Ok(script) => Ok(script),
+        Err(stop) => Err(fault_at(number, stop)),
+    }
+}
+
+// The next line and the text behind it, if there is a line.
+fn next_line(text: &[u8]) -> Option<(&[u8], &[u8])>
+    ensures { MatchOption result (text.now ≡ []) (λ next.
+        (lines_of text.now ≡ next.0.now ∷ lines_of next.1.now) × (length next.1.now < length text.now)) }
+{
+    if text.is_empty() {
+        return None;
+    }
+    let (line, after) = cut(text, b'\n');
+    match after {
+        Some(after) => Some((line, after)),
+        None => Some((line, &[])),
+    }
+}
+
+// Why reading ended at a line.
+fn fault_at(line: u64, stop: Stop) -> ScriptFault
+    ensures { result ≡ fault_of line stop }
+{
+    match stop {
+        Stop::Memory => ScriptFault {
+            line: None,
+            refusal: Refusal::Memory,
+        },
+        Stop::Fault(refusal) => ScriptFault {
+            line: Some(line),
+            refusal,
+        },
+    }
+}
+
+// The size of the data disk that a line says.
+fn data_size(sentence: Sentence) -> Option<u64>
+    ensures { result ≡ the_data_size sentence }
+{
+    match sentence {
+        Sentence::Data { sectors } if is_disk_size(sectors) => Some(sectors),
+        _ => None,
+    }
+}
+
+// The size of the log disk that a line says.
+fn log_size(sentence: Sentence) -> Option<u64>
+    ensures { result ≡ the_log_size sentence }
+{
+    match sentence {
+        Sentence::Log { sectors } if is_disk_size(sectors) => Some(sectors),
+        _ => None,
+    }
+}
+
+// A disk may have so many sectors.
+fn is_disk_size(sectors: u64) -> bool
+    ensures { result ≡ is_a_disk_size sectors }
+{
+    0 < sectors && sectors <= MAX_DISK_SECTORS
+}
+
+// A line of bytes that a script's text may hold.
+fn is_plain(line: &[u8]) -> bool
+    ensures { result ≡ is_plain_line line.now }
+{
+    line.iter().all(|byte| 0 < *byte && *byte < 128)
+}
+
+// An empty line, or a comment.
+fn is_skipped(line: &[u8]) -> bool
+    ensures { result ≡ is_a_skipped_line line.now }
+{
+    match line {
+        [] => true,
+        [first, ..] => *first == b'#',
+    }
+}
+
+/// The line, counted from 1, of the command at this place of a text that was read, or none where the
+/// text has no such command. Takes no memory, and one pass over the text.
+pub fn line_of(text: &[u8], place: usize) -> Option<u64>
+    ensures { result ≡ command_line text.now place }
+{
+    let mut left = place.checked_add(HEAD_LINES)?;
+    let mut number: u64 = 1;
+    let mut rest = text;
+    while let Some((line, after)) = next_line(rest) {
+        if !is_skipped(line) {
+            if left == 0 {
+                return Some(number);
+            }
+            left -= 1;
+        }
+        number += 1;
+        rest = after;
+    }
+    None
+}

@@ -46,9 +46,9 @@ pub fn execute<'a, S: AsStr, F: Files, O: Write, E: Write>(
     exit.status()
 }
 
-/// Answers the exit status of a command line that can't be read: 2 where a word isn't UTF-8 text, else
-/// 1, and says so.
-pub fn refuse_words<E: Write>(error: io::Error, err: &mut E) -> u8
+/// Tells why a command line can't be read, and answers the exit status: 2 where a word isn't UTF-8
+/// text, else 1.
+pub fn refuse<E: Write>(error: io::Error, err: &mut E) -> u8
     ensures { result ≡ status_of (unread_exit (error_kind error)) }
 {
     let exit = match error.kind() {

@@ -17,26 +17,26 @@ mod recording;
 #[cfg(test)]
 mod tests;
 
-use execute::{execute, refuse_words};
+use execute::{execute, refuse};
 use host_files::HostFiles;
-use std::io::BufWriter;
+use std::io::{BufWriter, Write};
 use std::process::ExitCode;
+use std::rt::{Env, Files};
 use std::{env, io};
 
-fn main(rt: HostRuntime) -> io::Result<ExitCode> {
-    let mut out = BufWriter::new(rt.alloc(), io::writer(&rt))?;
+fn main(rt: HostRuntime) -> ExitCode {
     let mut err = rt.stderr();
-    let status = match words(&rt) {
-        Ok(words) => {
-            let mut files = HostFiles::new(&rt);
-            execute(rt.alloc(), &words, &mut files, &mut out, &mut err)
-        }
-        Err(error) => refuse_words(error, &mut err),
+    let status = match run(&rt, &mut err) {
+        Ok(status) => status,
+        Err(error) => refuse(error, &mut err),
     };
-    Ok(ExitCode::from(status))
+    ExitCode::from(status)
 }
 
-// The words of the command line; the first is the program's name.
-fn words<R: std::rt::Env + AllocGlobal>(rt: &R) -> io::Result<Vec<String>> {
-    Ok(env::args(rt)?.collect(rt.alloc())?)
+// Does the process's command line. An error comes only from before a command is begun.
+fn run<R: Files + Env + Print + AllocGlobal, E: Write>(rt: &R, err: &mut E) -> io::Result<u8> {
+    let words: Vec<String> = env::args(rt)?.collect(rt.alloc())?;
+    let mut files = HostFiles::new(rt);
+    let mut out = BufWriter::new(rt.alloc(), io::writer(rt))?;
+    Ok(execute(rt.alloc(), &words, &mut files, &mut out, err))
 }

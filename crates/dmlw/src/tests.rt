@@ -1,6 +1,6 @@
 ghost use Rattle.std.specs.Prelude.{None};
 
-use crate::execute::{execute, refuse_words};
+use crate::execute::{execute, refuse};
 use crate::files::{FileError, Files};
 use std::alloc::{AllocError, Global};
 use std::io;
@@ -316,12 +316,12 @@ fn reads_command_lines(rt: HostRuntime) {
 }
 
 #[test]
-fn refuses_words_that_are_no_text(rt: HostRuntime) {
+fn refuses_unreadable_words(rt: HostRuntime) {
     let mut err = Vec::new(rt.alloc());
     let error = io::Error::from(io::ErrorKind::InvalidData);
-    assert_eq!(rt; refuse_words(error, &mut err), 2);
+    assert_eq!(rt; refuse(error, &mut err), 2);
     let error = io::Error::from(io::ErrorKind::OutOfMemory);
-    assert_eq!(rt; refuse_words(error, &mut err), 1);
+    assert_eq!(rt; refuse(error, &mut err), 1);
     let told = "error: a word of the command line isn't UTF-8 text\ndmlw: 2 Memory\n";
     assert!(rt; err.as_slice() == told.as_bytes());
 }

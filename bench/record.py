@@ -5,14 +5,7 @@ ratio to the script of half the size, and the peak memory beside what it is made
 usage: bench/record.py            (builds the program where needed, by ./dmlw)
 """
 
-import os
-import subprocess
-import sys
-import tempfile
-import time
-
-ROOT = os.path.dirname(os.path.dirname(os.path.abspath(__file__)))
-MIB = 1 << 20
+from measure import MIB, build, run
 
 
 def script(size, flush_every):
@@ -37,28 +30,8 @@ def script(size, flush_every):
     return (head % log + "".join(lines) + tail).encode(), requests, writes * 512, log
 
 
-def run(program, text):
-    """Seconds and the peak of the resident memory, in bytes, of one run."""
-    with tempfile.TemporaryDirectory() as folder:
-        with open(f"{folder}/script", "wb") as it:
-            it.write(text)
-        child = os.fork()
-        start = time.monotonic()
-        if child == 0:
-            os.chdir(folder)
-            out = os.open(os.devnull, os.O_WRONLY)
-            os.dup2(out, 1)
-            os.execv(program, [program, "record", "script", "log"])
-        _, status, used = os.wait4(child, 0)
-        seconds = time.monotonic() - start
-        if status != 0:
-            sys.exit(f"the program ended with {status}")
-        return seconds, used.ru_maxrss * 1024
-
-
 def main():
-    subprocess.run([f"{ROOT}/dmlw", "--version"], check=True, stdout=subprocess.DEVNULL)
-    program = f"{ROOT}/crates/dmlw/out/dmlw"
+    program = build()
     print("script     requests   seconds  ratio   peak MiB = image + data twice + rest   rest a request")
     for flush_every in (0, 10, 1):
         kind = {0: "writes", 10: "a flush every 10", 1: "flushes alone"}[flush_every]
@@ -66,7 +39,7 @@ def main():
         before = None
         for size in (MIB, 2 * MIB, 4 * MIB):
             text, requests, data, log = script(size, flush_every)
-            seconds, peak = min(run(program, text) for _ in range(3))
+            seconds, peak = min(run(program, ["record", "script", "log"], {"script": text}) for _ in range(3))
             rest = peak - log * 512 - 2 * data
             ratio = f"{seconds / before:5.2f}" if before else "     "
             before = seconds

@@ -44,9 +44,10 @@ over_cases first count value sector = elim (cases_lt sector first) [
   ]
 ]
 
--- a content is patched by nothing but itself, and by all of a call
+-- a content with none of a call's values is patched by it
 pub patched-same : (patch : Patch) (content : Content) → Patched patch content content
 patched-same patch content = λ sector. inl refl
 
+-- and so is a content with all of them
 pub patched-whole : (patch : Patch) (content : Content) → Patched patch content (put patch content)
 patched-whole patch content = λ sector. inr refl

@@ -1,4 +1,5 @@
 pub mod Refusals
+pub mod Texts
 pub mod Check
 pub mod Places
 pub mod Requests

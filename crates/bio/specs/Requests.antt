@@ -23,14 +23,14 @@ has_fua Flush = false
 has_fua (Discard first count) = false
 has_fua (Read first count) = false
 
--- the first sector of a request
+-- the first sector of a request; 0 for a flush
 abbrev pub first_sector : Bio → ℕ
 first_sector (Write first bytes flush fua meta) = first
 first_sector Flush = 0
 first_sector (Discard first count) = first
 first_sector (Read first count) = first
 
--- how many sectors a request has
+-- how many whole sectors a request has; none for a flush
 abbrev pub sector_count : Bio → ℕ
 sector_count (Write first bytes flush fua meta) = length bytes / 512
 sector_count Flush = 0
@@ -42,7 +42,7 @@ abbrev pub covers : Bio → ℕ → Bool
 covers bio sector =
     is_tracked bio && nat_le (first_sector bio) sector && nat_lt sector (first_sector bio + sector_count bio)
 
--- two writes or discards put values in one sector
+-- the ranges of two writes or discards meet: where each covers a sector, both put values in one
 abbrev pub overlaps : Bio → Bio → Bool
 overlaps a b =
     is_tracked a && is_tracked b

@@ -1,5 +1,6 @@
-ghost use Rattle.std.specs.Prelude.{◌≡◌};
-ghost use Rattle.bio.specs.Refusals.{row_of};
+ghost use Rattle.std.specs.Prelude.{◌≡◌, ◌-◌, Some, slice_get};
+ghost use Rattle.bio.specs.Refusals.{all_refusals, row_of};
+ghost use Rattle.bio.specs.Texts.{refusal_text};
 
 use std::fmt;
 
@@ -133,9 +134,11 @@ impl Refusal {
         }
     }
 
-    /// The number, from 1 to 38.
+    /// The number, from 1 to 38. It stands for one refusal: its place in the list of all, counted from 1.
+    #[tactic(auto, using(crate::specs::Refusals::number_names))]
     pub fn number(self) -> u8
-        ensures { result ≡ (row_of self).0 }
+        ensures number { result ≡ (row_of self).0 }
+        ensures place { slice_get all_refusals (result - 1) ≡ Some self }
     {
         self.row().0
     }
@@ -149,6 +152,8 @@ impl Refusal {
 }
 
 impl fmt::Display for Refusal {
+    ghost output = { λ refusal. Some (refusal_text refusal) };
+
     fn fmt<W: fmt::Write>(&self, f: &mut fmt::Formatter<W>) -> fmt::Result {
         let number = self.number();
         let name = self.name();

@@ -1,40 +1,136 @@
-use Rattle.std.proofs.Common.{◌≡◌, ◌≢◌, ◌∙◌, ℕ, List, None, Option, Result, Ok, Err, ap, subst, sym}
+use Rattle.std.proofs.Common.{◌≡◌, ◌∙◌, ℕ, List, Option, Result, Ok, Err, OnOk, IfErr, Some, ap, inl, inr, refl, subst, sym}
+use Rattle.std.specs.Io.KnownBytes.{Keeps}
 use Rattle.dmlw.specs.declared.exit.Exit.{Exit}
 use Rattle.dmlw.specs.declared.exit.Exit.TheVariants.{Refused}
 use Rattle.dmlw.specs.declared.fault.Fault.{Fault}
-use Rattle.dmlw.specs.declared.fault.Fault.TheVariants as faults
-use Rattle.dmlw.specs.Commands.{AsksLog, EndsRecording, WritesLog}
+use Rattle.dmlw.specs.Commands.{EndsRecording, EndsShowing, Records, WritesLog}
 use Rattle.dmlw.specs.Exits.{status_of}
-use Rattle.dmlw.specs.Faults.{exit_by, exit_of}
+use Rattle.dmlw.specs.Faults.{exit_by, memory_fault}
 use Rattle.dmlw.specs.Files.{Write}
+use Rattle.dmlw.specs.Lists.{Shows, ShowsFile}
+use Rattle.dmlw.specs.Printed.{TellsLog, TellsRefusal, named_line}
+use Rattle.dmlw.specs.RunFaults.{EndsRun, FailsRecording, close, file, logging, run as ran, text as unread}
+use Rattle.dmlw_script.specs.Plans.{Plan}
+use Rattle.dmlw.proofs.Listing.{IsKept, shows_kept}
+use Rattle.dmlw.proofs.Written.{appends_kept, keeps_twice}
 
--- a fault's status is neither 0 nor 2
-fault_status : (fault : Fault) → (status_of (exit_of fault) ≢ 0) × (status_of (exit_of fault) ≢ 2)
-fault_status (faults.Refused line refusal) = (λ same. cc same, λ same. cc same)
-fault_status (faults.LoggingEnded end) = (λ same. cc same, λ same. cc same)
-
--- how a recording ends by what it did
-ends : (held : Option (List ℕ)) (log : List ℕ) (old new : Option (List Write)) (done : Result (Unit {0}) Fault) (status : ℕ)
-    → WritesLog held log old new done → status ≡ status_of (exit_by done) → EndsRecording held log old new status
-ends held log old new (Ok u) status asks is = record { written = λ zero. asks; asked = λ two. cc (is, two) }
-ends held log old new (Err fault) status asks is = record {
-  written = λ zero. absurd ((fault_status fault).0 (sym is ∙ zero));
-  asked = λ two. (fault_status fault).1 (sym is ∙ two);
+-- a refusal at a line that was told is kept
+refusal_kept : (held : Option (List ℕ)) (line : ℕ) (old middle new : Option (List ℕ)) → TellsRefusal held line old middle → Keeps middle new
+    → TellsRefusal held line old new
+refusal_kept held line old middle new told kept = record {
+  text = told.text;
+  read = told.read;
+  told = elim told.told [
+    | inl (none, keeps) ↦ inl (none, keeps_twice old middle new keeps kept)
+    | inr (script, spells, refused) ↦ inr (
+      script,
+      spells,
+      record {
+        place = refused.place;
+        failed = refused.failed;
+        within = refused.within;
+        here = refused.here;
+        told = appends_kept old middle new _ refused.told kept;
+      },
+    )
+  ];
 }
 
--- how a recording ends of the files that were named
-pub recording_ends : (held : List ℕ → Option (List ℕ)) (script log script_name log_name : List ℕ) (old new : Option (List Write))
-    (done : Result (Unit {0}) Fault) (status : ℕ) → WritesLog (held script_name) log_name old new done
-    → script_name ≡ script → log_name ≡ log → status ≡ status_of (exit_by done) → EndsRecording (held script) log old new status
-recording_ends held script log script_name log_name old new done status asks script_is log_is is =
-    subst (λ (name : List ℕ). EndsRecording (held script) name old new status) log_is
-    (subst (λ (name : List ℕ). EndsRecording (held name) log_name old new status) script_is
-    (ends (held script_name) log_name old new done status asks is))
+-- why a run ended is kept
+run_kept : (text : List ℕ) (script : Plan) (old middle new : Option (List ℕ)) (fault : Fault) → EndsRun text script old middle fault
+    → Keeps middle new → EndsRun text script old new fault
+run_kept text script old middle new fault (file f is) kept = file f is
+run_kept text script old middle new fault (logging end is) kept = logging end is
+run_kept text script old middle new fault (close line refusal is) kept = close line refusal (record {
+  place = is.place;
+  failed = is.failed;
+  closes = is.closes;
+  here = is.here;
+  submitted = is.submitted;
+  told = appends_kept old middle new _ is.told kept;
+  cause = is.cause;
+})
 
--- a refusal that has written nothing
-pub refused_ends : (held : Option (List ℕ)) (log : List ℕ) (old new : Option (List Write)) (exit : Exit) (status : ℕ)
-    → exit ≡ Refused → status ≡ status_of exit → EndsRecording held log old new status
-refused_ends held log old new exit status refused is = record {
-  written = λ zero. let one : status ≡ 1 = is ∙ ap status_of refused in absurd (cc (one, zero));
-  asked = λ two. let one : status ≡ 1 = is ∙ ap status_of refused in cc (one, two);
+-- why a recording failed is kept
+failure_kept : (held old middle new : Option (List ℕ)) (fault : Fault) → FailsRecording held old middle fault → Keeps middle new
+    → FailsRecording held old new fault
+failure_kept held old middle new fault (file f is) kept = file f is
+failure_kept held old middle new fault (unread bytes line refusal read none first) kept = unread bytes line refusal read none first
+failure_kept held old middle new fault (ran bytes script f read spells ends) kept =
+    ran bytes script f read spells (run_kept bytes script old middle new f ends kept)
+
+-- what recording has told is kept
+records_kept : (held : Option (List ℕ)) (log : List ℕ) (writes_old writes_new : Option (List Write)) (old middle new : Option (List ℕ))
+    (done : Result (Unit {0}) Fault) → Records held log writes_old writes_new old middle done → Keeps middle new
+    → Records held log writes_old writes_new old new done
+records_kept held log writes_old writes_new old middle new (Ok u) (bytes, told, writes) kept = (
+  bytes,
+  record {
+    text = told.text;
+    script = told.script;
+    lines = told.lines;
+    read = told.read;
+    spelled = told.spelled;
+    image = told.image;
+    run = told.run;
+    told = appends_kept old middle new _ told.told kept;
+  },
+  writes,
+)
+records_kept held log writes_old writes_new old middle new (Err fault) (writes, refused, fails) kept =
+    (writes, λ line named. refusal_kept held line old middle new (refused line named) kept, failure_kept held old middle new fault fails kept)
+
+-- what recording comes to, by the clauses of the call
+pub records_all : (held : Option (List ℕ)) (log : List ℕ) (writes_old writes_new : Option (List Write)) (old new : Option (List ℕ))
+    (done : Result (Unit {0}) Fault) → WritesLog held log writes_old writes_new done
+    → OnOk done (TellsLog held log writes_old writes_new old new)
+    → IfErr done (λ fault. (line : ℕ) → named_line fault ≡ Some line → TellsRefusal held line old new)
+    → IfErr done (FailsRecording held old new) → Records held log writes_old writes_new old new done
+records_all held log writes_old writes_new old new (Ok u) writes told refused fails = told
+records_all held log writes_old writes_new old new (Err fault) writes told refused fails = (writes, refused, fails)
+
+-- how a recording ends of the files that were named
+pub recording_ends : (held : List ℕ → Option (List ℕ)) (script log script_name log_name : List ℕ) (writes_old writes_new : Option (List Write))
+    (old middle new : Option (List ℕ)) (done : Result (Unit {0}) Fault) (status : ℕ)
+    → Records (held script_name) log_name writes_old writes_new old middle done → Keeps middle new
+    → script_name ≡ script → log_name ≡ log → status ≡ status_of (exit_by done)
+    → EndsRecording (held script) log writes_old writes_new old new status
+recording_ends held script log script_name log_name writes_old writes_new old middle new done status records kept script_is log_is exits = record {
+  done = done;
+  recorded = subst (λ (name : List ℕ). Records (held script) name writes_old writes_new old new done) log_is
+      (subst (λ (name : List ℕ). Records (held name) log_name writes_old writes_new old new done) script_is
+      (records_kept (held script_name) log_name writes_old writes_new old middle new done records kept));
+  exits = exits;
+}
+
+-- how a recording ends whose command line finds no memory
+pub refused_ends : (held : Option (List ℕ)) (log : List ℕ) (writes : Option (List Write)) (old new : Option (List ℕ)) (exit : Exit) (status : ℕ)
+    → exit ≡ Refused → status ≡ status_of exit → EndsRecording held log writes writes old new status
+refused_ends held log writes old new exit status refused is = record {
+  done = Err memory_fault;
+  recorded = (inl refl, λ line named. absurd (cc), file memory_fault (inr refl));
+  exits = is ∙ ap status_of refused;
+}
+
+-- how a command on the image in a file ends
+pub showing_ends : (shows : Shows) (stable : IsKept shows) (held : List ℕ → Option (List ℕ)) (name log : List ℕ) (writes_old writes_new : Option (List Write))
+    (old middle new : Option (List ℕ)) (done : Result (Unit {0}) Fault) (status : ℕ) → log ≡ name → ShowsFile shows (held name) old middle done
+    → Keeps middle new → writes_new ≡ writes_old → status ≡ status_of (exit_by done)
+    → EndsShowing shows (held log) writes_old writes_new old new status
+showing_ends shows stable held name log writes_old writes_new old middle new done status is shown kept unwritten exits = record {
+  unwritten = unwritten;
+  done = done;
+  shown = shows_kept shows stable (held log) old middle new done
+      (subst (λ (n : List ℕ). ShowsFile shows (held n) old middle done) (sym is) shown) kept;
+  exits = exits;
+}
+
+-- how a command ends whose command line finds no memory
+pub unread_ends : (shows : Shows) (held : Option (List ℕ)) (writes : Option (List Write)) (old new : Option (List ℕ)) (exit : Exit) (status : ℕ)
+    → exit ≡ Refused → status ≡ status_of exit → Keeps old new → EndsShowing shows held writes writes old new status
+unread_ends shows held writes old new exit status refused is kept = record {
+  unwritten = refl;
+  done = Err memory_fault;
+  shown = inr (inr refl, kept);
+  exits = is ∙ ap status_of refused;
 }

@@ -1,44 +1,106 @@
-use Rattle.std.proofs.Common.{◌∙◌, arith, refl, codes, ℕ, ◌==◌, Bool, true, false, not, List, [], ◌∷◌, Option, Some, None, option_map, ◌≡◌}
-use Rattle.clap.specs.Words.{App, Row, Text, first_of, is_simple, subcommand_of, takes}
+use Rattle.std.proofs.Common.{◌∙◌, ◌<◌, ap, arith, inl, inr, refl, slice_index, sym, codes, ℕ, ◌==◌, true, false, not, List, [], ◌∷◌, Option, Some, None, option_map, ◌≡◌}
+use Rattle.clap.specs.Words.{Row, Text, first_of, is_simple, subcommand_of, takes}
 use Rattle.clap.specs.Words.{first_value, rows_of}
 use Rattle.clap.specs.declared.parser.matches.Found.{Found}
 use Rattle.clap.proofs.WalkLemmas.{first_value-rows}
 use Rattle.clap.proofs.OnLiterals.{clap_on_literals}
-use Rattle.dmlw.specs.CommandLine.{program_app, record_words, entered_words, is_plain}
+use Rattle.dmlw.specs.Tasks.{IsComplete}
+use Rattle.dmlw.specs.CommandLine.{Entered, Enters, entered_of, is_plain, log_words, program_app, record_words}
 
 -- a word that begins with another byte than a hyphen
 is_other : (x : ℕ) → not (x == 45) ≡ true → (x == 45) ≡ false
 is_other x plain = grind arith
 
-pub takes_plain : (p s l : List ℕ) → is_plain s ≡ true → is_plain l ≡ true → takes program_app (record_words p s l) ≡ true
+takes_plain : (p s l : List ℕ) → is_plain s ≡ true → is_plain l ≡ true → takes program_app (record_words p s l) ≡ true
 unfolding clap_on_literals
 takes_plain p [] [] plain_s plain_l = refl
 takes_plain p [] (y ∷ ys) plain_s plain_l = let f = is_other y plain_l in simp f
 takes_plain p (x ∷ xs) [] plain_s plain_l = let e = is_other x plain_s in simp e
 takes_plain p (x ∷ xs) (y ∷ ys) plain_s plain_l = let e = is_other x plain_s in let f = is_other y plain_l in simp (e, f)
 
-pub entered_plain : (p s l : List ℕ) → is_plain s ≡ true → is_plain l ≡ true
-    → entered_words (subcommand_of program_app (record_words p s l)) ≡ Some (codes "record", Some s, Some l)
+entered_plain : (p s l : List ℕ) → is_plain s ≡ true → is_plain l ≡ true
+    → entered_of (subcommand_of program_app (record_words p s l)) ≡ Some (codes "record", Some s, Some l)
 unfolding clap_on_literals
 entered_plain p [] [] plain_s plain_l = refl
 entered_plain p [] (y ∷ ys) plain_s plain_l = let f = is_other y plain_l in simp f
 entered_plain p (x ∷ xs) [] plain_s plain_l = let e = is_other x plain_s in simp e
 entered_plain p (x ∷ xs) (y ∷ ys) plain_s plain_l = let e = is_other x plain_s in let f = is_other y plain_l in simp (e, f)
 
--- what the words SCRIPT and LOG of the entered command are
-found_in_rows : (f : Found) (sub : Option (Text × List Row)) (name s l : List ℕ)
-    → Some (rows_of f) ≡ option_map (λ entered. entered.1) sub → entered_words sub ≡ Some (name, Some s, Some l)
-    → (first_of (codes "SCRIPT") (rows_of f) ≡ Some s) × (first_of (codes "LOG") (rows_of f) ≡ Some l)
-found_in_rows f None name s l rows words = cc
-found_in_rows f (Some p) name s l rows words = grind arith
+takes_list : (p l : List ℕ) → is_plain l ≡ true → takes program_app (log_words p (codes "list") l) ≡ true
+unfolding clap_on_literals
+takes_list p [] plain = refl
+takes_list p (y ∷ ys) plain = let f = is_other y plain in simp f
 
--- what the words SCRIPT and LOG of the entered command are
-pub found_words : (f : Found) (sub : Option (Text × List Row)) (name s l : List ℕ)
-    → Some (rows_of f) ≡ option_map (λ entered. entered.1) sub → entered_words sub ≡ Some (name, Some s, Some l)
-    → (first_value f (codes "SCRIPT") ≡ Some s) × (first_value f (codes "LOG") ≡ Some l)
-found_words f sub name s l rows words =
-    let found = found_in_rows f sub name s l rows words in
-    (first_value-rows f (codes "SCRIPT") ∙ found.0, first_value-rows f (codes "LOG") ∙ found.1)
+entered_list : (p l : List ℕ) → is_plain l ≡ true
+    → entered_of (subcommand_of program_app (log_words p (codes "list") l)) ≡ Some (codes "list", None, Some l)
+unfolding clap_on_literals
+entered_list p [] plain = refl
+entered_list p (y ∷ ys) plain = let f = is_other y plain in simp f
+
+takes_status : (p l : List ℕ) → is_plain l ≡ true → takes program_app (log_words p (codes "status") l) ≡ true
+unfolding clap_on_literals
+takes_status p [] plain = refl
+takes_status p (y ∷ ys) plain = let f = is_other y plain in simp f
+
+entered_status : (p l : List ℕ) → is_plain l ≡ true
+    → entered_of (subcommand_of program_app (log_words p (codes "status") l)) ≡ Some (codes "status", None, Some l)
+unfolding clap_on_literals
+entered_status p [] plain = refl
+entered_status p (y ∷ ys) plain = let f = is_other y plain in simp f
+
+-- a plain line asks to record
+pub record_enters : (p s l : List ℕ) → is_plain s ≡ true → is_plain l ≡ true
+    → Enters (record_words p s l) (codes "record", Some s, Some l)
+record_enters p s l plain_s plain_l = record { takes = takes_plain p s l plain_s plain_l; enters = entered_plain p s l plain_s plain_l }
+
+-- a plain line asks to list
+pub list_enters : (p l : List ℕ) → is_plain l ≡ true → Enters (log_words p (codes "list") l) (codes "list", None, Some l)
+list_enters p l plain = record { takes = takes_list p l plain; enters = entered_list p l plain }
+
+-- a plain line asks for a status
+pub status_enters : (p l : List ℕ) → is_plain l ≡ true → Enters (log_words p (codes "status") l) (codes "status", None, Some l)
+status_enters p l plain = record { takes = takes_status p l plain; enters = entered_status p l plain }
+
+-- these commands have their words
+pub record_complete : (script log : Text) → IsComplete (codes "record", Some script, Some log)
+record_complete script log = (refl, inl (refl, refl))
+
+pub list_complete : (log : Text) → IsComplete (codes "list", None, Some log)
+list_complete log = (refl, inr (inl refl))
+
+pub status_complete : (log : Text) → IsComplete (codes "status", None, Some log)
+status_complete log = (refl, inr (inr refl))
+
+-- what is wrapped alike is alike
+pub same_some : {A : Type 0} (x y : A) → Some x ≡ Some y → x ≡ y
+same_some x y same = cc
+
+-- the name of what was entered is that of its rows
+pub name_of_rows : {B : Type 0} (found : Option B) (row_of : B → Text × List Row) (name : Text)
+    → Some name ≡ option_map (λ b. (row_of b).0) found → Some name ≡ option_map (λ e. e.0) (option_map row_of found)
+name_of_rows None row_of name named = cc
+name_of_rows (Some b) row_of name named = named
+
+-- where a command has a name, one was entered
+pub found_some : (sub : Option (Text × List Row)) (name : Text) → Some name ≡ option_map (λ e. e.0) sub
+    → (entered : Entered) × (entered_of sub ≡ Some entered)
+found_some None name named = absurd (cc)
+found_some (Some p) name named = ((p.0, first_of (codes "SCRIPT") p.1, first_of (codes "LOG") p.1), refl)
+
+-- what a command that was entered is found as
+pub found_entered : (f : Found) (sub : Option (Text × List Row)) (name : Text) (entered : Entered)
+    → Some (rows_of f) ≡ option_map (λ e. e.1) sub → Some name ≡ option_map (λ e. e.0) sub → entered_of sub ≡ Some entered
+    → (entered.0 ≡ name) × (first_value f (codes "SCRIPT") ≡ entered.1) × (first_value f (codes "LOG") ≡ entered.2)
+found_entered f None name entered rows named words = cc
+found_entered f (Some p) name entered rows named words =
+    let same : rows_of f ≡ p.1 = same_some (rows_of f) p.1 rows in
+    let is : (p.0, first_of (codes "SCRIPT") p.1, first_of (codes "LOG") p.1) ≡ entered = same_some _ entered words in
+    let script = first_value-rows f (codes "SCRIPT") in
+    let log = first_value-rows f (codes "LOG") in (
+      sym (ap (λ (e : Entered). e.0) is) ∙ sym (same_some name p.0 named),
+      script ∙ ap (first_of (codes "SCRIPT")) same ∙ ap (λ (e : Entered). e.1) is,
+      log ∙ ap (first_of (codes "LOG")) same ∙ ap (λ (e : Entered). e.2) is,
+    )
 
 -- what a parse of this command line finds is a function of its words
 pub is_simple_app : is_simple program_app ≡ true
@@ -50,3 +112,26 @@ pub not_missing : {A : Type 0} (r : Option A) (text_of : A → Text) (text : Tex
     → option_map text_of r ≡ shown → shown ≡ Some text → r ≡ None → ⊥
 not_missing None text_of text shown shows is_text none = cc
 not_missing (Some x) text_of text shown shows is_text none = cc
+
+-- names with other first letters are other names
+pub other_name : (name first second : Text) → name ≡ first → name ≡ second → slice_index first 0 < slice_index second 0 → ⊥
+other_name name first second is_first is_second less =
+    let same : slice_index first 0 ≡ slice_index second 0 = ap (λ (text : Text). slice_index text 0) (sym is_first ∙ is_second) in
+    absurd (omega arith)
+
+-- a complete command has a log
+pub has_log : {A : Type 0} (entered : Entered) (word : Option A) (text_of : A → Text) → IsComplete entered → option_map text_of word ≡ entered.2 → word ≡ None → ⊥
+has_log entered None text_of complete is none = let some = complete.0 in cc
+has_log entered (Some x) text_of complete is none = cc
+
+-- a complete command to record has a script
+pub has_script : {A : Type 0} (entered : Entered) (word : Option A) (text_of : A → Text) → IsComplete entered → entered.0 ≡ codes "record"
+    → option_map text_of word ≡ entered.1 → word ≡ None → ⊥
+has_script entered None text_of complete name is none = elim complete.1 [
+  | inl own ↦ let some = own.1 in cc
+  | inr other ↦ elim other [
+    | inl is_list ↦ other_name entered.0 (codes "list") (codes "record") is_list name (omega arith)
+    | inr is_status ↦ other_name entered.0 (codes "record") (codes "status") name is_status (omega arith)
+  ]
+]
+has_script entered (Some x) text_of complete name is none = cc

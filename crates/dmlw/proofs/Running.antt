@@ -1,13 +1,12 @@
-use Rattle.std.proofs.Common.{◌≡◌, ◌∙◌, ℕ, zero, suc, ◌+◌, ◌*◌, ◌<◌, ◌≤◌, Bool, true, false, not, ◌&&◌, ◌||◌, IsTrue, Option, Some, None, is_none, option_map, List, [], ◌∷◌, ◌++◌, length, drop, map, take, slice_index, slice_index_or, append_assoc, add-one, ap, arith, sym, refl, subst, if◌then◌else◌, Result, Ok, Err, OnOk, IfOk}
-use Rattle.std.specs.List.{list_all, list_any, slice_get}
+use Rattle.std.proofs.Common.{◌≡◌, ◌∙◌, ℕ, zero, suc, ◌+◌, ◌<◌, ◌≤◌, Bool, true, false, ◌||◌, Option, Some, None, is_none, option_map, List, [], ◌∷◌, ◌++◌, length, drop, map, take, slice_index, slice_index_or, add-one, ap, arith, sym, refl, subst, if◌then◌else◌, Result, Ok, Err, OnOk}
+use Rattle.std.specs.List.{list_any, slice_get}
 use Rattle.std.proofs.Math.Seq.{drop-cons, take-suc}
-use Rattle.std.proofs.lemmas.List.{append-nil, drop-map, length-append, length-map, map-append, take-append-drop, take_all}
-use Rattle.std.proofs.lemmas.List.Folds.{list_all-append, list_all-map, list_any-append}
+use Rattle.std.proofs.lemmas.List.{append-nil, length-map, map-append, take-append-drop, take_all}
+use Rattle.std.proofs.lemmas.List.Folds.{list_any-append}
 use Rattle.std.proofs.lemmas.Option.{get_or_from_slice_get, slice_get-get_or, slice_get-map, slice_get_within}
 use Rattle.bio.specs.declared.event.CoreEvent.{CoreEvent}
 use Rattle.bio.specs.declared.event.CoreEvent.TheVariants as events
 use Rattle.bio.specs.declared.request.Bio.{Bio}
-use Rattle.bio.specs.declared.request.Bio.TheVariants as bios
 use Rattle.bio.specs.EventLaws.{first_place-snoc, is_none-none}
 use Rattle.bio.specs.PlaceLaws.{both_true, slice_get-append_front}
 use Rattle.bio.specs.Events.{first_place, is_close, is_stop}
@@ -18,16 +17,14 @@ use Rattle.dmlw_script.specs.declared.command.Command.{Command}
 use Rattle.dmlw_script.specs.declared.command.Command.TheVariants.{Write, Flush, Complete, Close}
 use Rattle.dmlw_script.specs.Plans.{IsOrderly, IsPlan, MayCome, Plan, is_disk_size, is_submission}
 use Rattle.bio.specs.Check.{range_answer}
-use Rattle.log_format.specs.declared.entry.Entry.{Entry}
-use Rattle.log_format.specs.Entries.{is_readable}
 use Rattle.pending.specs.CompletionList.{Item, completion_list}
 use Rattle.pending.specs.CoreState.{CoreState, added_to, closed_by, items_of, records}
 use Rattle.pending.specs.QueueEvent.{recorded}
 use Rattle.dmlw.specs.declared.fill.Filled.{Filled}
 use Rattle.dmlw.specs.declared.recording.Recording.{Recording}
 use Rattle.dmlw.specs.declared.recording.Request.{Request}
-use Rattle.dmlw.specs.declared.recording.Request.TheVariants.{Tracked, Passed, Failed}
-use Rattle.dmlw.specs.Image.{HasEntries, entries_left}
+use Rattle.dmlw.specs.declared.recording.Request.TheVariants.{Tracked}
+use Rattle.dmlw.specs.Image.{entries_left}
 use Rattle.dmlw.specs.Recorded.{IsWithin, entries_of, event_of, events_of, has_close, ids_of, submitted_from, until_close, is_close as ends}
 use Rattle.dmlw.specs.Recordings.{GoesOn, HasRun, IsRecording, Stands}
 
@@ -171,7 +168,7 @@ tracked_at ids requests request id are here =
     unmapped (Some other) same = cc same
 
 -- no request passed, or found no memory, that was recorded
-all_tracked : (ids : List ℕ) (requests : List Request) (request : ℕ) (other : Request) → requests ≡ map Tracked ids
+pub all_tracked : (ids : List ℕ) (requests : List Request) (request : ℕ) (other : Request) → requests ≡ map Tracked ids
     → slice_get requests request ≡ Some other → ((id : ℕ) → other ≡ Tracked id → ⊥) → ⊥
 all_tracked ids requests request other are here differs =
     let mapped : option_map Tracked (slice_get ids request) ≡ Some other =
@@ -220,7 +217,7 @@ until_here (command ∷ front) rest none =
     neither false b none = (refl, none)
 
 -- a script with a Close is closed
-closes_here : (front rest : List Command) → has_close (front ++ Close ∷ rest) ≡ true
+pub closes_here : (front rest : List Command) → has_close (front ++ Close ∷ rest) ≡ true
 closes_here front rest =
     list_any-append ends front (Close ∷ rest) ∙ or_true (list_any ends front)
   where

@@ -1,5 +1,5 @@
-use Rattle.std.specs.Prelude.{ℕ, ◌==◌, Bool, true, false, not, List, [], ◌∷◌, Option, option_map, codes}
-use Rattle.clap.specs.Words.{App, Row, Rule, Text, first_of, new_app, new_rule, with_rule, with_subcommand}
+use Rattle.std.specs.Prelude.{◌≡◌, ℕ, ◌==◌, Bool, true, not, List, [], ◌∷◌, Option, Some, option_map, codes}
+use Rattle.clap.specs.Words.{App, Row, Rule, Text, first_of, new_app, new_rule, subcommand_of, takes, with_rule, with_subcommand}
 use Rattle.clap.specs.Simple.{on_top}
 
 -- the word doesn't begin with a hyphen
@@ -11,6 +11,10 @@ is_plain (x ∷ xs) = not (x == 45)
 abbrev pub record_words : List ℕ → List ℕ → List ℕ → List (List ℕ)
 record_words program script log = program ∷ codes "record" ∷ script ∷ log ∷ []
 
+-- a command line that asks something of a log by the name of a command; its first word is the program's name
+abbrev pub log_words : List ℕ → List ℕ → List ℕ → List (List ℕ)
+log_words program command log = program ∷ command ∷ log ∷ []
+
 -- a word that a command's line has to have
 abbrev pub file_rule : Text → Rule
 file_rule name = record (new_rule name) { required = true }
@@ -19,12 +23,29 @@ file_rule name = record (new_rule name) { required = true }
 abbrev pub record_app : App
 record_app = with_rule (with_rule (new_app (codes "record")) (file_rule (codes "SCRIPT"))) (file_rule (codes "LOG"))
 
+-- a command of this name that reads a log, as clap reads it
+abbrev pub log_app : Text → App
+log_app name = with_rule (new_app name) (file_rule (codes "LOG"))
+
+-- the program's command line without its commands, as clap reads it
+abbrev pub bare_app : App
+bare_app =
+    on_top (λ top. record top { has_version = true; subcommand_required = true; arg_required_else_help = true }) (new_app (codes "dmlw"))
+
 -- the program's command line, as clap reads it
 abbrev pub program_app : App
 program_app =
-    with_subcommand (on_top (λ top. record top { has_version = true; subcommand_required = true; arg_required_else_help = true })
-    (new_app (codes "dmlw"))) record_app.top
+    with_subcommand (with_subcommand (with_subcommand bare_app record_app.top) (log_app (codes "list")).top) (log_app (codes "status")).top
 
--- the name of the command that was entered, and its words SCRIPT and LOG
-abbrev pub entered_words : Option (Text × List Row) → Option (Text × Option Text × Option Text)
-entered_words = option_map (λ entered. (entered.0, first_of (codes "SCRIPT") entered.1, first_of (codes "LOG") entered.1))
+-- the command that was entered: its name, and its words SCRIPT and LOG
+abbrev pub Entered : Type 0
+Entered = Text × Option Text × Option Text
+
+-- the command that a parse has entered
+abbrev pub entered_of : Option (Text × List Row) → Option Entered
+entered_of = option_map (λ entered. (entered.0, first_of (codes "SCRIPT") entered.1, first_of (codes "LOG") entered.1))
+
+-- the words of a command line enter this command
+pub record Enters (words : List Text) (entered : Entered) : Type 0 where
+  pub takes : takes program_app words ≡ true
+  pub enters : entered_of (subcommand_of program_app words) ≡ Some entered

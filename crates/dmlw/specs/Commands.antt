@@ -1,19 +1,25 @@
 -- What a command line comes to.
-use Rattle.std.specs.Prelude.{◌≡◌, ◌≢◌, ◌≤◌, ◌⊎◌, ℕ, List, MatchResult, None, Option, Result}
+use Rattle.std.specs.Prelude.{◌≡◌, ◌≤◌, ◌⊎◌, ℕ, List, MatchResult, Option, Some, Result, Ok, Err}
 use Rattle.std.specs.declared.io.ErrorKind.{ErrorKind as IoErrorKind}
 use Rattle.std.specs.declared.io.ErrorKind.TheVariants.{InvalidData}
-use Rattle.bio.specs.declared.refusal.Refusal.TheVariants as refusals
 use Rattle.clap.specs.declared.error.kind.ErrorKind.{ErrorKind}
 use Rattle.clap.specs.declared.error.kind.ErrorKind.TheVariants.{DisplayHelp, DisplayVersion, OutOfMemory}
 use Rattle.dmlw_script.specs.Grammar.{Spells}
 use Rattle.dmlw_script.specs.Plans.{Plan}
+use Rattle.clap.specs.Words.{kind_of}
+use Rattle.dmlw.specs.declared.command_line.Task.{Task}
+use Rattle.dmlw.specs.declared.command_line.Task.TheVariants as tasks
 use Rattle.dmlw.specs.declared.exit.Exit.{Exit}
 use Rattle.dmlw.specs.declared.exit.Exit.TheVariants.{Done, Refused, Usage}
 use Rattle.dmlw.specs.declared.fault.Fault.{Fault}
-use Rattle.dmlw.specs.declared.fault.Fault.TheVariants as faults
+use Rattle.dmlw.specs.Exits.{status_of}
+use Rattle.dmlw.specs.Faults.{IsFileFault, exit_by}
 use Rattle.dmlw.specs.Files.{IsHeld, Write, one_more}
 use Rattle.dmlw.specs.Image.{log_image}
+use Rattle.dmlw.specs.Lists.{ListsImage, Shows, ShowsFile, TellsStatus}
+use Rattle.dmlw.specs.Printed.{TellsLog, TellsRefusal, named_line}
 use Rattle.dmlw.specs.Recorded.{entries_of}
+use Rattle.dmlw.specs.RunFaults.{FailsRecording}
 
 -- the bytes are those of the log of the script that a file's bytes spell
 pub record IsLogOf (held : Option (List ℕ)) (bytes : List ℕ) : Type 0 where
@@ -26,10 +32,6 @@ pub record IsLogOf (held : Option (List ℕ)) (bytes : List ℕ) : Type 0 where
 -- one more write was asked for: of the file of this name, which is to hold the log of that script
 abbrev pub AsksLog : Option (List ℕ) → List ℕ → Option (List Write) → Option (List Write) → Type 0
 AsksLog held name old new = (bytes : List ℕ) × IsLogOf held bytes × (new ≡ one_more old name bytes)
-
--- a file can't be written, or there is no memory for it
-abbrev pub IsFileFault : Fault → Type 0
-IsFileFault fault = (fault ≡ faults.Refused None refusals.File) ⊎ (fault ≡ faults.Refused None refusals.Memory)
 
 -- Where recording a script succeeds it has asked for its log to be written, and for no other file. Where it fails it
 -- has asked for no file, or for the log, which couldn't be written.
@@ -57,8 +59,36 @@ pub record EndsCommand (old new : Option (List Write)) (status : ℕ) : Type 0 w
   pub once : (new ≡ old) ⊎ ((name bytes : List ℕ) × (new ≡ one_more old name bytes))
   pub unwritten : 2 ≤ status → new ≡ old
 
--- How the recording of a script in a log of this name ends: with status 0 only where the log was written, and never
--- as a usage fault.
-pub record EndsRecording (held : Option (List ℕ)) (log : List ℕ) (old new : Option (List Write)) (status : ℕ) : Type 0 where
-  pub written : status ≡ 0 → AsksLog held log old new
-  pub asked : status ≢ 2
+-- What recording a script in a log of this name comes to, from what a writer held to what it holds: where it succeeds
+-- it has told what happened and how far the log has come; where it is refused at a line, what happened before that line;
+-- and why it fails.
+abbrev pub Records : Option (List ℕ) → List ℕ → Option (List Write) → Option (List Write) → Option (List ℕ) → Option (List ℕ) → Result (Unit {0}) Fault → Type 0
+Records held name writes_old writes_new old new (Ok done) = TellsLog held name writes_old writes_new old new
+Records held name writes_old writes_new old new (Err fault) =
+    WritesLog held name writes_old writes_new (Err fault)
+    × ((line : ℕ) → named_line fault ≡ Some line → TellsRefusal held line old new)
+    × FailsRecording held old new fault
+
+-- How the recording of a script in a log of this name ends: with the status of what it did.
+pub record EndsRecording (held : Option (List ℕ)) (log : List ℕ) (writes_old writes_new : Option (List Write)) (old new : Option (List ℕ)) (status : ℕ)
+    : Type 0 where
+  pub done : Result (Unit {0}) Fault
+  pub recorded : Records held log writes_old writes_new old new done
+  pub exits : status ≡ status_of (exit_by done)
+
+-- How a command on the image in a file ends: no file was asked to be written, and the status is that of what it did.
+pub record EndsShowing (shows : Shows) (held : Option (List ℕ)) (writes_old writes_new : Option (List Write)) (old new : Option (List ℕ)) (status : ℕ)
+    : Type 0 where
+  pub unwritten : writes_new ≡ writes_old
+  pub done : Result (Unit {0}) Fault
+  pub shown : ShowsFile shows held old new done
+  pub exits : status ≡ status_of (exit_by done)
+
+-- How a task ends, over files that hold this: a text that is shown writes no file, and its status is that of its kind.
+abbrev pub EndsTask : Task → (List ℕ → Option (List ℕ)) → Option (List Write) → Option (List Write) → Option (List ℕ) → Option (List ℕ) → ℕ → Type 0
+EndsTask (tasks.Record script log) held writes_old writes_new old new status =
+    EndsRecording (held script.now) log.now writes_old writes_new old new status
+EndsTask (tasks.List log) held writes_old writes_new old new status = EndsShowing ListsImage (held log.now) writes_old writes_new old new status
+EndsTask (tasks.Status log) held writes_old writes_new old new status = EndsShowing TellsStatus (held log.now) writes_old writes_new old new status
+EndsTask (tasks.Show error) held writes_old writes_new old new status =
+    (writes_new ≡ writes_old) × ((exit : Exit) × EndsUntasked (kind_of error) exit × (status ≡ status_of exit))

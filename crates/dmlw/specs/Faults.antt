@@ -1,9 +1,10 @@
-use Rattle.std.specs.Prelude.{ℕ, List, ◌∷◌, ◌++◌, None, Some, Result, Ok, Err, codes}
+use Rattle.std.specs.Prelude.{◌≡◌, ◌⊎◌, ℕ, List, ◌++◌, None, Some, Result, Ok, Err, codes}
 use Rattle.std.specs.Fmt.{decimal}
 use Rattle.bio.specs.declared.outcome.End.{End}
 use Rattle.bio.specs.declared.refusal.Refusal.{Refusal}
 use Rattle.bio.specs.declared.refusal.Refusal.TheVariants as refusals
-use Rattle.bio.specs.Refusals.{row_of, end_refusal}
+use Rattle.bio.specs.Refusals.{end_refusal}
+use Rattle.bio.specs.Texts.{refusal_text}
 use Rattle.dmlw_script.specs.declared.fault.ScriptFault.{ScriptFault}
 use Rattle.dmlw.specs.declared.exit.Exit.{Exit}
 use Rattle.dmlw.specs.declared.exit.Exit.TheVariants as exits
@@ -36,9 +37,9 @@ abbrev pub exit_by : Result (Unit {0}) Fault → Exit
 exit_by (Ok done) = exits.Done
 exit_by (Err fault) = exit_of fault
 
--- the number and the name of a refusal
-abbrev pub refusal_text : Refusal → List ℕ
-refusal_text refusal = decimal (row_of refusal).0 ++ codes " " ++ (row_of refusal).1
+-- a file can't be read or written, or there is no memory for it
+abbrev pub IsFileFault : Fault → Type 0
+IsFileFault fault = (fault ≡ refused_by refusals.File) ⊎ (fault ≡ memory_fault)
 
 -- the line, without its end, that tells a fault to the user
 abbrev pub fault_text : Fault → List ℕ

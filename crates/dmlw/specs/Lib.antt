@@ -3,8 +3,11 @@ pub mod Faults
 pub mod Files
 pub mod FileErrors
 pub mod Image
+pub mod Lists
 pub mod CommandLine
 pub mod Tasks
 pub mod Commands
 pub mod Recorded
+pub mod Printed
 pub mod Recordings
+pub mod RunFaults

@@ -1,8 +1,8 @@
-ghost use Rattle.std.specs.Prelude.{◌≡◌, IfOk, IsSomeAnd, List, MatchResult, Some, codes, false, map, true, ℕ};
-ghost use Rattle.clap.specs.Words.{app_of, kind_of, rule_of, subcommand_rows_of};
+ghost use Rattle.std.specs.Prelude.{◌≡◌, IfErr, IfOk, IfSome, Some, false, is_some, map, true};
+ghost use Rattle.clap.specs.Words.{app_of, kind_of, rule_of, subcommand_of, subcommand_rows_of, takes};
 ghost use Rattle.clap.specs.declared.builder.command.Command.TheViews.{out-Command as fields_of};
-ghost use Rattle.dmlw.specs.CommandLine.{entered_words, file_rule, is_plain, program_app, record_app, record_words};
-ghost use Rattle.dmlw.specs.Tasks.{AsksToRecord};
+ghost use Rattle.dmlw.specs.CommandLine.{Entered, Enters, bare_app, entered_of, file_rule, log_app, program_app, record_app};
+ghost use Rattle.dmlw.specs.Tasks.{Asks, IsAskedBy, IsComplete, IsRead};
 
 use clap::error::ErrorKind;
 use clap::{Arg, ArgMatches, Command, Error};
@@ -14,6 +14,10 @@ use std::convert::AsStr;
 pub enum Task<'a> {
     /// To record the requests of a script in a new log. Both are names of files.
     Record { script: &'a str, log: &'a str },
+    /// To list the entries of the log in the file of this name.
+    List { log: &'a str },
+    /// To tell the status of the log in the file of this name.
+    Status { log: &'a str },
     /// To show a text: help, the version, or why the line isn't one of the program's.
     Show(Error),
 }
@@ -36,40 +40,65 @@ fn record_command<'a>(alloc: Global) -> Result<Command<'a>, AllocError>
         .arg(file(alloc, "LOG", "The log to write"))
 }
 
-fn program_command<'a>(alloc: Global) -> Result<Command<'a>, AllocError>
-    ensures { IfOk result (λ command. app_of command ≡ program_app) }
+// A command that reads a log.
+fn log_command<'a>(alloc: Global, name: &'a str, about: &'a str) -> Result<Command<'a>, AllocError>
+    ensures app { IfOk result (λ command. app_of command ≡ log_app name.entry.now) }
+    ensures own { IfOk result (λ command. (fields_of command).has_globals ≡ false) }
+{
+    Command::new(alloc, name)
+        .about(about)
+        .arg(file(alloc, "LOG", "The log to read"))
+}
+
+// The program's command without those that it is asked by.
+fn bare_command<'a>(alloc: Global) -> Command<'a>
+    ensures { app_of result ≡ bare_app }
 {
     Command::new(alloc, "dmlw")
-        .about("Records block requests in a log")
+        .about("Records block requests in a log, and reads logs back")
         .version("0.1")
         .subcommand_required(true)
         .arg_required_else_help(true)
-        .subcommand(record_command(alloc)?)
+}
+
+fn program_command<'a>(alloc: Global) -> Result<Command<'a>, AllocError>
+    ensures { IfOk result (λ command. app_of command ≡ program_app) }
+{
+    let list = log_command(alloc, "list", "Lists the entries of a log")?;
+    let status = log_command(alloc, "status", "Tells how far a log has come")?;
+    bare_command(alloc)
+        .subcommand(record_command(alloc)?)?
+        .subcommand(list)?
+        .subcommand(status)
 }
 
 // The task that a parse found.
 fn task_of<'a>(matches: &ArgMatches<'a>) -> Option<Task<'a>>
-    ensures { (script log : List ℕ) →
-        entered_words (subcommand_rows_of matches.now) ≡ Some (codes "record", Some script, Some log) →
-        IsSomeAnd result (AsksToRecord script log) }
+    ensures asks { IfSome result (IsAskedBy (entered_of (subcommand_rows_of matches.now))) }
+    ensures complete { (entered : Entered) → entered_of (subcommand_rows_of matches.now) ≡ Some entered →
+        IsComplete entered → is_some result ≡ true }
 {
     let (name, found) = matches.subcommand()?;
+    let log = found.get_str("LOG")?;
     if name == "record" {
         let script = found.get_str("SCRIPT")?;
-        let log = found.get_str("LOG")?;
         return Some(Task::Record { script, log });
+    }
+    if name == "list" {
+        return Some(Task::List { log });
+    }
+    if name == "status" {
+        return Some(Task::Status { log });
     }
     None
 }
 
 // Parses the command line.
 fn parse<'a, S: AsStr>(alloc: Global, words: &'a [S]) -> Result<ArgMatches<'a>, Error>
-    ensures { (program script log : List ℕ) →
-        map S.text words.entry.now ≡ record_words program script log →
-        is_plain script ≡ true → is_plain log ≡ true →
-        MatchResult result
-        (λ matches. entered_words (subcommand_rows_of matches) ≡ Some (codes "record", Some script, Some log))
-        (λ error. kind_of error ≡ ErrorKind.OutOfMemory) }
+    ensures entered { IfOk result (λ matches.
+        subcommand_rows_of matches ≡ subcommand_of program_app (map S.text words.entry.now)) }
+    ensures takes { IfErr result (λ error.
+        takes program_app (map S.text words.entry.now) ≡ true → kind_of error ≡ ErrorKind.OutOfMemory) }
 {
     program_command(alloc)?.try_get_matches_from(words)
 }
@@ -86,11 +115,12 @@ fn missing_word(alloc: Global) -> Result<Error, AllocError> {
     program_command(alloc)?.error(ErrorKind::MissingRequiredArgument, "a word is missing")
 }
 
-/// Reads the command line; the first word is the program's name.
+/// Reads the command line; the first word is the program's name. A name of a file is taken as it
+/// stands where it doesn't begin with a hyphen.
 pub fn read_words<'a, S: AsStr>(alloc: Global, words: &'a [S]) -> Task<'a>
-    ensures { (program script log : List ℕ) →
-        map S.text words.entry.now ≡ record_words program script log →
-        is_plain script ≡ true → is_plain log ≡ true → AsksToRecord script log result }
+    ensures asks { (entered : Entered) → Enters (map S.text words.entry.now) entered → IsComplete entered →
+        Asks entered result }
+    ensures only { IsRead (map S.text words.entry.now) result }
 {
     match parse(alloc, words) {
         Ok(matches) => match task_of(&matches) {

@@ -1,16 +1,22 @@
-ghost use Rattle.std.specs.Prelude.{◌≡◌, IfErr, List, map, true, ℕ};
+ghost use Rattle.std.specs.Prelude.{◌≡◌, IfErr, List, codes, map, true, ℕ};
+ghost use Rattle.std.specs.Io.KnownBytes.{Keeps};
 ghost use Rattle.std.specs.IoError.{error_kind};
 ghost use Rattle.clap.specs.Words.{kind_of};
-ghost use Rattle.dmlw.specs.CommandLine.{is_plain, record_words};
-ghost use Rattle.dmlw.specs.Commands.{EndsCommand, EndsRecording, EndsUntasked, IsFileFault, unread_exit};
+ghost use Rattle.dmlw.specs.CommandLine.{is_plain, log_words, record_words};
+ghost use Rattle.dmlw.specs.Commands.{EndsCommand, EndsRecording, EndsShowing, EndsTask, EndsUntasked, unread_exit};
+ghost use Rattle.dmlw.specs.Tasks.{IsRead};
+ghost use Rattle.dmlw.specs.declared.command_line.Task.{Task};
 ghost use Rattle.dmlw.specs.Exits.{status_of};
-ghost use Rattle.dmlw.specs.Faults.{exit_by, exit_of};
+ghost use Rattle.dmlw.specs.Faults.{IsFileFault, exit_by, exit_of};
+ghost use Rattle.dmlw.specs.Lists.{ListsImage, TellsStatus};
 
 use crate::command_line::{Task, read_words};
 use crate::exit::Exit;
 use crate::fault::Fault;
 use crate::files::Files;
+use crate::list::list;
 use crate::record::record;
+use crate::status::status;
 use bio::Refusal;
 use clap::Error;
 use clap::error::ErrorKind;
@@ -30,16 +36,39 @@ pub fn execute<'a, S: AsStr, F: Files, O: Write, E: Write>(
     out: &mut O,
     err: &mut E,
 ) -> u8
+    // Whatever the words are: it does what they are read as, and no more.
+    ensures does { (task : Task) × IsRead (map S.text words.entry.now) task ×
+        EndsTask task (F.held files.old) (F.writes files.old) (F.writes files.new)
+        (O.contents out.old) (O.contents out.new) result }
     ensures command { EndsCommand (F.writes files.old) (F.writes files.new) result }
+
+    // Words that don't begin with a hyphen are names of files.
     ensures record { (program script log : List ℕ) →
         map S.text words.entry.now ≡ record_words program script log →
         is_plain script ≡ true → is_plain log ≡ true →
-        EndsRecording (F.held files.old script) log (F.writes files.old) (F.writes files.new) result }
+        EndsRecording (F.held files.old script) log (F.writes files.old) (F.writes files.new)
+        (O.contents out.old) (O.contents out.new) result }
+    ensures list { (program log : List ℕ) →
+        map S.text words.entry.now ≡ log_words program (codes "list") log → is_plain log ≡ true →
+        EndsShowing ListsImage (F.held files.old log) (F.writes files.old) (F.writes files.new)
+        (O.contents out.old) (O.contents out.new) result }
+    ensures status { (program log : List ℕ) →
+        map S.text words.entry.now ≡ log_words program (codes "status") log → is_plain log ≡ true →
+        EndsShowing TellsStatus (F.held files.old log) (F.writes files.old) (F.writes files.new)
+        (O.contents out.old) (O.contents out.new) result }
 {
     let exit = match read_words(alloc, words) {
         Task::Record { script, log } => {
             let recorded = record(alloc, script, log, files, out);
             end(recorded, out, err)
+        }
+        Task::List { log } => {
+            let listed = list(alloc, log, files, out);
+            end(listed, out, err)
+        }
+        Task::Status { log } => {
+            let told = status(alloc, log, files, out);
+            end(told, out, err)
         }
         Task::Show(text) => show(text, out, err),
     };
@@ -63,7 +92,8 @@ pub fn refuse<E: Write>(error: io::Error, err: &mut E) -> u8
 
 // How a command ends that did this. A fault is told, behind what was printed before it.
 fn end<O: Write, E: Write>(done: Result<(), Fault>, out: &mut O, err: &mut E) -> Exit
-    ensures { result ≡ exit_by done }
+    ensures exit { result ≡ exit_by done }
+    ensures kept { Keeps (O.contents out.old) (O.contents out.new) }
 {
     match done {
         Ok(()) => Exit::Done,
@@ -85,7 +115,8 @@ fn tell<E: Write>(fault: Fault, err: &mut E) -> Exit
 
 // Shows the text of a command line that has no other task.
 fn show<O: Write, E: Write>(text: Error, out: &mut O, err: &mut E) -> Exit
-    ensures { EndsUntasked (kind_of text) result }
+    ensures ends { EndsUntasked (kind_of text) result }
+    ensures kept { kind_of text ≡ ErrorKind.OutOfMemory → Keeps (O.contents out.old) (O.contents out.new) }
 {
     match text.kind() {
         ErrorKind::OutOfMemory => tell(Fault::refused(Refusal::Memory), err),

@@ -1,5 +1,6 @@
 ghost use Rattle.std.specs.Prelude.{◌≡◌, Some};
 ghost use Rattle.std.specs.IoError.{error_kind};
+ghost use Rattle.log_reader.specs.Refusals.{fault_refusal, open_refusal, status_refusal};
 ghost use Rattle.dmlw.specs.FileErrors.{file_error, file_refusal};
 ghost use Rattle.dmlw.specs.Faults.{ended_by, exit_of, fault_text, memory_fault, refused_by, script_fault};
 
@@ -7,6 +8,7 @@ use crate::exit::Exit;
 use crate::files::FileError;
 use bio::{End, Refusal};
 use dmlw_script::ScriptFault;
+use log_reader::{LogFault, OpenError, StatusError};
 use std::alloc::AllocError;
 use std::{fmt, io};
 
@@ -49,11 +51,9 @@ impl fmt::Display for Fault {
             Fault::Refused { line, refusal } => (*line, *refusal),
             Fault::LoggingEnded(end) => (None, Refusal::from(*end)),
         };
-        let number = refusal.number();
-        let name = refusal.name();
         match line {
-            None => write!(f, "dmlw: {number} {name}"),
-            Some(line) => write!(f, "dmlw: line {line}: {number} {name}"),
+            None => write!(f, "dmlw: {refusal}"),
+            Some(line) => write!(f, "dmlw: line {line}: {refusal}"),
         }
     }
 }
@@ -98,5 +98,29 @@ impl From<ScriptFault> for Fault {
             line: fault.line,
             refusal: fault.refusal,
         }
+    }
+}
+
+impl From<OpenError> for Fault {
+    ghost from_gives = { λ error fault. fault ≡ refused_by (open_refusal error) };
+
+    fn from(error: OpenError) -> Fault {
+        Fault::refused(Refusal::from(error))
+    }
+}
+
+impl From<LogFault> for Fault {
+    ghost from_gives = { λ found fault. fault ≡ refused_by (fault_refusal found) };
+
+    fn from(found: LogFault) -> Fault {
+        Fault::refused(Refusal::from(found))
+    }
+}
+
+impl From<StatusError> for Fault {
+    ghost from_gives = { λ error fault. fault ≡ refused_by (status_refusal error) };
+
+    fn from(error: StatusError) -> Fault {
+        Fault::refused(Refusal::from(error))
     }
 }

@@ -1,8 +1,13 @@
-//! dmlw records block requests in a log, as the kernel's dm-log-writes does.
+//! dmlw records block requests in a log, as the kernel's dm-log-writes does, and reads such logs back.
 //!
 //! `dmlw record SCRIPT LOG` runs a script of writes, flushes and their ends, and writes the log of the
-//! whole run, byte for byte. `execute` does one command over files and writers of any kind; `main`
-//! calls it over the system's.
+//! whole run, byte for byte. `dmlw list LOG` prints a log's entries up to the first fault, `dmlw status
+//! LOG` how far the log has come. `execute` does one command over files and writers of any kind; its
+//! contract says of each command what it has printed and which file it has asked to be written, in
+//! the words of `specs/Commands`. `recording::run` leaves the log of the completion list of a script's
+//! events (`specs/Recorded`, `specs/Image`); `list` and `status` print what is read of an image
+//! (`specs/Lists`). `main` calls `execute` over the system's files and streams, of which no clause knows
+//! what they hold.
 #![tactic(auto)]
 
 mod command_line;
@@ -12,8 +17,11 @@ mod fault;
 mod files;
 mod fill;
 mod host_files;
+mod image;
+mod list;
 mod record;
 mod recording;
+mod status;
 #[cfg(test)]
 mod tests;
 

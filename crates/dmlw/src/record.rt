@@ -1,5 +1,7 @@
-ghost use Rattle.std.specs.Prelude.{◌≡◌, IfOk};
+ghost use Rattle.std.specs.Prelude.{◌≡◌, IfErr, IfOk, OnOk, Some, ℕ};
 ghost use Rattle.dmlw.specs.Commands.{IsLogOf, WritesLog};
+ghost use Rattle.dmlw.specs.Printed.{IsToldLogOf, TellsLog, TellsRefusal, named_line};
+ghost use Rattle.dmlw.specs.RunFaults.{FailsRecording};
 
 use crate::fault::Fault;
 use crate::files::Files;
@@ -21,7 +23,13 @@ pub fn record<F: Files, O: Write>(
     files: &mut F,
     out: &mut O,
 ) -> Result<(), Fault>
-    ensures { WritesLog (F.held files.old script.now) log.now (F.writes files.old) (F.writes files.new) result }
+    ensures log { WritesLog (F.held files.old script.now) log.now (F.writes files.old) (F.writes files.new) result }
+    ensures printed { OnOk result (TellsLog (F.held files.old script.now) log.now
+        (F.writes files.old) (F.writes files.new) (O.contents out.old) (O.contents out.new)) }
+    ensures refused { IfErr result (λ fault. (line : ℕ) → named_line fault ≡ Some line →
+        TellsRefusal (F.held files.old script.now) line (O.contents out.old) (O.contents out.new)) }
+    ensures faults { IfErr result
+        (FailsRecording (F.held files.old script.now) (O.contents out.old) (O.contents out.new)) }
 {
     let filled = run_file(alloc, script, files, out)?;
     files.write(log, &filled.image)?;
@@ -36,14 +44,19 @@ fn run_file<F: Files, O: Write>(
     out: &mut O,
 ) -> Result<Filled, Fault>
     ensures log { IfOk result (λ filled. IsLogOf (F.held files.old script.now) filled.image.items) }
+    ensures printed { IfOk result (λ filled. IsToldLogOf (F.held files.old script.now) filled.image.items
+        (O.contents out.old) (O.contents out.new)) }
+    ensures refused { IfErr result (λ fault. (line : ℕ) → named_line fault ≡ Some line →
+        TellsRefusal (F.held files.old script.now) line (O.contents out.old) (O.contents out.new)) }
+    ensures faults { IfErr result
+        (FailsRecording (F.held files.old script.now) (O.contents out.old) (O.contents out.new)) }
     ensures unwritten { F.writes files.new ≡ F.writes files.old }
 {
     let text = files.read(alloc, script, MAX_SCRIPT_BYTES)?;
     let script = read_script(alloc, &text, Kind::Record)?;
     let filled = run(alloc, &text, &script, out)?;
-    let entries = filled.status.entries;
-    let sector = filled.status.sector;
-    writeln!(out, "{entries} {sector}")?;
+    let status = filled.status;
+    writeln!(out, "{status}")?;
     out.flush()?;
     Ok(filled)
 }

@@ -1,14 +1,24 @@
-ghost use Rattle.std.specs.Prelude.{◌≡◌, ◌++◌, ◌∷◌, ◌≤◌, [], IfOk, IsOk, IsTrue, List, OnOk, slice_get, true};
+ghost use Rattle.std.specs.Prelude.{◌≡◌, ◌++◌, ◌∷◌, ◌<◌, ◌≤◌, [], IfErr, IfOk, IsOk, IsTrue, List, None, OnOk, Option, Some, false, length, slice_get, true, ℕ};
+ghost use Rattle.std.specs.Io.KnownBytes.{Appends};
+ghost use Rattle.std.specs.IoError.{error_kind};
+ghost use Rattle.std.specs.List.{AllByRecursion};
 ghost use Rattle.bio.specs.declared.event.CoreEvent.TheVariants.{Submit};
 ghost use Rattle.bio.specs.Check.{check_answer, range_answer};
 ghost use Rattle.bio.specs.Lawful.{is_lawful};
+ghost use Rattle.dmlw_script.specs.Plans.{HasName, IsName, MayCome, is_ended, is_submission, name_at, submissions};
+ghost use Rattle.pending.specs.Refusals.{close_refusal};
+ghost use Rattle.dmlw.specs.declared.recording.Stop.TheVariants.{AtLine, Whole};
+ghost use Rattle.dmlw.specs.Faults.{ended_by, memory_fault, refused_by};
+ghost use Rattle.dmlw.specs.FileErrors.{file_error, file_refusal};
 ghost use Rattle.dmlw.specs.Image.{HasEntries};
+ghost use Rattle.dmlw.specs.Printed.{IsRefusedAt, Prints, StopsQuietly, named_line, outcome_line};
 ghost use Rattle.dmlw.specs.Recorded.{IsWithin, entries_of, event_of, ids_of};
+ghost use Rattle.dmlw.specs.RunFaults.{EndsRun, StopsAt, StopsAtClose, StopsForFile};
 
 use crate::fault::Fault;
 use crate::fill::{Filled, MAX_SECTORS, empty_log, fill_log};
 use bio::{Bio, Bytes, End, Id, Refusal, SECTOR_BYTES};
-use dmlw_script::{Command, Name, Script, line_of};
+use dmlw_script::{Command, Name, Script, laws, line_of};
 use pending::{CloseError, Core, Submitted};
 use std::alloc::{AllocError, AllocFailed, Global};
 use std::io;
@@ -52,24 +62,33 @@ enum Stop {
 }
 
 impl From<CloseError> for Stop {
+    ghost from_gives = { λ error stop. stop ≡ AtLine (close_refusal error) };
+
     fn from(error: CloseError) -> Stop {
         Stop::AtLine(Refusal::from(error))
     }
 }
 
 impl From<End> for Stop {
+    ghost from_gives = { λ end stop. stop ≡ Whole (ended_by end) };
+
     fn from(end: End) -> Stop {
         Stop::Whole(Fault::from(end))
     }
 }
 
 impl<T: Drop> From<AllocFailed<T>> for Stop {
+    ghost from_gives = { λ _ stop. stop ≡ Whole memory_fault };
+
     fn from(_error: AllocFailed<T>) -> Stop {
         Stop::Whole(Fault::refused(Refusal::Memory))
     }
 }
 
 impl From<io::Error> for Stop {
+    ghost from_gives = { λ error stop.
+        stop ≡ Whole (refused_by (file_refusal (file_error (error_kind error)))) };
+
     fn from(error: io::Error) -> Stop {
         Stop::Whole(Fault::from(error))
     }
@@ -93,12 +112,14 @@ struct Recording {
 }
 
 impl Recording {
-    ghost use Rattle.dmlw.specs.Recordings.{GoesOn, Stands};
+    ghost use Rattle.dmlw.specs.Recordings.{Follows, GoesOn, HasTold, Stands};
 
     // No line of the script was run.
     fn new(alloc: Global, script: &Script) -> Result<Recording, AllocError>
         ensures stands { IfOk result (Stands script.now.commands []) }
+        ensures told { (bytes : Option (List ℕ)) → IfOk result (HasTold script.now.names [] bytes bytes) }
         ensures log { IfOk result (λ r. r.log_sectors ≡ script.now.log_sectors) }
+        ensures follows { IfOk result (Follows []) }
     {
         Ok(Recording {
             alloc,
@@ -116,6 +137,15 @@ impl Recording {
         ensures stands { (script front : List Command) (command : Command) →
             event_of (ids_of script) command ≡ Submit bio.now → Stands script front self.old →
             OnOk result (Stands script (front ++ command ∷ []) self.new) }
+        ensures told { (front : List Command) (command : Command) (before : Option (List ℕ)) →
+            is_submission command ≡ true →
+            HasTold names.now front before (O.contents out.old) self.old →
+            OnOk result (HasTold names.now (front ++ command ∷ []) before
+            (O.contents out.new) self.new) }
+        ensures refused { IfErr result (StopsQuietly (O.contents out.old) (O.contents out.new)) }
+        ensures faults { length self.old.requests.items < length names.now → IfErr result StopsForFile }
+        ensures follows { (front : List Command) (command : Command) → Follows front self.old →
+            OnOk result (Follows (front ++ command ∷ []) self.new) }
         ensures log { self.new.log_sectors ≡ self.old.log_sectors }
     {
         let Ok(submitted) = self.core.submit(bio) else {
@@ -137,6 +167,14 @@ impl Recording {
         requires { range_answer first count 1048576 ≡ Ok tt }
         ensures stands { (script front : List Command) → Stands script front self.old →
             OnOk result (Stands script (front ++ Command.Write first count byte ∷ []) self.new) }
+        ensures told { (front : List Command) (before : Option (List ℕ)) →
+            HasTold names.now front before (O.contents out.old) self.old →
+            OnOk result (HasTold names.now (front ++ Command.Write first count byte ∷ []) before
+            (O.contents out.new) self.new) }
+        ensures refused { IfErr result (StopsQuietly (O.contents out.old) (O.contents out.new)) }
+        ensures faults { length self.old.requests.items < length names.now → IfErr result StopsForFile }
+        ensures follows { (front : List Command) → Follows front self.old →
+            OnOk result (Follows (front ++ Command.Write first count byte ∷ []) self.new) }
         ensures log { self.new.log_sectors ≡ self.old.log_sectors }
     {
         let Ok(bytes) = vec![in self.alloc; byte; usize::from(count) * SECTOR] else {
@@ -156,6 +194,15 @@ impl Recording {
     fn fail<O: Write>(&mut self, names: &[Name], out: &mut O) -> Result<(), Stop>
         ensures short { OnOk result (self.new.is_short ≡ true) }
         ensures filled { OnOk result (self.new.filled ≡ self.old.filled) }
+        ensures told { (front : List Command) (command : Command) (before : Option (List ℕ)) →
+            is_submission command ≡ true →
+            HasTold names.now front before (O.contents out.old) self.old →
+            OnOk result (HasTold names.now (front ++ command ∷ []) before
+            (O.contents out.new) self.new) }
+        ensures refused { IfErr result (StopsQuietly (O.contents out.old) (O.contents out.new)) }
+        ensures faults { length self.old.requests.items < length names.now → IfErr result StopsForFile }
+        ensures follows { (front : List Command) (command : Command) → Follows front self.old →
+            OnOk result (Follows (front ++ command ∷ []) self.new) }
         ensures log { self.new.log_sectors ≡ self.old.log_sectors }
     {
         self.core.stop(End::Memory);
@@ -175,6 +222,16 @@ impl Recording {
         ensures stands { (script front : List Command) →
             GoesOn script front (Command.Complete request) → Stands script front self.old →
             OnOk result (Stands script (front ++ Command.Complete request ∷ []) self.new) }
+        ensures told { (front : List Command) (before : Option (List ℕ)) →
+            HasTold names.now front before (O.contents out.old) self.old →
+            OnOk result (HasTold names.now (front ++ Command.Complete request ∷ []) before
+            (O.contents out.new) self.new) }
+        ensures refused { IfErr result (StopsQuietly (O.contents out.old) (O.contents out.new)) }
+        ensures faults { (front : List Command) → Follows front self.old → is_ended request front ≡ false →
+            request < length self.old.requests.items → request < length names.now →
+            IfErr result StopsForFile }
+        ensures follows { (front : List Command) → Follows front self.old →
+            OnOk result (Follows (front ++ Command.Complete request ∷ []) self.new) }
         ensures log { self.new.log_sectors ≡ self.old.log_sectors }
     {
         let Some(found) = request_at(&self.requests, request) else {
@@ -196,6 +253,15 @@ impl Recording {
         ensures stands { (script front : List Command) →
             GoesOn script front Command.Close → Stands script front self.old →
             OnOk result (Stands script (front ++ Command.Close ∷ []) self.new) }
+        ensures told { (names : List Name) (script front : List Command) (before after : Option (List ℕ)) →
+            Stands script front self.old → HasTold names front before after self.old →
+            OnOk result (HasTold names (front ++ Command.Close ∷ []) before after self.new) }
+        ensures refused { (bytes : Option (List ℕ)) → IfErr result (StopsQuietly bytes bytes) }
+        ensures faults { (script front : List Command) →
+            GoesOn script front Command.Close → Stands script front self.old → Follows front self.old →
+            IfErr result (StopsAtClose self.old.log_sectors script front self.old.is_short) }
+        ensures follows { (front : List Command) → Follows front self.old →
+            OnOk result (Follows (front ++ Command.Close ∷ []) self.new) }
         ensures log { self.new.log_sectors ≡ self.old.log_sectors }
     {
         self.core.close()?;
@@ -214,6 +280,19 @@ impl Recording {
         ensures stands { (script front : List Command) →
             GoesOn script front command → Stands script front self.old →
             OnOk result (Stands script (front ++ command ∷ []) self.new) }
+        ensures told { (script front : List Command) (before : Option (List ℕ)) →
+            Stands script front self.old →
+            HasTold names.now front before (O.contents out.old) self.old →
+            OnOk result (HasTold names.now (front ++ command ∷ []) before
+            (O.contents out.new) self.new) }
+        ensures refused { IfErr result (StopsQuietly (O.contents out.old) (O.contents out.new)) }
+        ensures faults { (script front : List Command) (sectors : ℕ) →
+            GoesOn script front command → Stands script front self.old → Follows front self.old →
+            length self.old.requests.items ≡ submissions front → MayCome sectors front command →
+            HasName (length names.now) (submissions front) command →
+            IfErr result (StopsAt self.old.log_sectors script front self.old.is_short command) }
+        ensures follows { (front : List Command) → Follows front self.old →
+            OnOk result (Follows (front ++ command ∷ []) self.new) }
         ensures log { self.new.log_sectors ≡ self.old.log_sectors }
     {
         match command {
@@ -228,8 +307,12 @@ impl Recording {
 
     // The script has no more lines.
     fn end(self) -> Result<Filled, End>
-        ensures { (script : List Command) → Stands script script self →
+        ensures log { (script : List Command) → Stands script script self →
             IfOk result (HasEntries self.log_sectors (entries_of script)) }
+        ensures printed { (names : List Name) (script : List Command) (before after : Option (List ℕ)) →
+            Stands script script self → HasTold names script before after self →
+            OnOk result (Prints names script before after) }
+        ensures memory { IfErr result (λ end. end ≡ End.Memory) }
     {
         let Recording {
             alloc,
@@ -254,7 +337,13 @@ fn request_at(requests: &[Request], number: usize) -> Option<Request>
 }
 
 // Tells what became of a request.
-fn tell<O: Write>(names: &[Name], request: usize, outcome: &str, out: &mut O) -> Result<(), Stop> {
+fn tell<O: Write>(names: &[Name], request: usize, outcome: &str, out: &mut O) -> Result<(), Stop>
+    ensures told { AllByRecursion IsName names.now →
+        OnOk result (Appends (O.contents out.old) (O.contents out.new)
+        (outcome_line (name_at names.now request) outcome.now)) }
+    ensures refused { IfErr result (StopsQuietly (O.contents out.old) (O.contents out.new)) }
+    ensures faults { request < length names.now → IfErr result StopsForFile }
+{
     match names.get(request) {
         Some(name) => Ok(writeln!(out, "{name} {outcome}")?),
         None => Err(Stop::AtLine(Refusal::BadId)),
@@ -268,8 +357,15 @@ pub fn run<O: Write>(
     script: &Script,
     out: &mut O,
 ) -> Result<Filled, Fault>
-    ensures { IfOk result (HasEntries script.now.log_sectors (entries_of script.now.commands)) }
+    ensures log { IfOk result (HasEntries script.now.log_sectors (entries_of script.now.commands)) }
+    ensures printed { OnOk result
+        (Prints script.now.names script.now.commands (O.contents out.old) (O.contents out.new)) }
+    ensures refused { IfErr result (λ fault. (line : ℕ) → named_line fault ≡ Some line →
+        IsRefusedAt text.now script.now line (O.contents out.old) (O.contents out.new)) }
+    ensures faults { IfErr result
+        (EndsRun text.now script.now (O.contents out.old) (O.contents out.new)) }
 {
+    laws::requests_end_once();
     let mut recording = Recording::new(alloc, script)?;
     for (place, command) in script.commands().iter().enumerate() {
         match recording.step(*command, script.names(), out) {

@@ -7,12 +7,28 @@ use std::io;
 use std::io::Write;
 use std::test::Fail;
 
-// The file "script" can be read, and the file "log" written.
+mod host;
+mod reading;
+
+// The files "script" and "image" can be read, and the file "log" written.
 #[derive(Drop)]
 struct FakeFiles<'a> {
-    script: &'a [u8],
+    bytes: &'a [u8],
+    // How many bytes it takes to hold the file that is read.
+    length: u64,
     log: Option<Vec<u8>>,
     alloc: Global,
+}
+
+impl<'a> FakeFiles<'a> {
+    fn new(alloc: Global, bytes: &'a [u8]) -> FakeFiles<'a> {
+        FakeFiles {
+            bytes,
+            length: bytes.len() as u64,
+            log: None,
+            alloc,
+        }
+    }
 }
 
 impl Files for FakeFiles<'_> {
@@ -21,10 +37,11 @@ impl Files for FakeFiles<'_> {
     ghost writes = { λ _. None };
 
     fn read(&mut self, alloc: Global, name: &str, limit: u64) -> Result<Vec<u8>, FileError> {
-        if name != "script" || self.script.len() as u64 > limit {
+        let is_known = name == "script" || name == "image";
+        if !is_known || self.length.max(self.bytes.len() as u64) > limit {
             return Err(FileError::Unusable);
         }
-        Vec::from_slice(alloc, self.script).map_err(|_| FileError::Memory)
+        Vec::from_slice(alloc, self.bytes).map_err(|_| FileError::Memory)
     }
 
     fn write(&mut self, name: &str, bytes: &[u8]) -> Result<(), FileError> {
@@ -73,12 +90,8 @@ impl Ran {
     }
 }
 
-fn run(alloc: Global, words: &[&str], script: &[u8]) -> Ran {
-    let mut files = FakeFiles {
-        script,
-        log: None,
-        alloc,
-    };
+fn run(alloc: Global, words: &[&str], bytes: &[u8]) -> Ran {
+    let mut files = FakeFiles::new(alloc, bytes);
     let mut out = Vec::new(alloc);
     let mut err = Vec::new(alloc);
     let status = execute(alloc, words, &mut files, &mut out, &mut err);
@@ -250,11 +263,7 @@ fn refuses_files(rt: HostRuntime) -> Result<(), Fail> {
 fn refuses_a_full_output(rt: HostRuntime) -> Result<(), Fail> {
     let alloc = rt.alloc();
     for room in 0..14 {
-        let mut files = FakeFiles {
-            script: FIRST.as_bytes(),
-            log: None,
-            alloc,
-        };
+        let mut files = FakeFiles::new(alloc, FIRST.as_bytes());
         let mut err = Vec::new(alloc);
         let words = ["dmlw", "record", "script", "log"];
         let status = execute(alloc, &words, &mut files, &mut Narrow { room }, &mut err);
@@ -281,6 +290,26 @@ fn reads_command_lines(rt: HostRuntime) {
             0,
             "Usage: dmlw record <SCRIPT> <LOG>",
         ),
+        (
+            ["dmlw", "help"].as_slice(),
+            0,
+            "list    Lists the entries of a log",
+        ),
+        (
+            ["dmlw", "help"].as_slice(),
+            0,
+            "status  Tells how far a log has come",
+        ),
+        (
+            ["dmlw", "list", "--help"].as_slice(),
+            0,
+            "Usage: dmlw list <LOG>",
+        ),
+        (
+            ["dmlw", "status", "--help"].as_slice(),
+            0,
+            "Usage: dmlw status <LOG>",
+        ),
         (["dmlw", "--version"].as_slice(), 0, "dmlw 0.1"),
         (["dmlw"].as_slice(), 2, "Usage: dmlw <COMMAND>"),
         ([].as_slice(), 2, "Usage: dmlw <COMMAND>"),
@@ -299,6 +328,13 @@ fn reads_command_lines(rt: HostRuntime) {
             ["dmlw", "record", "-x", "b"].as_slice(),
             2,
             "unexpected argument '-x'",
+        ),
+        (["dmlw", "list"].as_slice(), 2, "<LOG>"),
+        (["dmlw", "status"].as_slice(), 2, "<LOG>"),
+        (
+            ["dmlw", "list", "a", "b"].as_slice(),
+            2,
+            "unexpected argument 'b'",
         ),
     ];
     for (words, status, part) in table {

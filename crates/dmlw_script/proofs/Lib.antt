@@ -7,3 +7,5 @@ pub mod ReadingLaws
 pub mod FaultLaws
 pub mod TextLaws
 pub mod SpellingLaws
+pub mod ScriptLaws
+pub mod OneFault

@@ -1,12 +1,12 @@
 -- The grammar of a recorder's scripts, as a relation between texts and scripts.
-use Rattle.std.specs.Prelude.{◌≡◌, ℕ, ◌<◌, true, List, [], ◌∷◌, codes}
+use Rattle.std.specs.Prelude.{◌≡◌, ℕ, ◌<◌, true, ◌+◌, List, [], ◌∷◌, ◌++◌, Some, codes, length, slice_get}
 use Rattle.std.specs.List.{join_with_byte, AllByRecursion, AllZip}
 use Rattle.dmlw_script.specs.declared.name.Name.{Name}
 use Rattle.dmlw_script.specs.declared.sentence.Sentence.{Sentence}
 use Rattle.dmlw_script.specs.declared.sentence.Sentence.TheVariants.{Data, Log, Write, Flush, Complete, Close}
 use Rattle.dmlw_script.specs.Lines.{is_plain, kept, lines_of}
 use Rattle.dmlw_script.specs.Names.{is_id, named}
-use Rattle.dmlw_script.specs.Plans.{sentences_of, IsPlan, Plan}
+use Rattle.dmlw_script.specs.Plans.{body_sentences, sentences_of, IsPlan, Plan}
 use Rattle.dmlw_script.specs.Words.{byte_text, is_number, number_value}
 
 -- the word is a number of this value
@@ -63,3 +63,14 @@ pub record SpellsLines (lines : List (List ℕ)) (plan : Plan) : Type 0 where
 -- the text is one of this script
 abbrev pub Spells : List ℕ → Plan → Type 0
 Spells text plan = SpellsLines (lines_of text) plan
+
+-- the line of this number, counted from 1, says what the script's command at this place says
+pub record IsLineOf (lines : List (List ℕ)) (plan : Plan) (place number : ℕ) : Type 0 where
+  pub before : List (List ℕ)
+  pub line : List ℕ
+  pub more : List (List ℕ)
+  pub split : lines ≡ before ++ line ∷ more
+  pub number_is : number ≡ length before + 1
+  pub sentence : Sentence
+  pub command : slice_get (body_sentences plan.names 0 plan.commands) place ≡ Some sentence
+  pub says : Says line sentence

@@ -8,3 +8,4 @@ pub mod Readers
 pub mod Grammar
 pub mod Reading
 pub mod Spelling
+pub mod Texts

@@ -51,8 +51,8 @@ is_end_of request commands.Close = false
 abbrev pub is_ended : ℕ → List Command → Bool
 is_ended request body = list_any (is_end_of request) body
 
--- the command may come behind these, for a data disk of so many sectors: a write passes the test of its sectors, and
--- an end is that of a request that was submitted and hasn't ended
+-- the command may come behind these, for a data disk of so many sectors: a write passes the test of its sectors and
+-- writes a byte, and an end is that of a request that was submitted and hasn't ended
 abbrev pub MayCome : ℕ → List Command → Command → Type 0
 MayCome sectors before (commands.Write first count byte) = (range_answer first count sectors ≡ Ok tt) × (byte < 256)
 MayCome sectors before commands.Flush = Unit {0}
@@ -78,7 +78,7 @@ pub record IsPlan (plan : Plan) : Type 0 where
 abbrev pub name_at : List Name → ℕ → Name
 name_at names request = slice_index_or names request (named [])
 
--- of so many requests the command names one, before which so many were submitted
+-- a request that the command submits or ends is one of so many, where so many were submitted before it
 abbrev pub HasName : ℕ → ℕ → Command → Type 0
 HasName requests before (commands.Write first count byte) = before < requests
 HasName requests before commands.Flush = before < requests

@@ -43,7 +43,7 @@ pub record Progress : Type 0 where
 abbrev pub progress_of : Reader → Progress
 progress_of r = record { data_sectors = r.data_sectors; log_sectors = r.log_sectors; body = body_of r.draft }
 
--- the data disk has a size that a disk may have, and the draft is one
+-- the data disk, once its line was read, is no larger than a disk may be, and the draft is one
 pub record IsReader (r : Reader) : Type 0 where
   pub disk : IfSome r.data_sectors (λ sectors. sectors ≤ 1048576)
   pub draft : IsDraft r.draft

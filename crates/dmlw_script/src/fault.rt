@@ -1,3 +1,6 @@
+ghost use Rattle.std.specs.Prelude.{Some};
+ghost use Rattle.dmlw_script.specs.Texts.{fault_text};
+
 use bio::Refusal;
 use std::error::Error;
 use std::fmt;
@@ -11,6 +14,8 @@ pub struct ScriptFault {
 }
 
 impl fmt::Display for ScriptFault {
+    ghost output = { λ fault. Some (fault_text fault) };
+
     fn fmt<W: fmt::Write>(&self, f: &mut fmt::Formatter<W>) -> fmt::Result {
         let refusal = self.refusal;
         match self.line {

@@ -1,9 +1,13 @@
 //! Laws of the grammar, apart from the code: each function does nothing, and its clause is the law.
-ghost use Rattle.std.specs.Prelude.{◌≡◌, ◌≢◌, ◌++◌, ◌∷◌, [], ℕ, List};
+ghost use Rattle.std.specs.Prelude.{◌≡◌, ◌≢◌, ◌^◌, ◌<◌, ◌≤◌, ◌++◌, ◌∷◌, [], None, Some, decimal, length, true, ℕ, List};
 ghost use Rattle.std.specs.List.{AllByRecursion};
-ghost use Rattle.dmlw_script.specs.Grammar.{Spells};
-ghost use Rattle.dmlw_script.specs.Lines.{ended, IsUnbroken, lines_of};
-ghost use Rattle.dmlw_script.specs.Plans.{IsPlan, Plan};
+ghost use Rattle.bio.specs.declared.refusal.Refusal.{Refusal};
+ghost use Rattle.dmlw_script.specs.declared.command.Command.{Command};
+ghost use Rattle.dmlw_script.specs.declared.command.Command.TheVariants.{Complete};
+ghost use Rattle.dmlw_script.specs.Grammar.{IsLineOf, IsNumber, Spells, SpellsLines};
+ghost use Rattle.dmlw_script.specs.Lines.{command_line, ended, is_plain, is_skipped, IsUnbroken, lines_of};
+ghost use Rattle.dmlw_script.specs.Plans.{IsPlan, MayCome, Plan};
+ghost use Rattle.dmlw_script.specs.Reading.{IsFirstFault};
 ghost use Rattle.dmlw_script.specs.Spelling.{spelling};
 
 /// Lines make a text by a line feed behind each, which the last may lack unless it is empty.
@@ -21,4 +25,54 @@ pub fn one_script()
 /// Each script has a text: its spelling.
 pub fn each_script_is_spelled()
     ensures { (plan : Plan) → IsPlan plan → Spells (spelling plan) plan }
+{}
+
+/// Scripts that are printed alike are one.
+#[tactic(auto, using(crate::proofs::ScriptLaws::same_from_spelling))]
+pub fn scripts_have_own_spellings()
+    ensures { (plan other : Plan) → IsPlan plan → IsPlan other → spelling plan ≡ spelling other → plan ≡ other }
+{}
+
+/// An empty line or a comment may be put between any two lines of a script's text, or be left out: the
+/// script stays the same.
+pub fn skipped_lines_say_nothing()
+    ensures put_in { (before after : List (List ℕ)) (line : List ℕ) (plan : Plan) →
+        is_plain line ≡ true → is_skipped line ≡ true →
+        SpellsLines (before ++ after) plan → SpellsLines (before ++ line ∷ after) plan }
+    ensures left_out { (before after : List (List ℕ)) (line : List ℕ) (plan : Plan) →
+        is_skipped line ≡ true →
+        SpellsLines (before ++ line ∷ after) plan → SpellsLines (before ++ after) plan }
+{}
+
+/// The line that is told for a command is the line that says it, and behind the last command there is
+/// none.
+#[tactic(auto, using(crate::proofs::ScriptLaws::line_says, crate::proofs::ScriptLaws::lined))]
+pub fn lines_are_those_of_commands()
+    ensures says { (text : List ℕ) (plan : Plan) (place number : ℕ) → Spells text plan →
+        command_line text place ≡ Some number → IsLineOf (lines_of text) plan place number }
+    ensures none { (text : List ℕ) (plan : Plan) (place : ℕ) → Spells text plan →
+        length plan.commands ≤ place → command_line text place ≡ None }
+{}
+
+/// Each command of a script may come behind those before it, and no request ends twice.
+#[tactic(auto, using(crate::proofs::ScriptLaws::may_come, crate::proofs::ScriptLaws::ends_once))]
+pub fn requests_end_once()
+    ensures may_come { (plan : Plan) (before : List Command) (command : Command) (rest : List Command) →
+        IsPlan plan → plan.commands ≡ before ++ command ∷ rest → MayCome plan.data_sectors before command }
+    ensures once { (plan : Plan) (before between rest : List Command) (request : ℕ) → IsPlan plan →
+        plan.commands ≡ before ++ Complete request ∷ (between ++ Complete request ∷ rest) → ⊥ }
+{}
+
+/// The decimal digits of a number are read as it, and a zero in front doesn't count.
+pub fn numbers_are_decimal()
+    ensures digits { (n : ℕ) → n < 2 ^ 64 → IsNumber (decimal n) n }
+    ensures zero { (word : List ℕ) (n : ℕ) → IsNumber word n → length word < 20 → IsNumber (48 ∷ word) n }
+{}
+
+/// A text has one first fault, its line and its reason, and the text of a script has none.
+pub fn texts_have_one_first_fault()
+    ensures one { (lines : List (List ℕ)) (m n : ℕ) (r s : Refusal) →
+        IsFirstFault lines m r → IsFirstFault lines n s → (m ≡ n) × (r ≡ s) }
+    ensures none { (lines : List (List ℕ)) (plan : Plan) (m : ℕ) (r : Refusal) →
+        SpellsLines lines plan → IsFirstFault lines m r → ⊥ }
 {}

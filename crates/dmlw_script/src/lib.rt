@@ -6,7 +6,8 @@
 //! submissions, counted from 0, so whoever goes over the commands needs no map of ids.
 //!
 //! `specs/Grammar` is the grammar, a relation between texts and scripts, and `specs/Plans` says what
-//! a script is. A new kind of line is a case of `Sentence`, of `Says` and of `Command`.
+//! a script is, `specs/Texts` what is shown of an id and of a fault. A new kind of line is a case of
+//! `Sentence`, of `Says` and of `Command`.
 #![tactic(auto)]
 
 pub use command::Command;

@@ -1,6 +1,7 @@
-ghost use Rattle.std.specs.Prelude.{◌≡◌, ◌≤◌, length};
+ghost use Rattle.std.specs.Prelude.{◌≡◌, ◌≤◌, Some, length};
 ghost use Rattle.std.specs.List.{list_all};
 ghost use Rattle.dmlw_script.specs.Names.{is_name_byte as is_id_byte, is_id as is_an_id, letters_of, name_of, named};
+ghost use Rattle.dmlw_script.specs.Texts.{name_text};
 
 use crate::words::cut;
 use std::fmt;
@@ -46,6 +47,8 @@ impl Name {
 }
 
 impl fmt::Display for Name {
+    ghost output = { λ name. Some (name_text name) };
+
     fn fmt<W: fmt::Write>(&self, f: &mut fmt::Formatter<W>) -> fmt::Result {
         for letter in self.letters() {
             f.write_char(char::from(*letter))?;

@@ -8,3 +8,6 @@ pub mod CoreSteps
 pub mod PlainQueue
 pub mod Readable
 pub mod Order
+pub mod Lengths
+pub mod Standing
+pub mod Results

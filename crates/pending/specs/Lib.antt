@@ -5,6 +5,7 @@ pub use Rattle.bio.specs.Check
 pub use Rattle.log_format.specs.Entries
 pub mod QueueEvent
 pub mod CompletionList
+pub mod Results
 pub mod Held
 pub mod Slots
 pub mod Steps

@@ -1,5 +1,4 @@
-use Rattle.std.specs.Prelude.{Option, Some, None}
-use Rattle.std.specs.declared.boxed.Box.{Box}
+use Rattle.std.specs.Prelude.{Some, None}
 use Rattle.pending.specs.declared.slot.Kept.{Kept}
 use Rattle.pending.specs.declared.slot.Kept.TheVariants.{Vacant}
 use Rattle.pending.specs.declared.slot.Slot.TheInside.{Inside}

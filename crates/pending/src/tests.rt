@@ -141,3 +141,26 @@ fn nothing_is_queued_after_a_stop(rt: HostRuntime) -> Result<(), Fail> {
     assert_eq!(rt; core.events().len(), 6);
     Ok(())
 }
+
+#[test]
+fn many_requests_are_recorded(rt: HostRuntime) -> Result<(), Fail> {
+    let alloc = rt.alloc();
+    let mut core = Core::new(alloc)?;
+    for first in 0..5_000 {
+        finish(&mut core, &Bio::Discard { first, count: 1 }, first % 3 != 0)?;
+    }
+    finish(&mut core, &Bio::Flush, true)?;
+    assert_eq!(rt; core.close(), Ok(()));
+    assert_eq!(rt; core.events().len(), 10_003);
+    for next in 0..5_000 {
+        let Some((id, entry)) = core.take() else {
+            panic!(rt; "an entry for each request");
+        };
+        assert_eq!(rt; (id.place(), entry.sector), (2 * next, next));
+    }
+    assert_eq!(rt;
+        taken(alloc, &mut core)?.as_slice(),
+        [10_000, 10_002].as_slice()
+    );
+    Ok(())
+}

@@ -1,6 +1,10 @@
-use Rattle.std.proofs.Common.{◌≡◌}
+use Rattle.std.proofs.Common.{◌≡◌, take}
+use Rattle.dmlw.specs.Recordings.{Follows, HasTold}
 use Rattle.dmlw.proofs.Running.{HasRunTo}
 use Rattle.dmlw.proofs.recording.run.Given as goal
 
 abbrev pub invariant-loop-place : goal.invariant-loop-place
-invariant-loop-place g l = HasRunTo l.script l.place l.recording × (l.command-items ≡ l.script.commands)
+invariant-loop-place g l =
+    HasRunTo l.script l.place l.recording × (l.command-items ≡ l.script.commands)
+    × HasTold l.script.names (take l.place l.script.commands) (g.O.Write.contents l.fn.out) (g.O.Write.contents l.out) l.recording
+    × Follows (take l.place l.script.commands) l.recording

@@ -1,0 +1,34 @@
+ghost use Rattle.std.specs.Prelude.{◌≡◌};
+ghost use Rattle.dmlw.specs.Lists.{ShowsFile, TellsStatus};
+
+use crate::fault::Fault;
+use crate::files::Files;
+use crate::image::read_image;
+use std::alloc::Global;
+use std::io::Write;
+
+/// Prints the status of the log in the file of this name: how many entries it counts, and the highest
+/// sector of 512 bytes that they use. Where the log has a fault, nothing is printed.
+pub fn status<F: Files, O: Write>(
+    alloc: Global,
+    log: &str,
+    files: &mut F,
+    out: &mut O,
+) -> Result<(), Fault>
+    ensures shown { ShowsFile TellsStatus (F.held files.old log.now)
+        (O.contents out.old) (O.contents out.new) result }
+    ensures unwritten { F.writes files.new ≡ F.writes files.old }
+{
+    let image = read_image(alloc, log, files)?;
+    tell_status(&image, out)
+}
+
+// Prints the status of the log that an image holds.
+fn tell_status<O: Write>(image: &[u8], out: &mut O) -> Result<(), Fault>
+    ensures { TellsStatus image.now (O.contents out.old) (O.contents out.new) result }
+{
+    let status = log_reader::status(image)?;
+    writeln!(out, "{status}")?;
+    out.flush()?;
+    Ok(())
+}

@@ -1,0 +1,155 @@
+use Rattle.std.proofs.Common.{◌≡◌, ℕ, ◌+◌, ◌<◌, ◌≤◌, true, false, List, [], ◌∷◌, ◌++◌, length, Err, ⊎_elim, refl, ap, ◌∙◌, sym, subst, arith, append_assoc}
+use Rattle.std.proofs.lemmas.Bool.{cases_lt}
+use Rattle.std.proofs.lemmas.List.{append-nil}
+use Rattle.bio.specs.Check.{range_answer}
+use Rattle.bio.specs.Refusals.{bad_bio_refusal}
+use Rattle.bio.specs.declared.refusal.Refusal.{Refusal}
+use Rattle.bio.specs.declared.request.BadBio.{BadBio}
+use Rattle.dmlw_script.specs.declared.name.Name.{Name}
+use Rattle.dmlw_script.specs.declared.sentence.Sentence.{Sentence}
+use Rattle.dmlw_script.specs.declared.sentence.Sentence.TheVariants.{Write}
+use Rattle.dmlw_script.specs.Grammar.{Says, SpellsLines}
+use Rattle.dmlw_script.specs.Plans.{Plan}
+use Rattle.dmlw_script.specs.Reading.{bad_id, bad_line, bad_request, id_fits, BeginsScript, FaultBehind, IsFirstFault, IsLineFault}
+use Rattle.dmlw_script.proofs.ReadingLaws.{spelled_lines}
+use Rattle.dmlw_script.proofs.SentenceLaws.{sentence_again}
+
+-- a line says one thing
+one_sentence : (line : List ℕ) (s t : Sentence) → Says line s → Says line t → s ≡ t
+one_sentence line s t says_s says_t = let both = sym (sentence_again line s says_s) ∙ sentence_again line t says_t in cc
+
+-- lines are those of one script
+one_plan : (lines : List (List ℕ)) (p q : Plan) → SpellsLines lines p → SpellsLines lines q → p ≡ q
+one_plan lines p q spells again = let both = sym (spelled_lines lines 1 p spells) ∙ spelled_lines lines 1 q again in cc
+
+-- a write that says the same has the same test of its sectors
+one_answer : (name other : Name) (first count byte f c b : ℕ) (p q : Plan) (bad worse : BadBio) → Write name first count byte ≡ Write other f c b → p ≡ q
+    → range_answer first count p.data_sectors ≡ Err bad → range_answer f c q.data_sectors ≡ Err worse → bad ≡ worse
+one_answer name other first count byte f c b p q bad worse same plans is_bad is_worse =
+    let firsts : first ≡ f = cc in
+    let counts : count ≡ c = cc in
+    let answers : range_answer first count p.data_sectors ≡ range_answer f c q.data_sectors =
+    ap (λ (n : ℕ). range_answer n count p.data_sectors) firsts ∙ ap (λ (n : ℕ). range_answer f n p.data_sectors) counts
+    ∙ ap (λ (plan : Plan). range_answer f c plan.data_sectors) plans in
+    cc
+
+-- an id that doesn't fit isn't one that fits
+one_fit : (s t : Sentence) (p q : Plan) → s ≡ t → p ≡ q → id_fits p s ≡ false → id_fits q t ≡ true → ⊥
+one_fit s t p q same plans unfit fits =
+    let both : id_fits p s ≡ id_fits q t = ap (λ (x : Sentence). id_fits p x) same ∙ ap (λ (plan : Plan). id_fits plan t) plans in
+    cc
+
+-- a line has one first reason why it can't stand there
+one_reason : (before : List (List ℕ)) (line : List ℕ) (r s : Refusal) → IsLineFault before line r → IsLineFault before line s → r ≡ s
+one_reason before line r s (bad_line f) (bad_line g) = refl
+one_reason before line r s (bad_line f) (bad_id t p behind spells unfit) = absurd (f t behind)
+one_reason before line r s (bad_line f) (bad_request name first count byte p bad behind spells fits is_bad) = absurd (f _ behind)
+one_reason before line r s (bad_id t p behind spells unfit) (bad_line g) = absurd (g t behind)
+one_reason before line r s (bad_id t p behind spells unfit) (bad_id u q there again not) = refl
+one_reason before line r s (bad_id t p behind spells unfit) (bad_request name first count byte q bad there again fits is_bad) =
+    absurd (one_fit t (Write name first count byte) p q (one_sentence line t (Write name first count byte) behind.says there.says) (one_plan before p q spells again) unfit fits)
+one_reason before line r s (bad_request name first count byte p bad behind spells fits is_bad) (bad_line g) = absurd (g _ behind)
+one_reason before line r s (bad_request name first count byte p bad behind spells fits is_bad) (bad_id u q there again unfit) =
+    absurd (one_fit u (Write name first count byte) q p (one_sentence line u (Write name first count byte) there.says behind.says) (one_plan before q p again spells) unfit fits)
+one_reason before line r s (bad_request name first count byte p bad behind spells fits is_bad) (bad_request other f c b q worse there again also is_worse) =
+    ap bad_bio_refusal
+    (one_answer name other first count byte f c b p q bad worse
+    (one_sentence line (Write name first count byte) (Write other f c b) behind.says there.says) (one_plan before p q spells again) is_bad is_worse)
+
+-- lines that begin a script begin by lines that do
+begins_before : (before more : List (List ℕ)) → BeginsScript (before ++ more) → BeginsScript before
+begins_before before more begins = record {
+  more = more ++ begins.more;
+  plan = begins.plan;
+  spells = subst (λ (lines : List (List ℕ)). SpellsLines lines begins.plan) (append_assoc before more begins.more) begins.spells;
+}
+
+-- lines in two parts, the first of which is longer than another
+record Longer (short_part : List (List ℕ)) (rest long_part : List (List ℕ)) : Type 0 where
+  pub line : List ℕ
+  pub between : List (List ℕ)
+  pub tail : List (List ℕ)
+  pub long_is : long_part ≡ short_part ++ line ∷ between
+  pub rest_is : rest ≡ line ∷ tail
+
+-- a longer first part has the shorter one and the line behind it
+longer : (a x b y : List (List ℕ)) → a ++ x ≡ b ++ y → length a < length b → Longer a x b
+longer [] x [] y same less = absurd (omega arith)
+longer [] x (line ∷ b) y same less = record { line = line; between = b; tail = b ++ y; long_is = refl; rest_is = same }
+longer (first ∷ a) x [] y same less = absurd (omega arith)
+longer (first ∷ a) x (line ∷ b) y same less =
+    let firsts : first ≡ line = cc in
+    let rests : a ++ x ≡ b ++ y = cc in
+    let more = longer a x b y rests (omega arith) in
+    record {
+      line = more.line;
+      between = more.between;
+      tail = more.tail;
+      long_is = ap (λ (l : List ℕ). l ∷ b) (sym firsts) ∙ ap (λ (ls : List (List ℕ)). first ∷ ls) more.long_is;
+      rest_is = more.rest_is;
+    }
+
+-- first parts of one length are one, and so is what is behind them
+same_parts : (a x b y : List (List ℕ)) → a ++ x ≡ b ++ y → length a ≡ length b → (a ≡ b) × (x ≡ y)
+same_parts [] x [] y same lens = (refl, same)
+same_parts [] x (line ∷ b) y same lens = absurd (omega arith)
+same_parts (first ∷ a) x [] y same lens = absurd (omega arith)
+same_parts (first ∷ a) x (line ∷ b) y same lens =
+    let firsts : first ≡ line = cc in
+    let rests : a ++ x ≡ b ++ y = cc in
+    let more = same_parts a x b y rests (omega arith) in
+    let heads = more.0 in
+    (cc, more.1)
+
+-- behind a fault no lines begin a script
+none_longer : (a x b : List (List ℕ)) (r : Refusal) → FaultBehind a x r → Longer a x b → BeginsScript b → ⊥
+none_longer a x b r fault more begins =
+    let F : List (List ℕ) → Type 0 = λ ls. FaultBehind a ls r in
+    let there : FaultBehind a (more.line ∷ more.tail) r = subst F more.rest_is fault in
+    let regrouped : b ≡ (a ++ more.line ∷ []) ++ more.between = more.long_is ∙ sym (append_assoc a (more.line ∷ []) more.between) in
+    there.0 (begins_before (a ++ more.line ∷ []) more.between (subst BeginsScript regrouped begins))
+
+-- behind the same lines there is one reason
+one_behind : (a x : List (List ℕ)) (r s : Refusal) → FaultBehind a x r → FaultBehind a x s → r ≡ s
+one_behind a [] r s at_r at_s = at_r.0 ∙ sym at_s.0
+one_behind a (line ∷ x) r s at_r at_s = one_reason a line r s at_r.1 at_s.1
+
+-- no first fault is behind another
+not_behind : (lines : List (List ℕ)) (m n : ℕ) (r s : Refusal) → IsFirstFault lines m r → IsFirstFault lines n s → n ≤ m
+not_behind lines m n r s f g =
+    let place : m ≡ length f.before + 1 = f.place in
+    let other : n ≡ length g.before + 1 = g.place in
+    ⊎_elim
+    (λ (less : m < n).
+    absurd (none_longer f.before f.more g.before r f.fault (longer f.before f.more g.before g.more (sym f.split ∙ g.split) (omega arith)) g.begins))
+    (λ (more : n ≤ m). more)
+    (cases_lt m n)
+
+-- a text has one first fault
+pub one_first_fault : (lines : List (List ℕ)) (m n : ℕ) (r s : Refusal) → IsFirstFault lines m r → IsFirstFault lines n s → (m ≡ n) × (r ≡ s)
+one_first_fault lines m n r s f g =
+    let up = not_behind lines m n r s f g in
+    let down = not_behind lines n m s r g f in
+    let place : m ≡ length f.before + 1 = f.place in
+    let other : n ≡ length g.before + 1 = g.place in
+    let parts = same_parts f.before f.more g.before g.more (sym f.split ∙ g.split) (omega arith) in
+    let B : List (List ℕ) → Type 0 = λ ls. FaultBehind ls g.more s in
+    let M : List (List ℕ) → Type 0 = λ ls. FaultBehind f.before ls s in
+    let there : FaultBehind f.before f.more s = subst M (sym parts.1) (subst B (sym parts.0) g.fault) in
+    (omega arith, one_behind f.before f.more r s f.fault there)
+
+-- lines of a script have none behind lines that begin one
+whole_behind : (before more : List (List ℕ)) (plan : Plan) (r : Refusal) → SpellsLines (before ++ more) plan → FaultBehind before more r → ⊥
+whole_behind before [] plan r spells fault =
+    fault.1 plan (subst (λ (lines : List (List ℕ)). SpellsLines lines plan) (append-nil before) spells)
+whole_behind before (line ∷ more) plan r spells fault =
+    fault.0 (record {
+      more = more;
+      plan = plan;
+      spells = subst (λ (lines : List (List ℕ)). SpellsLines lines plan) (sym (append_assoc before (line ∷ []) more)) spells;
+    })
+
+-- a script has no fault
+pub no_fault : (lines : List (List ℕ)) (plan : Plan) (m : ℕ) (r : Refusal) → SpellsLines lines plan → IsFirstFault lines m r → ⊥
+no_fault lines plan m r spells f =
+    whole_behind f.before f.more plan r (subst (λ (ls : List (List ℕ)). SpellsLines ls plan) f.split spells) f.fault

@@ -1,0 +1,241 @@
+use Rattle.std.proofs.Common.{◌≡◌, ℕ, zero, suc, ◌+◌, ◌<◌, ◌≤◌, ◌^◌, Bool, true, false, not, ◌||◌, cond, List, [], ◌∷◌, ◌++◌, length, Some, None, refl, ap, ◌∙◌, sym, subst, arith, append_assoc}
+use Rattle.std.specs.Prelude.{nat_le, nat_lt, slice_get}
+use Rattle.std.specs.Char.{is_ascii_digit}
+use Rattle.std.specs.List.{list_all, AllByRecursion, AllZip}
+use Rattle.std.proofs.lemmas.Bool.{and_from, and_parts, eq-eqb, le-leb, lt-ltb}
+use Rattle.std.proofs.lemmas.List.{append-nil}
+use Rattle.std.proofs.lemmas.Option.{slice_get_past}
+use Rattle.dmlw_script.specs.declared.command.Command.{Command}
+use Rattle.dmlw_script.specs.declared.command.Command.TheVariants as commands
+use Rattle.dmlw_script.specs.declared.name.Name.{Name}
+use Rattle.dmlw_script.specs.declared.sentence.Sentence.{Sentence}
+use Rattle.dmlw_script.specs.Grammar.{IsLineOf, IsNumber, Says, Spells, SpellsLines}
+use Rattle.dmlw_script.specs.Lines.{command_line, is_plain, is_skipped, kept, kept_numbers, lines_of}
+use Rattle.dmlw_script.specs.Plans.{behind_command, body_sentences, is_end_of, is_ended, sentences_of, IsOrderly, IsPlan, MayCome, Plan}
+use Rattle.dmlw_script.specs.Spelling.{spelling}
+use Rattle.dmlw_script.specs.Words.{number_value}
+use Rattle.dmlw_script.proofs.SpellingLaws.{spelling_spells}
+use Rattle.dmlw_script.proofs.TextLaws.{one_script_of}
+
+-- ---- spellings
+
+-- scripts of one spelling are one
+pub same_from_spelling : (plan other : Plan) → IsPlan plan → IsPlan other → spelling plan ≡ spelling other → plan ≡ other
+same_from_spelling plan other is_plan is_other same =
+    one_script_of (spelling plan) plan other (spelling_spells plan is_plan)
+    (subst (λ (text : List ℕ). Spells text other) (sym same) (spelling_spells other is_other))
+
+-- ---- skipped lines
+
+-- a line that is skipped isn't kept
+kept_without : (before after : List (List ℕ)) (line : List ℕ) → is_skipped line ≡ true → kept (before ++ line ∷ after) ≡ kept (before ++ after)
+kept_without [] after line skipped = ap (λ (t : Bool). cond (not t) (line ∷ kept after) (kept after)) skipped
+kept_without (first ∷ before) after line skipped =
+    ap (λ (ks : List (List ℕ)). cond (not (is_skipped first)) (first ∷ ks) ks) (kept_without before after line skipped)
+
+-- lines with one more are plain where they are, and it is
+plain_with : (before after : List (List ℕ)) (line : List ℕ) → is_plain line ≡ true → AllByRecursion (λ l. is_plain l ≡ true) (before ++ after)
+    → AllByRecursion (λ l. is_plain l ≡ true) (before ++ line ∷ after)
+plain_with [] after line plain all = (plain, all)
+plain_with (first ∷ before) after line plain all = (all.0, plain_with before after line plain all.1)
+
+-- and without it
+plain_without : (before after : List (List ℕ)) (line : List ℕ) → AllByRecursion (λ l. is_plain l ≡ true) (before ++ line ∷ after)
+    → AllByRecursion (λ l. is_plain l ≡ true) (before ++ after)
+plain_without [] after line all = all.1
+plain_without (first ∷ before) after line all = (all.0, plain_without before after line all.1)
+
+-- a skipped line may be put between the lines of a script
+pub spells_with : (before after : List (List ℕ)) (line : List ℕ) (plan : Plan) → is_plain line ≡ true → is_skipped line ≡ true
+    → SpellsLines (before ++ after) plan → SpellsLines (before ++ line ∷ after) plan
+spells_with before after line plan plain skipped spells = record {
+  plain = plain_with before after line plain spells.plain;
+  says = subst (λ (ks : List (List ℕ)). AllZip Says ks (sentences_of plan)) (sym (kept_without before after line skipped)) spells.says;
+  script = spells.script;
+}
+
+-- and may be left out
+pub spells_without : (before after : List (List ℕ)) (line : List ℕ) (plan : Plan) → is_skipped line ≡ true
+    → SpellsLines (before ++ line ∷ after) plan → SpellsLines (before ++ after) plan
+spells_without before after line plan skipped spells = record {
+  plain = plain_without before after line spells.plain;
+  says = subst (λ (ks : List (List ℕ)). AllZip Says ks (sentences_of plan)) (kept_without before after line skipped) spells.says;
+  script = spells.script;
+}
+
+-- ---- the lines of commands
+
+-- the line of this number, where the first line has that number, is kept at this place
+record KeptAt (number : ℕ) (lines : List (List ℕ)) (i n : ℕ) : Type 0 where
+  pub before : List (List ℕ)
+  pub line : List ℕ
+  pub more : List (List ℕ)
+  pub split : lines ≡ before ++ line ∷ more
+  pub number_is : n ≡ number + length before
+  pub there : slice_get (kept lines) i ≡ Some line
+
+-- one line in front that is skipped
+kept_behind : (number : ℕ) (first : List ℕ) (lines : List (List ℕ)) (i n : ℕ) → is_skipped first ≡ true → KeptAt (number + 1) lines i n → KeptAt number (first ∷ lines) i n
+kept_behind number first lines i n skipped rest =
+    let same : kept (first ∷ lines) ≡ kept lines = ap (λ (t : Bool). cond (not t) (first ∷ kept lines) (kept lines)) skipped in
+    let at : n ≡ number + 1 + length rest.before = rest.number_is in
+    record {
+      before = first ∷ rest.before;
+      line = rest.line;
+      more = rest.more;
+      split = ap (λ (ls : List (List ℕ)). first ∷ ls) rest.split;
+      number_is = omega arith;
+      there = ap (λ (ks : List (List ℕ)). slice_get ks i) same ∙ rest.there;
+    }
+
+-- one line in front that is kept
+kept_next : (number : ℕ) (first : List ℕ) (lines : List (List ℕ)) (i n : ℕ) → is_skipped first ≡ false → KeptAt (number + 1) lines i n → KeptAt number (first ∷ lines) (suc i) n
+kept_next number first lines i n said rest =
+    let same : kept (first ∷ lines) ≡ first ∷ kept lines = ap (λ (t : Bool). cond (not t) (first ∷ kept lines) (kept lines)) said in
+    let at : n ≡ number + 1 + length rest.before = rest.number_is in
+    record {
+      before = first ∷ rest.before;
+      line = rest.line;
+      more = rest.more;
+      split = ap (λ (ls : List (List ℕ)). first ∷ ls) rest.split;
+      number_is = omega arith;
+      there = ap (λ (ks : List (List ℕ)). slice_get ks (suc i)) same ∙ rest.there;
+    }
+
+-- a line in front that is the one
+kept_first : (number : ℕ) (first : List ℕ) (lines : List (List ℕ)) (n : ℕ) → is_skipped first ≡ false → Some number ≡ Some n → KeptAt number (first ∷ lines) zero n
+kept_first number first lines n said same =
+    let kept_front : kept (first ∷ lines) ≡ first ∷ kept lines = ap (λ (t : Bool). cond (not t) (first ∷ kept lines) (kept lines)) said in
+    let is : number ≡ n = cc in
+    record {
+      before = [];
+      line = first;
+      more = lines;
+      split = refl;
+      number_is = sym is ∙ omega arith;
+      there = ap (λ (ks : List (List ℕ)). slice_get ks zero) kept_front;
+    }
+
+-- one more line in front
+kept_step : (number : ℕ) (first : List ℕ) (lines : List (List ℕ)) (i n : ℕ) (t : Bool) → is_skipped first ≡ t
+    → slice_get (cond t (kept_numbers (number + 1) lines) (number ∷ kept_numbers (number + 1) lines)) i ≡ Some n
+    → ((j : ℕ) → slice_get (kept_numbers (number + 1) lines) j ≡ Some n → KeptAt (number + 1) lines j n) → KeptAt number (first ∷ lines) i n
+kept_step number first lines i n true skipped e rest = kept_behind number first lines i n skipped (rest i e)
+kept_step number first lines zero n false said e rest = kept_first number first lines n said e
+kept_step number first lines (suc i) n false said e rest = kept_next number first lines i n said (rest i e)
+
+-- a number of the lines that aren't skipped is that of a kept line
+kept_at : (number : ℕ) (lines : List (List ℕ)) (i n : ℕ) → slice_get (kept_numbers number lines) i ≡ Some n → KeptAt number lines i n
+kept_at number [] i n e = absurd (cc)
+kept_at number (first ∷ lines) i n e =
+    kept_step number first lines i n (is_skipped first) refl e (λ j found. kept_at (number + 1) lines j n found)
+
+-- what a line says, which has this place among those that say something
+said_at : (lines : List (List ℕ)) (ss : List Sentence) (i : ℕ) (line : List ℕ) → AllZip Says lines ss → slice_get lines i ≡ Some line
+    → (s : Sentence) × (slice_get ss i ≡ Some s) × Says line s
+said_at [] [] i line says e = absurd (cc)
+said_at [] (s ∷ ss) i line says e = absurd (says)
+said_at (first ∷ lines) [] i line says e = absurd (says)
+said_at (first ∷ lines) (s ∷ ss) zero line says e =
+    let same : first ≡ line = cc in
+    (s, refl, subst (λ (l : List ℕ). Says l s) same says.0)
+said_at (first ∷ lines) (s ∷ ss) (suc i) line says e = said_at lines ss i line says.1 e
+
+-- the line of a command is the one that says it
+pub line_says : (text : List ℕ) (plan : Plan) (place number : ℕ) → Spells text plan → command_line text place ≡ Some number → IsLineOf (lines_of text) plan place number
+line_says text plan place number spells e =
+    let found = kept_at 1 (lines_of text) (place + 2) number e in
+    let said = said_at (kept (lines_of text)) (sentences_of plan) (place + 2) found.line spells.says found.there in
+    let body : place + 2 ≡ suc (suc place) = omega arith in
+    let at : number ≡ 1 + length found.before = found.number_is in
+    record {
+      before = found.before;
+      line = found.line;
+      more = found.more;
+      split = found.split;
+      number_is = omega arith;
+      sentence = said.0;
+      command = ap (slice_get (sentences_of plan)) (sym body) ∙ said.1;
+      says = said.2;
+    }
+
+-- as many numbers are told as lines are kept
+length-kept_numbers : (number : ℕ) (lines : List (List ℕ)) → length (kept_numbers number lines) ≡ length (kept lines)
+length-kept_numbers number [] = refl
+length-kept_numbers number (line ∷ lines) = counted_step (is_skipped line) number line (kept_numbers (number + 1) lines) (kept lines) (length-kept_numbers (number + 1) lines)
+  where
+    counted_step : (t : Bool) (n : ℕ) (l : List ℕ) (ns : List ℕ) (ks : List (List ℕ)) → length ns ≡ length ks → length (cond t ns (n ∷ ns)) ≡ length (cond (not t) (l ∷ ks) ks)
+    counted_step true n l ns ks same = same
+    counted_step false n l ns ks same = ap suc same
+
+-- as many lines say something as there are sentences
+length-said : (lines : List (List ℕ)) (ss : List Sentence) → AllZip Says lines ss → length lines ≡ length ss
+length-said [] [] says = refl
+length-said [] (s ∷ ss) says = absurd (says)
+length-said (line ∷ lines) [] says = absurd (says)
+length-said (line ∷ lines) (s ∷ ss) says = ap suc (length-said lines ss says.1)
+
+-- a body's commands have a line each
+length-body_sentences : (names : List Name) (before : ℕ) (body : List Command) → length (body_sentences names before body) ≡ length body
+length-body_sentences names before [] = refl
+length-body_sentences names before (command ∷ body) = ap suc (length-body_sentences names (behind_command before command) body)
+
+-- just the commands of a script have a line
+pub lined : (text : List ℕ) (plan : Plan) (place : ℕ) → Spells text plan → length plan.commands ≤ place → command_line text place ≡ None
+lined text plan place spells past =
+    let numbers = length-kept_numbers 1 (lines_of text) in
+    let says = length-said (kept (lines_of text)) (sentences_of plan) spells.says in
+    let body = length-body_sentences plan.names 0 plan.commands in
+    slice_get_past (kept_numbers 1 (lines_of text)) (place + 2) (omega arith)
+
+-- ---- ends
+
+-- a command of an orderly body may come behind those before it
+orderly_at : (sectors : ℕ) (done before : List Command) (command : Command) (rest : List Command) → IsOrderly sectors done (before ++ command ∷ rest)
+    → MayCome sectors (done ++ before) command
+orderly_at sectors done [] command rest orderly =
+    subst (λ (x : List Command). MayCome sectors x command) (sym (append-nil done)) orderly.0
+orderly_at sectors done (first ∷ before) command rest orderly =
+    subst (λ (x : List Command). MayCome sectors x command) (append_assoc done (first ∷ []) before)
+    (orderly_at sectors (done ++ first ∷ []) before command rest orderly.1)
+
+-- each command of a script may come behind those before it
+pub may_come : (plan : Plan) (before : List Command) (command : Command) (rest : List Command) → IsPlan plan → plan.commands ≡ before ++ command ∷ rest
+    → MayCome plan.data_sectors before command
+may_come plan before command rest is split =
+    orderly_at plan.data_sectors [] before command rest (subst (λ (x : List Command). IsOrderly plan.data_sectors [] x) split is.orderly)
+
+-- a test that the second of two passes
+or_second : (first : Bool) → (first || true) ≡ true
+or_second true = refl
+or_second false = refl
+
+-- a request that a command ends has ended behind it
+ended_behind : (request : ℕ) (before between : List Command) → is_ended request (before ++ commands.Complete request ∷ between) ≡ true
+ended_behind request [] between = ap (λ (t : Bool). t || is_ended request between) (eq-eqb request request refl)
+ended_behind request (first ∷ before) between =
+    ap (λ (t : Bool). is_end_of request first || t) (ended_behind request before between) ∙ or_second (is_end_of request first)
+
+-- no request ends twice
+pub ends_once : (plan : Plan) (before between rest : List Command) (request : ℕ) → IsPlan plan
+    → plan.commands ≡ before ++ commands.Complete request ∷ (between ++ commands.Complete request ∷ rest) → ⊥
+ends_once plan before between rest request is split =
+    let regrouped : plan.commands ≡ (before ++ commands.Complete request ∷ between) ++ commands.Complete request ∷ rest =
+    split ∙ sym (append_assoc before (commands.Complete request ∷ between) (commands.Complete request ∷ rest)) in
+    let may = may_come plan (before ++ commands.Complete request ∷ between) (commands.Complete request) rest is regrouped in
+    let ended = ended_behind request before between in
+    let not_ended = may.1 in
+    cc
+
+-- ---- numbers
+
+-- a zero in front of a number doesn't count
+pub zero_in_front : (word : List ℕ) (n : ℕ) → IsNumber word n → length word < 20 → IsNumber (48 ∷ word) n
+zero_in_front word n number short =
+    let parts = and_parts _ _ number.0 in
+    let digits = and_parts _ _ parts.0 in
+    let some : nat_lt 0 (length (48 ∷ word)) ≡ true = lt-ltb _ _ (omega arith) in
+    let lens : nat_le (length (48 ∷ word)) 20 ≡ true = le-leb _ _ (omega arith) in
+    let all : list_all is_ascii_digit (48 ∷ word) ≡ true = digits.1 in
+    let low : nat_lt (number_value (48 ∷ word)) (2 ^ 64) ≡ true = parts.1 in
+    (and_from _ _ (and_from _ _ (and_from _ _ some lens) all) low, number.1)

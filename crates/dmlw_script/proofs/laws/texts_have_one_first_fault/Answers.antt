@@ -1,0 +1,8 @@
+use Rattle.dmlw_script.proofs.OneFault.{no_fault, one_first_fault}
+use Rattle.dmlw_script.proofs.laws.texts_have_one_first_fault.Goals as goal
+
+pub returns-clause-one : goal.returns-clause-one
+returns-clause-one c = one_first_fault
+
+pub returns-clause-none : goal.returns-clause-none
+returns-clause-none c = no_fault

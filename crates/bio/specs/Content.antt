@@ -1,4 +1,4 @@
-use Rattle.std.specs.Prelude.{◌≡◌, ℕ, ◌+◌, ◌-◌, ◌*◌, ◌/◌, ◌&&◌, nat_le, nat_lt, Option, Some, None, unwrap_or, List, length, take, drop, replicate, ◌⊎◌, if◌then◌else◌}
+use Rattle.std.specs.Prelude.{◌≡◌, ℕ, ◌+◌, ◌-◌, ◌*◌, ◌/◌, ◌<◌, ◌&&◌, nat_le, nat_lt, Option, Some, None, unwrap_or, List, length, take, drop, replicate, ◌⊎◌, if◌then◌else◌}
 use Rattle.bio.specs.Places.{collect}
 
 -- what a device has in each sector of 512 bytes
@@ -12,6 +12,18 @@ sector_of bytes sector = take 512 (drop (512 * sector) bytes)
 -- the bytes of a range of sectors, one after another
 abbrev pub gather : Content → ℕ → ℕ → List ℕ
 gather content first count = collect (λ place. content (first + place)) count
+
+-- these bytes stand in the content from this sector on
+abbrev pub HasBytes : Content → ℕ → List ℕ → Type 0
+HasBytes content first bytes = (sector : ℕ) → sector < length bytes / 512 → content (first + sector) ≡ sector_of bytes sector
+
+-- the contents are one below this sector
+abbrev pub AgreeBelow : ℕ → Content → Content → Type 0
+AgreeBelow end old new = (sector : ℕ) → sector < end → new sector ≡ old sector
+
+-- each sector of a disk has 512 bytes
+abbrev pub IsWhole : ℕ → Content → Type 0
+IsWhole disk content = (sector : ℕ) → sector < disk → length (content sector) ≡ 512
 
 -- the values that a call has for some of the sectors
 abbrev pub Patch : Type 0

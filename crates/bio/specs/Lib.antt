@@ -9,3 +9,5 @@ pub mod Content
 pub mod PlaceLaws
 pub mod EventLaws
 pub mod ContentLaws
+pub mod SectorLaws
+pub mod CallLaws

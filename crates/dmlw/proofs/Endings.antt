@@ -1,45 +1,23 @@
-use Rattle.std.proofs.Common.{◌≡◌, ◌∙◌, ℕ, List, Option, Result, Ok, Err, OnOk, IfErr, Some, ap, inl, inr, refl, subst, sym}
+use Rattle.std.proofs.Common.{◌≡◌, ◌∙◌, ℕ, List, Option, Result, Ok, Err, OnOk, IfErr, ap, inl, inr, refl, subst, sym}
 use Rattle.std.specs.Io.KnownBytes.{Keeps}
 use Rattle.dmlw.specs.declared.exit.Exit.{Exit}
 use Rattle.dmlw.specs.declared.exit.Exit.TheVariants.{Refused}
-use Rattle.dmlw.specs.declared.fault.Fault.{Fault}
-use Rattle.dmlw.specs.Commands.{EndsRecording, EndsShowing, Records, WritesLog}
-use Rattle.dmlw.specs.Exits.{status_of}
-use Rattle.dmlw.specs.Faults.{exit_by, memory_fault}
+use Rattle.script_runner.specs.declared.fault.Fault.{Fault}
+use Rattle.script_runner.specs.Faults.{memory_fault}
+use Rattle.script_runner.specs.RunFaults.{EndsRun, close, file as output, logging}
+use Rattle.dmlw.specs.Commands.{EndsRecording, EndsShowing}
+use Rattle.dmlw.specs.Exits.{exit_by, status_of}
 use Rattle.dmlw.specs.Files.{Write}
 use Rattle.dmlw.specs.Lists.{Shows, ShowsFile}
-use Rattle.dmlw.specs.Printed.{TellsLog, TellsRefusal, named_line}
-use Rattle.dmlw.specs.RunFaults.{EndsRun, FailsRecording, close, file, logging, run as ran, text as unread}
+use Rattle.dmlw.specs.Records.{FailsRecording, Records, TellsLog, WritesLog, file, run as ran, text as unread}
 use Rattle.dmlw_script.specs.Plans.{Plan}
 use Rattle.dmlw.proofs.Listing.{IsKept, shows_kept}
-use Rattle.dmlw.proofs.Written.{appends_kept, keeps_twice}
-
--- a refusal at a line that was told is kept
-refusal_kept : (held : Option (List ℕ)) (line : ℕ) (old middle new : Option (List ℕ)) → TellsRefusal held line old middle → Keeps middle new
-    → TellsRefusal held line old new
-refusal_kept held line old middle new told kept = record {
-  text = told.text;
-  read = told.read;
-  told = elim told.told [
-    | inl (none, keeps) ↦ inl (none, keeps_twice old middle new keeps kept)
-    | inr (script, spells, refused) ↦ inr (
-      script,
-      spells,
-      record {
-        place = refused.place;
-        failed = refused.failed;
-        within = refused.within;
-        here = refused.here;
-        told = appends_kept old middle new _ refused.told kept;
-      },
-    )
-  ];
-}
+use Rattle.bio.specs.CallLaws.{appends_kept, keeps_twice}
 
 -- why a run ended is kept
 run_kept : (text : List ℕ) (script : Plan) (old middle new : Option (List ℕ)) (fault : Fault) → EndsRun text script old middle fault
     → Keeps middle new → EndsRun text script old new fault
-run_kept text script old middle new fault (file f is) kept = file f is
+run_kept text script old middle new fault (output f is) kept = output f is
 run_kept text script old middle new fault (logging end is) kept = logging end is
 run_kept text script old middle new fault (close line refusal is) kept = close line refusal (record {
   place = is.place;
@@ -55,7 +33,8 @@ run_kept text script old middle new fault (close line refusal is) kept = close l
 failure_kept : (held old middle new : Option (List ℕ)) (fault : Fault) → FailsRecording held old middle fault → Keeps middle new
     → FailsRecording held old new fault
 failure_kept held old middle new fault (file f is) kept = file f is
-failure_kept held old middle new fault (unread bytes line refusal read none first) kept = unread bytes line refusal read none first
+failure_kept held old middle new fault (unread bytes line refusal read none first before) kept =
+    unread bytes line refusal read none first (keeps_twice old middle new before kept)
 failure_kept held old middle new fault (ran bytes script f read spells ends) kept =
     ran bytes script f read spells (run_kept bytes script old middle new f ends kept)
 
@@ -77,17 +56,16 @@ records_kept held log writes_old writes_new old middle new (Ok u) (bytes, told, 
   },
   writes,
 )
-records_kept held log writes_old writes_new old middle new (Err fault) (writes, refused, fails) kept =
-    (writes, λ line named. refusal_kept held line old middle new (refused line named) kept, failure_kept held old middle new fault fails kept)
+records_kept held log writes_old writes_new old middle new (Err fault) (writes, fails) kept =
+    (writes, failure_kept held old middle new fault fails kept)
 
 -- what recording comes to, by the clauses of the call
 pub records_all : (held : Option (List ℕ)) (log : List ℕ) (writes_old writes_new : Option (List Write)) (old new : Option (List ℕ))
     (done : Result (Unit {0}) Fault) → WritesLog held log writes_old writes_new done
     → OnOk done (TellsLog held log writes_old writes_new old new)
-    → IfErr done (λ fault. (line : ℕ) → named_line fault ≡ Some line → TellsRefusal held line old new)
     → IfErr done (FailsRecording held old new) → Records held log writes_old writes_new old new done
-records_all held log writes_old writes_new old new (Ok u) writes told refused fails = told
-records_all held log writes_old writes_new old new (Err fault) writes told refused fails = (writes, refused, fails)
+records_all held log writes_old writes_new old new (Ok u) writes told fails = told
+records_all held log writes_old writes_new old new (Err fault) writes told fails = (writes, fails)
 
 -- how a recording ends of the files that were named
 pub recording_ends : (held : List ℕ → Option (List ℕ)) (script log script_name log_name : List ℕ) (writes_old writes_new : Option (List Write))
@@ -108,7 +86,7 @@ pub refused_ends : (held : Option (List ℕ)) (log : List ℕ) (writes : Option 
     → exit ≡ Refused → status ≡ status_of exit → EndsRecording held log writes writes old new status
 refused_ends held log writes old new exit status refused is = record {
   done = Err memory_fault;
-  recorded = (inl refl, λ line named. absurd (cc), file memory_fault (inr refl));
+  recorded = (inl refl, file memory_fault (inr refl));
   exits = is ∙ ap status_of refused;
 }
 

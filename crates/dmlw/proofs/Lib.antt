@@ -1,10 +1,4 @@
 pub mod PlainWords
-pub mod Written
-pub mod Images
 pub mod Listing
-pub mod Filling
-pub mod Running
-pub mod Telling
+pub mod Failing
 pub mod Endings
-pub mod Following
-pub mod Stopping

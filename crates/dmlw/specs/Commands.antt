@@ -1,43 +1,19 @@
 -- What a command line comes to.
-use Rattle.std.specs.Prelude.{◌≡◌, ◌≤◌, ◌⊎◌, ℕ, List, MatchResult, Option, Some, Result, Ok, Err}
+use Rattle.std.specs.Prelude.{◌≡◌, ◌≤◌, ◌⊎◌, ℕ, List, Option, Result}
 use Rattle.std.specs.declared.io.ErrorKind.{ErrorKind as IoErrorKind}
 use Rattle.std.specs.declared.io.ErrorKind.TheVariants.{InvalidData}
 use Rattle.clap.specs.declared.error.kind.ErrorKind.{ErrorKind}
 use Rattle.clap.specs.declared.error.kind.ErrorKind.TheVariants.{DisplayHelp, DisplayVersion, OutOfMemory}
-use Rattle.dmlw_script.specs.Grammar.{Spells}
-use Rattle.dmlw_script.specs.Plans.{Plan}
 use Rattle.clap.specs.Words.{kind_of}
 use Rattle.dmlw.specs.declared.command_line.Task.{Task}
 use Rattle.dmlw.specs.declared.command_line.Task.TheVariants as tasks
 use Rattle.dmlw.specs.declared.exit.Exit.{Exit}
 use Rattle.dmlw.specs.declared.exit.Exit.TheVariants.{Done, Refused, Usage}
-use Rattle.dmlw.specs.declared.fault.Fault.{Fault}
-use Rattle.dmlw.specs.Exits.{status_of}
-use Rattle.dmlw.specs.Faults.{IsFileFault, exit_by}
-use Rattle.dmlw.specs.Files.{IsHeld, Write, one_more}
-use Rattle.dmlw.specs.Image.{log_image}
+use Rattle.script_runner.specs.declared.fault.Fault.{Fault}
+use Rattle.dmlw.specs.Exits.{exit_by, status_of}
+use Rattle.dmlw.specs.Files.{Write, one_more}
 use Rattle.dmlw.specs.Lists.{ListsImage, Shows, ShowsFile, TellsStatus}
-use Rattle.dmlw.specs.Printed.{TellsLog, TellsRefusal, named_line}
-use Rattle.dmlw.specs.Recorded.{entries_of}
-use Rattle.dmlw.specs.RunFaults.{FailsRecording}
-
--- the bytes are those of the log of the script that a file's bytes spell
-pub record IsLogOf (held : Option (List ℕ)) (bytes : List ℕ) : Type 0 where
-  pub text : List ℕ
-  pub script : Plan
-  pub read : IsHeld held text
-  pub spelled : Spells text script
-  pub image : bytes ≡ log_image script.log_sectors (entries_of script.commands)
-
--- one more write was asked for: of the file of this name, which is to hold the log of that script
-abbrev pub AsksLog : Option (List ℕ) → List ℕ → Option (List Write) → Option (List Write) → Type 0
-AsksLog held name old new = (bytes : List ℕ) × IsLogOf held bytes × (new ≡ one_more old name bytes)
-
--- Where recording a script succeeds it has asked for its log to be written, and for no other file. Where it fails it
--- has asked for no file, or for the log, which couldn't be written.
-abbrev pub WritesLog : Option (List ℕ) → List ℕ → Option (List Write) → Option (List Write) → Result (Unit {0}) Fault → Type 0
-WritesLog held name old new r =
-    MatchResult r (λ _. AsksLog held name old new) (λ fault. (new ≡ old) ⊎ (IsFileFault fault × AsksLog held name old new))
+use Rattle.dmlw.specs.Records.{Records}
 
 -- How a command line ends that has no task, by what clap makes of it: want of memory is a refusal, help and the
 -- version are done unless they can't be printed, and the others are usage faults.
@@ -58,16 +34,6 @@ pub record EndsCommand (old new : Option (List Write)) (status : ℕ) : Type 0 w
   pub known : status ≤ 3
   pub once : (new ≡ old) ⊎ ((name bytes : List ℕ) × (new ≡ one_more old name bytes))
   pub unwritten : 2 ≤ status → new ≡ old
-
--- What recording a script in a log of this name comes to, from what a writer held to what it holds: where it succeeds
--- it has told what happened and how far the log has come; where it is refused at a line, what happened before that line;
--- and why it fails.
-abbrev pub Records : Option (List ℕ) → List ℕ → Option (List Write) → Option (List Write) → Option (List ℕ) → Option (List ℕ) → Result (Unit {0}) Fault → Type 0
-Records held name writes_old writes_new old new (Ok done) = TellsLog held name writes_old writes_new old new
-Records held name writes_old writes_new old new (Err fault) =
-    WritesLog held name writes_old writes_new (Err fault)
-    × ((line : ℕ) → named_line fault ≡ Some line → TellsRefusal held line old new)
-    × FailsRecording held old new fault
 
 -- How the recording of a script in a log of this name ends: with the status of what it did.
 pub record EndsRecording (held : Option (List ℕ)) (log : List ℕ) (writes_old writes_new : Option (List Write)) (old new : Option (List ℕ)) (status : ℕ)

@@ -1,13 +1,8 @@
 pub mod Exits
-pub mod Faults
 pub mod Files
 pub mod FileErrors
-pub mod Image
 pub mod Lists
 pub mod CommandLine
 pub mod Tasks
+pub mod Records
 pub mod Commands
-pub mod Recorded
-pub mod Printed
-pub mod Recordings
-pub mod RunFaults

@@ -6,13 +6,12 @@ ghost use Rattle.dmlw.specs.CommandLine.{is_plain, log_words, record_words};
 ghost use Rattle.dmlw.specs.Commands.{EndsCommand, EndsRecording, EndsShowing, EndsTask, EndsUntasked, unread_exit};
 ghost use Rattle.dmlw.specs.Tasks.{IsRead};
 ghost use Rattle.dmlw.specs.declared.command_line.Task.{Task};
-ghost use Rattle.dmlw.specs.Exits.{status_of};
-ghost use Rattle.dmlw.specs.Faults.{IsFileFault, exit_by, exit_of};
+ghost use Rattle.script_runner.specs.Faults.{IsFileFault};
+ghost use Rattle.dmlw.specs.Exits.{exit_by, exit_of, status_of};
 ghost use Rattle.dmlw.specs.Lists.{ListsImage, TellsStatus};
 
 use crate::command_line::{Task, read_words};
 use crate::exit::Exit;
-use crate::fault::Fault;
 use crate::files::Files;
 use crate::list::list;
 use crate::record::record;
@@ -20,6 +19,7 @@ use crate::status::status;
 use bio::Refusal;
 use clap::Error;
 use clap::error::ErrorKind;
+use script_runner::Fault;
 use std::alloc::Global;
 use std::convert::AsStr;
 use std::io;
@@ -108,9 +108,9 @@ fn end<O: Write, E: Write>(done: Result<(), Fault>, out: &mut O, err: &mut E) ->
 fn tell<E: Write>(fault: Fault, err: &mut E) -> Exit
     ensures { result ≡ exit_of fault }
 {
-    let _ = writeln!(err, "{fault}");
+    let _ = writeln!(err, "dmlw: {fault}");
     let _ = err.flush();
-    fault.exit()
+    Exit::from(fault)
 }
 
 // Shows the text of a command line that has no other task.
@@ -119,7 +119,7 @@ fn show<O: Write, E: Write>(text: Error, out: &mut O, err: &mut E) -> Exit
     ensures kept { kind_of text ≡ ErrorKind.OutOfMemory → Keeps (O.contents out.old) (O.contents out.new) }
 {
     match text.kind() {
-        ErrorKind::OutOfMemory => tell(Fault::refused(Refusal::Memory), err),
+        ErrorKind::OutOfMemory => tell(Fault::from(Refusal::Memory), err),
         ErrorKind::DisplayHelp | ErrorKind::DisplayVersion => end(print(&text, out), out, err),
         _ => {
             let _ = print(&text, err);

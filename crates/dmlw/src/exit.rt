@@ -1,5 +1,7 @@
 ghost use Rattle.std.specs.Prelude.{◌≡◌};
-ghost use Rattle.dmlw.specs.Exits.{status_of};
+ghost use Rattle.dmlw.specs.Exits.{exit_of, status_of};
+
+use script_runner::Fault;
 
 /// How a command ended.
 #[derive(Clone, Copy, Debug, PartialEq, Eq)]
@@ -24,6 +26,17 @@ impl Exit {
             Exit::Refused => 1,
             Exit::Usage => 2,
             Exit::LoggingEnded => 3,
+        }
+    }
+}
+
+impl From<Fault> for Exit {
+    ghost from_gives = { λ fault exit. exit ≡ exit_of fault };
+
+    fn from(fault: Fault) -> Exit {
+        match fault {
+            Fault::Refused { .. } => Exit::Refused,
+            Fault::LoggingEnded(_) => Exit::LoggingEnded,
         }
     }
 }

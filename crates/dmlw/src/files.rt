@@ -1,9 +1,11 @@
 ghost use Rattle.std.specs.Prelude.{◌≡◌, ◌≤◌, IfOk, List, Option, vec_len, ℕ};
 ghost use Rattle.std.specs.IoError.{error_kind};
+ghost use Rattle.script_runner.specs.Faults.{refused_by};
 ghost use Rattle.dmlw.specs.Files.{IsHeld, Write, one_more};
 ghost use Rattle.dmlw.specs.FileErrors.{file_error, file_refusal};
 
 use bio::Refusal;
+use script_runner::Fault;
 use std::alloc::Global;
 use std::io;
 use thiserror::Error;
@@ -38,6 +40,14 @@ impl From<FileError> for Refusal {
             FileError::Unusable => Refusal::File,
             FileError::Memory => Refusal::Memory,
         }
+    }
+}
+
+impl From<FileError> for Fault {
+    ghost from_gives = { λ error fault. fault ≡ refused_by (file_refusal error) };
+
+    fn from(error: FileError) -> Fault {
+        Fault::from(Refusal::from(error))
     }
 }
 

@@ -1,11 +1,11 @@
 ghost use Rattle.std.specs.Prelude.{◌≡◌, IfErr, IfOk};
-ghost use Rattle.dmlw.specs.Faults.{IsFileFault};
+ghost use Rattle.script_runner.specs.Faults.{IsFileFault};
 ghost use Rattle.dmlw.specs.Files.{IsHeld};
 ghost use Rattle.dmlw.specs.Lists.{IsImage};
 
-use crate::fault::Fault;
 use crate::files::Files;
 use bio::{Refusal, SECTOR_BYTES};
+use script_runner::Fault;
 use std::alloc::Global;
 
 /// The most bytes of an image: those of 1,048,576 sectors.
@@ -21,7 +21,7 @@ pub fn read_image<F: Files>(alloc: Global, name: &str, files: &mut F) -> Result<
 {
     let image = files.read(alloc, name, MAX_IMAGE_BYTES)?;
     if image.is_empty() || image.len() as u64 % SECTOR_BYTES != 0 {
-        return Err(Fault::refused(Refusal::File));
+        return Err(Fault::from(Refusal::File));
     }
     Ok(image)
 }

@@ -4,23 +4,19 @@
 //! whole run, byte for byte. `dmlw list LOG` prints a log's entries up to the first fault, `dmlw status
 //! LOG` how far the log has come. `execute` does one command over files and writers of any kind; its
 //! contract says of each command what it has printed and which file it has asked to be written, in
-//! the words of `specs/Commands`. `recording::run` leaves the log of the completion list of a script's
-//! events (`specs/Recorded`, `specs/Image`); `list` and `status` print what is read of an image
-//! (`specs/Lists`). `main` calls `execute` over the system's files and streams, of which no clause knows
-//! what they hold.
+//! the words of `specs/Commands`. `record` runs a script by `script_runner`, and asks for its log to be
+//! written (`specs/Records`); `list` and `status` print what is read of an image (`specs/Lists`). `main`
+//! calls `execute` over the system's files and streams, of which no clause knows what they hold.
 #![tactic(auto)]
 
 mod command_line;
 mod execute;
 mod exit;
-mod fault;
 mod files;
-mod fill;
 mod host_files;
 mod image;
 mod list;
 mod record;
-mod recording;
 mod status;
 #[cfg(test)]
 mod tests;

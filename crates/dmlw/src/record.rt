@@ -1,13 +1,9 @@
-ghost use Rattle.std.specs.Prelude.{◌≡◌, IfErr, IfOk, OnOk, Some, ℕ};
-ghost use Rattle.dmlw.specs.Commands.{IsLogOf, WritesLog};
-ghost use Rattle.dmlw.specs.Printed.{IsToldLogOf, TellsLog, TellsRefusal, named_line};
-ghost use Rattle.dmlw.specs.RunFaults.{FailsRecording};
+ghost use Rattle.std.specs.Prelude.{◌≡◌, IfErr, IfOk, OnOk};
+ghost use Rattle.dmlw.specs.Records.{FailsRecording, IsLogOf, IsToldLogOf, TellsLog, WritesLog};
 
-use crate::fault::Fault;
 use crate::files::Files;
-use crate::fill::Filled;
-use crate::recording::run;
 use dmlw_script::{Kind, read_script};
+use script_runner::{Fault, Filled, run};
 use std::alloc::Global;
 use std::io::Write;
 
@@ -26,8 +22,6 @@ pub fn record<F: Files, O: Write>(
     ensures log { WritesLog (F.held files.old script.now) log.now (F.writes files.old) (F.writes files.new) result }
     ensures printed { OnOk result (TellsLog (F.held files.old script.now) log.now
         (F.writes files.old) (F.writes files.new) (O.contents out.old) (O.contents out.new)) }
-    ensures refused { IfErr result (λ fault. (line : ℕ) → named_line fault ≡ Some line →
-        TellsRefusal (F.held files.old script.now) line (O.contents out.old) (O.contents out.new)) }
     ensures faults { IfErr result
         (FailsRecording (F.held files.old script.now) (O.contents out.old) (O.contents out.new)) }
 {
@@ -46,8 +40,6 @@ fn run_file<F: Files, O: Write>(
     ensures log { IfOk result (λ filled. IsLogOf (F.held files.old script.now) filled.image.items) }
     ensures printed { IfOk result (λ filled. IsToldLogOf (F.held files.old script.now) filled.image.items
         (O.contents out.old) (O.contents out.new)) }
-    ensures refused { IfErr result (λ fault. (line : ℕ) → named_line fault ≡ Some line →
-        TellsRefusal (F.held files.old script.now) line (O.contents out.old) (O.contents out.new)) }
     ensures faults { IfErr result
         (FailsRecording (F.held files.old script.now) (O.contents out.old) (O.contents out.new)) }
     ensures unwritten { F.writes files.new ≡ F.writes files.old }

@@ -1,9 +1,10 @@
 ghost use Rattle.std.specs.Prelude.{◌≡◌};
 ghost use Rattle.dmlw.specs.Lists.{ShowsFile, TellsStatus};
 
-use crate::fault::Fault;
 use crate::files::Files;
 use crate::image::read_image;
+use bio::Refusal;
+use script_runner::Fault;
 use std::alloc::Global;
 use std::io::Write;
 
@@ -27,7 +28,7 @@ pub fn status<F: Files, O: Write>(
 fn tell_status<O: Write>(image: &[u8], out: &mut O) -> Result<(), Fault>
     ensures { TellsStatus image.now (O.contents out.old) (O.contents out.new) result }
 {
-    let status = log_reader::status(image)?;
+    let status = log_reader::status(image).map_err(Refusal::from)?;
     writeln!(out, "{status}")?;
     out.flush()?;
     Ok(())

@@ -9,6 +9,7 @@ use Rattle.std.proofs.lemmas.List.Sums.{passes_at_first, position_or_len_is, sum
 use Rattle.std.proofs.lemmas.Map.Keys.{apart_from_distinct, IsDistinct-from_apart, IsDistinct-push}
 use Rattle.std.proofs.lemmas.Slice.Eq.{bytes_eq-Decides}
 use Rattle.std.proofs.Math.Seq.{get_or-append_seam}
+use Rattle.std.proofs.lemmas.Option.{cond_some}
 use Rattle.bio.specs.Check.{range_answer}
 use Rattle.bio.specs.declared.request.BadBio.{BadBio}
 use Rattle.bio.specs.declared.refusal.Refusal.{Refusal}
@@ -22,7 +23,6 @@ use Rattle.dmlw_script.specs.Drafts.{◌>>=◌, body_step, ended_next, named_nex
 use Rattle.dmlw_script.specs.Names.{named, same_name}
 use Rattle.dmlw_script.specs.Plans.{behind_command, body_sentences, is_ended, is_submission, name_at, request_of, sentence_at, submissions, IsName, IsOrderly, MayCome}
 use Rattle.dmlw_script.proofs.DraftLemmas.{listed, with_new_name}
-use Rattle.dmlw_script.proofs.SentenceLaws.{chosen_some}
 
 -- ---- names
 
@@ -67,7 +67,7 @@ request_of_name names request d distinct inside =
 -- the place of a name that is among them has that name
 pub name_of_request : (name : Name) (names : List Name) (request : ℕ) (d : Name) → request_of name names ≡ Some request → (request < length names) × (get_or names request d ≡ name)
 name_of_request name names request d e =
-    let p = chosen_some (nat_lt (position_or_len (same_name name) names) (length names)) (position_or_len (same_name name) names) request e in
+    let p = cond_some (nat_lt (position_or_len (same_name name) names) (length names)) (position_or_len (same_name name) names) request e in
     let inside : position_or_len (same_name name) names < length names = ltb-true _ _ p.0 in
     let here : same_name name (get_or names request d) ≡ true = subst (λ (x : ℕ). same_name name (get_or names x d) ≡ true) p.1 (passes_at_first (same_name name) names d inside) in
     (omega (arith, p.1), sym (same_name_is name (get_or names request d) here))

@@ -4,6 +4,7 @@ use Rattle.std.specs.List.{list_any, position_or_len}
 use Rattle.std.proofs.lemmas.Bool.{cond-true, cond-false, cases_eq, eq-eqb, ne_eqb}
 use Rattle.std.proofs.lemmas.Bool.Decides.{nat_tests}
 use Rattle.std.proofs.lemmas.List.Folds.{list_any-append}
+use Rattle.std.proofs.Math.Bool.{or-false, or-true}
 use Rattle.std.proofs.lemmas.List.{length-append, length-set}
 use Rattle.dmlw_script.specs.declared.command.Command.{Command}
 use Rattle.dmlw_script.specs.declared.command.Command.TheVariants as commands
@@ -13,19 +14,9 @@ use Rattle.dmlw_script.specs.Plans.{is_end_of, is_ended, request_of}
 use Rattle.dmlw_script.specs.declared.name.Name.{Name}
 use Rattle.bio.specs.declared.refusal.Refusal.TheVariants.{BadId}
 
--- false adds nothing
-or_false : (b : Bool) → (b || false) ≡ b
-or_false true = refl
-or_false false = refl
-
--- true decides
-or_true : (b : Bool) → (b || true) ≡ true
-or_true true = refl
-or_true false = refl
-
 -- one more command
 pub is_ended-push : (request : ℕ) (body : List Command) (command : Command) → is_ended request (body ++ command ∷ []) ≡ (is_ended request body || is_end_of request command)
-is_ended-push request body command = list_any-append (is_end_of request) body (command ∷ []) ∙ ap (λ b. is_ended request body || b) (or_false (is_end_of request command))
+is_ended-push request body command = list_any-append (is_end_of request) body (command ∷ []) ∙ ap (λ b. is_ended request body || b) (or-false (is_end_of request command))
 
 -- an absent flag is like one that is false
 push_default : (flags : List Bool) (i : ℕ) → get_or (flags ++ false ∷ []) i false ≡ get_or flags i false
@@ -49,7 +40,7 @@ flags_submit n flags body old = record {
 pub flags_say : (n : ℕ) (flags : List Bool) (body : List Command) (command : Command) → ((request : ℕ) → is_end_of request command ≡ false) → IsFlags n flags body → IsFlags n flags (body ++ command ∷ [])
 flags_say n flags body command quiet old = record {
   in_step = old.in_step;
-  each = λ request. old.each request ∙ sym (is_ended-push request body command ∙ ap (λ b. is_ended request body || b) (quiet request) ∙ or_false (is_ended request body));
+  each = λ request. old.each request ∙ sym (is_ended-push request body command ∙ ap (λ b. is_ended request body || b) (quiet request) ∙ or-false (is_ended request body));
 }
 
 -- the end of a request
@@ -61,10 +52,10 @@ flags_end n flags body request inside old = record {
       (λ (same : other ≡ request).
       let here : request < length flags = omega (arith, old.in_step) in
       let test : (request == other) ≡ true = eq-eqb request other (sym same) in
-      rw same (get_or-set_same flags request true false here) ∙ sym (is_ended-push other body (commands.Complete request) ∙ ap (λ b. is_ended other body || b) test ∙ or_true (is_ended other body)))
+      rw same (get_or-set_same flags request true false here) ∙ sym (is_ended-push other body (commands.Complete request) ∙ ap (λ b. is_ended other body || b) test ∙ or-true (is_ended other body)))
       (λ (apart : other ≡ request → ⊥).
       let test : (request == other) ≡ false = ne_eqb request other (λ e. apart (sym e)) in
-      get_or-set_other flags request other true false apart ∙ old.each other ∙ sym (is_ended-push other body (commands.Complete request) ∙ ap (λ b. is_ended other body || b) test ∙ or_false (is_ended other body)))
+      get_or-set_other flags request other true false apart ∙ old.each other ∙ sym (is_ended-push other body (commands.Complete request) ∙ ap (λ b. is_ended other body || b) test ∙ or-false (is_ended other body)))
       (cases_eq other request);
 }
 

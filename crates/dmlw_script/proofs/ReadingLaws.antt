@@ -3,6 +3,7 @@ use Rattle.std.specs.Prelude.{Result, IfOk}
 use Rattle.std.specs.List.{AllByRecursion, AllZip, IsDistinct}
 use Rattle.std.proofs.lemmas.Bool.{cond-true, cond-false, cases_Bool}
 use Rattle.std.proofs.lemmas.List.{append-nil}
+use Rattle.std.proofs.lemmas.Option.{cond_some}
 use Rattle.bio.specs.declared.refusal.Refusal.{Refusal}
 use Rattle.bio.specs.declared.refusal.Refusal.TheVariants.{BadLine}
 use Rattle.dmlw_script.specs.declared.fault.ScriptFault.{ScriptFault}
@@ -17,7 +18,7 @@ use Rattle.dmlw_script.specs.Plans.{body_sentences, is_disk_size, sentences_of, 
 use Rattle.dmlw_script.specs.Readers.{and_then, at_line, data_size, finish_step, finished, heard, line_step, log_size, nothing, read_lines, read_text, sentence_step, with_body, with_data, with_log, Progress}
 use Rattle.dmlw_script.specs.Sentences.{sentence_of}
 use Rattle.dmlw_script.proofs.BodyLaws.{bind_at, bind_ok, run_again, run_body, run_grows, IsFine, IsSound, Told}
-use Rattle.dmlw_script.proofs.SentenceLaws.{chosen_some, sentence_again, sentence_read}
+use Rattle.dmlw_script.proofs.SentenceLaws.{sentence_again, sentence_read}
 
 -- ---- what is heard of single lines
 
@@ -39,7 +40,7 @@ all_fine (line ∷ lines) (s ∷ ss) says = (fine_said line s says.0, all_fine l
 
 -- a size of a data disk is said by a line of the head
 pub data_size_is : (s : Sentence) (n : ℕ) → data_size s ≡ Some n → (s ≡ Data n) × (is_disk_size n ≡ true)
-data_size_is (Data sectors) n e = let p = chosen_some (is_disk_size sectors) sectors n e in (ap (λ k. Data k) p.1, subst (λ (k : ℕ). is_disk_size k ≡ true) p.1 p.0)
+data_size_is (Data sectors) n e = let p = cond_some (is_disk_size sectors) sectors n e in (ap (λ k. Data k) p.1, subst (λ (k : ℕ). is_disk_size k ≡ true) p.1 p.0)
 data_size_is (Log sectors) n e = absurd (cc)
 data_size_is (Write name first count byte) n e = absurd (cc)
 data_size_is (Flush name) n e = absurd (cc)
@@ -48,7 +49,7 @@ data_size_is Close n e = absurd (cc)
 
 -- a size of a log disk is said by a line of the head
 pub log_size_is : (s : Sentence) (n : ℕ) → log_size s ≡ Some n → (s ≡ Log n) × (is_disk_size n ≡ true)
-log_size_is (Log sectors) n e = let p = chosen_some (is_disk_size sectors) sectors n e in (ap (λ k. Log k) p.1, subst (λ (k : ℕ). is_disk_size k ≡ true) p.1 p.0)
+log_size_is (Log sectors) n e = let p = cond_some (is_disk_size sectors) sectors n e in (ap (λ k. Log k) p.1, subst (λ (k : ℕ). is_disk_size k ≡ true) p.1 p.0)
 log_size_is (Data sectors) n e = absurd (cc)
 log_size_is (Write name first count byte) n e = absurd (cc)
 log_size_is (Flush name) n e = absurd (cc)

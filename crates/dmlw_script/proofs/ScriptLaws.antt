@@ -5,6 +5,7 @@ use Rattle.std.specs.List.{list_all, AllByRecursion, AllZip}
 use Rattle.std.proofs.lemmas.Bool.{and_from, and_parts, eq-eqb, le-leb, lt-ltb}
 use Rattle.std.proofs.lemmas.List.{append-nil}
 use Rattle.std.proofs.lemmas.Option.{slice_get_past}
+use Rattle.std.proofs.Math.Bool.{or-true}
 use Rattle.dmlw_script.specs.declared.command.Command.{Command}
 use Rattle.dmlw_script.specs.declared.command.Command.TheVariants as commands
 use Rattle.dmlw_script.specs.declared.name.Name.{Name}
@@ -16,6 +17,7 @@ use Rattle.dmlw_script.specs.Spelling.{spelling}
 use Rattle.dmlw_script.specs.Words.{number_value}
 use Rattle.dmlw_script.proofs.SpellingLaws.{spelling_spells}
 use Rattle.dmlw_script.proofs.TextLaws.{one_script_of}
+use Rattle.dmlw_script.proofs.FaultLaws.{as_many}
 
 -- ---- spellings
 
@@ -168,13 +170,6 @@ length-kept_numbers number (line ∷ lines) = counted_step (is_skipped line) num
     counted_step true n l ns ks same = same
     counted_step false n l ns ks same = ap suc same
 
--- as many lines say something as there are sentences
-length-said : (lines : List (List ℕ)) (ss : List Sentence) → AllZip Says lines ss → length lines ≡ length ss
-length-said [] [] says = refl
-length-said [] (s ∷ ss) says = absurd (says)
-length-said (line ∷ lines) [] says = absurd (says)
-length-said (line ∷ lines) (s ∷ ss) says = ap suc (length-said lines ss says.1)
-
 -- a body's commands have a line each
 length-body_sentences : (names : List Name) (before : ℕ) (body : List Command) → length (body_sentences names before body) ≡ length body
 length-body_sentences names before [] = refl
@@ -184,7 +179,7 @@ length-body_sentences names before (command ∷ body) = ap suc (length-body_sent
 pub lined : (text : List ℕ) (plan : Plan) (place : ℕ) → Spells text plan → length plan.commands ≤ place → command_line text place ≡ None
 lined text plan place spells past =
     let numbers = length-kept_numbers 1 (lines_of text) in
-    let says = length-said (kept (lines_of text)) (sentences_of plan) spells.says in
+    let says = as_many (kept (lines_of text)) (sentences_of plan) spells.says in
     let body = length-body_sentences plan.names 0 plan.commands in
     slice_get_past (kept_numbers 1 (lines_of text)) (place + 2) (omega arith)
 
@@ -205,16 +200,11 @@ pub may_come : (plan : Plan) (before : List Command) (command : Command) (rest :
 may_come plan before command rest is split =
     orderly_at plan.data_sectors [] before command rest (subst (λ (x : List Command). IsOrderly plan.data_sectors [] x) split is.orderly)
 
--- a test that the second of two passes
-or_second : (first : Bool) → (first || true) ≡ true
-or_second true = refl
-or_second false = refl
-
 -- a request that a command ends has ended behind it
 ended_behind : (request : ℕ) (before between : List Command) → is_ended request (before ++ commands.Complete request ∷ between) ≡ true
 ended_behind request [] between = ap (λ (t : Bool). t || is_ended request between) (eq-eqb request request refl)
 ended_behind request (first ∷ before) between =
-    ap (λ (t : Bool). is_end_of request first || t) (ended_behind request before between) ∙ or_second (is_end_of request first)
+    ap (λ (t : Bool). is_end_of request first || t) (ended_behind request before between) ∙ or-true (is_end_of request first)
 
 -- no request ends twice
 pub ends_once : (plan : Plan) (before between rest : List Command) (request : ℕ) → IsPlan plan

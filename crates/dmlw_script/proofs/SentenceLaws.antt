@@ -7,6 +7,7 @@ use Rattle.std.specs.Str.{bytes_eq}
 use Rattle.std.proofs.lemmas.Bool.{and_parts, and_from, cond-true, cond-false, eq-eqb, eqb-true, leb-true, lt-ltb, le-ltb}
 use Rattle.std.proofs.lemmas.Bool.Decides.{nat_tests}
 use Rattle.std.proofs.lemmas.Slice.Eq.{bytes_eq-Decides}
+use Rattle.std.proofs.lemmas.Option.{cond_some}
 use Rattle.dmlw_script.specs.declared.name.Name.{Name}
 use Rattle.dmlw_script.specs.declared.sentence.Sentence.{Sentence}
 use Rattle.dmlw_script.specs.declared.sentence.Sentence.TheVariants.{Data, Log, Write, Flush, Complete, Close}
@@ -21,11 +22,6 @@ use Rattle.dmlw_script.specs.Words.{behind, byte_from, byte_of, byte_text, front
 pub chosen : {A : Type 0} (t : Bool) (x y z : A) → cond t x y ≡ z → ((t ≡ true) × (x ≡ z)) ⊎ ((t ≡ false) × (y ≡ z))
 chosen true x y z e = inl (refl, e)
 chosen false x y z e = inr (refl, e)
-
--- a value was chosen
-pub chosen_some : {A : Type 0} (t : Bool) (x z : A) → cond t (Some x) None ≡ Some z → (t ≡ true) × (x ≡ z)
-chosen_some true x z e = (refl, cc)
-chosen_some false x z e = absurd (cc)
 
 -- what goes on well has a value, and goes on well from there
 bind_some : {A B : Type 0} (o : Option A) (f : A → Option B) (y : B) → (o >>= f) ≡ Some y → (x : A) × (o ≡ Some x) × (f x ≡ Some y)
@@ -95,7 +91,7 @@ id_lacks_space word id = all_weaker _ _ name_byte_not_space word (and_parts _ _ 
 
 -- what is read as a number is one
 pub number_read : (word : List ℕ) (n : ℕ) → number_of word ≡ Some n → IsNumber word n
-number_read word n e = chosen_some _ _ _ e
+number_read word n e = cond_some _ _ _ e
 
 -- a number is read as it is
 pub number_again : (word : List ℕ) (n : ℕ) → IsNumber word n → number_of word ≡ Some n
@@ -103,7 +99,7 @@ number_again word n is = cond-true _ _ _ is.0 ∙ ap Some is.1
 
 -- what is read as an id is one
 pub id_read : (word : List ℕ) (name : Name) → name_of word ≡ Some name → IsId word name
-id_read word name e = let parts = chosen_some _ _ _ e in (parts.0, sym parts.1)
+id_read word name e = let parts = cond_some _ _ _ e in (parts.0, sym parts.1)
 
 -- an id is read as it is
 pub id_again : (word : List ℕ) (name : Name) → IsId word name → name_of word ≡ Some name
@@ -133,7 +129,7 @@ half_read digit half e =
     ⊎_elim
     (λ (low : ((nat_le 48 digit && nat_le digit 57) ≡ true) × (Some (digit - 48) ≡ Some half)). half_low digit half low.0 (let h = low.1 in cc))
     (λ (other : ((nat_le 48 digit && nat_le digit 57) ≡ false) × (cond (nat_le 97 digit && nat_le digit 102) (Some (digit - 87)) None ≡ Some half)).
-    let high = chosen_some _ _ _ other.1 in half_high digit half high.0 high.1)
+    let high = cond_some _ _ _ other.1 in half_high digit half high.0 high.1)
     (chosen _ _ _ _ e)
 
 -- a digit is read as it is

@@ -21,7 +21,7 @@ returns-clause-record g c = λ program script log words_are plain_script plain_l
           let asked = w.in-Record.ensures.asks entered enters complete in
           let status = c.status.ensures ∙ ap status_of (w.exit-is ∙ w.end-exit.ensures.exit) in
           let recorded = w.record-recorded.ensures in
-          let records = records_all _ _ _ _ _ _ _ recorded.log recorded.printed recorded.refused recorded.faults in
+          let records = records_all _ _ _ _ _ _ _ recorded.log recorded.printed recorded.faults in
           rw (w.files-is, w.out-is) (recording_ends (g.F.Files.held c.args.files.now) script log _ _ _ _ _ _ _ _ _ records
           w.end-exit.ensures.kept (sym (same_some _ _ asked.1)) (sym (same_some _ _ asked.2)) status)
       | in-List w ↦
@@ -89,7 +89,7 @@ returns-clause-does g c = elim c.match-read_words.branch [
   | in-Record w ↦
       let status = c.status.ensures ∙ ap status_of (w.exit-is ∙ w.end-exit.ensures.exit) in
       let recorded = w.record-recorded.ensures in
-      let records = records_all _ _ _ _ _ _ _ recorded.log recorded.printed recorded.refused recorded.faults in (
+      let records = records_all _ _ _ _ _ _ _ recorded.log recorded.printed recorded.faults in (
         tasks.Record w.in-Record.script w.in-Record.log,
         w.in-Record.ensures.only,
         rw (w.files-is, w.out-is) (recording_ends (g.F.Files.held c.args.files.now) _ _ _ _ _ _ _ _ _ _ _ records w.end-exit.ensures.kept refl refl status),

@@ -1,5 +1,5 @@
-use Rattle.dmlw.proofs.Following.{on_error}
-use Rattle.dmlw.proofs.Stopping.{fails_for_file}
+use Rattle.bio.specs.CallLaws.{on_error}
+use Rattle.dmlw.proofs.Failing.{fails_for_file}
 use Rattle.dmlw.proofs.record.record.Goals as goal
 
 pub returns-in_err-write-clause-faults : goal.returns-in_err-write-clause-faults

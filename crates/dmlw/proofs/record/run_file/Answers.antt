@@ -1,8 +1,7 @@
 use Rattle.std.proofs.Common.{ℕ, List, refl, subst}
 use Rattle.dmlw_script.specs.Grammar.{Spells}
-use Rattle.dmlw.proofs.Following.{on_error}
-use Rattle.dmlw.proofs.Stopping.{fails_for_file, fails_run, fails_unread}
-use Rattle.dmlw.proofs.Telling.{status_told}
+use Rattle.bio.specs.CallLaws.{on_error}
+use Rattle.dmlw.proofs.Failing.{fails_for_file, fails_for_output, fails_run, fails_unread, status_told}
 use Rattle.dmlw.proofs.record.run_file.Goals as goal
 
 pub returns-clause-log : goal.returns-clause-log
@@ -37,7 +36,7 @@ returns-in_err-text-clause-faults g c =
 pub returns-in_err-script-clause-faults : goal.returns-in_err-script-clause-faults
 returns-in_err-script-clause-faults g c =
     on_error c.from_residual-in_err-script.result c.from_residual-in_err-script.ensures.1
-    (λ fault is. fails_unread _ _ _ c.in_ok-text.text.items c.deref.result.now c.in_err-script.field-0.0 fault c.in_ok-text.ensures.held
+    (λ fault is. fails_unread _ _ c.in_ok-text.text.items c.deref.result.now c.in_err-script.field-0.0 fault c.in_ok-text.ensures.held
     c.deref.ensures.value (c.in_err-script.ensures.fault refl) (λ plan spells. c.in_err-script.ensures.only refl plan spells) is)
 
 pub returns-in_err-filled-clause-faults : goal.returns-in_err-filled-clause-faults
@@ -48,8 +47,8 @@ returns-in_err-filled-clause-faults g c =
 
 pub returns-in_err-writeln-clause-faults : goal.returns-in_err-writeln-clause-faults
 returns-in_err-writeln-clause-faults g c =
-    on_error c.from_residual-in_err-writeln.result c.from_residual-in_err-writeln.ensures.1 (λ fault is. fails_for_file _ _ _ _ fault is)
+    on_error c.from_residual-in_err-writeln.result c.from_residual-in_err-writeln.ensures.1 (λ fault is. fails_for_output _ _ _ _ fault is)
 
 pub returns-in_err-flush-clause-faults : goal.returns-in_err-flush-clause-faults
 returns-in_err-flush-clause-faults g c =
-    on_error c.from_residual-in_err-flush.result c.from_residual-in_err-flush.ensures.1 (λ fault is. fails_for_file _ _ _ _ fault is)
+    on_error c.from_residual-in_err-flush.result c.from_residual-in_err-flush.ensures.1 (λ fault is. fails_for_output _ _ _ _ fault is)

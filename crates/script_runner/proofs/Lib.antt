@@ -1,0 +1,6 @@
+pub mod Images
+pub mod Filling
+pub mod Running
+pub mod Telling
+pub mod Following
+pub mod Stopping

@@ -1,0 +1,30 @@
+use Rattle.std.proofs.Common.{◌∙◌, ap, refl}
+use Rattle.bio.specs.declared.outcome.End.TheVariants.{Memory}
+use Rattle.script_runner.specs.Recordings.{is_failed, request_of}
+use Rattle.script_runner.proofs.Following.{followed, stopped, where_not_ok}
+use Rattle.script_runner.proofs.Running.{submitted}
+use Rattle.script_runner.proofs.Telling.{submitted_fine, told_submitted}
+use Rattle.script_runner.proofs.recording.Recording.submit.Goals as goal
+
+pub returns-clause-stands : goal.returns-clause-stands
+returns-clause-stands g c = λ script front command same run.
+    submitted script front c.args.self.now.log_sectors c.args.self.now.is_short c.args.self.now.core c.submit.new.self
+    c.args.self.now.requests.items c.push.new.self.items c.args.self.now.filled command c.args.bio.now c.from.result run same
+    (λ does. c.from.ensures ∙ ap request_of (c.in-Ok.ensures.tracked does)) c.in-Ok.ensures.recorded c.in_ok-push.ensures.items
+
+pub returns-clause-told : goal.returns-clause-told
+returns-clause-told g c = λ front command before submits has.
+    told_submitted c.args.names.now front before _ _ c.args.self.now _ command c.from.result submits has c.in_ok-push.ensures.items refl
+    (ap is_failed c.from.ensures ∙ submitted_fine c.in-Ok.submitted) refl
+
+pub returns-clause-follows : goal.returns-clause-follows
+returns-clause-follows g c = λ front command has.
+    followed front command c.args.self.now.core c.submit.new.self c.args.self.now.requests.items c.push.new.self.items
+    c.args.self.now.is_short c.args.self.now.filled c.args.bio.now c.in-Ok.submitted c.from.result has c.from.ensures
+    c.in-Ok.ensures.tracked c.in-Ok.ensures.recorded (λ passes. cc (c.in-Ok.ensures.passed passes)) c.in-Ok.ensures.unchanged
+    c.in_ok-push.ensures.items
+
+pub returns-in_default-clause-follows : goal.returns-in_default-clause-follows
+returns-in_default-clause-follows g c = λ front command has.
+    c.fail.ensures.follows front command (stopped front c.args.self.now.core c.submit.new.self Memory c.args.self.now.requests.items
+    c.args.self.now.is_short c.args.self.now.filled has (where_not_ok c.submit.result c.in_default.not-Ok c.submit.ensures.refused))

@@ -1,0 +1,85 @@
+-- What stands while a script is run.
+use Rattle.std.specs.Prelude.{◌≡◌, ◌<◌, ◌≤◌, ℕ, is_none, Bool, true, false, Option, Some, None, List, ◌∷◌, ◌++◌, length, map, slice_get}
+use Rattle.std.specs.Io.KnownBytes.{Appends}
+use Rattle.std.specs.List.{AllByRecursion}
+use Rattle.bio.specs.declared.event.CoreEvent.{CoreEvent}
+use Rattle.bio.specs.Events.{first_place, is_close, is_open_at}
+use Rattle.bio.specs.Lawful.{is_recording}
+use Rattle.dmlw_script.specs.declared.command.Command.{Command}
+use Rattle.dmlw_script.specs.declared.name.Name.{Name}
+use Rattle.dmlw_script.specs.Plans.{IsName, is_ended, submissions}
+use Rattle.pending.specs.declared.recording.Submitted.{Submitted}
+use Rattle.pending.specs.declared.recording.Submitted.TheVariants as submits
+use Rattle.pending.specs.CoreState.{CoreState}
+use Rattle.script_runner.specs.declared.fill.Filled.{Filled}
+use Rattle.script_runner.specs.declared.recording.Recording.{Recording}
+use Rattle.script_runner.specs.declared.recording.Request.{Request}
+use Rattle.script_runner.specs.declared.recording.Request.TheVariants.{Tracked, Passed, Failed}
+use Rattle.script_runner.specs.Image.{HasEntries}
+use Rattle.script_runner.specs.Printed.{is_one_of, printed}
+use Rattle.script_runner.specs.Recorded.{entries_of, event_of, has_close, ids_of, until_close}
+
+-- a script's request, by the core's answer to it
+abbrev pub request_of : Submitted → Request
+request_of (submits.Tracked id) = Tracked id
+request_of submits.Passed = Passed
+
+-- the core has recorded the events of these commands of a script, of which none was the Close
+pub record IsRecording (script front : List Command) (core : CoreState) (requests : List Request) : Type 0 where
+  pub events : core.events ≡ map (event_of (ids_of script)) front
+  pub going : is_recording core.events ≡ true
+  pub untaken : core.taken ≡ 0
+  pub unstopped : core.stopped ≡ false
+  pub unclosed : has_close front ≡ false
+  pub ids : requests ≡ map Tracked (ids_of front)
+
+-- these commands of a script were run: the log is there, or else the core has recorded them unless there was no memory
+abbrev pub HasRun : List Command → List Command → ℕ → Bool → CoreState → List Request → Option Filled → Type 0
+HasRun script front log_sectors is_short core requests (Some log) = HasEntries log_sectors (entries_of script) log
+HasRun script front log_sectors is_short core requests None = is_short ≡ false → IsRecording script front core requests
+
+-- these commands of a script were run
+abbrev pub Stands : List Command → List Command → Recording → Type 0
+Stands script front r = HasRun script front r.log_sectors r.is_short r.core r.requests.items r.filled
+
+-- the script goes on with this command behind these
+abbrev pub GoesOn : List Command → List Command → Command → Type 0
+GoesOn script front command = (rest : List Command) × (script ≡ front ++ command ∷ rest)
+
+-- the request found no memory
+abbrev pub is_failed : Request → Bool
+is_failed (Tracked id) = false
+is_failed Passed = false
+is_failed Failed = true
+
+-- of these requests those of these numbers found no memory, and no others
+abbrev pub IsFailing : List ℕ → List Request → Type 0
+IsFailing failed requests = (number : ℕ) (request : Request) → slice_get requests number ≡ Some request → is_one_of failed number ≡ is_failed request
+
+-- where there is a log, the recording has ended, and no request found no memory before its end
+abbrev pub FailsLate : List Command → List Request → Option Filled → Type 0
+FailsLate front requests None = Unit {0}
+FailsLate front requests (Some log) =
+    (has_close front ≡ true) × ((number : ℕ) → slice_get requests number ≡ Some Failed → submissions (until_close front) ≤ number)
+
+-- these commands of a script were run, and known bytes grew by what they print
+pub record HasTold (names : List Name) (front : List Command) (before after : Option (List ℕ)) (recording : Recording) : Type 0 where
+  pub ids : AllByRecursion IsName names
+  pub numbered : length recording.requests.items ≡ submissions front
+  pub late : FailsLate front recording.requests.items recording.filled
+  pub told : (failed : List ℕ) → IsFailing failed recording.requests.items → Appends before after (printed names failed front)
+
+-- What always stands of the core's events and of the requests while these commands are run: a request that is recorded
+-- has an id of its own, of one of the events, and is open until it is ended; where memory was short a request found
+-- none; and where there is a log the core is closed.
+pub record IsFollowing (front : List Command) (events : List CoreEvent) (requests : List Request) (is_short : Bool) (filled : Option Filled)
+    : Type 0 where
+  pub below : (number id : ℕ) → slice_get requests number ≡ Some (Tracked id) → id < length events
+  pub single : (number other id : ℕ) → slice_get requests number ≡ Some (Tracked id) → slice_get requests other ≡ Some (Tracked id) → number ≡ other
+  pub going : (number id : ℕ) → slice_get requests number ≡ Some (Tracked id) → is_ended number front ≡ false → is_open_at events id ≡ true
+  pub short : is_short ≡ true → (number : ℕ) × (slice_get requests number ≡ Some Failed)
+  pub closed : is_none filled ≡ false → is_none (first_place is_close events) ≡ false
+
+-- the core follows the requests of these commands
+abbrev pub Follows : List Command → Recording → Type 0
+Follows front r = IsFollowing front r.core.events r.requests.items r.is_short r.filled

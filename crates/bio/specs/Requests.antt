@@ -23,6 +23,13 @@ has_fua Flush = false
 has_fua (Discard first count) = false
 has_fua (Read first count) = false
 
+-- the request has data, a copy of which takes memory
+abbrev pub has_data : Bio → Bool
+has_data (Write first bytes flush fua meta) = true
+has_data Flush = false
+has_data (Discard first count) = false
+has_data (Read first count) = false
+
 -- the first sector of a request; 0 for a flush
 abbrev pub first_sector : Bio → ℕ
 first_sector (Write first bytes flush fua meta) = first

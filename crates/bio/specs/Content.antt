@@ -13,7 +13,7 @@ sector_of bytes sector = take 512 (drop (512 * sector) bytes)
 abbrev pub gather : Content → ℕ → ℕ → List ℕ
 gather content first count = collect (λ place. content (first + place)) count
 
--- these bytes stand in the content from this sector on
+-- the whole sectors of these bytes stand in the content from this sector on
 abbrev pub HasBytes : Content → ℕ → List ℕ → Type 0
 HasBytes content first bytes = (sector : ℕ) → sector < length bytes / 512 → content (first + sector) ≡ sector_of bytes sector
 

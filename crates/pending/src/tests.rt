@@ -1,6 +1,6 @@
 use super::*;
 use bio::{Bio, Bytes, End, Id, Refusal};
-use log_format::Entry;
+use log_format::{Entry, Flags};
 use std::alloc::Global;
 use std::test::Fail;
 
@@ -22,13 +22,18 @@ fn place_of(answer: Submitted) -> u64 {
     }
 }
 
+// Ends the request that was submitted at this place, where it is open.
+fn end(core: &mut Core, place: u64, ok: bool) {
+    let id = Id::new(place);
+    if core.is_open(id) {
+        core.complete(id, ok);
+    }
+}
+
 // Submits a request and ends it at once.
 fn finish(core: &mut Core, bio: &Bio, ok: bool) -> Result<(), Fail> {
-    if let Submitted::Tracked(id) = core.submit(bio)? {
-        if core.is_open(id) {
-            core.complete(id, ok);
-        }
-    }
+    let answer = core.submit(bio)?;
+    end(core, place_of(answer), ok);
     Ok(())
 }
 
@@ -52,17 +57,11 @@ fn a_flush_takes_what_ended_before_it(rt: HostRuntime) -> Result<(), Fail> {
     let second = core.submit(&write(alloc, 20, 34, false)?)?;
     let third = core.submit(&write(alloc, 30, 51, false)?)?;
     for answer in [third, second] {
-        let id = Id::new(place_of(answer));
-        if core.is_open(id) {
-            core.complete(id, true);
-        }
+        end(&mut core, place_of(answer), true);
     }
     let flush = core.submit(&Bio::Flush)?;
     for answer in [late, flush] {
-        let id = Id::new(place_of(answer));
-        if core.is_open(id) {
-            core.complete(id, true);
-        }
+        end(&mut core, place_of(answer), true);
     }
     assert_eq!(rt; core.close(), Ok(()));
     assert_eq!(rt; core.events().len(), 9);
@@ -107,11 +106,8 @@ fn a_busy_core_is_not_closed(rt: HostRuntime) -> Result<(), Fail> {
     let first = core.submit(&Bio::Discard { first: 1, count: 2 })?;
     assert_eq!(rt; core.close(), Err(CloseError::Busy));
     assert_eq!(rt; Refusal::from(CloseError::Busy), Refusal::Busy);
-    let id = Id::new(place_of(first));
-    if core.is_open(id) {
-        core.complete(id, true);
-    }
-    assert!(rt; !core.is_open(id));
+    end(&mut core, place_of(first), true);
+    assert!(rt; !core.is_open(Id::new(place_of(first))));
     assert_eq!(rt; core.close(), Ok(()));
     assert_eq!(rt; core.close(), Ok(()));
     assert_eq!(rt; core.submit(&Bio::Flush)?, Submitted::Passed);
@@ -131,10 +127,7 @@ fn nothing_is_queued_after_a_stop(rt: HostRuntime) -> Result<(), Fail> {
     let flush = core.submit(&Bio::Flush)?;
     core.stop(End::Device);
     core.stop(End::Full);
-    let id = Id::new(place_of(flush));
-    if core.is_open(id) {
-        core.complete(id, true);
-    }
+    end(&mut core, place_of(flush), true);
     assert_eq!(rt; core.submit(&Bio::Flush)?, Submitted::Passed);
     assert_eq!(rt; core.close(), Ok(()));
     assert!(rt; core.take().is_none());
@@ -162,5 +155,113 @@ fn many_requests_are_recorded(rt: HostRuntime) -> Result<(), Fail> {
         taken(alloc, &mut core)?.as_slice(),
         [10_000, 10_002].as_slice()
     );
+    Ok(())
+}
+
+#[test]
+fn a_later_flush_overtakes(rt: HostRuntime) -> Result<(), Fail> {
+    let alloc = rt.alloc();
+    let mut core = Core::new(alloc)?;
+    finish(&mut core, &write(alloc, 5, 97, false)?, true)?;
+    core.submit(&Bio::Flush)?;
+    core.submit(&Bio::Flush)?;
+    end(&mut core, 3, true);
+    finish(&mut core, &write(alloc, 9, 99, true)?, true)?;
+    end(&mut core, 2, true);
+    assert_eq!(rt; core.close(), Ok(()));
+    let none = Flags::NONE;
+    let flush = Flags {
+        flush: true,
+        ..none
+    };
+    let fua = Flags { fua: true, ..none };
+    let mark = Flags { mark: true, ..none };
+    for (place, sector, flags) in [
+        (3, 0, flush),
+        (5, 9, fua),
+        (0, 5, none),
+        (2, 0, flush),
+        (8, 0, mark),
+    ] {
+        let Some((id, entry)) = core.take() else {
+            panic!(rt; "an entry for each request, and the end mark");
+        };
+        assert_eq!(rt;
+            (id.place(), entry.sector, entry.flags),
+            (place, sector, flags)
+        );
+    }
+    assert!(rt; core.take().is_none());
+    Ok(())
+}
+
+#[test]
+fn each_kind_is_tracked(rt: HostRuntime) -> Result<(), Fail> {
+    let alloc = rt.alloc();
+    let mut core = Core::new(alloc)?;
+    for (flush, fua, meta) in [
+        (false, false, false),
+        (true, false, false),
+        (false, true, false),
+        (false, false, true),
+        (true, true, false),
+        (true, false, true),
+        (false, true, true),
+        (true, true, true),
+    ] {
+        for length in [512, 2 * 512, 2048 * 512] {
+            let bio = Bio::Write {
+                first: 0,
+                bytes: Bytes::from_vec(vec![in alloc; 65; length]?),
+                flush,
+                fua,
+                meta,
+            };
+            let place = core.events().len() as u64;
+            assert_eq!(rt; place_of(core.submit(&bio)?), place, "{length} bytes");
+        }
+    }
+    for bio in [Bio::Discard { first: 1, count: 2 }, Bio::Flush] {
+        let place = core.events().len() as u64;
+        assert_eq!(rt; place_of(core.submit(&bio)?), place);
+    }
+    assert_eq!(rt; core.events().len(), 26);
+    Ok(())
+}
+
+#[test]
+fn recording_goes_on_after_a_take(rt: HostRuntime) -> Result<(), Fail> {
+    let alloc = rt.alloc();
+    let mut core = Core::new(alloc)?;
+    finish(&mut core, &write(alloc, 5, 65, true)?, true)?;
+    assert_eq!(rt; taken(alloc, &mut core)?.as_slice(), [0].as_slice());
+    finish(&mut core, &write(alloc, 6, 66, false)?, true)?;
+    core.submit(&Bio::Flush)?;
+    // The flush at place 4 holds the write at place 2.
+    core.submit(&write(alloc, 7, 67, false)?)?;
+    core.submit(&Bio::Discard { first: 8, count: 1 })?;
+    core.submit(&Bio::Flush)?;
+    for (ended, want) in [
+        (6, [].as_slice()),
+        (5, [].as_slice()),
+        (7, [7].as_slice()),
+        (4, [2, 4].as_slice()),
+    ] {
+        end(&mut core, ended, true);
+        assert_eq!(rt; taken(alloc, &mut core)?.as_slice(), want, "after {ended}");
+    }
+    assert_eq!(rt; core.close(), Ok(()));
+    assert_eq!(rt; taken(alloc, &mut core)?.as_slice(), [6, 5, 12].as_slice());
+    Ok(())
+}
+
+#[test]
+fn close_errors_are_told(rt: HostRuntime) -> Result<(), Fail> {
+    for (error, want) in [
+        (CloseError::Busy, "a request is open"),
+        (CloseError::Memory, "no memory"),
+    ] {
+        assert_eq!(rt; error.to_string(rt.alloc())?.as_str(), want);
+    }
     Ok(())
 }

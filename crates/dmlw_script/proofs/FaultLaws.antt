@@ -1,4 +1,4 @@
-use Rattle.std.proofs.Common.{◌≡◌, ℕ, zero, suc, ◌+◌, Bool, true, false, not, cond, List, [], ◌∷◌, ◌++◌, length, Option, Some, None, Ok, Err, ⊎_elim, refl, ap, ◌∙◌, sym, subst, arith, append_assoc}
+use Rattle.std.proofs.Common.{◌≡◌, ℕ, zero, suc, ◌+◌, Bool, true, false, not, cond, List, [], ◌∷◌, ◌++◌, length, Option, Some, None, Ok, Err, ◌⊎◌, inl, inr, ⊎_elim, refl, ap, ◌∙◌, sym, subst, arith, append_assoc}
 use Rattle.std.specs.Prelude.{Result, codes}
 use Rattle.std.specs.List.{list_any, AllZip}
 use Rattle.std.proofs.lemmas.Bool.{cond-true, cond-false, cases_Bool}
@@ -357,3 +357,14 @@ first_fault lines fault number is e =
       begins = gone_begins f.before f.q f.gone;
       fault = fault_behind f.before f.more f.q fault.refusal f.gone f.ends;
     }
+
+-- lines are those of a script, or have a first fault
+pub spells_or_faults : (lines : List (List ℕ)) → ((plan : Plan) × SpellsLines lines plan) ⊎ ((line : ℕ) × (refusal : Refusal) × IsFirstFault lines line refusal)
+spells_or_faults lines = by_reading (read_lines kinds.Record nothing 1 lines) refl
+  where
+    by_reading : (read : Result Plan ScriptFault) → read_lines kinds.Record nothing 1 lines ≡ read
+        → ((plan : Plan) × SpellsLines lines plan) ⊎ ((line : ℕ) × (refusal : Refusal) × IsFirstFault lines line refusal)
+    by_reading (Ok plan) e = inl (plan, lines_spell lines 1 plan e)
+    by_reading (Err fault) e =
+        let f = faulted kinds.Record nothing 1 lines fault e in
+        inr (1 + length f.before, fault.refusal, first_fault lines fault (1 + length f.before) f.place e)

@@ -65,7 +65,7 @@ begins_before before more begins = record {
 }
 
 -- lines in two parts, the first of which is longer than another
-record Longer (short_part : List (List ℕ)) (rest long_part : List (List ℕ)) : Type 0 where
+pub record Longer (short_part : List (List ℕ)) (rest long_part : List (List ℕ)) : Type 0 where
   pub line : List ℕ
   pub between : List (List ℕ)
   pub tail : List (List ℕ)
@@ -73,7 +73,7 @@ record Longer (short_part : List (List ℕ)) (rest long_part : List (List ℕ)) 
   pub rest_is : rest ≡ line ∷ tail
 
 -- a longer first part has the shorter one and the line behind it
-longer : (a x b y : List (List ℕ)) → a ++ x ≡ b ++ y → length a < length b → Longer a x b
+pub longer : (a x b y : List (List ℕ)) → a ++ x ≡ b ++ y → length a < length b → Longer a x b
 longer [] x [] y same less = absurd (omega arith)
 longer [] x (line ∷ b) y same less = record { line = line; between = b; tail = b ++ y; long_is = refl; rest_is = same }
 longer (first ∷ a) x [] y same less = absurd (omega arith)

@@ -1,15 +1,16 @@
-use Rattle.std.proofs.Common.{◌≡◌, ℕ, zero, suc, ◌+◌, ◌<◌, ◌≤◌, ◌^◌, Bool, true, false, not, ◌||◌, cond, List, [], ◌∷◌, ◌++◌, length, Some, None, refl, ap, ◌∙◌, sym, subst, arith, append_assoc}
+use Rattle.std.proofs.Common.{◌≡◌, ℕ, zero, suc, ◌+◌, ◌<◌, ◌≤◌, ◌^◌, Bool, true, false, not, ◌||◌, cond, List, [], ◌∷◌, ◌++◌, length, Some, None, ⊎_elim, get_or, refl, ap, ◌∙◌, sym, subst, arith, append_assoc}
 use Rattle.std.specs.Prelude.{nat_le, nat_lt, slice_get}
 use Rattle.std.specs.Char.{is_ascii_digit}
 use Rattle.std.specs.List.{list_all, AllByRecursion, AllZip}
-use Rattle.std.proofs.lemmas.Bool.{and_from, and_parts, eq-eqb, le-leb, lt-ltb}
+use Rattle.std.proofs.lemmas.Bool.{and_from, and_parts, cases_lt, eq-eqb, le-leb, lt-ltb}
 use Rattle.std.proofs.lemmas.List.{append-nil}
-use Rattle.std.proofs.lemmas.Option.{slice_get_past}
+use Rattle.std.proofs.lemmas.Option.{slice_get-get_or, slice_get_past}
 use Rattle.std.proofs.Math.Bool.{or-true}
 use Rattle.dmlw_script.specs.declared.command.Command.{Command}
 use Rattle.dmlw_script.specs.declared.command.Command.TheVariants as commands
 use Rattle.dmlw_script.specs.declared.name.Name.{Name}
 use Rattle.dmlw_script.specs.declared.sentence.Sentence.{Sentence}
+use Rattle.dmlw_script.specs.declared.sentence.Sentence.TheVariants.{Data, Log, Write, Flush, Complete, Close}
 use Rattle.dmlw_script.specs.Grammar.{IsLineOf, IsNumber, Says, Spells, SpellsLines}
 use Rattle.dmlw_script.specs.Lines.{command_line, is_plain, is_skipped, kept, kept_numbers, lines_of}
 use Rattle.dmlw_script.specs.Plans.{behind_command, body_sentences, is_end_of, is_ended, sentences_of, IsOrderly, IsPlan, MayCome, Plan}
@@ -18,6 +19,7 @@ use Rattle.dmlw_script.specs.Words.{number_value}
 use Rattle.dmlw_script.proofs.SpellingLaws.{spelling_spells}
 use Rattle.dmlw_script.proofs.TextLaws.{one_script_of}
 use Rattle.dmlw_script.proofs.FaultLaws.{as_many}
+use Rattle.dmlw_script.proofs.OneFault.{longer}
 
 -- ---- spellings
 
@@ -74,6 +76,7 @@ record KeptAt (number : ℕ) (lines : List (List ℕ)) (i n : ℕ) : Type 0 wher
   pub more : List (List ℕ)
   pub split : lines ≡ before ++ line ∷ more
   pub number_is : n ≡ number + length before
+  pub behind : length (kept before) ≡ i
   pub there : slice_get (kept lines) i ≡ Some line
 
 -- one line in front that is skipped
@@ -87,6 +90,7 @@ kept_behind number first lines i n skipped rest =
       more = rest.more;
       split = ap (λ (ls : List (List ℕ)). first ∷ ls) rest.split;
       number_is = omega arith;
+      behind = ap (λ (t : Bool). length (cond (not t) (first ∷ kept rest.before) (kept rest.before))) skipped ∙ rest.behind;
       there = ap (λ (ks : List (List ℕ)). slice_get ks i) same ∙ rest.there;
     }
 
@@ -101,6 +105,7 @@ kept_next number first lines i n said rest =
       more = rest.more;
       split = ap (λ (ls : List (List ℕ)). first ∷ ls) rest.split;
       number_is = omega arith;
+      behind = ap (λ (t : Bool). length (cond (not t) (first ∷ kept rest.before) (kept rest.before))) said ∙ ap suc rest.behind;
       there = ap (λ (ks : List (List ℕ)). slice_get ks (suc i)) same ∙ rest.there;
     }
 
@@ -115,6 +120,7 @@ kept_first number first lines n said same =
       more = lines;
       split = refl;
       number_is = sym is ∙ omega arith;
+      behind = refl;
       there = ap (λ (ks : List (List ℕ)). slice_get ks zero) kept_front;
     }
 
@@ -156,6 +162,7 @@ line_says text plan place number spells e =
       more = found.more;
       split = found.split;
       number_is = omega arith;
+      behind = found.behind;
       sentence = said.0;
       command = ap (slice_get (sentences_of plan)) (sym body) ∙ said.1;
       says = said.2;
@@ -175,13 +182,71 @@ length-body_sentences : (names : List Name) (before : ℕ) (body : List Command)
 length-body_sentences names before [] = refl
 length-body_sentences names before (command ∷ body) = ap suc (length-body_sentences names (behind_command before command) body)
 
--- just the commands of a script have a line
-pub lined : (text : List ℕ) (plan : Plan) (place : ℕ) → Spells text plan → length plan.commands ≤ place → command_line text place ≡ None
-lined text plan place spells past =
+-- as many lines are kept as the head and the commands have
+length-kept : (text : List ℕ) (plan : Plan) → Spells text plan → length (kept_numbers 1 (lines_of text)) ≡ length plan.commands + 2
+length-kept text plan spells =
     let numbers = length-kept_numbers 1 (lines_of text) in
     let says = as_many (kept (lines_of text)) (sentences_of plan) spells.says in
     let body = length-body_sentences plan.names 0 plan.commands in
+    omega arith
+
+-- each command of a script has a line
+pub line_found : (text : List ℕ) (plan : Plan) (place : ℕ) → Spells text plan → place < length plan.commands → (number : ℕ) × (command_line text place ≡ Some number)
+line_found text plan place spells within =
+    let all = length-kept text plan spells in
+    (get_or (kept_numbers 1 (lines_of text)) (place + 2) 0, slice_get-get_or (kept_numbers 1 (lines_of text)) (place + 2) 0 (omega arith))
+
+-- just the commands of a script have a line
+pub lined : (text : List ℕ) (plan : Plan) (place : ℕ) → Spells text plan → length plan.commands ≤ place → command_line text place ≡ None
+lined text plan place spells past =
+    let all = length-kept text plan spells in
     slice_get_past (kept_numbers 1 (lines_of text)) (place + 2) (omega arith)
+
+-- a line that says something isn't skipped
+said_kept : (line : List ℕ) (s : Sentence) → Says line s → is_skipped line ≡ false
+said_kept line (Data n) says = ap is_skipped says.spelled
+said_kept line (Log n) says = ap is_skipped says.spelled
+said_kept line (Write name first count byte) says = ap is_skipped says.spelled
+said_kept line (Flush name) says = ap is_skipped says.spelled
+said_kept line (Complete name) says = ap is_skipped says.spelled
+said_kept line Close says = ap is_skipped says
+
+-- more lines are kept behind one that isn't skipped
+kept_more : (before between : List (List ℕ)) (line : List ℕ) → is_skipped line ≡ false → length (kept before) < length (kept (before ++ line ∷ between))
+kept_more [] between line said =
+    let here = ap (λ (t : Bool). length (cond (not t) (line ∷ kept between) (kept between))) said in
+    omega arith
+kept_more (first ∷ before) between line said = more_step (is_skipped first) (kept before) (kept (before ++ line ∷ between)) (kept_more before between line said)
+  where
+    more_step : (t : Bool) (few many : List (List ℕ)) → length few < length many → length (cond (not t) (first ∷ few) few) < length (cond (not t) (first ∷ many) many)
+    more_step true few many less = less
+    more_step false few many less = omega arith
+
+-- no line of a command is behind another
+not_later : (lines : List (List ℕ)) (plan : Plan) (place m n : ℕ) → IsLineOf lines plan place m → IsLineOf lines plan place n → n ≤ m
+not_later lines plan place m n a b =
+    let here : m ≡ length a.before + 1 = a.number_is in
+    let there : n ≡ length b.before + 1 = b.number_is in
+    ⊎_elim
+    (λ (less : m < n).
+    let more = longer a.before (a.line ∷ a.more) b.before (b.line ∷ b.more) (sym a.split ∙ b.split) (omega arith) in
+    let rest : a.line ∷ a.more ≡ more.line ∷ more.tail = more.rest_is in
+    let line : a.line ≡ more.line = cc in
+    let said : is_skipped more.line ≡ false = ap is_skipped (sym line) ∙ said_kept a.line a.sentence a.says in
+    let grown = kept_more a.before more.between more.line said in
+    let counted = ap (λ (ls : List (List ℕ)). length (kept ls)) more.long_is in
+    let few : length (kept a.before) ≡ place + 2 = a.behind in
+    let many : length (kept b.before) ≡ place + 2 = b.behind in
+    absurd (omega arith))
+    (λ (no_less : n ≤ m). no_less)
+    (cases_lt m n)
+
+-- a command has one line
+pub one_line : (lines : List (List ℕ)) (plan : Plan) (place m n : ℕ) → IsLineOf lines plan place m → IsLineOf lines plan place n → m ≡ n
+one_line lines plan place m n a b =
+    let up = not_later lines plan place m n a b in
+    let down = not_later lines plan place n m b a in
+    omega arith
 
 -- ---- ends
 

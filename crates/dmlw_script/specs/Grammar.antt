@@ -64,13 +64,15 @@ pub record SpellsLines (lines : List (List ℕ)) (plan : Plan) : Type 0 where
 abbrev pub Spells : List ℕ → Plan → Type 0
 Spells text plan = SpellsLines (lines_of text) plan
 
--- the line of this number, counted from 1, says what the script's command at this place says
+-- the line of this number, counted from 1, says what the script's command at this place says, and stands there among
+-- the lines that aren't skipped: behind the two of the head and those of the commands before it
 pub record IsLineOf (lines : List (List ℕ)) (plan : Plan) (place number : ℕ) : Type 0 where
   pub before : List (List ℕ)
   pub line : List ℕ
   pub more : List (List ℕ)
   pub split : lines ≡ before ++ line ∷ more
   pub number_is : number ≡ length before + 1
+  pub behind : length (kept before) ≡ place + 2
   pub sentence : Sentence
   pub command : slice_get (body_sentences plan.names 0 plan.commands) place ≡ Some sentence
   pub says : Says line sentence

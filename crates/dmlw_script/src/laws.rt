@@ -1,5 +1,5 @@
 //! Laws of the grammar, apart from the code: each function does nothing, and its clause is the law.
-ghost use Rattle.std.specs.Prelude.{◌≡◌, ◌≢◌, ◌^◌, ◌<◌, ◌≤◌, ◌++◌, ◌∷◌, [], None, Some, decimal, length, true, ℕ, List};
+ghost use Rattle.std.specs.Prelude.{◌≡◌, ◌≢◌, ◌^◌, ◌<◌, ◌≤◌, ◌++◌, ◌∷◌, ◌⊎◌, [], None, Some, decimal, length, true, ℕ, List};
 ghost use Rattle.std.specs.List.{AllByRecursion};
 ghost use Rattle.bio.specs.declared.refusal.Refusal.{Refusal};
 ghost use Rattle.dmlw_script.specs.declared.command.Command.{Command};
@@ -44,12 +44,15 @@ pub fn skipped_lines_say_nothing()
         SpellsLines (before ++ line ∷ after) plan → SpellsLines (before ++ after) plan }
 {}
 
-/// The line that is told for a command is the line that says it, and behind the last command there is
-/// none.
-#[tactic(auto, using(crate::proofs::ScriptLaws::line_says, crate::proofs::ScriptLaws::lined))]
+/// The line that is told for a command is the one that says it, behind the head and the lines of the
+/// commands before it. Each command has one such line, and behind the last command there is none.
 pub fn lines_are_those_of_commands()
     ensures says { (text : List ℕ) (plan : Plan) (place number : ℕ) → Spells text plan →
         command_line text place ≡ Some number → IsLineOf (lines_of text) plan place number }
+    ensures found { (text : List ℕ) (plan : Plan) (place : ℕ) → Spells text plan →
+        place < length plan.commands → (number : ℕ) × (command_line text place ≡ Some number) }
+    ensures one { (lines : List (List ℕ)) (plan : Plan) (place m n : ℕ) →
+        IsLineOf lines plan place m → IsLineOf lines plan place n → m ≡ n }
     ensures none { (text : List ℕ) (plan : Plan) (place : ℕ) → Spells text plan →
         length plan.commands ≤ place → command_line text place ≡ None }
 {}
@@ -69,8 +72,11 @@ pub fn numbers_are_decimal()
     ensures zero { (word : List ℕ) (n : ℕ) → IsNumber word n → length word < 20 → IsNumber (48 ∷ word) n }
 {}
 
-/// A text has one first fault, its line and its reason, and the text of a script has none.
+/// A text is a script's or has a first fault: one, its line and its reason. The text of a script has
+/// none.
 pub fn texts_have_one_first_fault()
+    ensures each { (lines : List (List ℕ)) → ((plan : Plan) × SpellsLines lines plan)
+        ⊎ ((line : ℕ) × (refusal : Refusal) × IsFirstFault lines line refusal) }
     ensures one { (lines : List (List ℕ)) (m n : ℕ) (r s : Refusal) →
         IsFirstFault lines m r → IsFirstFault lines n s → (m ≡ n) × (r ≡ s) }
     ensures none { (lines : List (List ℕ)) (plan : Plan) (m : ℕ) (r : Refusal) →

@@ -1,5 +1,9 @@
+use Rattle.dmlw_script.proofs.FaultLaws.{spells_or_faults}
 use Rattle.dmlw_script.proofs.OneFault.{no_fault, one_first_fault}
 use Rattle.dmlw_script.proofs.laws.texts_have_one_first_fault.Goals as goal
+
+pub returns-clause-each : goal.returns-clause-each
+returns-clause-each c = spells_or_faults
 
 pub returns-clause-one : goal.returns-clause-one
 returns-clause-one c = one_first_fault

@@ -18,11 +18,17 @@ use Rattle.bio.specs.CallLaws.{appends_kept, keeps_twice}
 run_kept : (text : List ℕ) (script : Plan) (old middle new : Option (List ℕ)) (fault : Fault) → EndsRun text script old middle fault
     → Keeps middle new → EndsRun text script old new fault
 run_kept text script old middle new fault (output f is) kept = output f is
-run_kept text script old middle new fault (logging end is) kept = logging end is
+run_kept text script old middle new fault (logging end is) kept = logging end (record {
+  failed = is.failed;
+  submitted = is.submitted;
+  told = appends_kept old middle new _ is.told kept;
+  cause = is.cause;
+})
 run_kept text script old middle new fault (close line refusal is) kept = close line refusal (record {
   place = is.place;
   failed = is.failed;
   closes = is.closes;
+  first = is.first;
   here = is.here;
   submitted = is.submitted;
   told = appends_kept old middle new _ is.told kept;
@@ -50,6 +56,7 @@ records_kept held log writes_old writes_new old middle new (Ok u) (bytes, told, 
     lines = told.lines;
     read = told.read;
     spelled = told.spelled;
+    made = told.made;
     image = told.image;
     run = told.run;
     told = appends_kept old middle new _ told.told kept;

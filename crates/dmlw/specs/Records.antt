@@ -12,23 +12,24 @@ use Rattle.log_format.specs.LogOf.{status_of}
 use Rattle.script_runner.specs.declared.fault.Fault.{Fault}
 use Rattle.script_runner.specs.declared.fault.Fault.TheVariants.{Refused}
 use Rattle.script_runner.specs.Faults.{IsFileFault}
-use Rattle.script_runner.specs.Image.{log_image}
+use Rattle.script_runner.specs.Image.{MakesLog, log_image}
 use Rattle.script_runner.specs.Printed.{IsPrinted}
 use Rattle.script_runner.specs.Recorded.{entries_of}
 use Rattle.script_runner.specs.RunFaults.{EndsRun}
 use Rattle.dmlw.specs.Files.{IsHeld, Write, one_more}
 
--- the bytes are those of the log of the script that a file's bytes spell
-pub record IsLogOf (held : Option (List ℕ)) (bytes : List ℕ) : Type 0 where
+-- the bytes are those of the log of the script that a file's bytes spell, and its log is made
+pub record IsScriptLog (held : Option (List ℕ)) (bytes : List ℕ) : Type 0 where
   pub text : List ℕ
   pub script : Plan
   pub read : IsHeld held text
   pub spelled : Spells text script
+  pub made : MakesLog script.log_sectors script.commands
   pub image : bytes ≡ log_image script.log_sectors (entries_of script.commands)
 
 -- one more write was asked for: of the file of this name, which is to hold the log of that script
 abbrev pub AsksLog : Option (List ℕ) → List ℕ → Option (List Write) → Option (List Write) → Type 0
-AsksLog held name old new = (bytes : List ℕ) × IsLogOf held bytes × (new ≡ one_more old name bytes)
+AsksLog held name old new = (bytes : List ℕ) × IsScriptLog held bytes × (new ≡ one_more old name bytes)
 
 -- Where recording a script succeeds it has asked for its log to be written, and for no other file. Where it fails it
 -- has asked for no file, or for the log, which couldn't be written.
@@ -42,12 +43,13 @@ status_line status = status_text status ++ codes "\n"
 
 -- The bytes are those of the log of the script that a file's bytes spell, and known bytes grew by what that script
 -- prints and by the line that tells how far its log has come.
-pub record IsToldLogOf (held : Option (List ℕ)) (bytes : List ℕ) (before after : Option (List ℕ)) : Type 0 where
+pub record IsToldLog (held : Option (List ℕ)) (bytes : List ℕ) (before after : Option (List ℕ)) : Type 0 where
   pub text : List ℕ
   pub script : Plan
   pub lines : List ℕ
   pub read : IsHeld held text
   pub spelled : Spells text script
+  pub made : MakesLog script.log_sectors script.commands
   pub image : bytes ≡ log_image script.log_sectors (entries_of script.commands)
   pub run : IsPrinted script.names script.commands lines
   pub told : Appends before after (lines ++ status_line (status_of 512 (entries_of script.commands) None))
@@ -55,14 +57,15 @@ pub record IsToldLogOf (held : Option (List ℕ)) (bytes : List ℕ) (before aft
 -- one more write was asked for, of the file of this name, which is to hold the log of that script; and it was told
 abbrev pub TellsLog : Option (List ℕ) → List ℕ → Option (List Write) → Option (List Write) → Option (List ℕ) → Option (List ℕ) → Type 0
 TellsLog held name old new before after =
-    (bytes : List ℕ) × IsToldLogOf held bytes before after × (new ≡ one_more old name bytes)
+    (bytes : List ℕ) × IsToldLog held bytes before after × (new ≡ one_more old name bytes)
 
 -- the text spells no script
 abbrev pub IsNoScript : List ℕ → Type 0
 IsNoScript text = (script : Plan) → Spells text script → ⊥
 
--- A fault that ends the recording of the script in a file: a file can't be read or written or there is no memory, the
--- file's bytes spell no script, of which the first line at fault is named and nothing is printed, or the fault ended the run of their script.
+-- A fault that ends the recording of the script in a file: a file can't be read or written or there is no memory; the
+-- file's bytes spell no script, of which the first line at fault is named, and nothing is printed; or the fault ended
+-- the run of their script.
 pub data FailsRecording (held : Option (List ℕ)) (before after : Option (List ℕ)) : Fault → Type 0 where
   file : (fault : Fault) → IsFileFault fault → FailsRecording held before after fault
   text : (bytes : List ℕ) (line : ℕ) (refusal : Refusal) → IsHeld held bytes → IsNoScript bytes

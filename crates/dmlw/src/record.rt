@@ -1,5 +1,5 @@
 ghost use Rattle.std.specs.Prelude.{◌≡◌, IfErr, IfOk, OnOk};
-ghost use Rattle.dmlw.specs.Records.{FailsRecording, IsLogOf, IsToldLogOf, TellsLog, WritesLog};
+ghost use Rattle.dmlw.specs.Records.{FailsRecording, IsScriptLog, IsToldLog, TellsLog, WritesLog};
 
 use crate::files::Files;
 use dmlw_script::{Kind, read_script};
@@ -37,8 +37,8 @@ fn run_file<F: Files, O: Write>(
     files: &mut F,
     out: &mut O,
 ) -> Result<Filled, Fault>
-    ensures log { IfOk result (λ filled. IsLogOf (F.held files.old script.now) filled.image.items) }
-    ensures printed { IfOk result (λ filled. IsToldLogOf (F.held files.old script.now) filled.image.items
+    ensures log { IfOk result (λ filled. IsScriptLog (F.held files.old script.now) filled.image.items) }
+    ensures printed { IfOk result (λ filled. IsToldLog (F.held files.old script.now) filled.image.items
         (O.contents out.old) (O.contents out.new)) }
     ensures faults { IfErr result
         (FailsRecording (F.held files.old script.now) (O.contents out.old) (O.contents out.new)) }

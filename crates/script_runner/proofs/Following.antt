@@ -4,37 +4,27 @@ use Rattle.std.proofs.lemmas.Bool.{cases_lt, and_parts, or_parts}
 use Rattle.std.proofs.lemmas.Bool.Decides.{nat_tests}
 use Rattle.std.proofs.lemmas.List.Folds.{list_any-append}
 use Rattle.std.proofs.lemmas.Option.{slice_get_within}
-use Rattle.bio.specs.Lawful.{is_quiet, is_recording}
+use Rattle.bio.specs.Lawful.{is_recording}
 use Rattle.bio.specs.declared.event.CoreEvent.{CoreEvent}
 use Rattle.bio.specs.declared.event.CoreEvent.TheVariants as events
 use Rattle.bio.specs.declared.outcome.End.{End}
-use Rattle.bio.specs.declared.outcome.End.TheVariants as ends
 use Rattle.bio.specs.declared.request.Bio.{Bio}
-use Rattle.bio.specs.Events.{end_of, first_place, is_close, is_open_at, is_end_of as ends_at}
+use Rattle.bio.specs.Events.{end_of, first_place, is_close, is_open_at, is_stop, is_end_of as ends_at}
 use Rattle.bio.specs.EventLaws.{differ-eqb, first_place-snoc, first_place_after-snoc, is_open_at-open, open-is_open_at}
 use Rattle.bio.specs.Places.{or_here}
 use Rattle.bio.specs.PlaceLaws.{bool_cases, length-snoc, none_first_below, slice_get-append_front, slice_get-append_here}
 use Rattle.bio.specs.Requests.{is_tracked}
-use Rattle.dmlw_script.specs.Plans.{is_end_of, is_ended}
+use Rattle.dmlw_script.specs.Plans.{is_end_of, is_ended, is_submission}
 use Rattle.dmlw_script.specs.declared.command.Command.{Command}
-use Rattle.dmlw_script.specs.declared.command.Command.TheVariants.{Complete, Close}
-use Rattle.log_format.specs.declared.entry.Entry.{Entry}
+use Rattle.dmlw_script.specs.declared.command.Command.TheVariants.{Write, Flush, Complete, Close}
 use Rattle.pending.specs.CoreState.{CoreState, added_to, closed_by, records, stopped_by}
-use Rattle.pending.specs.declared.recording.CloseError.{CloseError}
 use Rattle.pending.specs.declared.recording.Submitted.{Submitted}
 use Rattle.pending.specs.declared.recording.Submitted.TheVariants as submits
-use Rattle.pending.specs.declared.recording.CloseError.TheVariants as close_errors
-use Rattle.pending.specs.Refusals.{close_refusal}
 use Rattle.script_runner.specs.declared.fill.Filled.{Filled}
 use Rattle.script_runner.specs.declared.recording.Request.{Request}
 use Rattle.script_runner.specs.declared.recording.Request.TheVariants.{Tracked, Passed, Failed}
-use Rattle.script_runner.specs.declared.recording.Stop.{Stop}
-use Rattle.script_runner.specs.declared.recording.Stop.TheVariants.{AtLine, Whole}
-use Rattle.script_runner.specs.Faults.{ended_by}
-use Rattle.script_runner.specs.Image.{fits}
-use Rattle.script_runner.specs.Recorded.{entries_of}
-use Rattle.script_runner.specs.Recordings.{HasRun, IsFollowing, request_of}
-use Rattle.script_runner.specs.RunFaults.{EndsLogging, StopsAtClose, busy, full, no_memory, unclosed}
+use Rattle.script_runner.specs.Recorded.{has_close, is_close as ends_recording}
+use Rattle.script_runner.specs.Recordings.{IsFollowing, request_of}
 
 -- why a run stops
 
@@ -47,37 +37,6 @@ where_error (Err e) holds follows = follows e holds
 pub where_not_ok : {T E P : Type 0} (r : Result T E) → ((x : T) → r ≡ Ok x → ⊥) → OnErr r P → P
 where_not_ok (Ok x) fails holds = absurd (fails x refl)
 where_not_ok (Err e) fails holds = holds
-
--- a Close was refused
-pub close_refused : (script front : List Command) (sectors : ℕ) (is_short : Bool) (core : CoreState) (requests : List Request)
-    (filled : Option Filled) (error : CloseError) (stop : Stop) → HasRun script front sectors is_short core requests filled
-    → IsFollowing front core.events requests is_short filled → (error ≡ close_errors.Busy → is_quiet core.events ≡ false)
-    → (is_quiet core.events ≡ false → error ≡ close_errors.Busy) → (is_none (first_place is_close core.events) ≡ false → ⊥)
-    → stop ≡ AtLine (close_refusal error) → StopsAtClose sectors script front is_short stop
-close_refused script front sectors is_short core requests (Some log) error stop run has opened held going is =
-    absurd (going (has.closed refl))
-close_refused script front sectors is_short core requests None close_errors.Busy stop run has opened held going is =
-    subst (StopsAtClose sectors script front is_short) (sym is)
-    (busy (λ unshort. ap is_quiet (sym (run unshort).events) ∙ opened refl))
-close_refused script front sectors is_short core requests None close_errors.Memory stop run has opened held going is =
-    let quiet : is_quiet core.events ≡ true = elim (bool_cases (is_quiet core.events)) [
-      | inl none_open ↦ none_open
-      | inr one_open ↦ absurd (cc (held one_open))
-    ] in
-    subst (StopsAtClose sectors script front is_short) (sym is)
-    (unclosed (λ unshort. ap is_quiet (sym (run unshort).events) ∙ quiet))
-
--- logging ended
-pub logging_ended : (script front : List Command) (sectors : ℕ) (is_short : Bool) (end : End) (stop : Stop)
-    → EndsLogging sectors script end → stop ≡ Whole (ended_by end) → StopsAtClose sectors script front is_short stop
-logging_ended script front sectors is_short end stop ends is = subst (StopsAtClose sectors script front is_short) (sym is) ends
-
--- why a log wasn't filled
-pub fill_ended : (script : List Command) (sectors : ℕ) (entries : List Entry) (end : End) → entries ≡ entries_of script
-    → (end ≡ ends.Full → fits sectors entries ≡ false) → (end ≡ ends.Device → ⊥) → EndsLogging sectors script end
-fill_ended script sectors entries ends.Memory same too_many fine = no_memory
-fill_ended script sectors entries ends.Full same too_many fine = full (ap (fits sectors) (sym same) ∙ too_many refl)
-fill_ended script sectors entries ends.Device same too_many fine = absurd (fine refl)
 
 -- what the core follows
 
@@ -153,18 +112,29 @@ grown front es event requests is_short filled has other = record {
   single = has.single;
   going = λ number id here goes. still_open es event id (has.going number id here goes) (other id);
   short = has.short;
+  failing = has.failing;
   closed = λ made. still_some is_close es event (has.closed made);
+  unclosed = has.unclosed;
 }
 
--- one more command was run
+-- no Close was run with one more command that is none
+still_unclosed : (front : List Command) (command : Command) → ends_recording command ≡ false → has_close front ≡ false
+    → has_close (front ++ command ∷ []) ≡ false
+still_unclosed front command other none =
+    list_any-append ends_recording front (command ∷ []) ∙ rw (none, other) refl
+
+-- one more command was run that is no Close
 further : (front : List Command) (command : Command) (es : List CoreEvent) (requests : List Request) (is_short : Bool) (filled : Option Filled)
-    → IsFollowing front es requests is_short filled → IsFollowing (front ++ command ∷ []) es requests is_short filled
-further front command es requests is_short filled has = record {
+    → ends_recording command ≡ false → IsFollowing front es requests is_short filled
+    → IsFollowing (front ++ command ∷ []) es requests is_short filled
+further front command es requests is_short filled other has = record {
   below = has.below;
   single = has.single;
   going = λ number id here goes. has.going number id here (unended number front command goes).0;
   short = has.short;
+  failing = has.failing;
   closed = has.closed;
+  unclosed = λ none. still_unclosed front command other (has.unclosed none);
 }
 
 -- the core was stopped
@@ -179,20 +149,21 @@ stopped front core new cause requests is_short filled has news =
     by_case true = grown front core.events (events.Stop cause) requests is_short filled has (λ id. refl)
     by_case false = has
 
--- the core was closed
+-- the core was closed, and there is a log
 pub closing : (front : List Command) (core new : CoreState) (requests : List Request) (is_short : Bool) (filled made : Option Filled)
-    → IsFollowing front core.events requests is_short filled → new ≡ closed_by core
+    → IsFollowing front core.events requests is_short filled → new ≡ closed_by core → is_none made ≡ false
     → IsFollowing (front ++ Close ∷ []) new.events requests is_short made
-closing front core new requests is_short filled made has news =
+closing front core new requests is_short filled made has news there =
     let now = by_case (is_none (first_place is_close core.events)) refl in
-    let after = further front Close new.events requests is_short filled
-    (subst (λ (state : CoreState). IsFollowing front state.events requests is_short filled) (sym news) now.0) in
+    let after = subst (λ (state : CoreState). IsFollowing front state.events requests is_short filled) (sym news) now.0 in
     record {
       below = after.below;
       single = after.single;
-      going = after.going;
+      going = λ number id here goes. after.going number id here (unended number front Close goes).0;
       short = after.short;
-      closed = λ there. subst (λ (state : CoreState). is_none (first_place is_close state.events) ≡ false) (sym news) now.1;
+      failing = after.failing;
+      closed = λ _. subst (λ (state : CoreState). is_none (first_place is_close state.events) ≡ false) (sym news) now.1;
+      unclosed = λ none. absurd (cc (none, there));
     }
   where
     by_case : (b : Bool) → is_none (first_place is_close core.events) ≡ b
@@ -209,7 +180,7 @@ closing front core new requests is_short filled made has news =
     by_case false some = (has, some)
 
 -- a request of a list with one more is one of the list, or the one
-found_in : (requests : List Request) (request : Request) (number : ℕ) (found : Request)
+pub found_in : (requests : List Request) (request : Request) (number : ℕ) (found : Request)
     → slice_get (requests ++ request ∷ []) number ≡ Some found
     → (slice_get requests number ≡ Some found) ⊎ ((number ≡ length requests) × (request ≡ found))
 found_in requests request number found here = elim (cases_lt number (length requests)) [
@@ -233,9 +204,9 @@ record IsFresh (es : List CoreEvent) (requests : List Request) (id : ℕ) : Type
 pushed : (front : List Command) (command : Command) (es : List CoreEvent) (requests : List Request) (request : Request) (is_short now_short : Bool)
     (filled : Option Filled) → IsFollowing front es requests is_short filled
     → ((id : ℕ) → request ≡ Tracked id → IsFresh es requests id)
-    → (now_short ≡ true → (is_short ≡ true) ⊎ (request ≡ Failed))
-    → IsFollowing (front ++ command ∷ []) es (requests ++ request ∷ []) now_short filled
-pushed front command es requests request is_short now_short filled has news fails = record {
+    → (now_short ≡ true → (is_short ≡ true) ⊎ (request ≡ Failed)) → ((is_short ≡ true) ⊎ (request ≡ Failed) → now_short ≡ true)
+    → ends_recording command ≡ false → IsFollowing (front ++ command ∷ []) es (requests ++ request ∷ []) now_short filled
+pushed front command es requests request is_short now_short filled has news fails tells other_command = record {
   below = λ number id here. elim (found_in requests request number (Tracked id) here) [
     | inl old ↦ has.below number id old
     | inr new ↦ (news id new.1).within
@@ -260,27 +231,39 @@ pushed front command es requests request is_short now_short filled has news fail
         (found.0, slice_get-append_front requests (request ∷ []) found.0 (slice_get_within requests found.0 Failed found.1) ∙ found.1)
     | inr fresh ↦ (length requests, slice_get-append_here requests request [] ∙ ap Some fresh)
   ];
+  failing = λ number here. elim (found_in requests request number Failed here) [
+    | inl old ↦ tells (inl (has.failing number old))
+    | inr new ↦ tells (inr new.1)
+  ];
   closed = has.closed;
+  unclosed = λ none. still_unclosed front command other_command (has.unclosed none);
 }
+
+-- a command that submits a request is no Close
+no_close : (command : Command) → is_submission command ≡ true → ends_recording command ≡ false
+no_close (Write first count byte) submits = refl
+no_close Flush submits = refl
+no_close (Complete request) submits = absurd (cc submits)
+no_close Close submits = absurd (cc submits)
 
 -- a request found no memory
 pub short : (front : List Command) (command : Command) (core new : CoreState) (cause : End) (requests after : List Request) (is_short : Bool)
-    (filled : Option Filled) → IsFollowing front core.events requests is_short filled → new ≡ stopped_by core cause
-    → after ≡ requests ++ Failed ∷ [] → IsFollowing (front ++ command ∷ []) new.events after true filled
-short front command core new cause requests after is_short filled has news more =
+    (filled : Option Filled) → is_submission command ≡ true → IsFollowing front core.events requests is_short filled
+    → new ≡ stopped_by core cause → after ≡ requests ++ Failed ∷ [] → IsFollowing (front ++ command ∷ []) new.events after true filled
+short front command core new cause requests after is_short filled other has news more =
     subst (λ (all : List Request). IsFollowing (front ++ command ∷ []) new.events all true filled) (sym more)
     (pushed front command new.events requests Failed is_short true filled (stopped front core new cause requests is_short filled has news)
-    (λ id same. absurd (cc same)) (λ is. inr refl))
+    (λ id same. absurd (cc same)) (λ is. inr refl) (λ _. refl) (no_close command other))
 
 -- a request was submitted
 pub followed : (front : List Command) (command : Command) (core new : CoreState) (requests after : List Request) (is_short : Bool)
     (filled : Option Filled) (bio : Bio) (answer : Submitted) (request : Request)
-    → IsFollowing front core.events requests is_short filled → request ≡ request_of answer
+    → is_submission command ≡ true → IsFollowing front core.events requests is_short filled → request ≡ request_of answer
     → (records core bio ≡ true → answer ≡ submits.Tracked (length core.events))
     → (records core bio ≡ true → new ≡ added_to core (events.Submit bio))
     → (records core bio ≡ false → answer ≡ submits.Passed) → (records core bio ≡ false → new ≡ core)
     → after ≡ requests ++ request ∷ [] → IsFollowing (front ++ command ∷ []) new.events after is_short filled
-followed front command core new requests after is_short filled bio answer request has is tracked adds passed stays more =
+followed front command core new requests after is_short filled bio answer request other_command has is tracked adds passed stays more =
     subst (λ (all : List Request). IsFollowing (front ++ command ∷ []) new.events all is_short filled) (sym more)
     (elim (bool_cases (records core bio)) [
       | inl does ↦
@@ -294,13 +277,21 @@ followed front command core new requests after is_short filled bio answer reques
           let here : other ≡ length core.events = cc (same, id) in
           subst (IsFresh (core.events ++ events.Submit bio ∷ []) requests) (sym here) (fresh_here core.events bio requests bio_tracked
           (λ number found. has.below number (length core.events) found)))
-          (λ before. inl before))
+          (λ before. inl before)
+          (λ known. elim known [
+            | inl before ↦ before
+            | inr fails ↦ absurd (cc (fails, id))
+          ]) (no_close command other_command))
       | inr passes ↦
           let id : request ≡ Passed = is ∙ ap request_of (passed passes) in
           subst (λ (state : CoreState). IsFollowing (front ++ command ∷ []) state.events (requests ++ request ∷ []) is_short filled)
           (sym (stays passes))
           (pushed front command core.events requests request is_short is_short filled has (λ other same. absurd (cc (same, id)))
-          (λ before. inl before))
+          (λ before. inl before)
+          (λ known. elim known [
+            | inl before ↦ before
+            | inr fails ↦ absurd (cc (fails, id))
+          ]) (no_close command other_command))
     ])
   where
     fresh_here : (es : List CoreEvent) (submission : Bio) (known : List Request) → is_tracked submission ≡ true
@@ -328,7 +319,9 @@ ended_here front core new requests is_short filled request id has here news =
           (differ-eqb id other (λ same. differs request number parts.1
           (has.single request number id here (found ∙ ap (λ (i : ℕ). Some (Tracked i)) (sym same)))));
       short = has.short;
+      failing = has.failing;
       closed = λ made. still_some is_close core.events (events.Complete id true) (has.closed made);
+      unclosed = λ none. still_unclosed front (Complete request) refl (has.unclosed none);
     })
   where
     differs : (a b : ℕ) → a == b ≡ false → a ≡ b → ⊥
@@ -340,3 +333,11 @@ pub filled_behind : (front : List Command) (closed_core new : CoreState) (reques
     → IsFollowing front new.events requests is_short made
 filled_behind front closed_core new requests is_short made has same =
     subst (λ (es : List CoreEvent). IsFollowing front es requests is_short made) (sym same) has
+
+-- a core that was closed records no submission
+pub closed_passes : (core : CoreState) (bio : Bio) → is_none (first_place is_close core.events) ≡ false → records core bio ≡ false
+closed_passes core bio closed = rw closed (by_stop (is_none (first_place is_stop core.events)) (is_tracked bio))
+  where
+    by_stop : (stop tracked : Bool) → (stop && false && tracked) ≡ false
+    by_stop true tracked = refl
+    by_stop false tracked = refl

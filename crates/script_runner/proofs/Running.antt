@@ -4,7 +4,7 @@ use Rattle.std.proofs.Math.Seq.{drop-cons, take-suc}
 use Rattle.std.proofs.lemmas.List.{append-nil, length-map, map-append, take-append-drop, take_all}
 use Rattle.std.proofs.lemmas.List.Folds.{list_any-append}
 use Rattle.std.proofs.lemmas.Option.{get_or_from_slice_get, slice_get-get_or, slice_get-map, slice_get_within}
-use Rattle.std.proofs.lemmas.Bool.{and_parts}
+use Rattle.std.proofs.lemmas.Bool.{and_parts, or_parts}
 use Rattle.bio.specs.declared.event.CoreEvent.{CoreEvent}
 use Rattle.bio.specs.declared.event.CoreEvent.TheVariants as events
 use Rattle.bio.specs.declared.request.Bio.{Bio}
@@ -25,8 +25,8 @@ use Rattle.script_runner.specs.declared.fill.Filled.{Filled}
 use Rattle.script_runner.specs.declared.recording.Recording.{Recording}
 use Rattle.script_runner.specs.declared.recording.Request.{Request}
 use Rattle.script_runner.specs.declared.recording.Request.TheVariants.{Tracked}
-use Rattle.script_runner.specs.Image.{entries_left}
-use Rattle.script_runner.specs.Recorded.{IsWithin, entries_of, event_of, events_of, has_close, ids_of, submitted_from, until_close, is_close as ends}
+use Rattle.script_runner.specs.Image.{MakesLog, entries_left, fits}
+use Rattle.script_runner.specs.Recorded.{IsWithin, before_close, entries_of, event_of, events_of, has_close, ids_of, submitted_from, until_close, is_close as ends}
 use Rattle.script_runner.specs.Recordings.{GoesOn, HasRun, IsRecording, Stands}
 
 -- ids
@@ -209,13 +209,29 @@ told script front sectors is_short core requests None request other run here dif
 until_here : (front rest : List Command) → has_close front ≡ false → until_close (front ++ Close ∷ rest) ≡ front ++ Close ∷ []
 until_here [] rest none = refl
 until_here (command ∷ front) rest none =
-    let parts = neither (ends command) (has_close front) none in
+    let parts = or_parts (ends command) (has_close front) none in
     ap (λ (b : Bool). command ∷ (if b then [] else until_close (front ++ Close ∷ rest))) parts.0
     ∙ ap (λ (body : List Command). command ∷ body) (until_here front rest parts.1)
-  where
-    neither : (a b : Bool) → (a || b) ≡ false → (a ≡ false) × (b ≡ false)
-    neither true b none = absurd (cc none)
-    neither false b none = (refl, none)
+
+-- the commands before the first Close, where it stands behind these
+before_here : (front rest : List Command) → has_close front ≡ false → before_close (front ++ Close ∷ rest) ≡ front
+before_here [] rest none = refl
+before_here (command ∷ front) rest none =
+    let parts = or_parts (ends command) (has_close front) none in
+    ap (λ (b : Bool). if b then [] else command ∷ before_close (front ++ Close ∷ rest)) parts.0
+    ∙ ap (λ (body : List Command). command ∷ body) (before_here front rest parts.1)
+
+-- where there is no Close these are all commands
+pub before_all : (body : List Command) → has_close body ≡ false → before_close body ≡ body
+before_all [] none = refl
+before_all (command ∷ body) none =
+    let parts = or_parts (ends command) (has_close body) none in
+    ap (λ (b : Bool). if b then [] else command ∷ before_close body) parts.0
+    ∙ ap (λ (rest : List Command). command ∷ rest) (before_all body parts.1)
+
+-- the commands before the first Close, where a script goes on with it
+pub before_first : (script front : List Command) → GoesOn script front Close → has_close front ≡ false → before_close script ≡ front
+before_first script front goes none = ap before_close goes.1 ∙ before_here front goes.0 none
 
 -- a script with a Close is closed
 pub closes_here : (front rest : List Command) → has_close (front ++ Close ∷ rest) ≡ true
@@ -254,6 +270,14 @@ pub ended : (script : List Command) (core : CoreState) (requests : List Request)
     → entries_of script ≡ []
 ended script core requests is =
     ap (λ (b : Bool). if b then map (λ (i : Item). i.1) (completion_list recorded (events_of script)) else []) is.unclosed
+
+-- the log is made of a script that isn't closed
+pub made_open : (sectors : ℕ) (script : List Command) (core : CoreState) (requests : List Request) → IsRecording script script core requests
+    → MakesLog sectors script
+made_open sectors script core requests is = record {
+  quiet = λ closes opened. absurd (cc (closes, is.unclosed));
+  room = ap (fits sectors) (ended script core requests is);
+}
 
 -- as long as there is no log the core records
 pub unfilled : (script front : List Command) (sectors : ℕ) (is_short : Bool) (core : CoreState) (requests : List Request)
@@ -340,15 +364,15 @@ item_within plan items place other same is =
 
 pub item_ran : (plan : Plan) (items : List Command) (place : ℕ) (other : Command) (old new : Recording) → items ≡ plan.commands
     → HasRunTo plan place old → place < length items → new.log_sectors ≡ old.log_sectors
-    → ((script front : List Command) → GoesOn script front (slice_index_or items place other) → Stands script front old
-    → Stands script (front ++ slice_index_or items place other ∷ []) new)
+    → (GoesOn plan.commands (take place plan.commands) (slice_index_or items place other)
+    → Stands plan.commands (take place plan.commands) old
+    → Stands plan.commands (take place plan.commands ++ slice_index_or items place other ∷ []) new)
     → HasRunTo plan (place + 1) new
 item_ran plan items place other old new same run here kept step =
     ran_on plan place other old new run (rw (← same) here) kept
     (subst (λ (body : List Command). GoesOn plan.commands (take place plan.commands) (slice_index_or body place other)
     → Stands plan.commands (take place plan.commands) old
-    → Stands plan.commands (take place plan.commands ++ slice_index_or body place other ∷ []) new) same
-    (step plan.commands (take place plan.commands)))
+    → Stands plan.commands (take place plan.commands ++ slice_index_or body place other ∷ []) new) same step)
 
 pub items_ran : (plan : Plan) (items : List Command) (place : ℕ) (recording : Recording) → items ≡ plan.commands
     → HasRunTo plan place recording → length items ≤ place → Stands plan.commands plan.commands recording

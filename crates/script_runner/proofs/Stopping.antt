@@ -1,12 +1,13 @@
-use Rattle.std.proofs.Common.{◌≡◌, ◌∙◌, ℕ, suc, ◌+◌, ◌<◌, Bool, true, false, Option, Some, inl, inr, List, [], ◌∷◌, ◌++◌, drop, length, slice_index_or, take, add-one, ap, arith, sym, refl, subst}
-use Rattle.std.specs.List.{AllByRecursion, slice_get}
+use Rattle.std.proofs.Common.{◌≡◌, ◌∙◌, ℕ, suc, ◌+◌, ◌<◌, ◌≤◌, true, Option, Some, is_none, inl, inr, All, List, [], ◌∷◌, ◌++◌, drop, length, slice_index_or, take, add-one, ap, arith, sym, subst}
+use Rattle.std.specs.List.{slice_get}
 use Rattle.std.specs.Io.KnownBytes.{Appends}
 use Rattle.std.proofs.Math.Seq.{drop-cons, take-suc}
-use Rattle.std.proofs.lemmas.List.{take-append-drop}
+use Rattle.std.proofs.lemmas.List.{take-append-drop, take_all}
 use Rattle.std.proofs.lemmas.List.Elements.{All-from_recursion}
 use Rattle.std.proofs.lemmas.List.Sums.{sum_by-append}
 use Rattle.std.proofs.lemmas.Option.{slice_get-get_or, slice_get_within}
-use Rattle.bio.specs.declared.event.CoreEvent.{CoreEvent}
+use Rattle.bio.specs.declared.outcome.End.{End}
+use Rattle.bio.specs.declared.outcome.End.TheVariants.{Memory}
 use Rattle.bio.specs.declared.refusal.Refusal.{Refusal}
 use Rattle.dmlw_script.specs.declared.command.Command.{Command}
 use Rattle.dmlw_script.specs.declared.command.Command.TheVariants.{Write, Flush, Complete, Close}
@@ -16,13 +17,14 @@ use Rattle.dmlw_script.specs.Plans.{HasName, IsPlan, MayCome, Plan, submissions}
 use Rattle.script_runner.specs.declared.fault.Fault.{Fault}
 use Rattle.script_runner.specs.declared.fault.Fault.TheVariants.{Refused, LoggingEnded}
 use Rattle.script_runner.specs.declared.recording.Recording.{Recording}
-use Rattle.script_runner.specs.declared.recording.Request.{Request}
 use Rattle.script_runner.specs.declared.recording.Request.TheVariants.{Failed}
 use Rattle.script_runner.specs.declared.recording.Stop.TheVariants.{AtLine, Whole}
-use Rattle.script_runner.specs.Printed.{is_one_of, printed}
-use Rattle.script_runner.specs.Recordings.{Follows, GoesOn, HasTold}
-use Rattle.script_runner.specs.RunFaults.{EndsLogging, EndsRun, IsCloseRefusal, StopsAt, busy, unclosed, close, events_before, file, logging}
-use Rattle.script_runner.proofs.Telling.{all_failed, count_of, each_failed, failed_from, submissions_cons}
+use Rattle.script_runner.specs.Printed.{printed}
+use Rattle.script_runner.specs.Recordings.{Follows, GoesOn, HasTold, failed_from}
+use Rattle.script_runner.specs.Recorded.{before_close}
+use Rattle.script_runner.specs.RunFaults.{EndsLogging, EndsRun, IsLoggingEnd, StopsAt, StopsQuietly, close, file, logging, no_memory}
+use Rattle.script_runner.proofs.Running.{before_all, before_first}
+use Rattle.script_runner.proofs.Telling.{all_failed, count_of, each_failed, submissions_cons}
 
 -- the next command
 
@@ -78,67 +80,92 @@ item_next plan items place other same is orderly =
     subst (λ (body : List Command). place < length body → ComesNext plan place (slice_index_or body place other)) (sym same)
     (command_next plan place other is orderly)
 
--- the core follows the requests of one more command
-pub item_follows : (plan : Plan) (items : List Command) (place : ℕ) (other : Command) (new : Recording) → items ≡ plan.commands
-    → place < length items → Follows (take place plan.commands ++ slice_index_or items place other ∷ []) new
-    → Follows (take (place + 1) plan.commands) new
-item_follows plan items place other new same within follows =
+-- what holds of the commands before a place and of the one there holds of those before the next place
+pub one_more : (P : List Command → Type 0) (plan : Plan) (items : List Command) (place : ℕ) (other : Command) → items ≡ plan.commands
+    → place < length items → P (take place plan.commands ++ slice_index_or items place other ∷ []) → P (take (place + 1) plan.commands)
+one_more P plan items place other same within holds =
     let front : take place plan.commands ++ slice_index_or items place other ∷ [] ≡ take (place + 1) plan.commands =
     ap (λ (body : List Command). take place plan.commands ++ slice_index_or body place other ∷ []) same
     ∙ sym (take-suc plan.commands place other (rw (← same) within)) ∙ ap (λ (n : ℕ). take n plan.commands) (sym (add-one place)) in
-    subst (λ (body : List Command). Follows body new) front follows
+    subst P front holds
+
+-- the core followed the requests of all commands of a list
+pub items_follow : (plan : Plan) (items : List Command) (place : ℕ) (recording : Recording) → items ≡ plan.commands
+    → Follows (take place plan.commands) recording → length items ≤ place → Follows plan.commands recording
+items_follow plan items place recording same follows past =
+    subst (λ (body : List Command). Follows body recording) (take_all place plan.commands (rw (← same) past)) follows
 
 -- the end of a run
 
--- where no request failed, memory was never short
-none_short : (requests : List Request) (is_short : Bool)
-    → (is_short ≡ true → (number : ℕ) × (slice_get requests number ≡ Some Failed)) → failed_from 0 requests ≡ [] → is_short ≡ false
-none_short requests false short none = refl
-none_short requests true short none =
-    let found = short refl in
-    let one : is_one_of (failed_from 0 requests) found.0 ≡ true = all_failed requests found.0 Failed found.1 in
-    let no : is_one_of (failed_from 0 requests) found.0 ≡ false = ap (λ (failed : List ℕ). is_one_of failed found.0) none in
-    absurd (cc (one, no))
+-- each request that failed was submitted
+each_submitted : (names : List Name) (front : List Command) (before after : Option (List ℕ)) (recording : Recording)
+    → HasTold names front before after recording
+    → All (λ request. request < submissions front) (failed_from 0 recording.requests.items)
+each_submitted names front before after recording has =
+    let requests = recording.requests.items in
+    let numbered = has.numbered in
+    All-from_recursion (λ request. request < submissions front) (failed_from 0 requests)
+    (each_failed (λ request. request < submissions front) 0 requests
+    (λ at found. let within = slice_get_within requests at Failed found in omega (arith, within, numbered)))
 
--- a refusal of a Close needs no more than was known
-refusal_known : (P Q : Type 0) (events : List CoreEvent) (refusal : Refusal) → (Q → P) → IsCloseRefusal P events refusal
-    → IsCloseRefusal Q events refusal
-refusal_known P Q events _ known (unclosed quiet) = unclosed (λ holds. quiet (known holds))
-refusal_known P Q events _ known (busy opened) = busy (λ holds. opened (known holds))
+-- logging ended, behind what the commands before the first Close have told
+pub logging_told : (plan : Plan) (front : List Command) (end : End) (before after : Option (List ℕ)) (recording : Recording)
+    → before_close plan.commands ≡ front → HasTold plan.names front before after recording
+    → IsLoggingEnd (failed_from 0 recording.requests.items) plan.log_sectors plan.commands end → EndsLogging plan end before after
+logging_told plan front end before after recording first has ends =
+    let requests = recording.requests.items in
+    let failed = failed_from 0 requests in
+    record {
+      failed = failed;
+      submitted = subst (λ (body : List Command). All (λ request. request < submissions body) failed) (sym first)
+          (each_submitted plan.names front before after recording has);
+      told = subst (λ (body : List Command). Appends before after (printed plan.names failed body)) (sym first)
+          (has.told failed (all_failed requests));
+      cause = ends;
+    }
 
 -- a run ended by a fault for which no line is named
-pub ends_whole : (text : List ℕ) (plan : Plan) (sectors : ℕ) (front : List Command) (is_short : Bool) (command : Command) (fault : Fault)
-    (before after : Option (List ℕ)) → sectors ≡ plan.log_sectors
-    → StopsAt sectors plan.commands front is_short command (Whole fault) → EndsRun text plan before after fault
-ends_whole text plan sectors front is_short command fault before after same (inl stops) = file fault stops
-ends_whole text plan sectors front is_short command (Refused line refusal) before after same (inr (closes, stops)) = absurd stops
-ends_whole text plan sectors front is_short command (LoggingEnded end) before after same (inr (closes, stops)) =
-    logging end (subst (λ (n : ℕ). EndsLogging n plan.commands end) same stops)
+pub ends_whole : (text : List ℕ) (plan : Plan) (front : List Command) (command : Command) (fault : Fault)
+    (before after now : Option (List ℕ)) (recording : Recording) → recording.log_sectors ≡ plan.log_sectors
+    → GoesOn plan.commands front command → HasTold plan.names front before after recording → StopsQuietly after now (Whole fault)
+    → StopsAt recording.log_sectors plan.commands front (failed_from 0 recording.requests.items) command (Whole fault) → EndsRun text plan before now fault
+ends_whole text plan front command fault before after now recording same goes has quiet (inl stops) = file fault stops
+ends_whole text plan front command (Refused line refusal) before after now recording same goes has quiet (inr (closes, stops)) =
+    absurd stops.cause
+ends_whole text plan front command (LoggingEnded end) before after now recording same goes has quiet (inr (closes, stops)) =
+    let first = before_first plan.commands front (subst (GoesOn plan.commands front) closes goes) stops.first in
+    logging end (subst (EndsLogging plan end before) (sym quiet)
+    (logging_told plan front end before after recording first has
+    (subst (λ (n : ℕ). IsLoggingEnd (failed_from 0 recording.requests.items) n plan.commands end) same stops.cause)))
+
+-- a run ended for want of memory behind the last command of a script that isn't closed
+pub ends_open : (text : List ℕ) (plan : Plan) (before after : Option (List ℕ)) (recording : Recording)
+    → HasTold plan.names plan.commands before after recording → Follows plan.commands recording → is_none recording.filled ≡ true
+    → EndsRun text plan before after (LoggingEnded Memory)
+ends_open text plan before after recording has follows none =
+    let unclosed_script = follows.unclosed none in
+    logging Memory (logging_told plan plan.commands Memory before after recording (before_all plan.commands unclosed_script) has
+    (no_memory (λ closes opened. absurd (cc (closes, unclosed_script)))))
 
 -- a run ended at a Close that was refused
 pub ends_at_line : (text : List ℕ) (plan : Plan) (place : ℕ) (command : Command) (refusal : Refusal) (line : Option ℕ)
     (before after now : Option (List ℕ)) (recording : Recording) → ComesNext plan place command
-    → HasTold plan.names (take place plan.commands) before after recording → Follows (take place plan.commands) recording
-    → now ≡ after → line ≡ command_line text place
-    → StopsAt recording.log_sectors plan.commands (take place plan.commands) recording.is_short command (AtLine refusal)
+    → HasTold plan.names (take place plan.commands) before after recording → now ≡ after → line ≡ command_line text place
+    → StopsAt recording.log_sectors plan.commands (take place plan.commands) (failed_from 0 recording.requests.items) command (AtLine refusal)
     → EndsRun text plan before now (Refused line refusal)
-ends_at_line text plan place command refusal line before after now recording next has follows quiet here (inl stops) = absurd stops
-ends_at_line text plan place command refusal line before after now recording next has follows quiet here (inr (closes, stops)) =
+ends_at_line text plan place command refusal line before after now recording next has quiet here (inl stops) = absurd stops
+ends_at_line text plan place command refusal line before after now recording next has quiet here (inr (closes, stops)) =
     let requests = recording.requests.items in
     let front = take place plan.commands in
     let failed = failed_from 0 requests in
-    let numbered = has.numbered in
-    let each : AllByRecursion (λ request. request < submissions front) failed =
-    each_failed (λ request. request < submissions front) 0 requests
-    (λ at found. let within = slice_get_within requests at Failed found in omega (arith, within, numbered)) in
     close line refusal (record {
       place = place;
       failed = failed;
       closes = next.here ∙ ap Some closes;
+      first = stops.first;
       here = here;
-      submitted = All-from_recursion (λ request. request < submissions front) failed each;
+      submitted = each_submitted plan.names front before after recording has;
       told = subst (λ (bytes : Option (List ℕ)). Appends before bytes (printed plan.names failed front)) (sym quiet)
           (has.told failed (all_failed requests));
-      cause = refusal_known (recording.is_short ≡ false) (failed ≡ []) (events_before plan.commands front) refusal
-          (λ none. none_short requests recording.is_short follows.short none) stops;
+      cause = stops.cause;
     })

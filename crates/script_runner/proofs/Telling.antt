@@ -1,4 +1,4 @@
-use Rattle.std.proofs.Common.{◌≡◌, ◌∙◌, ℕ, zero, suc, ◌+◌, ◌<◌, ◌≤◌, ◌==◌, Bool, true, false, ◌||◌, ◌⊎◌, Option, Some, None, inl, inr, List, [], ◌∷◌, ◌++◌, cond, encode_utf8_all, length, map, replicate, slice_index_or, take, add-one, append_assoc, ap, arith, sym, refl, subst, if◌then◌else◌, Result, Ok, Err, OnOk}
+use Rattle.std.proofs.Common.{◌≡◌, ◌∙◌, ℕ, zero, suc, ◌+◌, ◌<◌, ◌≤◌, ◌==◌, Bool, true, false, ◌||◌, ◌⊎◌, Option, Some, None, is_none, inl, inr, List, [], ◌∷◌, ◌++◌, cond, encode_utf8_all, length, map, replicate, slice_index_or, take, add-one, append_assoc, ap, arith, sym, refl, subst, if◌then◌else◌, Result, Ok, Err, OnOk}
 use Rattle.std.specs.Prelude.{codes}
 use Rattle.std.specs.List.{AllByRecursion, list_all, slice_get}
 use Rattle.std.specs.Io.KnownBytes.{Appends}
@@ -24,11 +24,11 @@ use Rattle.script_runner.specs.declared.fill.Filled.{Filled}
 use Rattle.script_runner.specs.declared.recording.Recording.{Recording}
 use Rattle.script_runner.specs.declared.recording.Request.{Request}
 use Rattle.script_runner.specs.declared.recording.Request.TheVariants.{Tracked, Passed, Failed}
-use Rattle.script_runner.specs.Printed.{IsLate, Prints, body_text, command_text, is_one_of, outcome_line, printed, submission_text}
-use Rattle.script_runner.specs.Recorded.{has_close, until_close, is_close as ends}
+use Rattle.script_runner.specs.Printed.{IsLate, IsWritten, Prints, body_text, command_text, is_one_of, outcome_line, printed, submission_text}
+use Rattle.script_runner.specs.Recorded.{has_close, is_write, until_close, is_close as ends}
 use Rattle.bio.specs.CallLaws.{appends_twice}
-use Rattle.script_runner.proofs.Running.{HasRunTo, all_tracked, closes_here}
-use Rattle.script_runner.specs.Recordings.{FailsLate, HasTold, IsFailing, Stands, is_failed, request_of}
+use Rattle.script_runner.proofs.Running.{all_tracked, closes_here}
+use Rattle.script_runner.specs.Recordings.{FailsLate, HasTold, IsFailing, failed_from, is_failed, request_of}
 
 -- what is submitted
 
@@ -174,32 +174,74 @@ submitted_before (command ∷ body) = by_first (ends command) (submitted_before 
         let one = submissions_cons command (until_close body) in
         let all = submissions_cons command body in omega (arith, less, one, all)
 
--- requests fail late after one more submission too
+-- a request that is a write stays one with one more command
+written_on : (front : List Command) (command : Command) (number : ℕ) → IsWritten front number → IsWritten (front ++ command ∷ []) number
+written_on front command number is = record {
+  before = is.before;
+  write = is.write;
+  behind = is.behind ++ command ∷ [];
+  here = ap (λ (body : List Command). body ++ command ∷ []) is.here ∙ append_assoc is.before (is.write ∷ is.behind) (command ∷ []);
+  writes = is.writes;
+  number = is.number;
+}
+
+-- a request is late with one more command too
+late_stays : (front : List Command) (command : Command) (number : ℕ) → has_close front ≡ true → IsLate front number
+    → IsLate (front ++ command ∷ []) number
+late_stays front command number closes late = (
+  subst (λ (body : List Command). submissions body ≤ number) (sym (closed_stays front command closes).1) late.0,
+  written_on front command number late.1,
+)
+
+-- requests fail late after one more submission too, of a write where it failed
 late_on : (front : List Command) (command : Command) (requests : List Request) (request : Request) (filled : Option Filled)
-    → length requests ≡ submissions front → FailsLate front requests filled
-    → FailsLate (front ++ command ∷ []) (requests ++ request ∷ []) filled
-late_on front command requests request None numbered late = tt
-late_on front command requests request (Some log) numbered late =
-    let stays = closed_stays front command late.0 in (
-      stays.0,
-      λ number here. subst (λ (body : List Command). submissions body ≤ number) (sym stays.1)
-          (at_place number here (cases_lt number (length requests))),
-    )
+    → length requests ≡ submissions front → (is_none filled ≡ false → request ≡ Failed → is_write command ≡ true)
+    → FailsLate front requests filled → FailsLate (front ++ command ∷ []) (requests ++ request ∷ []) filled
+late_on front command requests request None numbered wrote late = tt
+late_on front command requests request (Some log) numbered wrote late = (
+  (closed_stays front command late.0).0,
+  λ number here. at_place number here (cases_lt number (length requests)),
+)
   where
+    last : (number : ℕ) → slice_get (requests ++ request ∷ []) number ≡ Some Failed → length requests ≤ number
+        → (number ≡ length requests) × (request ≡ Failed)
+    last number here past =
+        let within = slice_get_within (requests ++ request ∷ []) number Failed here in
+        let more = length-append requests (request ∷ []) in
+        let one : length (request ∷ []) ≡ 1 = refl in
+        let same : number ≡ length requests = omega (arith, past, within, more, one) in
+        let is : Some request ≡ Some Failed =
+        sym (slice_get-append_here requests request []) ∙ ap (slice_get (requests ++ request ∷ [])) (sym same) ∙ here in
+        (same, cc is)
+
     at_place : (number : ℕ) → slice_get (requests ++ request ∷ []) number ≡ Some Failed
-        → (number < length requests) ⊎ (length requests ≤ number) → submissions (until_close front) ≤ number
-    at_place number here (inl less) = late.1 number (sym (slice_get-append_front requests (request ∷ []) number less) ∙ here)
-    at_place number here (inr past) = let less = submitted_before front in omega (arith, less, past, numbered)
+        → (number < length requests) ⊎ (length requests ≤ number) → IsLate (front ++ command ∷ []) number
+    at_place number here (inl less) =
+        late_stays front command number late.0 (late.1 number (sym (slice_get-append_front requests (request ∷ []) number less) ∙ here))
+    at_place number here (inr past) =
+        let is = last number here past in
+        let less = submitted_before front in
+        let place = is.0 in (
+          subst (λ (body : List Command). submissions body ≤ number) (sym (closed_stays front command late.0).1)
+              (omega (arith, less, place, numbered)),
+          record {
+            before = front;
+            write = command;
+            behind = [];
+            here = refl;
+            writes = wrote refl is.1;
+            number = sym numbered ∙ sym is.0;
+          },
+        )
 
 -- requests fail late after one more command that submits none
 late_kept : (front : List Command) (command : Command) (requests : List Request) (filled : Option Filled)
     → FailsLate front requests filled → FailsLate (front ++ command ∷ []) requests filled
 late_kept front command requests None late = tt
-late_kept front command requests (Some log) late =
-    let stays = closed_stays front command late.0 in (
-      stays.0,
-      λ number here. subst (λ (body : List Command). submissions body ≤ number) (sym stays.1) (late.1 number here),
-    )
+late_kept front command requests (Some log) late = (
+  (closed_stays front command late.0).0,
+  λ number here. late_stays front command number late.0 (late.1 number here),
+)
 
 -- what a submission prints
 submission_prints : (names : List Name) (failed : List ℕ) (before : ℕ) (command : Command) → is_submission command ≡ true
@@ -213,15 +255,16 @@ submission_prints names failed before Close submits = absurd (cc submits)
 told_submission : (names : List Name) (front : List Command) (before after now : Option (List ℕ)) (old new : Recording)
     (command : Command) (request : Request) → is_submission command ≡ true → HasTold names front before after old
     → new.requests.items ≡ old.requests.items ++ request ∷ [] → new.filled ≡ old.filled
+    → (is_none old.filled ≡ false → request ≡ Failed → is_write command ≡ true)
     → Appends after now (if is_failed request then outcome_line (name_at names (length old.requests.items)) (codes "failed") else [])
     → HasTold names (front ++ command ∷ []) before now new
-told_submission names front before after now old new command request submits has pushed same told =
+told_submission names front before after now old new command request submits has pushed same wrote told =
     told_on names front before after now old new command has
     (ap length pushed ∙ length-append old.requests.items (request ∷ []) ∙ ap (λ (n : ℕ). n + 1) has.numbered
     ∙ ap (λ (b : Bool). submissions front + cond b 1 0) (sym submits) ∙ sym (submissions_push front command))
     (subst (FailsLate (front ++ command ∷ []) new.requests.items) (sym same)
     (subst (λ (requests : List Request). FailsLate (front ++ command ∷ []) requests old.filled) (sym pushed)
-    (late_on front command old.requests.items request old.filled has.numbered has.late)))
+    (late_on front command old.requests.items request old.filled has.numbered wrote has.late)))
     (λ failed failing.
     let also : IsFailing failed (old.requests.items ++ request ∷ []) = subst (IsFailing failed) pushed failing in
     let here : is_one_of failed (length old.requests.items) ≡ is_failed request =
@@ -236,12 +279,12 @@ told_submission names front before after now old new command request submits has
 
 -- a request failed, and that was told
 pub told_failed : (names : List Name) (front : List Command) (before after now : Option (List ℕ)) (old new : Recording)
-    (command : Command) → is_submission command ≡ true → HasTold names front before after old
-    → new.requests.items ≡ old.requests.items ++ Failed ∷ [] → new.filled ≡ old.filled
+    (command : Command) → is_submission command ≡ true → (is_none old.filled ≡ false → is_write command ≡ true)
+    → HasTold names front before after old → new.requests.items ≡ old.requests.items ++ Failed ∷ [] → new.filled ≡ old.filled
     → (number : ℕ) → number ≡ length old.requests.items → Appends after now (outcome_line (name_at names number) (codes "failed"))
     → HasTold names (front ++ command ∷ []) before now new
-told_failed names front before after now old new command submits has pushed same number counts told =
-    told_submission names front before after now old new command Failed submits has pushed same
+told_failed names front before after now old new command submits wrote has pushed same number counts told =
+    told_submission names front before after now old new command Failed submits has pushed same (λ made _. wrote made)
     (subst (λ (n : ℕ). Appends after now (outcome_line (name_at names n) (codes "failed"))) counts told)
 
 -- a request was submitted that didn't fail
@@ -250,7 +293,7 @@ pub told_submitted : (names : List Name) (front : List Command) (before after no
     → new.requests.items ≡ old.requests.items ++ request ∷ [] → new.filled ≡ old.filled → is_failed request ≡ false → now ≡ after
     → HasTold names (front ++ command ∷ []) before now new
 told_submitted names front before after now old new command request submits has pushed same fine quiet =
-    told_submission names front before after now old new command request submits has pushed same
+    told_submission names front before after now old new command request submits has pushed same (λ _ failed. cc (failed, fine))
     (subst (λ (b : Bool). Appends after now (if b then outcome_line (name_at names (length old.requests.items)) (codes "failed") else [])) (sym fine)
     (subst (λ (bytes : Option (List ℕ)). Appends after bytes []) (sym quiet) (appends_none after)))
 
@@ -327,12 +370,6 @@ told_first_close names front before after old new log ids has kept made tracked 
 
 -- what a whole script prints
 
--- the numbers of the requests that failed, of which the first has this number
-pub failed_from : ℕ → List Request → List ℕ
-failed_from number [] = []
-failed_from number (request ∷ requests) =
-    if is_failed request then number ∷ failed_from (number + 1) requests else failed_from (number + 1) requests
-
 -- a number before these isn't one of them
 none_before : (number other : ℕ) (requests : List Request) → other < number → is_one_of (failed_from number requests) other ≡ false
 unfolding failed_from
@@ -397,16 +434,12 @@ all_failed requests number request here =
 -- a script was run to its end: where the requests that failed did so late, what was told is what it prints
 printed_all : (names : List Name) (script : List Command) (before after : Option (List ℕ)) (recording : Recording)
     → HasTold names script before after recording
-    → ((number : ℕ) → slice_get recording.requests.items number ≡ Some Failed → submissions (until_close script) ≤ number)
+    → ((number : ℕ) → slice_get recording.requests.items number ≡ Some Failed → IsLate script number)
     → Prints names script before after
 printed_all names script before after recording has late =
     let failed = failed_from 0 recording.requests.items in
     let each : AllByRecursion (IsLate script) failed = each_failed (IsLate script) 0 recording.requests.items
-    (λ place here.
-    let low = late place here in
-    let within = slice_get_within recording.requests.items place Failed here in
-    let numbered = has.numbered in
-    (omega (arith, low), omega (arith, within, numbered))) in (
+    (λ place here. subst (IsLate script) (omega arith) (late place here)) in (
       printed names failed script,
       record { failed = failed; late = All-from_recursion (IsLate script) failed each; lines = refl },
       has.told failed (all_failed recording.requests.items),
@@ -428,19 +461,17 @@ printed_open names script before after recording ids has tracked =
 
 -- one more command of a script was run, of its list of commands
 pub item_told : (plan : Plan) (items : List Command) (names : List Name) (place : ℕ) (other : Command) (before after now : Option (List ℕ)) (old new : Recording)
-    → items ≡ plan.commands → names ≡ plan.names → HasRunTo plan place old
-    → HasTold plan.names (take place plan.commands) before after old → place < length items
-    → ((script front : List Command) (bytes : Option (List ℕ)) → Stands script front old → HasTold names front bytes after old
-    → HasTold names (front ++ slice_index_or items place other ∷ []) bytes now new)
+    → items ≡ plan.commands → names ≡ plan.names → HasTold plan.names (take place plan.commands) before after old → place < length items
+    → (HasTold names (take place plan.commands) before after old
+    → HasTold names (take place plan.commands ++ slice_index_or items place other ∷ []) before now new)
     → HasTold plan.names (take (place + 1) plan.commands) before now new
-item_told plan items names place other before after now old new same named run has here step =
+item_told plan items names place other before after now old new same named has here step =
     let front : take place plan.commands ++ slice_index_or items place other ∷ [] ≡ take (place + 1) plan.commands =
     ap (λ (body : List Command). take place plan.commands ++ slice_index_or body place other ∷ []) same
     ∙ sym (take-suc plan.commands place other (rw (← same) here)) ∙ ap (λ (n : ℕ). take n plan.commands) (sym (add-one place)) in
     subst (λ (body : List Command). HasTold plan.names body before now new) front
     (subst (λ (ns : List Name). HasTold ns (take place plan.commands ++ slice_index_or items place other ∷ []) before now new) named
-    (step plan.commands (take place plan.commands) before run.stands
-    (subst (λ (ns : List Name). HasTold ns (take place plan.commands) before after old) (sym named) has)))
+    (step (subst (λ (ns : List Name). HasTold ns (take place plan.commands) before after old) (sym named) has)))
 
 -- a script's commands were run to the end of their list
 pub items_told : (plan : Plan) (items : List Command) (place : ℕ) (before after : Option (List ℕ)) (recording : Recording)

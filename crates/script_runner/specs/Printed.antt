@@ -1,5 +1,5 @@
 -- What running a script prints.
-use Rattle.std.specs.Prelude.{◌≡◌, ◌≤◌, ◌<◌, ◌==◌, ℕ, All, Bool, List, [], ◌∷◌, ◌++◌, Option, codes, if◌then◌else◌}
+use Rattle.std.specs.Prelude.{◌≡◌, ◌≤◌, ◌==◌, ℕ, All, Bool, true, List, [], ◌∷◌, ◌++◌, Option, codes, if◌then◌else◌}
 use Rattle.std.specs.Io.KnownBytes.{Appends}
 use Rattle.std.specs.List.{list_any}
 use Rattle.dmlw_script.specs.declared.command.Command.{Command}
@@ -7,7 +7,7 @@ use Rattle.dmlw_script.specs.declared.command.Command.TheVariants.{Write, Flush,
 use Rattle.dmlw_script.specs.declared.name.Name.{Name}
 use Rattle.dmlw_script.specs.Names.{letters_of}
 use Rattle.dmlw_script.specs.Plans.{behind_command, name_at, submissions}
-use Rattle.script_runner.specs.Recorded.{until_close}
+use Rattle.script_runner.specs.Recorded.{is_write, until_close}
 
 -- the line that tells what became of the request of this name
 abbrev pub outcome_line : Name → List ℕ → List ℕ
@@ -42,12 +42,21 @@ body_text names failed before (command ∷ body) =
 abbrev pub printed : List Name → List ℕ → List Command → List ℕ
 printed names failed commands = body_text names failed 0 commands
 
--- the request is submitted behind the first command that ends the recording
-abbrev pub IsLate : List Command → ℕ → Type 0
-IsLate commands request = (submissions (until_close commands) ≤ request) × (request < submissions commands)
+-- the request of this number is a write: so many requests are submitted before it
+pub record IsWritten (commands : List Command) (request : ℕ) : Type 0 where
+  pub before : List Command
+  pub write : Command
+  pub behind : List Command
+  pub here : commands ≡ before ++ write ∷ behind
+  pub writes : is_write write ≡ true
+  pub number : submissions before ≡ request
 
--- The text is what a script prints whose log is made. The requests that failed, for want of memory, are submitted
--- behind the end of the recording: before it want of memory ends the run.
+-- the request is a write that is submitted behind the first command that ends the recording
+abbrev pub IsLate : List Command → ℕ → Type 0
+IsLate commands request = (submissions (until_close commands) ≤ request) × IsWritten commands request
+
+-- The text is what a script prints whose log is made. The requests that failed, for want of memory, are writes that are
+-- submitted behind the end of the recording: before it want of memory ends the run, and a flush behind it wants none.
 pub record IsPrinted (names : List Name) (commands : List Command) (text : List ℕ) : Type 0 where
   pub failed : List ℕ
   pub late : All (IsLate commands) failed

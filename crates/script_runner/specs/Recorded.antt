@@ -1,5 +1,5 @@
 -- What a script records, apart from how it is run.
-use Rattle.std.specs.Prelude.{◌≡◌, ℕ, ◌+◌, ◌*◌, Bool, true, false, List, [], ◌∷◌, Ok, map, replicate, slice_index, if◌then◌else◌}
+use Rattle.std.specs.Prelude.{◌≡◌, ◌<◌, ℕ, ◌+◌, ◌*◌, All, Bool, true, false, List, [], ◌∷◌, Ok, map, replicate, slice_index, if◌then◌else◌}
 use Rattle.std.specs.List.{list_any}
 use Rattle.bio.specs.declared.event.CoreEvent.{CoreEvent}
 use Rattle.bio.specs.declared.event.CoreEvent.TheVariants as events
@@ -7,7 +7,7 @@ use Rattle.bio.specs.declared.request.Bio.TheVariants as bios
 use Rattle.bio.specs.Check.{range_answer}
 use Rattle.dmlw_script.specs.declared.command.Command.{Command}
 use Rattle.dmlw_script.specs.declared.command.Command.TheVariants.{Write, Flush, Complete, Close}
-use Rattle.dmlw_script.specs.Plans.{is_submission}
+use Rattle.dmlw_script.specs.Plans.{is_ended, is_submission, submissions}
 use Rattle.log_format.specs.declared.entry.Entry.{Entry}
 use Rattle.pending.specs.CompletionList.{completion_list}
 use Rattle.pending.specs.QueueEvent.{recorded}
@@ -26,6 +26,13 @@ is_close (Write first count byte) = false
 is_close Flush = false
 is_close (Complete request) = false
 
+-- the command submits a write
+abbrev pub is_write : Command → Bool
+is_write (Write first count byte) = true
+is_write Flush = false
+is_write (Complete request) = false
+is_write Close = false
+
 -- a command ends the recording
 abbrev pub has_close : List Command → Bool
 has_close = list_any is_close
@@ -34,6 +41,11 @@ has_close = list_any is_close
 abbrev pub until_close : List Command → List Command
 until_close [] = []
 until_close (command ∷ body) = command ∷ (if is_close command then [] else until_close body)
+
+-- the commands before the first that ends the recording
+abbrev pub before_close : List Command → List Command
+before_close [] = []
+before_close (command ∷ body) = if is_close command then [] else command ∷ before_close body
 
 -- where the requests are submitted by commands of which the first has this place
 abbrev pub submitted_from : ℕ → List Command → List ℕ
@@ -60,3 +72,12 @@ events_of body = map (event_of (ids_of body)) (until_close body)
 -- the entries of a script's log: those of the completion list of its events, and none where it isn't closed
 abbrev pub entries_of : List Command → List Entry
 entries_of body = if has_close body then map (λ item. item.1) (completion_list recorded (events_of body)) else []
+
+-- a request that these commands submit, before any of those that failed, hasn't ended by them
+abbrev pub HasOpen : List ℕ → List Command → Type 0
+HasOpen failed front =
+    (request : ℕ) × (request < submissions front) × (is_ended request front ≡ false) × All (λ other. request < other) failed
+
+-- where a script is closed, no request is open at its first Close; these requests failed
+abbrev pub ClosesQuietly : List ℕ → List Command → Type 0
+ClosesQuietly failed script = has_close script ≡ true → HasOpen failed (before_close script) → ⊥

@@ -3,8 +3,8 @@
 //!
 //! `run` runs a script that was read. Where it succeeds, the log is that of the completion list of
 //! the script's events (`specs/Recorded` says which these are, `specs/Image` which bytes a log has) and
-//! the lines are those of `specs/Printed`; where it fails, `specs/RunFaults` says when each fault
-//! comes and what was printed before it. `fill_log` fills a log with the entries that a core still
+//! the lines are those of `specs/Printed`; where it fails, `specs/RunFaults` says when a Close is
+//! refused and when logging ends, and what was printed before. `fill_log` fills a log with the entries that a core still
 //! has to give, `empty_log` makes one of none. A `Fault` is why a command ended before its time.
 #![tactic(auto)]
 

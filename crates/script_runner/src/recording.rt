@@ -1,17 +1,18 @@
-ghost use Rattle.std.specs.Prelude.{◌≡◌, ◌++◌, ◌∷◌, ◌<◌, ◌≤◌, [], IfErr, IfOk, IsOk, IsTrue, List, None, OnOk, Option, Some, false, length, slice_get, true, ℕ};
+ghost use Rattle.std.specs.Prelude.{◌≡◌, ◌++◌, ◌∷◌, ◌<◌, ◌≤◌, [], IfErr, IfOk, IsOk, IsTrue, List, None, OnOk, Option, Some, false, is_none, length, slice_get, true, ℕ};
 ghost use Rattle.std.specs.Io.KnownBytes.{Appends};
 ghost use Rattle.std.specs.IoError.{error_kind};
 ghost use Rattle.std.specs.List.{AllByRecursion};
 ghost use Rattle.bio.specs.declared.event.CoreEvent.TheVariants.{Submit};
 ghost use Rattle.bio.specs.Check.{check_answer, range_answer};
 ghost use Rattle.bio.specs.Lawful.{is_lawful};
+ghost use Rattle.bio.specs.Requests.{is_tracked};
 ghost use Rattle.dmlw_script.specs.Plans.{HasName, IsName, MayCome, is_ended, is_submission, name_at, submissions};
 ghost use Rattle.pending.specs.Refusals.{close_refusal};
 ghost use Rattle.script_runner.specs.declared.recording.Stop.TheVariants.{AtLine, Whole};
 ghost use Rattle.script_runner.specs.Faults.{ended_by, io_refusal, memory_fault, refused_by};
-ghost use Rattle.script_runner.specs.Image.{HasEntries};
+ghost use Rattle.script_runner.specs.Image.{HasEntries, MakesLog};
 ghost use Rattle.script_runner.specs.Printed.{Prints, outcome_line};
-ghost use Rattle.script_runner.specs.Recorded.{IsWithin, entries_of, event_of, ids_of};
+ghost use Rattle.script_runner.specs.Recorded.{IsWithin, entries_of, event_of, ids_of, is_write};
 ghost use Rattle.script_runner.specs.RunFaults.{EndsRun, StopsAt, StopsAtClose, StopsForFile, StopsQuietly};
 
 use crate::fault::Fault;
@@ -111,7 +112,7 @@ struct Recording {
 }
 
 impl Recording {
-    ghost use Rattle.script_runner.specs.Recordings.{Follows, GoesOn, HasTold, Stands};
+    ghost use Rattle.script_runner.specs.Recordings.{Follows, GoesOn, HasTold, Stands, Traces, failed_from};
 
     // No line of the script was run.
     fn new(alloc: Global, script: &Script) -> Result<Recording, AllocError>
@@ -119,6 +120,7 @@ impl Recording {
         ensures told { (bytes : Option (List ℕ)) → IfOk result (HasTold script.now.names [] bytes bytes) }
         ensures log { IfOk result (λ r. r.log_sectors ≡ script.now.log_sectors) }
         ensures follows { IfOk result (Follows []) }
+        ensures traces { IfOk result (Traces []) }
     {
         Ok(Recording {
             alloc,
@@ -137,14 +139,17 @@ impl Recording {
             event_of (ids_of script) command ≡ Submit bio.now → Stands script front self.old →
             OnOk result (Stands script (front ++ command ∷ []) self.new) }
         ensures told { (front : List Command) (command : Command) (before : Option (List ℕ)) →
-            is_submission command ≡ true →
+            is_submission command ≡ true → Follows front self.old →
             HasTold names.now front before (O.contents out.old) self.old →
             OnOk result (HasTold names.now (front ++ command ∷ []) before
             (O.contents out.new) self.new) }
         ensures refused { IfErr result (StopsQuietly (O.contents out.old) (O.contents out.new)) }
         ensures faults { length self.old.requests.items < length names.now → IfErr result StopsForFile }
-        ensures follows { (front : List Command) (command : Command) → Follows front self.old →
-            OnOk result (Follows (front ++ command ∷ []) self.new) }
+        ensures follows { (front : List Command) (command : Command) → is_submission command ≡ true →
+            Follows front self.old → OnOk result (Follows (front ++ command ∷ []) self.new) }
+        ensures traces { (script front : List Command) (command : Command) → is_submission command ≡ true →
+            is_tracked bio.now ≡ true → Stands script front self.old → Follows front self.old →
+            Traces front self.old → OnOk result (Traces (front ++ command ∷ []) self.new) }
         ensures log { self.new.log_sectors ≡ self.old.log_sectors }
     {
         let Ok(submitted) = self.core.submit(bio) else {
@@ -166,7 +171,7 @@ impl Recording {
         requires { range_answer first count 1048576 ≡ Ok tt }
         ensures stands { (script front : List Command) → Stands script front self.old →
             OnOk result (Stands script (front ++ Command.Write first count byte ∷ []) self.new) }
-        ensures told { (front : List Command) (before : Option (List ℕ)) →
+        ensures told { (front : List Command) (before : Option (List ℕ)) → Follows front self.old →
             HasTold names.now front before (O.contents out.old) self.old →
             OnOk result (HasTold names.now (front ++ Command.Write first count byte ∷ []) before
             (O.contents out.new) self.new) }
@@ -174,6 +179,9 @@ impl Recording {
         ensures faults { length self.old.requests.items < length names.now → IfErr result StopsForFile }
         ensures follows { (front : List Command) → Follows front self.old →
             OnOk result (Follows (front ++ Command.Write first count byte ∷ []) self.new) }
+        ensures traces { (script front : List Command) →
+            Stands script front self.old → Follows front self.old → Traces front self.old →
+            OnOk result (Traces (front ++ Command.Write first count byte ∷ []) self.new) }
         ensures log { self.new.log_sectors ≡ self.old.log_sectors }
     {
         let Ok(bytes) = vec![in self.alloc; byte; usize::from(count) * SECTOR] else {
@@ -195,13 +203,16 @@ impl Recording {
         ensures filled { OnOk result (self.new.filled ≡ self.old.filled) }
         ensures told { (front : List Command) (command : Command) (before : Option (List ℕ)) →
             is_submission command ≡ true →
+            (is_none self.old.filled ≡ false → is_write command ≡ true) →
             HasTold names.now front before (O.contents out.old) self.old →
             OnOk result (HasTold names.now (front ++ command ∷ []) before
             (O.contents out.new) self.new) }
         ensures refused { IfErr result (StopsQuietly (O.contents out.old) (O.contents out.new)) }
         ensures faults { length self.old.requests.items < length names.now → IfErr result StopsForFile }
-        ensures follows { (front : List Command) (command : Command) → Follows front self.old →
-            OnOk result (Follows (front ++ command ∷ []) self.new) }
+        ensures follows { (front : List Command) (command : Command) → is_submission command ≡ true →
+            Follows front self.old → OnOk result (Follows (front ++ command ∷ []) self.new) }
+        ensures traces { (front : List Command) (command : Command) → is_submission command ≡ true →
+            Traces front self.old → OnOk result (Traces (front ++ command ∷ []) self.new) }
         ensures log { self.new.log_sectors ≡ self.old.log_sectors }
     {
         self.core.stop(End::Memory);
@@ -231,6 +242,8 @@ impl Recording {
             IfErr result StopsForFile }
         ensures follows { (front : List Command) → Follows front self.old →
             OnOk result (Follows (front ++ Command.Complete request ∷ []) self.new) }
+        ensures traces { (front : List Command) → Traces front self.old →
+            OnOk result (Traces (front ++ Command.Complete request ∷ []) self.new) }
         ensures log { self.new.log_sectors ≡ self.old.log_sectors }
     {
         let Some(found) = request_at(&self.requests, request) else {
@@ -250,7 +263,8 @@ impl Recording {
     // Ends the recording, and fills the log at the first time.
     fn close(&mut self) -> Result<(), Stop>
         ensures stands { (script front : List Command) →
-            GoesOn script front Command.Close → Stands script front self.old →
+            GoesOn script front Command.Close → Stands script front self.old → Follows front self.old →
+            Traces front self.old → length self.old.requests.items ≡ submissions front →
             OnOk result (Stands script (front ++ Command.Close ∷ []) self.new) }
         ensures told { (names : List Name) (script front : List Command) (before after : Option (List ℕ)) →
             Stands script front self.old → HasTold names front before after self.old →
@@ -258,9 +272,13 @@ impl Recording {
         ensures refused { (bytes : Option (List ℕ)) → IfErr result (StopsQuietly bytes bytes) }
         ensures faults { (script front : List Command) →
             GoesOn script front Command.Close → Stands script front self.old → Follows front self.old →
-            IfErr result (StopsAtClose self.old.log_sectors script front self.old.is_short) }
+            Traces front self.old → length self.old.requests.items ≡ submissions front →
+            IfErr result (StopsAtClose self.old.log_sectors script front
+            (failed_from 0 self.old.requests.items)) }
         ensures follows { (front : List Command) → Follows front self.old →
             OnOk result (Follows (front ++ Command.Close ∷ []) self.new) }
+        ensures traces { (front : List Command) → Follows front self.old → Traces front self.old →
+            OnOk result (Traces (front ++ Command.Close ∷ []) self.new) }
         ensures log { self.new.log_sectors ≡ self.old.log_sectors }
     {
         self.core.close()?;
@@ -277,21 +295,26 @@ impl Recording {
     fn step<O: Write>(&mut self, command: Command, names: &[Name], out: &mut O) -> Result<(), Stop>
         requires { IsWithin command }
         ensures stands { (script front : List Command) →
-            GoesOn script front command → Stands script front self.old →
+            GoesOn script front command → Stands script front self.old → Follows front self.old →
+            Traces front self.old → length self.old.requests.items ≡ submissions front →
             OnOk result (Stands script (front ++ command ∷ []) self.new) }
         ensures told { (script front : List Command) (before : Option (List ℕ)) →
-            Stands script front self.old →
+            Stands script front self.old → Follows front self.old →
             HasTold names.now front before (O.contents out.old) self.old →
             OnOk result (HasTold names.now (front ++ command ∷ []) before
             (O.contents out.new) self.new) }
         ensures refused { IfErr result (StopsQuietly (O.contents out.old) (O.contents out.new)) }
         ensures faults { (script front : List Command) (sectors : ℕ) →
             GoesOn script front command → Stands script front self.old → Follows front self.old →
-            length self.old.requests.items ≡ submissions front → MayCome sectors front command →
-            HasName (length names.now) (submissions front) command →
-            IfErr result (StopsAt self.old.log_sectors script front self.old.is_short command) }
+            Traces front self.old → length self.old.requests.items ≡ submissions front →
+            MayCome sectors front command → HasName (length names.now) (submissions front) command →
+            IfErr result (StopsAt self.old.log_sectors script front
+            (failed_from 0 self.old.requests.items) command) }
         ensures follows { (front : List Command) → Follows front self.old →
             OnOk result (Follows (front ++ command ∷ []) self.new) }
+        ensures traces { (script front : List Command) →
+            Stands script front self.old → Follows front self.old → Traces front self.old →
+            OnOk result (Traces (front ++ command ∷ []) self.new) }
         ensures log { self.new.log_sectors ≡ self.old.log_sectors }
     {
         match command {
@@ -311,7 +334,10 @@ impl Recording {
         ensures printed { (names : List Name) (script : List Command) (before after : Option (List ℕ)) →
             Stands script script self → HasTold names script before after self →
             OnOk result (Prints names script before after) }
+        ensures made { (script : List Command) → Stands script script self →
+            OnOk result (MakesLog self.log_sectors script) }
         ensures memory { IfErr result (λ end. end ≡ End.Memory) }
+        ensures unfilled { IfErr result (λ _. is_none self.filled ≡ true) }
     {
         let Recording {
             alloc,
@@ -357,6 +383,7 @@ pub fn run<O: Write>(
     out: &mut O,
 ) -> Result<Filled, Fault>
     ensures log { IfOk result (HasEntries script.now.log_sectors (entries_of script.now.commands)) }
+    ensures made { OnOk result (MakesLog script.now.log_sectors script.now.commands) }
     ensures printed { OnOk result
         (Prints script.now.names script.now.commands (O.contents out.old) (O.contents out.new)) }
     ensures faults { IfErr result

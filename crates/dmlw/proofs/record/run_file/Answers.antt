@@ -10,6 +10,7 @@ returns-clause-log g c = record {
   script = c.in_ok-script.script;
   read = c.in_ok-text.ensures.held;
   spelled = subst (λ (text : List ℕ). Spells text c.in_ok-script.script) c.deref.ensures.value c.in_ok-script.ensures.found.1;
+  made = c.in_ok-filled.ensures.made;
   image = c.in_ok-filled.ensures.log.image;
 }
 
@@ -22,6 +23,7 @@ returns-clause-printed g c =
       lines = run.0;
       read = c.in_ok-text.ensures.held;
       spelled = subst (λ (text : List ℕ). Spells text c.in_ok-script.script) c.deref.ensures.value c.in_ok-script.ensures.found.1;
+      made = c.in_ok-filled.ensures.made;
       image = c.in_ok-filled.ensures.log.image;
       run = run.1;
       told = status_told (g.O.Write.contents c.args.out.now) (g.O.Write.contents c.run.new.out) (g.O.Write.contents c.writeln.new.self)

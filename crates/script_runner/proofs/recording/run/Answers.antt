@@ -1,14 +1,15 @@
-use Rattle.std.proofs.Common.{◌∙◌, ℕ, ap, arith, inr, subst, sym, take}
-use Rattle.bio.specs.declared.outcome.End.TheVariants.{Memory}
+use Rattle.std.proofs.Common.{◌∙◌, ℕ, List, ap, arith, inr, subst, sym, take}
 use Rattle.bio.specs.declared.refusal.Refusal.{Refusal}
 use Rattle.script_runner.specs.declared.fault.Fault.TheVariants.{Refused}
 use Rattle.script_runner.specs.Faults.{ended_by}
-use Rattle.script_runner.specs.Image.{HasEntries}
+use Rattle.script_runner.specs.Image.{HasEntries, MakesLog}
 use Rattle.script_runner.specs.Recorded.{entries_of}
-use Rattle.script_runner.specs.RunFaults.{EndsRun, StopsAt, StopsQuietly, file, logging, no_memory}
+use Rattle.dmlw_script.specs.declared.command.Command.{Command}
+use Rattle.script_runner.specs.Recordings.{Follows, Traces, failed_from}
+use Rattle.script_runner.specs.RunFaults.{EndsRun, StopsAt, StopsQuietly, file}
 use Rattle.bio.specs.CallLaws.{on_error}
 use Rattle.script_runner.proofs.Running.{item_ran, item_within, items_ran}
-use Rattle.script_runner.proofs.Stopping.{ends_at_line, ends_whole, item_follows, item_next}
+use Rattle.script_runner.proofs.Stopping.{ends_at_line, ends_open, ends_whole, item_next, items_follow, one_more}
 use Rattle.script_runner.proofs.Telling.{item_told, items_told}
 use Rattle.script_runner.proofs.recording.run.Goals as goal
 
@@ -22,20 +23,29 @@ loop-place-init g c = (
   c.commands-command-items.ensures.commands,
   c.in_ok-recording.ensures.told _,
   c.in_ok-recording.ensures.follows,
+  c.in_ok-recording.ensures.traces,
 )
 
 pub loop-place-preserved : goal.loop-place-preserved
-loop-place-preserved g c = (
-  item_ran c.args.script.now c.commands-command-items.result.now c.loop-place.place _ c.loop-place.recording c.step.new.self
-      c.commands-command-items.ensures.commands c.loop-place.invariant.0 (omega arith) c.in-Ok.ensures.log c.in-Ok.ensures.stands,
-  c.loop-place.invariant.1,
-  item_told c.args.script.now c.commands-command-items.result.now c.names.result.now c.loop-place.place _ _ _ _ c.loop-place.recording
-      c.step.new.self c.commands-command-items.ensures.commands c.names.ensures.names c.loop-place.invariant.0 c.loop-place.invariant.2
-      (omega arith) c.in-Ok.ensures.told,
-  item_follows c.args.script.now c.commands-command-items.result.now c.loop-place.place _ c.step.new.self
-      c.commands-command-items.ensures.commands (omega arith)
-      (c.in-Ok.ensures.follows (take c.loop-place.place c.args.script.now.commands) c.loop-place.invariant.3),
-)
+loop-place-preserved g c =
+    let script = c.args.script.now in
+    let items = c.commands-command-items.result.now in
+    let front = take c.loop-place.place script.commands in
+    let stands = c.loop-place.invariant.0.stands in
+    let follows = c.loop-place.invariant.3 in
+    let traces = c.loop-place.invariant.4 in (
+      item_ran script items c.loop-place.place _ c.loop-place.recording c.step.new.self c.commands-command-items.ensures.commands
+          c.loop-place.invariant.0 (omega arith) c.in-Ok.ensures.log
+          (λ goes run. c.in-Ok.ensures.stands script.commands front goes run follows traces c.loop-place.invariant.2.numbered),
+      c.loop-place.invariant.1,
+      item_told script items c.names.result.now c.loop-place.place _ _ _ _ c.loop-place.recording
+          c.step.new.self c.commands-command-items.ensures.commands c.names.ensures.names c.loop-place.invariant.2 (omega arith)
+          (λ told. c.in-Ok.ensures.told script.commands front _ stands follows told),
+      one_more (λ (body : List Command). Follows body c.step.new.self) script items c.loop-place.place _
+          c.commands-command-items.ensures.commands (omega arith) (c.in-Ok.ensures.follows front follows),
+      one_more (λ (body : List Command). Traces body c.step.new.self) script items c.loop-place.place _
+          c.commands-command-items.ensures.commands (omega arith) (c.in-Ok.ensures.traces script.commands front stands follows traces),
+    )
 
 pub returns-clause-log : goal.returns-clause-log
 returns-clause-log g c =
@@ -69,10 +79,11 @@ returns-in-Err-Whole-clause-faults g c =
     (λ before command rest split. c.requests_end_once.ensures.may_come script before command rest c.commands-command-items.ensures.script split)
     (omega arith) in
     subst (EndsRun c.args.text.now script (g.O.Write.contents c.args.out.now) (g.O.Write.contents c.step.new.out)) (sym c.in-Err-Whole.fault-is)
-    (ends_whole c.args.text.now script recording.log_sectors front recording.is_short _ _ _ _ c.loop-place.invariant.0.log
-    (subst (StopsAt recording.log_sectors script.commands front recording.is_short _) c.in-Err-Whole.field-0-is
+    (ends_whole c.args.text.now script front _ _ _ _ _ recording c.loop-place.invariant.0.log next.goes told
+    (subst (StopsQuietly (g.O.Write.contents c.loop-place.out) (g.O.Write.contents c.step.new.out)) c.in-Err-Whole.field-0-is c.in-Err-Whole.ensures.refused)
+    (subst (StopsAt recording.log_sectors script.commands front (failed_from 0 recording.requests.items) _) c.in-Err-Whole.field-0-is
     (c.in-Err-Whole.ensures.faults script.commands front script.data_sectors next.goes c.loop-place.invariant.0.stands
-    c.loop-place.invariant.3 told.numbered next.comes
+    c.loop-place.invariant.3 c.loop-place.invariant.4 told.numbered next.comes
     (next.named c.names.result.now c.names.ensures.names))))
 
 pub returns-in-Err-AtLine-clause-faults : goal.returns-in-Err-AtLine-clause-faults
@@ -87,16 +98,29 @@ returns-in-Err-AtLine-clause-faults g c =
     (omega arith) in
     subst (λ (refusal : Refusal). EndsRun c.args.text.now script (g.O.Write.contents c.args.out.now) (g.O.Write.contents c.step.new.out) (Refused c.line_of-line.result refusal))
     (sym c.in-Err-AtLine.refusal-is)
-    (ends_at_line c.args.text.now script c.loop-place.place _ _ c.line_of-line.result _ _ _ recording next told c.loop-place.invariant.3
+    (ends_at_line c.args.text.now script c.loop-place.place _ _ c.line_of-line.result _ _ _ recording next told
     (subst (StopsQuietly (g.O.Write.contents c.loop-place.out) (g.O.Write.contents c.step.new.out)) c.in-Err-AtLine.field-0-is c.in-Err-AtLine.ensures.refused)
     c.line_of-line.ensures
-    (subst (StopsAt recording.log_sectors script.commands front recording.is_short _) c.in-Err-AtLine.field-0-is
+    (subst (StopsAt recording.log_sectors script.commands front (failed_from 0 recording.requests.items) _) c.in-Err-AtLine.field-0-is
     (c.in-Err-AtLine.ensures.faults script.commands front script.data_sectors next.goes c.loop-place.invariant.0.stands
-    c.loop-place.invariant.3 told.numbered next.comes
+    c.loop-place.invariant.3 c.loop-place.invariant.4 told.numbered next.comes
     (next.named c.names.result.now c.names.ensures.names))))
 
 pub returns-in_err-end-clause-faults : goal.returns-in_err-end-clause-faults
 returns-in_err-end-clause-faults g c =
+    let items = c.commands-command-items.result.now in
+    let told = items_told c.args.script.now items c.loop-place.place _ _ c.loop-place.recording
+    c.commands-command-items.ensures.commands c.loop-place.invariant.2 (omega arith) in
+    let follows = items_follow c.args.script.now items c.loop-place.place c.loop-place.recording
+    c.commands-command-items.ensures.commands c.loop-place.invariant.3 (omega arith) in
     on_error c.from_residual-in_err-end.result c.from_residual-in_err-end.ensures.1
     (λ fault is. subst (EndsRun c.args.text.now c.args.script.now (g.O.Write.contents c.args.out.now) (g.O.Write.contents c.loop-place.out))
-    (sym (is ∙ ap ended_by c.in_err-end.ensures.memory)) (logging Memory no_memory))
+    (sym (is ∙ ap ended_by c.in_err-end.ensures.memory))
+    (ends_open c.args.text.now c.args.script.now _ _ c.loop-place.recording told follows c.in_err-end.ensures.unfilled))
+
+pub returns-clause-made : goal.returns-clause-made
+returns-clause-made g c =
+    let run = c.loop-place.invariant.0 in
+    let all = items_ran c.args.script.now c.commands-command-items.result.now c.loop-place.place c.loop-place.recording
+    c.commands-command-items.ensures.commands run (omega arith) in
+    subst (λ (sectors : ℕ). MakesLog sectors c.args.script.now.commands) run.log (c.in_ok-end.ensures.made c.args.script.now.commands all)

@@ -4,6 +4,7 @@ use Rattle.script_runner.specs.declared.recording.Request.TheVariants.{Tracked, 
 use Rattle.script_runner.proofs.Following.{ended_here}
 use Rattle.script_runner.proofs.Running.{completed, on_ok, told}
 use Rattle.script_runner.proofs.Telling.{told_ended, told_nothing, where_ok}
+use Rattle.script_runner.proofs.Tracing.{traced_ended, traced_told}
 use Rattle.script_runner.proofs.recording.Recording.complete.Goals as goal
 
 pub returns-in-Tracked-clause-stands : goal.returns-in-Tracked-clause-stands
@@ -45,3 +46,21 @@ returns-in-Tracked-clause-follows g c = λ front has.
     let here : slice_get c.args.self.now.requests.items c.args.request ≡ Some (Tracked c.in-Tracked.id) = search rules in
     on_ok c.tell.result (ended_here front c.args.self.now.core c.complete.new.self c.args.self.now.requests.items c.args.self.now.is_short
     c.args.self.now.filled c.args.request c.in-Tracked.id has here c.complete.ensures.recorded)
+
+pub returns-in-Tracked-clause-traces : goal.returns-in-Tracked-clause-traces
+returns-in-Tracked-clause-traces g c = λ front has.
+    let here : slice_get c.args.self.now.requests.items c.args.request ≡ Some (Tracked c.in-Tracked.id) = search rules in
+    on_ok c.tell.result (traced_ended front c.args.self.now.core c.complete.new.self c.args.self.now.requests.items
+    c.args.self.now.filled c.args.request c.in-Tracked.id has here c.complete.ensures.recorded)
+
+pub returns-in-Passed-clause-traces : goal.returns-in-Passed-clause-traces
+returns-in-Passed-clause-traces g c = λ front has.
+    let here : slice_get c.args.self.now.requests.items c.args.request ≡ Some Passed = search rules in
+    on_ok c.tell-in-Passed.result (traced_told front c.args.self.now.core.events c.args.self.now.requests.items
+    c.args.self.now.filled c.args.request Passed has here (λ id same. cc same))
+
+pub returns-in-Failed-clause-traces : goal.returns-in-Failed-clause-traces
+returns-in-Failed-clause-traces g c = λ front has.
+    let here : slice_get c.args.self.now.requests.items c.args.request ≡ Some Failed = search rules in
+    traced_told front c.args.self.now.core.events c.args.self.now.requests.items
+    c.args.self.now.filled c.args.request Failed has here (λ id same. cc same)

@@ -1,22 +1,24 @@
-use Rattle.std.proofs.Common.{◌∙◌, ◌<◌, ap, arith, inl, inr, refl, slice_index, sym, codes, ℕ, ◌==◌, true, false, not, List, [], ◌∷◌, Option, Some, None, option_map, ◌≡◌}
-use Rattle.clap.specs.Words.{Row, Text, first_of, is_simple, subcommand_of, takes}
+use Rattle.std.proofs.Common.{◌∙◌, ◌<◌, subst, ap, arith, inl, inr, refl, slice_index, sym, codes, ℕ, ◌==◌, true, false, not, List, [], ◌∷◌, Option, Some, None, option_map, ◌≡◌}
+use Rattle.clap.specs.Words.{IsAmong, Kinds, Row, Text, fault_of, kind_of, first_of, is_simple, is_simple_and_free, subcommand_of}
 use Rattle.clap.specs.Words.{first_value, rows_of}
 use Rattle.clap.specs.declared.parser.matches.Found.{Found}
 use Rattle.clap.proofs.WalkLemmas.{first_value-rows}
 use Rattle.clap.proofs.OnLiterals.{clap_on_literals}
-use Rattle.dmlw.specs.Tasks.{IsComplete}
+use Rattle.dmlw.specs.Tasks.{Asks, IsComplete, IsRead, fault, memory, missing}
+use Rattle.dmlw.specs.declared.command_line.Task.{Task}
+use Rattle.dmlw.specs.declared.command_line.Task.TheVariants as tasks
 use Rattle.dmlw.specs.CommandLine.{Entered, Enters, entered_of, is_plain, log_words, program_app, record_words}
 
 -- a word that begins with another byte than a hyphen
 is_other : (x : ℕ) → not (x == 45) ≡ true → (x == 45) ≡ false
 is_other x plain = grind arith
 
-takes_plain : (p s l : List ℕ) → is_plain s ≡ true → is_plain l ≡ true → takes program_app (record_words p s l) ≡ true
+faultless_plain : (p s l : List ℕ) → is_plain s ≡ true → is_plain l ≡ true → fault_of program_app (record_words p s l) ≡ []
 unfolding clap_on_literals
-takes_plain p [] [] plain_s plain_l = refl
-takes_plain p [] (y ∷ ys) plain_s plain_l = let f = is_other y plain_l in simp f
-takes_plain p (x ∷ xs) [] plain_s plain_l = let e = is_other x plain_s in simp e
-takes_plain p (x ∷ xs) (y ∷ ys) plain_s plain_l = let e = is_other x plain_s in let f = is_other y plain_l in simp (e, f)
+faultless_plain p [] [] plain_s plain_l = refl
+faultless_plain p [] (y ∷ ys) plain_s plain_l = let f = is_other y plain_l in simp f
+faultless_plain p (x ∷ xs) [] plain_s plain_l = let e = is_other x plain_s in simp e
+faultless_plain p (x ∷ xs) (y ∷ ys) plain_s plain_l = let e = is_other x plain_s in let f = is_other y plain_l in simp (e, f)
 
 entered_plain : (p s l : List ℕ) → is_plain s ≡ true → is_plain l ≡ true
     → entered_of (subcommand_of program_app (record_words p s l)) ≡ Some (codes "record", Some s, Some l)
@@ -26,10 +28,10 @@ entered_plain p [] (y ∷ ys) plain_s plain_l = let f = is_other y plain_l in si
 entered_plain p (x ∷ xs) [] plain_s plain_l = let e = is_other x plain_s in simp e
 entered_plain p (x ∷ xs) (y ∷ ys) plain_s plain_l = let e = is_other x plain_s in let f = is_other y plain_l in simp (e, f)
 
-takes_list : (p l : List ℕ) → is_plain l ≡ true → takes program_app (log_words p (codes "list") l) ≡ true
+faultless_list : (p l : List ℕ) → is_plain l ≡ true → fault_of program_app (log_words p (codes "list") l) ≡ []
 unfolding clap_on_literals
-takes_list p [] plain = refl
-takes_list p (y ∷ ys) plain = let f = is_other y plain in simp f
+faultless_list p [] plain = refl
+faultless_list p (y ∷ ys) plain = let f = is_other y plain in simp f
 
 entered_list : (p l : List ℕ) → is_plain l ≡ true
     → entered_of (subcommand_of program_app (log_words p (codes "list") l)) ≡ Some (codes "list", None, Some l)
@@ -37,10 +39,10 @@ unfolding clap_on_literals
 entered_list p [] plain = refl
 entered_list p (y ∷ ys) plain = let f = is_other y plain in simp f
 
-takes_status : (p l : List ℕ) → is_plain l ≡ true → takes program_app (log_words p (codes "status") l) ≡ true
+faultless_status : (p l : List ℕ) → is_plain l ≡ true → fault_of program_app (log_words p (codes "status") l) ≡ []
 unfolding clap_on_literals
-takes_status p [] plain = refl
-takes_status p (y ∷ ys) plain = let f = is_other y plain in simp f
+faultless_status p [] plain = refl
+faultless_status p (y ∷ ys) plain = let f = is_other y plain in simp f
 
 entered_status : (p l : List ℕ) → is_plain l ≡ true
     → entered_of (subcommand_of program_app (log_words p (codes "status") l)) ≡ Some (codes "status", None, Some l)
@@ -51,15 +53,15 @@ entered_status p (y ∷ ys) plain = let f = is_other y plain in simp f
 -- a plain line asks to record
 pub record_enters : (p s l : List ℕ) → is_plain s ≡ true → is_plain l ≡ true
     → Enters (record_words p s l) (codes "record", Some s, Some l)
-record_enters p s l plain_s plain_l = record { takes = takes_plain p s l plain_s plain_l; enters = entered_plain p s l plain_s plain_l }
+record_enters p s l plain_s plain_l = record { faultless = faultless_plain p s l plain_s plain_l; enters = entered_plain p s l plain_s plain_l }
 
 -- a plain line asks to list
 pub list_enters : (p l : List ℕ) → is_plain l ≡ true → Enters (log_words p (codes "list") l) (codes "list", None, Some l)
-list_enters p l plain = record { takes = takes_list p l plain; enters = entered_list p l plain }
+list_enters p l plain = record { faultless = faultless_list p l plain; enters = entered_list p l plain }
 
 -- a plain line asks for a status
 pub status_enters : (p l : List ℕ) → is_plain l ≡ true → Enters (log_words p (codes "status") l) (codes "status", None, Some l)
-status_enters p l plain = record { takes = takes_status p l plain; enters = entered_status p l plain }
+status_enters p l plain = record { faultless = faultless_status p l plain; enters = entered_status p l plain }
 
 -- these commands have their words
 pub record_complete : (script log : Text) → IsComplete (codes "record", Some script, Some log)
@@ -107,6 +109,11 @@ pub is_simple_app : is_simple program_app ≡ true
 unfolding clap_on_literals
 is_simple_app = refl
 
+-- no word of this command line has a rule on another
+pub is_free_program : is_simple_and_free program_app ≡ true
+unfolding clap_on_literals
+is_free_program = refl
+
 -- what has a text is there
 pub not_missing : {A : Type 0} (r : Option A) (text_of : A → Text) (text : Text) (shown : Option Text)
     → option_map text_of r ≡ shown → shown ≡ Some text → r ≡ None → ⊥
@@ -135,3 +142,17 @@ has_script entered None text_of complete name is none = elim complete.1 [
   ]
 ]
 has_script entered (Some x) text_of complete name is none = cc
+
+-- what words are read as is what they ask for
+pub read_asks : (words : List Text) (task : Task) (entered : Entered) → IsRead words task → Enters words entered → IsComplete entered
+    → Asks entered task
+read_asks words (tasks.Record script log) entered read enters complete =
+    subst (λ (e : Entered). Asks e (tasks.Record script log)) (same_some _ _ (sym read.1.1 ∙ enters.enters)) read.1.2
+read_asks words (tasks.List log) entered read enters complete =
+    subst (λ (e : Entered). Asks e (tasks.List log)) (same_some _ _ (sym read.1.1 ∙ enters.enters)) read.1.2
+read_asks words (tasks.Status log) entered read enters complete =
+    subst (λ (e : Entered). Asks e (tasks.Status log)) (same_some _ _ (sym read.1.1 ∙ enters.enters)) read.1.2
+read_asks words (tasks.Show error) entered (memory is) enters complete = is
+read_asks words (tasks.Show error) entered (fault among) enters complete =
+    absurd (subst (λ (kinds : Kinds). IsAmong (kind_of error) kinds) enters.faultless among)
+read_asks words (tasks.Show error) entered (missing faultless incomplete is) enters complete = absurd (incomplete entered enters complete)

@@ -1,5 +1,5 @@
 use Rattle.std.specs.Prelude.{◌≡◌, ℕ, ◌==◌, Bool, true, not, List, [], ◌∷◌, Option, Some, option_map, codes}
-use Rattle.clap.specs.Words.{App, Row, Rule, Text, first_of, new_app, new_rule, subcommand_of, takes, with_rule, with_subcommand}
+use Rattle.clap.specs.Words.{App, Row, Rule, Text, fault_of, first_of, new_app, new_rule, subcommand_of, with_rule, with_subcommand}
 use Rattle.clap.specs.Simple.{on_top}
 
 -- the word doesn't begin with a hyphen
@@ -45,7 +45,7 @@ Entered = Text × Option Text × Option Text
 abbrev pub entered_of : Option (Text × List Row) → Option Entered
 entered_of = option_map (λ entered. (entered.0, first_of (codes "SCRIPT") entered.1, first_of (codes "LOG") entered.1))
 
--- the words of a command line enter this command
+-- clap finds no fault in the words of a command line, and they enter this command
 pub record Enters (words : List Text) (entered : Entered) : Type 0 where
-  pub takes : takes program_app words ≡ true
+  pub faultless : fault_of program_app words ≡ []
   pub enters : entered_of (subcommand_of program_app words) ≡ Some entered

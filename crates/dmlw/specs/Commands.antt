@@ -2,6 +2,7 @@
 use Rattle.std.specs.Prelude.{◌≡◌, ◌≤◌, ◌⊎◌, ℕ, List, Option, Result}
 use Rattle.std.specs.declared.io.ErrorKind.{ErrorKind as IoErrorKind}
 use Rattle.std.specs.declared.io.ErrorKind.TheVariants.{InvalidData}
+use Rattle.std.specs.Io.KnownBytes.{Keeps}
 use Rattle.clap.specs.declared.error.kind.ErrorKind.{ErrorKind}
 use Rattle.clap.specs.declared.error.kind.ErrorKind.TheVariants.{DisplayHelp, DisplayVersion, OutOfMemory}
 use Rattle.clap.specs.Words.{kind_of}
@@ -50,11 +51,19 @@ pub record EndsShowing (shows : Shows) (held : Option (List ℕ)) (writes_old wr
   pub shown : ShowsFile shows held old new done
   pub exits : status ≡ status_of (exit_by done)
 
--- How a task ends, over files that hold this: a text that is shown writes no file, and its status is that of its kind.
+-- How a text ends that is shown, as one of this kind: no file was asked to be written, the status is that of its kind,
+-- and where there is no memory for it nothing was printed.
+pub record EndsText (kind : ErrorKind) (writes_old writes_new : Option (List Write)) (old new : Option (List ℕ)) (status : ℕ) : Type 0 where
+  pub unwritten : writes_new ≡ writes_old
+  pub exit : Exit
+  pub ends : EndsUntasked kind exit
+  pub exits : status ≡ status_of exit
+  pub silent : kind ≡ OutOfMemory → Keeps old new
+
+-- how a task ends, over files that hold this
 abbrev pub EndsTask : Task → (List ℕ → Option (List ℕ)) → Option (List Write) → Option (List Write) → Option (List ℕ) → Option (List ℕ) → ℕ → Type 0
 EndsTask (tasks.Record script log) held writes_old writes_new old new status =
     EndsRecording (held script.now) log.now writes_old writes_new old new status
 EndsTask (tasks.List log) held writes_old writes_new old new status = EndsShowing ListsImage (held log.now) writes_old writes_new old new status
 EndsTask (tasks.Status log) held writes_old writes_new old new status = EndsShowing TellsStatus (held log.now) writes_old writes_new old new status
-EndsTask (tasks.Show error) held writes_old writes_new old new status =
-    (writes_new ≡ writes_old) × ((exit : Exit) × EndsUntasked (kind_of error) exit × (status ≡ status_of exit))
+EndsTask (tasks.Show error) held writes_old writes_new old new status = EndsText (kind_of error) writes_old writes_new old new status

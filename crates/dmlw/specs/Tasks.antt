@@ -1,7 +1,8 @@
-use Rattle.std.specs.Prelude.{◌≡◌, ◌⊎◌, List, Option, Some, codes, is_some, true}
-use Rattle.clap.specs.Words.{Text, kind_of, subcommand_of}
-use Rattle.clap.specs.declared.error.kind.ErrorKind.TheVariants.{OutOfMemory}
-use Rattle.dmlw.specs.CommandLine.{Entered, entered_of, program_app}
+use Rattle.std.specs.Prelude.{◌≡◌, ◌⊎◌, List, [], Option, Some, codes, is_some, true}
+use Rattle.clap.specs.Words.{IsAmong, Text, fault_of, kind_of, subcommand_of}
+use Rattle.clap.specs.declared.error.kind.ErrorKind.{ErrorKind}
+use Rattle.clap.specs.declared.error.kind.ErrorKind.TheVariants.{MissingRequiredArgument, OutOfMemory}
+use Rattle.dmlw.specs.CommandLine.{Entered, Enters, entered_of, program_app}
 use Rattle.dmlw.specs.declared.command_line.Task.{Task}
 use Rattle.dmlw.specs.declared.command_line.Task.TheVariants as tasks
 
@@ -22,9 +23,21 @@ Asks entered (tasks.Show error) = kind_of error ≡ OutOfMemory
 abbrev pub IsAskedBy : Option Entered → Task → Type 0
 IsAskedBy found task = (entered : Entered) × (found ≡ Some entered) × Asks entered task
 
--- a task other than to show a text is what clap reads of these words
+-- clap finds no fault in these words, and they ask for the task
+abbrev pub IsAsked : List Text → Task → Type 0
+IsAsked words task = (fault_of program_app words ≡ []) × IsAskedBy (entered_of (subcommand_of program_app words)) task
+
+-- Why these words have no task: there is no memory to read them, clap finds a fault of this kind in them, or a word is
+-- missing though it finds none.
+pub data IsUntasked (words : List Text) (kind : ErrorKind) : Type 0 where
+  memory : kind ≡ OutOfMemory → IsUntasked words kind
+  fault : IsAmong kind (fault_of program_app words) → IsUntasked words kind
+  missing : fault_of program_app words ≡ [] → ((entered : Entered) → Enters words entered → IsComplete entered → ⊥)
+      → kind ≡ MissingRequiredArgument → IsUntasked words kind
+
+-- The task is what clap makes of these words: what they ask for where it finds no fault in them, else to show why not.
 abbrev pub IsRead : List Text → Task → Type 0
-IsRead words (tasks.Record script log) = IsAskedBy (entered_of (subcommand_of program_app words)) (tasks.Record script log)
-IsRead words (tasks.List log) = IsAskedBy (entered_of (subcommand_of program_app words)) (tasks.List log)
-IsRead words (tasks.Status log) = IsAskedBy (entered_of (subcommand_of program_app words)) (tasks.Status log)
-IsRead words (tasks.Show error) = Unit {0}
+IsRead words (tasks.Record script log) = IsAsked words (tasks.Record script log)
+IsRead words (tasks.List log) = IsAsked words (tasks.List log)
+IsRead words (tasks.Status log) = IsAsked words (tasks.Status log)
+IsRead words (tasks.Show error) = IsUntasked words (kind_of error)

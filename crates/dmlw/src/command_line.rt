@@ -1,8 +1,8 @@
-ghost use Rattle.std.specs.Prelude.{◌≡◌, IfErr, IfOk, IfSome, Some, false, is_some, map, true};
-ghost use Rattle.clap.specs.Words.{app_of, kind_of, rule_of, subcommand_of, subcommand_rows_of, takes};
+ghost use Rattle.std.specs.Prelude.{◌≡◌, ◌⊎◌, IfOk, IfSome, Some, false, is_some, map, true};
+ghost use Rattle.clap.specs.Words.{FailsBy, app_of, fault_of, kind_of, rule_of, subcommand_of, subcommand_rows_of};
 ghost use Rattle.clap.specs.declared.builder.command.Command.TheViews.{out-Command as fields_of};
-ghost use Rattle.dmlw.specs.CommandLine.{Entered, Enters, bare_app, entered_of, file_rule, log_app, program_app, record_app};
-ghost use Rattle.dmlw.specs.Tasks.{Asks, IsAskedBy, IsComplete, IsRead};
+ghost use Rattle.dmlw.specs.CommandLine.{Entered, bare_app, entered_of, file_rule, log_app, program_app, record_app};
+ghost use Rattle.dmlw.specs.Tasks.{IsAskedBy, IsComplete, IsRead};
 
 use clap::error::ErrorKind;
 use clap::{Arg, ArgMatches, Command, Error};
@@ -97,30 +97,31 @@ fn task_of<'a>(matches: &ArgMatches<'a>) -> Option<Task<'a>>
 fn parse<'a, S: AsStr>(alloc: Global, words: &'a [S]) -> Result<ArgMatches<'a>, Error>
     ensures entered { IfOk result (λ matches.
         subcommand_rows_of matches ≡ subcommand_of program_app (map S.text words.entry.now)) }
-    ensures takes { IfErr result (λ error.
-        takes program_app (map S.text words.entry.now) ≡ true → kind_of error ≡ ErrorKind.OutOfMemory) }
+    ensures faults { FailsBy (fault_of program_app (map S.text words.entry.now)) result }
 {
     program_command(alloc)?.try_get_matches_from(words)
 }
 
 // The error of a command line that lacks a word, which no parse lets through.
-fn incomplete(alloc: Global) -> Error {
+fn incomplete(alloc: Global) -> Error
+    ensures { (kind_of result ≡ ErrorKind.OutOfMemory) ⊎ (kind_of result ≡ ErrorKind.MissingRequiredArgument) }
+{
     match missing_word(alloc) {
         Ok(error) => error,
         Err(error) => Error::from(error),
     }
 }
 
-fn missing_word(alloc: Global) -> Result<Error, AllocError> {
+fn missing_word(alloc: Global) -> Result<Error, AllocError>
+    ensures { IfOk result (λ error. kind_of error ≡ ErrorKind.MissingRequiredArgument) }
+{
     program_command(alloc)?.error(ErrorKind::MissingRequiredArgument, "a word is missing")
 }
 
-/// Reads the command line; the first word is the program's name. A name of a file is taken as it
-/// stands where it doesn't begin with a hyphen.
+/// Reads the command line as clap does; the first word is the program's name. A name of a file is
+/// taken as it stands where it doesn't begin with a hyphen.
 pub fn read_words<'a, S: AsStr>(alloc: Global, words: &'a [S]) -> Task<'a>
-    ensures asks { (entered : Entered) → Enters (map S.text words.entry.now) entered → IsComplete entered →
-        Asks entered result }
-    ensures only { IsRead (map S.text words.entry.now) result }
+    ensures { IsRead (map S.text words.entry.now) result }
 {
     match parse(alloc, words) {
         Ok(matches) => match task_of(&matches) {

@@ -352,6 +352,30 @@ fn reads_command_lines(rt: HostRuntime) {
 }
 
 #[test]
+fn takes_names_behind_two_hyphens(rt: HostRuntime) {
+    let alloc = rt.alloc();
+    let ran = run(
+        alloc,
+        &["dmlw", "record", "--", "script", "log"],
+        FIRST.as_bytes(),
+    );
+    assert!(rt; ran.is(0, "a ok\nb ok\n3 4\n", "") && ran.log.is_some());
+    for words in [
+        ["dmlw", "record", "--", "-x", "log"].as_slice(),
+        ["dmlw", "record", "script", "--", "-x"].as_slice(),
+        ["dmlw", "list", "--", "-x"].as_slice(),
+        ["dmlw", "status", "--", "-x"].as_slice(),
+    ] {
+        let ran = run(alloc, words, FIRST.as_bytes());
+        assert!(rt; ran.status == 1 && ran.log.is_none(), "status of {words:?}");
+        assert!(rt;
+            ran.err.as_slice() == b"dmlw: 32 File\n".as_slice(),
+            "fault of {words:?}"
+        );
+    }
+}
+
+#[test]
 fn refuses_unreadable_words(rt: HostRuntime) {
     let mut err = Vec::new(rt.alloc());
     let error = io::Error::from(io::ErrorKind::InvalidData);

@@ -1,7 +1,7 @@
 use Rattle.std.proofs.Common.{◌≡◌, ◌∙◌, ℕ, zero, suc, ◌+◌, ◌<◌, ◌≤◌, Bool, true, false, ◌||◌, Option, Some, None, is_none, option_map, List, [], ◌∷◌, ◌++◌, length, drop, map, take, slice_index, slice_index_or, add-one, ap, arith, sym, refl, subst, if◌then◌else◌, Result, Ok, Err, OnOk}
 use Rattle.std.specs.List.{list_any, slice_get}
-use Rattle.std.proofs.Math.Seq.{drop-cons, take-suc}
-use Rattle.std.proofs.lemmas.List.{append-nil, length-map, map-append, take-append-drop, take_all}
+use Rattle.std.proofs.Math.Seq.{take-suc}
+use Rattle.std.proofs.lemmas.List.{append-nil, length-map, map-append, take_all}
 use Rattle.std.proofs.lemmas.List.Folds.{list_any-append}
 use Rattle.std.proofs.lemmas.Option.{get_or_from_slice_get, slice_get-get_or, slice_get-map, slice_get_within}
 use Rattle.std.proofs.lemmas.Bool.{and_parts, or_parts}
@@ -329,25 +329,14 @@ command_within plan place other is here =
     disk_most : (sectors : ℕ) → is_disk_size sectors ≡ true → sectors ≤ 1048576
     disk_most sectors size = grind arith
 
--- one more command of a script was run
-pub ran_on : (plan : Plan) (place : ℕ) (other : Command) (old new : Recording) → HasRunTo plan place old → place < length plan.commands
-    → new.log_sectors ≡ old.log_sectors
-    → (GoesOn plan.commands (take place plan.commands) (slice_index_or plan.commands place other)
-    → Stands plan.commands (take place plan.commands) old
-    → Stands plan.commands (take place plan.commands ++ slice_index_or plan.commands place other ∷ []) new)
-    → HasRunTo plan (place + 1) new
-ran_on plan place other old new run here same step =
-    let command = slice_index_or plan.commands place other in
-    let goes : plan.commands ≡ take place plan.commands ++ command ∷ drop (suc place) plan.commands =
-    sym (take-append-drop place plan.commands)
-    ∙ ap (λ (body : List Command). take place plan.commands ++ body) (drop-cons plan.commands place other here) in
-    let front : take place plan.commands ++ command ∷ [] ≡ take (place + 1) plan.commands =
-    sym (take-suc plan.commands place other here) ∙ ap (λ (n : ℕ). take n plan.commands) (sym (add-one place)) in
-    record {
-      stands = subst (λ (body : List Command). Stands plan.commands body new) front
-          (step (drop (suc place) plan.commands, goes) run.stands);
-      log = same ∙ run.log;
-    }
+-- what holds of the commands before a place and of the one there holds of those before the next place
+pub one_more : (P : List Command → Type 0) (plan : Plan) (items : List Command) (place : ℕ) (other : Command) → items ≡ plan.commands
+    → place < length items → P (take place plan.commands ++ slice_index_or items place other ∷ []) → P (take (place + 1) plan.commands)
+one_more P plan items place other same within holds =
+    let front : take place plan.commands ++ slice_index_or items place other ∷ [] ≡ take (place + 1) plan.commands =
+    ap (λ (body : List Command). take place plan.commands ++ slice_index_or body place other ∷ []) same
+    ∙ sym (take-suc plan.commands place other (rw (← same) within)) ∙ ap (λ (n : ℕ). take n plan.commands) (sym (add-one place)) in
+    subst P front holds
 
 -- a script was run to its end
 pub ran_all : (plan : Plan) (place : ℕ) (recording : Recording) → HasRunTo plan place recording → length plan.commands ≤ place
@@ -361,18 +350,6 @@ pub item_within : (plan : Plan) (items : List Command) (place : ℕ) (other : Co
 item_within plan items place other same is =
     subst (λ (body : List Command). place < length body → IsWithin (slice_index_or body place other)) (sym same)
     (command_within plan place other is)
-
-pub item_ran : (plan : Plan) (items : List Command) (place : ℕ) (other : Command) (old new : Recording) → items ≡ plan.commands
-    → HasRunTo plan place old → place < length items → new.log_sectors ≡ old.log_sectors
-    → (GoesOn plan.commands (take place plan.commands) (slice_index_or items place other)
-    → Stands plan.commands (take place plan.commands) old
-    → Stands plan.commands (take place plan.commands ++ slice_index_or items place other ∷ []) new)
-    → HasRunTo plan (place + 1) new
-item_ran plan items place other old new same run here kept step =
-    ran_on plan place other old new run (rw (← same) here) kept
-    (subst (λ (body : List Command). GoesOn plan.commands (take place plan.commands) (slice_index_or body place other)
-    → Stands plan.commands (take place plan.commands) old
-    → Stands plan.commands (take place plan.commands ++ slice_index_or body place other ∷ []) new) same step)
 
 pub items_ran : (plan : Plan) (items : List Command) (place : ℕ) (recording : Recording) → items ≡ plan.commands
     → HasRunTo plan place recording → length items ≤ place → Stands plan.commands plan.commands recording

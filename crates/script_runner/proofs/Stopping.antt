@@ -1,7 +1,7 @@
-use Rattle.std.proofs.Common.{◌≡◌, ◌∙◌, ℕ, suc, ◌+◌, ◌<◌, ◌≤◌, true, Option, Some, is_none, inl, inr, All, List, [], ◌∷◌, ◌++◌, drop, length, slice_index_or, take, add-one, ap, arith, sym, subst}
+use Rattle.std.proofs.Common.{◌≡◌, ◌∙◌, ℕ, suc, ◌<◌, ◌≤◌, true, Option, Some, is_none, inl, inr, All, List, ◌∷◌, ◌++◌, drop, length, slice_index_or, take, ap, arith, sym, subst}
 use Rattle.std.specs.List.{slice_get}
 use Rattle.std.specs.Io.KnownBytes.{Appends}
-use Rattle.std.proofs.Math.Seq.{drop-cons, take-suc}
+use Rattle.std.proofs.Math.Seq.{drop-cons}
 use Rattle.std.proofs.lemmas.List.{take-append-drop, take_all}
 use Rattle.std.proofs.lemmas.List.Elements.{All-from_recursion}
 use Rattle.std.proofs.lemmas.List.Sums.{sum_by-append}
@@ -79,15 +79,6 @@ pub item_next : (plan : Plan) (items : List Command) (place : ℕ) (other : Comm
 item_next plan items place other same is orderly =
     subst (λ (body : List Command). place < length body → ComesNext plan place (slice_index_or body place other)) (sym same)
     (command_next plan place other is orderly)
-
--- what holds of the commands before a place and of the one there holds of those before the next place
-pub one_more : (P : List Command → Type 0) (plan : Plan) (items : List Command) (place : ℕ) (other : Command) → items ≡ plan.commands
-    → place < length items → P (take place plan.commands ++ slice_index_or items place other ∷ []) → P (take (place + 1) plan.commands)
-one_more P plan items place other same within holds =
-    let front : take place plan.commands ++ slice_index_or items place other ∷ [] ≡ take (place + 1) plan.commands =
-    ap (λ (body : List Command). take place plan.commands ++ slice_index_or body place other ∷ []) same
-    ∙ sym (take-suc plan.commands place other (rw (← same) within)) ∙ ap (λ (n : ℕ). take n plan.commands) (sym (add-one place)) in
-    subst P front holds
 
 -- the core followed the requests of all commands of a list
 pub items_follow : (plan : Plan) (items : List Command) (place : ℕ) (recording : Recording) → items ≡ plan.commands

@@ -1,10 +1,9 @@
-use Rattle.std.proofs.Common.{◌≡◌, ◌∙◌, ℕ, zero, suc, ◌+◌, ◌<◌, ◌≤◌, ◌==◌, Bool, true, false, ◌||◌, ◌⊎◌, Option, Some, None, is_none, inl, inr, List, [], ◌∷◌, ◌++◌, cond, encode_utf8_all, length, map, replicate, slice_index_or, take, add-one, append_assoc, ap, arith, sym, refl, subst, if◌then◌else◌, Result, Ok, Err, OnOk}
+use Rattle.std.proofs.Common.{◌≡◌, ◌∙◌, ℕ, zero, suc, ◌+◌, ◌<◌, ◌≤◌, ◌==◌, Bool, true, false, ◌||◌, ◌⊎◌, Option, Some, None, is_none, inl, inr, List, [], ◌∷◌, ◌++◌, cond, encode_utf8_all, length, map, replicate, slice_index_or, take, append_assoc, ap, arith, sym, refl, subst, if◌then◌else◌, Result, Ok, Err, OnOk}
 use Rattle.std.specs.Prelude.{codes}
 use Rattle.std.specs.List.{AllByRecursion, list_all, slice_get}
 use Rattle.std.specs.Io.KnownBytes.{Appends}
 use Rattle.std.proofs.lemmas.Bool.{cases_lt, and_parts}
 use Rattle.std.proofs.lemmas.Bool.Decides.{nat_tests}
-use Rattle.std.proofs.Math.Seq.{take-suc}
 use Rattle.std.proofs.lemmas.List.{append-nil, length-append, take_all}
 use Rattle.std.proofs.lemmas.List.Elements.{All-from_recursion, All-get_or}
 use Rattle.std.proofs.lemmas.List.Sums.{sum_by-append}
@@ -27,7 +26,7 @@ use Rattle.script_runner.specs.declared.recording.Request.TheVariants.{Tracked, 
 use Rattle.script_runner.specs.Printed.{IsLate, IsWritten, Prints, body_text, command_text, is_one_of, outcome_line, printed, submission_text}
 use Rattle.script_runner.specs.Recorded.{has_close, is_write, until_close, is_close as ends}
 use Rattle.bio.specs.CallLaws.{appends_twice}
-use Rattle.script_runner.proofs.Running.{all_tracked, closes_here}
+use Rattle.script_runner.proofs.Running.{all_tracked, closes_here, one_more}
 use Rattle.script_runner.specs.Recordings.{FailsLate, HasTold, IsFailing, failed_from, is_failed, request_of}
 
 -- what is submitted
@@ -466,10 +465,7 @@ pub item_told : (plan : Plan) (items : List Command) (names : List Name) (place 
     → HasTold names (take place plan.commands ++ slice_index_or items place other ∷ []) before now new)
     → HasTold plan.names (take (place + 1) plan.commands) before now new
 item_told plan items names place other before after now old new same named has here step =
-    let front : take place plan.commands ++ slice_index_or items place other ∷ [] ≡ take (place + 1) plan.commands =
-    ap (λ (body : List Command). take place plan.commands ++ slice_index_or body place other ∷ []) same
-    ∙ sym (take-suc plan.commands place other (rw (← same) here)) ∙ ap (λ (n : ℕ). take n plan.commands) (sym (add-one place)) in
-    subst (λ (body : List Command). HasTold plan.names body before now new) front
+    one_more (λ (body : List Command). HasTold plan.names body before now new) plan items place other same here
     (subst (λ (ns : List Name). HasTold ns (take place plan.commands ++ slice_index_or items place other ∷ []) before now new) named
     (step (subst (λ (ns : List Name). HasTold ns (take place plan.commands) before after old) (sym named) has)))
 

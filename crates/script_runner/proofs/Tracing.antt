@@ -111,6 +111,10 @@ one_below test (suc n) some = elim (bool_cases (test n)) [
 
 -- ends
 
+-- numbers that are tested to be equal are
+equal : (a b : ℕ) → a == b ≡ true → a ≡ b
+equal a b same = grind (arith, nat_tests, same)
+
 -- a command that submits a request ends none
 ends_none : (number : ℕ) (command : Command) → is_submission command ≡ true → is_end_of number command ≡ false
 ends_none number (Write first count byte) submits = refl
@@ -330,9 +334,6 @@ traced_end front es now requests filled request found has here opens over = reco
   passed = has.passed;
 }
   where
-    equal : (a b : ℕ) → a == b ≡ true → a ≡ b
-    equal a b same = grind (arith, nat_tests, same)
-
     differs : (number id : ℕ) → slice_get requests number ≡ Some (Tracked id) → (found ≡ Tracked id → ⊥) → request == number ≡ false
     differs number id there other = elim (bool_cases (request == number)) [
       | inl same ↦
@@ -373,9 +374,6 @@ at_one P (other ∷ numbers) number all one = elim (bool_cases (other == number)
   | inl same ↦ subst P (equal other number same) all.0
   | inr unlike ↦ at_one P numbers number all.1 (ap (λ (b : Bool). b || is_one_of numbers number) (sym unlike) ∙ one)
 ]
-  where
-    equal : (a b : ℕ) → a == b ≡ true → a ≡ b
-    equal a b same = grind (arith, nat_tests, same)
 
 -- a core that isn't quiet has a request open
 pub has_open : (front : List Command) (es : List CoreEvent) (requests : List Request) (filled : Option Filled)

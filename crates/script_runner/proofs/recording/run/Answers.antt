@@ -5,11 +5,11 @@ use Rattle.script_runner.specs.Faults.{ended_by}
 use Rattle.script_runner.specs.Image.{HasEntries, MakesLog}
 use Rattle.script_runner.specs.Recorded.{entries_of}
 use Rattle.dmlw_script.specs.declared.command.Command.{Command}
-use Rattle.script_runner.specs.Recordings.{Follows, Traces, failed_from}
+use Rattle.script_runner.specs.Recordings.{Follows, Stands, Traces, failed_from}
 use Rattle.script_runner.specs.RunFaults.{EndsRun, StopsAt, StopsQuietly, file}
 use Rattle.bio.specs.CallLaws.{on_error}
-use Rattle.script_runner.proofs.Running.{item_ran, item_within, items_ran}
-use Rattle.script_runner.proofs.Stopping.{ends_at_line, ends_open, ends_whole, item_next, items_follow, one_more}
+use Rattle.script_runner.proofs.Running.{item_within, items_ran, one_more}
+use Rattle.script_runner.proofs.Stopping.{ends_at_line, ends_open, ends_whole, item_next, items_follow}
 use Rattle.script_runner.proofs.Telling.{item_told, items_told}
 use Rattle.script_runner.proofs.recording.run.Goals as goal
 
@@ -31,20 +31,27 @@ loop-place-preserved g c =
     let script = c.args.script.now in
     let items = c.commands-command-items.result.now in
     let front = take c.loop-place.place script.commands in
-    let stands = c.loop-place.invariant.0.stands in
+    let new = c.step.new.self in
+    let run = c.loop-place.invariant.0 in
+    let told = c.loop-place.invariant.2 in
     let follows = c.loop-place.invariant.3 in
-    let traces = c.loop-place.invariant.4 in (
-      item_ran script items c.loop-place.place _ c.loop-place.recording c.step.new.self c.commands-command-items.ensures.commands
-          c.loop-place.invariant.0 (omega arith) c.in-Ok.ensures.log
-          (λ goes run. c.in-Ok.ensures.stands script.commands front goes run follows traces c.loop-place.invariant.2.numbered),
+    let traces = c.loop-place.invariant.4 in
+    let same = c.commands-command-items.ensures.commands in
+    let next = item_next script items c.loop-place.place _ same c.commands-command-items.ensures.script
+    (λ before command rest split. c.requests_end_once.ensures.may_come script before command rest c.commands-command-items.ensures.script split)
+    (omega arith) in (
+      record {
+        stands = one_more (λ (body : List Command). Stands script.commands body new) script items c.loop-place.place _ same (omega arith)
+            (c.in-Ok.ensures.stands script.commands front next.goes run.stands follows traces told.numbered);
+        log = c.in-Ok.ensures.log ∙ run.log;
+      },
       c.loop-place.invariant.1,
-      item_told script items c.names.result.now c.loop-place.place _ _ _ _ c.loop-place.recording
-          c.step.new.self c.commands-command-items.ensures.commands c.names.ensures.names c.loop-place.invariant.2 (omega arith)
-          (λ told. c.in-Ok.ensures.told script.commands front _ stands follows told),
-      one_more (λ (body : List Command). Follows body c.step.new.self) script items c.loop-place.place _
-          c.commands-command-items.ensures.commands (omega arith) (c.in-Ok.ensures.follows front follows),
-      one_more (λ (body : List Command). Traces body c.step.new.self) script items c.loop-place.place _
-          c.commands-command-items.ensures.commands (omega arith) (c.in-Ok.ensures.traces script.commands front stands follows traces),
+      item_told script items c.names.result.now c.loop-place.place _ _ _ _ c.loop-place.recording new same c.names.ensures.names told
+          (omega arith) (λ told_before. c.in-Ok.ensures.told script.commands front _ run.stands follows told_before),
+      one_more (λ (body : List Command). Follows body new) script items c.loop-place.place _ same (omega arith)
+          (c.in-Ok.ensures.follows front follows),
+      one_more (λ (body : List Command). Traces body new) script items c.loop-place.place _ same (omega arith)
+          (c.in-Ok.ensures.traces script.commands front run.stands follows traces),
     )
 
 pub returns-clause-log : goal.returns-clause-log

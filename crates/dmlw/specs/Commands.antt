@@ -1,5 +1,5 @@
 -- What a command line comes to.
-use Rattle.std.specs.Prelude.{◌≡◌, ◌≤◌, ◌⊎◌, ℕ, List, Option, Result}
+use Rattle.std.specs.Prelude.{◌≡◌, ◌≤◌, ◌⊎◌, ℕ, Bool, true, false, List, Option, Result}
 use Rattle.std.specs.declared.io.ErrorKind.{ErrorKind as IoErrorKind}
 use Rattle.std.specs.declared.io.ErrorKind.TheVariants.{InvalidData}
 use Rattle.std.specs.Io.KnownBytes.{Keeps}
@@ -23,6 +23,12 @@ EndsUntasked OutOfMemory exit = exit ≡ Refused
 EndsUntasked DisplayHelp exit = (exit ≡ Done) ⊎ (exit ≡ Refused)
 EndsUntasked DisplayVersion exit = (exit ≡ Done) ⊎ (exit ≡ Refused)
 EndsUntasked _ exit = exit ≡ Usage
+
+-- the text was asked for: help or the version, which goes to the output
+abbrev pub is_asked_for : ErrorKind → Bool
+is_asked_for DisplayHelp = true
+is_asked_for DisplayVersion = true
+is_asked_for _ = false
 
 -- how a command line ends that couldn't be read: a word that is no text is a usage fault, and the rest is refused
 abbrev pub unread_exit : IoErrorKind → Exit
@@ -52,13 +58,13 @@ pub record EndsShowing (shows : Shows) (held : Option (List ℕ)) (writes_old wr
   pub exits : status ≡ status_of (exit_by done)
 
 -- How a text ends that is shown, as one of this kind: no file was asked to be written, the status is that of its kind,
--- and where there is no memory for it nothing was printed.
+-- and nothing was printed on the output unless it was asked for.
 pub record EndsText (kind : ErrorKind) (writes_old writes_new : Option (List Write)) (old new : Option (List ℕ)) (status : ℕ) : Type 0 where
   pub unwritten : writes_new ≡ writes_old
   pub exit : Exit
   pub ends : EndsUntasked kind exit
   pub exits : status ≡ status_of exit
-  pub silent : kind ≡ OutOfMemory → Keeps old new
+  pub silent : is_asked_for kind ≡ false → Keeps old new
 
 -- how a task ends, over files that hold this
 abbrev pub EndsTask : Task → (List ℕ → Option (List ℕ)) → Option (List Write) → Option (List Write) → Option (List ℕ) → Option (List ℕ) → ℕ → Type 0

@@ -1,9 +1,9 @@
-ghost use Rattle.std.specs.Prelude.{◌≡◌, IfErr, List, codes, map, true, ℕ};
+ghost use Rattle.std.specs.Prelude.{◌≡◌, IfErr, List, codes, false, map, true, ℕ};
 ghost use Rattle.std.specs.Io.KnownBytes.{Keeps};
 ghost use Rattle.std.specs.IoError.{error_kind};
 ghost use Rattle.clap.specs.Words.{kind_of};
 ghost use Rattle.dmlw.specs.CommandLine.{is_plain, log_words, record_words};
-ghost use Rattle.dmlw.specs.Commands.{EndsCommand, EndsRecording, EndsShowing, EndsTask, EndsUntasked, unread_exit};
+ghost use Rattle.dmlw.specs.Commands.{EndsCommand, EndsRecording, EndsShowing, EndsTask, EndsUntasked, is_asked_for, unread_exit};
 ghost use Rattle.dmlw.specs.Tasks.{IsRead};
 ghost use Rattle.dmlw.specs.declared.command_line.Task.{Task};
 ghost use Rattle.script_runner.specs.Faults.{IsFileFault};
@@ -116,7 +116,7 @@ fn tell<E: Write>(fault: Fault, err: &mut E) -> Exit
 // Shows the text of a command line that has no other task.
 fn show<O: Write, E: Write>(text: Error, out: &mut O, err: &mut E) -> Exit
     ensures ends { EndsUntasked (kind_of text) result }
-    ensures kept { kind_of text ≡ ErrorKind.OutOfMemory → Keeps (O.contents out.old) (O.contents out.new) }
+    ensures silent { is_asked_for (kind_of text) ≡ false → Keeps (O.contents out.old) (O.contents out.new) }
 {
     match text.kind() {
         ErrorKind::OutOfMemory => tell(Fault::from(Refusal::Memory), err),

@@ -225,6 +225,14 @@ fn answers_scripts(rt: HostRuntime) {
             "",
         ),
         ("data 16\nlog 2\nclose\n", 3, "", "dmlw: 18 Full\n"),
+        // More than one close: the first counts.
+        ("data 16\nlog 32\nclose\nf a\nclose\n", 0, "1 1\n", ""),
+        (
+            "data 16\nlog 32\nf a\nclose\nc a\nclose\n",
+            1,
+            "",
+            "dmlw: line 4: 24 Busy\n",
+        ),
         // Lines behind a close.
         (
             "data 16\nlog 32\nclose\nw a 5 1 41\nc a\nclose\nf b\n",

@@ -2,7 +2,7 @@ use Rattle.std.proofs.Common.{◌∙◌, ℕ, List, None, Some, ap, arith, codes
 use Rattle.clap.specs.declared.error.kind.ErrorKind.{ErrorKind}
 use Rattle.dmlw.specs.declared.command_line.Task.TheVariants as tasks
 use Rattle.dmlw.specs.CommandLine.{Entered, Enters}
-use Rattle.dmlw.specs.Commands.{EndsUntasked}
+use Rattle.dmlw.specs.Commands.{EndsUntasked, is_asked_for}
 use Rattle.dmlw.specs.Exits.{status_of}
 use Rattle.dmlw.specs.Lists.{ListsImage, TellsStatus}
 use Rattle.dmlw.proofs.Endings.{recording_ends, records_all, refused_ends, showing_ends, unread_ends}
@@ -57,7 +57,7 @@ returns-clause-list g c = λ program log words_are plain.
           let kind = read_asks _ (tasks.Show w.in-Show.text) entered w.in-Show.ensures enters complete in
           let refused = subst (λ (k : ErrorKind). EndsUntasked k w.show-exit.result) kind w.show-exit.ensures.ends in
           rw (w.files-is, w.out-is) (unread_ends ListsImage (g.F.Files.held c.args.files.now log) _ _ _ _ _ refused (c.status.ensures ∙ ap status_of w.exit-is)
-          (w.show-exit.ensures.kept kind))
+          (w.show-exit.ensures.silent (ap is_asked_for kind)))
     ]
 
 pub returns-clause-status : goal.returns-clause-status
@@ -81,7 +81,7 @@ returns-clause-status g c = λ program log words_are plain.
           let kind = read_asks _ (tasks.Show w.in-Show.text) entered w.in-Show.ensures enters complete in
           let refused = subst (λ (k : ErrorKind). EndsUntasked k w.show-exit.result) kind w.show-exit.ensures.ends in
           rw (w.files-is, w.out-is) (unread_ends TellsStatus (g.F.Files.held c.args.files.now log) _ _ _ _ _ refused (c.status.ensures ∙ ap status_of w.exit-is)
-          (w.show-exit.ensures.kept kind))
+          (w.show-exit.ensures.silent (ap is_asked_for kind)))
     ]
 
 pub returns-clause-does : goal.returns-clause-does
@@ -116,7 +116,7 @@ returns-clause-does g c = elim c.match-read_words.branch [
       exit = w.show-exit.result;
       ends = w.show-exit.ensures.ends;
       exits = c.status.ensures ∙ ap status_of w.exit-is;
-      silent = w.show-exit.ensures.kept;
+      silent = w.show-exit.ensures.silent;
     }),
   )
 ]

@@ -1,13 +1,7 @@
 pub mod Refusals
 pub mod Texts
 pub mod Check
-pub mod Places
 pub mod Requests
 pub mod Events
 pub mod Lawful
-pub mod Content
-pub mod PlaceLaws
 pub mod EventLaws
-pub mod ContentLaws
-pub mod SectorLaws
-pub mod CallLaws

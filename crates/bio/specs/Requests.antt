@@ -4,31 +4,24 @@ use Rattle.bio.specs.declared.request.Bio.TheVariants.{Write, Flush, Discard, Re
 
 -- whether the recorder follows it to its end: a write, a discard or a flush
 abbrev pub is_tracked : Bio → Bool
-is_tracked (Write first bytes flush fua meta) = true
-is_tracked Flush = true
-is_tracked (Discard first count) = true
 is_tracked (Read first count) = false
+is_tracked _ = true
 
 -- whether the device's cache is flushed: by a flush, and by a write that asks for it
 abbrev pub has_flush : Bio → Bool
 has_flush (Write first bytes flush fua meta) = flush
 has_flush Flush = true
-has_flush (Discard first count) = false
-has_flush (Read first count) = false
+has_flush _ = false
 
 -- whether its data is to be durable at its end
 abbrev pub has_fua : Bio → Bool
 has_fua (Write first bytes flush fua meta) = fua
-has_fua Flush = false
-has_fua (Discard first count) = false
-has_fua (Read first count) = false
+has_fua _ = false
 
 -- the request has data, a copy of which takes memory
 abbrev pub has_data : Bio → Bool
 has_data (Write first bytes flush fua meta) = true
-has_data Flush = false
-has_data (Discard first count) = false
-has_data (Read first count) = false
+has_data _ = false
 
 -- the first sector of a request; 0 for a flush
 abbrev pub first_sector : Bio → ℕ

@@ -1,14 +1,8 @@
--- What a user reads of a refusal and of a status.
+-- What a user reads of a status.
 use Rattle.std.specs.Prelude.{ℕ, List, [], ◌++◌, Option, Some, None, codes}
 use Rattle.std.specs.Fmt.{decimal}
 use Rattle.bio.specs.declared.outcome.End.{End}
 use Rattle.bio.specs.declared.outcome.Status.{Status}
-use Rattle.bio.specs.declared.refusal.Refusal.{Refusal}
-use Rattle.bio.specs.Refusals.{row_of}
-
--- a refusal is told by its number and its name
-abbrev pub refusal_text : Refusal → List ℕ
-refusal_text refusal = decimal (row_of refusal).0 ++ codes " " ++ (row_of refusal).1
 
 -- the word that tells that logging has ended, whatever the cause
 abbrev pub end_text : Option End → List ℕ

@@ -1,10 +1,10 @@
-//! Block requests and events: what every other crate speaks of.
+//! Block requests and their events.
 //!
 //! A request is a `Bio`; `check` decides whether it may be sent to a device. What happens to
 //! requests is a list of `CoreEvent`s; an `Id` is the place of a request's submission, or of a mark,
-//! in that list. `Refusal` is the one table of the numbers and names that the project refuses by.
-//! The definitions beside the code (`specs/`) say what a content, a place, an event list and a
-//! lawful one are.
+//! in that list. The definitions beside the code (`specs/`) say which sectors a request covers
+//! (`Requests`), where the requests of an event list end (`Events`), and which lists are lawful
+//! (`Lawful`).
 #![tactic(auto)]
 
 pub use bytes::Bytes;
@@ -12,15 +12,13 @@ pub use event::{CoreEvent, Event};
 pub use id::Id;
 pub use ms::Ms;
 pub use outcome::{DevError, End, Status};
-pub use refusal::Refusal;
-pub use request::{BadBio, Bio, MAX_SECTORS, SECTOR_BYTES, check};
+pub use request::{BadBio, Bio, MAX_REQUEST_SECTORS, check};
 
 mod bytes;
 mod event;
 mod id;
 mod ms;
 mod outcome;
-mod refusal;
 mod request;
 #[cfg(test)]
 mod tests;

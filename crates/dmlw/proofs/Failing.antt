@@ -3,65 +3,65 @@ use Rattle.std.proofs.Common.{◌≡◌, ℕ, ◌++◌, List, None, Option, Some
 use Rattle.std.specs.Io.KnownBytes.{Appends, Keeps}
 use Rattle.std.specs.declared.io.ErrorKind.{ErrorKind}
 use Rattle.std.specs.declared.io.ErrorKind.TheVariants as kinds
-use Rattle.bio.specs.CallLaws.{appends_kept, appends_twice, keeps_same}
+use Rattle.script_runner.specs.CallLaws.{appends_kept, appends_twice, keeps_same}
 use Rattle.bio.specs.declared.outcome.Status.{Status}
-use Rattle.dmlw_script.specs.declared.fault.ScriptFault.{ScriptFault}
-use Rattle.dmlw_script.specs.Grammar.{Spells}
+use Rattle.refusals.specs.declared.fault.Fault.{Fault}
+use Rattle.dmlw_script.specs.Grammar.{IsTextOf}
 use Rattle.dmlw_script.specs.Plans.{Plan}
 use Rattle.dmlw_script.specs.Reading.{IsFaultOf, is_memory}
-use Rattle.script_runner.specs.declared.fault.Fault.{Fault}
-use Rattle.script_runner.specs.declared.fault.Fault.TheVariants.{Refused}
-use Rattle.script_runner.specs.Faults.{IsFileFault, io_refusal, refused_by, script_fault}
+use Rattle.script_runner.specs.declared.error.RunError.{RunError}
+use Rattle.script_runner.specs.declared.error.RunError.TheVariants.{Refused}
+use Rattle.script_runner.specs.Errors.{IsFileError, io_refusal, refused_by}
 use Rattle.script_runner.specs.RunFaults.{EndsRun}
 use Rattle.dmlw.specs.declared.files.FileError.{FileError}
 use Rattle.dmlw.specs.declared.files.FileError.TheVariants as errors
 use Rattle.dmlw.specs.FileErrors.{file_refusal}
-use Rattle.dmlw.specs.Files.{IsHeld}
+use Rattle.dmlw.specs.Files.{MatchesContents}
 use Rattle.dmlw.specs.Records.{FailsRecording, file, run as run_fails, status_line, text as unread}
 
 -- a file's error is told as such
-file_told : (error : FileError) → IsFileFault (refused_by (file_refusal error))
+file_told : (error : FileError) → IsFileError (refused_by (file_refusal error))
 file_told errors.Unusable = inl refl
 file_told errors.Memory = inr refl
 
 -- recording ended by a file's error
-pub fails_for_file : (held before after : Option (List ℕ)) (error : FileError) (fault : Fault) → fault ≡ refused_by (file_refusal error)
-    → FailsRecording held before after fault
-fails_for_file held before after error fault is = file fault (subst IsFileFault (sym is) (file_told error))
+pub fails_for_file : (contents before after : Option (List ℕ)) (error : FileError) (fault : RunError) → fault ≡ refused_by (file_refusal error)
+    → FailsRecording contents before after fault
+fails_for_file contents before after error fault is = file fault (subst IsFileError (sym is) (file_told error))
 
 -- an output's error is told as such
-io_told : (kind : ErrorKind) → IsFileFault (refused_by (io_refusal kind))
+io_told : (kind : ErrorKind) → IsFileError (refused_by (io_refusal kind))
 io_told kinds.OutOfMemory = inr refl
 io_told _ = inl refl
 
 -- recording ended by an error of the output
-pub fails_for_output : (held before after : Option (List ℕ)) (kind : ErrorKind) (fault : Fault) → fault ≡ refused_by (io_refusal kind)
-    → FailsRecording held before after fault
-fails_for_output held before after kind fault is = file fault (subst IsFileFault (sym is) (io_told kind))
+pub fails_for_output : (contents before after : Option (List ℕ)) (kind : ErrorKind) (fault : RunError) → fault ≡ refused_by (io_refusal kind)
+    → FailsRecording contents before after fault
+fails_for_output contents before after kind fault is = file fault (subst IsFileError (sym is) (io_told kind))
 
 -- recording ended since no script was read
-pub fails_unread : (held before : Option (List ℕ)) (bytes text : List ℕ) (error : ScriptFault) (fault : Fault) → IsHeld held bytes
-    → text ≡ bytes → IsFaultOf text error error.line → ((plan : Plan) → Spells text plan → error ≡ is_memory)
-    → fault ≡ script_fault error → FailsRecording held before before fault
-fails_unread held before bytes text error fault is same wrong only told =
-    subst (FailsRecording held before before) (sym told)
+pub fails_unread : (contents before : Option (List ℕ)) (bytes text : List ℕ) (error : Fault) (fault : RunError) → MatchesContents contents bytes
+    → text ≡ bytes → IsFaultOf text error error.line → ((plan : Plan) → IsTextOf text plan → error ≡ is_memory)
+    → fault ≡ Refused error → FailsRecording contents before before fault
+fails_unread contents before bytes text error fault is same wrong only told =
+    subst (FailsRecording contents before before) (sym told)
     (by_line error.line refl (subst (λ (all : List ℕ). IsFaultOf all error error.line) same wrong))
   where
     by_line : (line : Option ℕ) → error.line ≡ line → IsFaultOf bytes error line
-        → FailsRecording held before before (Refused line error.refusal)
-    by_line None here memory = file _ (inr (ap (λ (e : ScriptFault). Refused None e.refusal) memory))
+        → FailsRecording contents before before (Refused (record { line = line; refusal = error.refusal }))
+    by_line None here memory = file _ (inr (ap (λ (e : Fault). Refused (record { line = None; refusal = e.refusal })) memory))
     by_line (Some number) here first = unread bytes number error.refusal is
         (λ plan spells.
-        let memory = only plan (subst (λ (all : List ℕ). Spells all plan) (sym same) spells) in
-        absurd (cc (ap (λ (e : ScriptFault). e.line) memory, here))) first (keeps_same before)
+        let memory = only plan (subst (λ (all : List ℕ). IsTextOf all plan) (sym same) spells) in
+        absurd (cc (ap (λ (e : Fault). e.line) memory, here))) first (keeps_same before)
 
 -- recording ended by a fault of the script's run
-pub fails_run : (held before after : Option (List ℕ)) (bytes text other : List ℕ) (plan : Plan) (fault again : Fault) → IsHeld held bytes
-    → text ≡ bytes → other ≡ bytes → Spells text plan → EndsRun other plan before after fault → again ≡ fault
-    → FailsRecording held before after again
-fails_run held before after bytes text other plan fault again is same also spells ends kept =
-    subst (FailsRecording held before after) (sym kept)
-    (run_fails bytes plan fault is (subst (λ (all : List ℕ). Spells all plan) same spells)
+pub fails_run : (contents before after : Option (List ℕ)) (bytes text other : List ℕ) (plan : Plan) (fault again : RunError) → MatchesContents contents bytes
+    → text ≡ bytes → other ≡ bytes → IsTextOf text plan → EndsRun other plan before after fault → again ≡ fault
+    → FailsRecording contents before after again
+fails_run contents before after bytes text other plan fault again is same also spells ends kept =
+    subst (FailsRecording contents before after) (sym kept)
+    (run_fails bytes plan fault is (subst (λ (all : List ℕ). IsTextOf all plan) same spells)
     (subst (λ (all : List ℕ). EndsRun all plan before after fault) also ends))
 
 -- what a script prints was printed, and then the status of its log

@@ -7,20 +7,20 @@ use Rattle.clap.proofs.OnLiterals.{clap_on_literals}
 use Rattle.dmlw.specs.Tasks.{Asks, IsComplete, IsRead, fault, memory, missing}
 use Rattle.dmlw.specs.declared.command_line.Task.{Task}
 use Rattle.dmlw.specs.declared.command_line.Task.TheVariants as tasks
-use Rattle.dmlw.specs.CommandLine.{Entered, Enters, entered_of, is_plain, log_words, program_app, record_words}
+use Rattle.dmlw.specs.CommandLine.{Entered, Enters, entered_of, is_positional, log_words, program_app, record_words}
 
 -- a word that begins with another byte than a hyphen
 is_other : (x : ℕ) → not (x == 45) ≡ true → (x == 45) ≡ false
 is_other x plain = grind arith
 
-faultless_plain : (p s l : List ℕ) → is_plain s ≡ true → is_plain l ≡ true → fault_of program_app (record_words p s l) ≡ []
+faultless_plain : (p s l : List ℕ) → is_positional s ≡ true → is_positional l ≡ true → fault_of program_app (record_words p s l) ≡ []
 unfolding clap_on_literals
 faultless_plain p [] [] plain_s plain_l = refl
 faultless_plain p [] (y ∷ ys) plain_s plain_l = let f = is_other y plain_l in simp f
 faultless_plain p (x ∷ xs) [] plain_s plain_l = let e = is_other x plain_s in simp e
 faultless_plain p (x ∷ xs) (y ∷ ys) plain_s plain_l = let e = is_other x plain_s in let f = is_other y plain_l in simp (e, f)
 
-entered_plain : (p s l : List ℕ) → is_plain s ≡ true → is_plain l ≡ true
+entered_plain : (p s l : List ℕ) → is_positional s ≡ true → is_positional l ≡ true
     → entered_of (subcommand_of program_app (record_words p s l)) ≡ Some (codes "record", Some s, Some l)
 unfolding clap_on_literals
 entered_plain p [] [] plain_s plain_l = refl
@@ -28,39 +28,39 @@ entered_plain p [] (y ∷ ys) plain_s plain_l = let f = is_other y plain_l in si
 entered_plain p (x ∷ xs) [] plain_s plain_l = let e = is_other x plain_s in simp e
 entered_plain p (x ∷ xs) (y ∷ ys) plain_s plain_l = let e = is_other x plain_s in let f = is_other y plain_l in simp (e, f)
 
-faultless_list : (p l : List ℕ) → is_plain l ≡ true → fault_of program_app (log_words p (codes "list") l) ≡ []
+faultless_list : (p l : List ℕ) → is_positional l ≡ true → fault_of program_app (log_words p (codes "list") l) ≡ []
 unfolding clap_on_literals
 faultless_list p [] plain = refl
 faultless_list p (y ∷ ys) plain = let f = is_other y plain in simp f
 
-entered_list : (p l : List ℕ) → is_plain l ≡ true
+entered_list : (p l : List ℕ) → is_positional l ≡ true
     → entered_of (subcommand_of program_app (log_words p (codes "list") l)) ≡ Some (codes "list", None, Some l)
 unfolding clap_on_literals
 entered_list p [] plain = refl
 entered_list p (y ∷ ys) plain = let f = is_other y plain in simp f
 
-faultless_status : (p l : List ℕ) → is_plain l ≡ true → fault_of program_app (log_words p (codes "status") l) ≡ []
+faultless_status : (p l : List ℕ) → is_positional l ≡ true → fault_of program_app (log_words p (codes "status") l) ≡ []
 unfolding clap_on_literals
 faultless_status p [] plain = refl
 faultless_status p (y ∷ ys) plain = let f = is_other y plain in simp f
 
-entered_status : (p l : List ℕ) → is_plain l ≡ true
+entered_status : (p l : List ℕ) → is_positional l ≡ true
     → entered_of (subcommand_of program_app (log_words p (codes "status") l)) ≡ Some (codes "status", None, Some l)
 unfolding clap_on_literals
 entered_status p [] plain = refl
 entered_status p (y ∷ ys) plain = let f = is_other y plain in simp f
 
 -- a plain line asks to record
-pub record_enters : (p s l : List ℕ) → is_plain s ≡ true → is_plain l ≡ true
+pub record_enters : (p s l : List ℕ) → is_positional s ≡ true → is_positional l ≡ true
     → Enters (record_words p s l) (codes "record", Some s, Some l)
 record_enters p s l plain_s plain_l = record { faultless = faultless_plain p s l plain_s plain_l; enters = entered_plain p s l plain_s plain_l }
 
 -- a plain line asks to list
-pub list_enters : (p l : List ℕ) → is_plain l ≡ true → Enters (log_words p (codes "list") l) (codes "list", None, Some l)
+pub list_enters : (p l : List ℕ) → is_positional l ≡ true → Enters (log_words p (codes "list") l) (codes "list", None, Some l)
 list_enters p l plain = record { faultless = faultless_list p l plain; enters = entered_list p l plain }
 
 -- a plain line asks for a status
-pub status_enters : (p l : List ℕ) → is_plain l ≡ true → Enters (log_words p (codes "status") l) (codes "status", None, Some l)
+pub status_enters : (p l : List ℕ) → is_positional l ≡ true → Enters (log_words p (codes "status") l) (codes "status", None, Some l)
 status_enters p l plain = record { faultless = faultless_status p l plain; enters = entered_status p l plain }
 
 -- these commands have their words
@@ -80,26 +80,26 @@ same_some x y same = cc
 -- the name of what was entered is that of its rows
 pub name_of_rows : {B : Type 0} (found : Option B) (row_of : B → Text × List Row) (name : Text)
     → Some name ≡ option_map (λ b. (row_of b).0) found → Some name ≡ option_map (λ e. e.0) (option_map row_of found)
-name_of_rows None row_of name named = cc
-name_of_rows (Some b) row_of name named = named
+name_of_rows None row_of name script_id = cc
+name_of_rows (Some b) row_of name script_id = script_id
 
 -- where a command has a name, one was entered
 pub found_some : (sub : Option (Text × List Row)) (name : Text) → Some name ≡ option_map (λ e. e.0) sub
     → (entered : Entered) × (entered_of sub ≡ Some entered)
-found_some None name named = absurd (cc)
-found_some (Some p) name named = ((p.0, first_of (codes "SCRIPT") p.1, first_of (codes "LOG") p.1), refl)
+found_some None name script_id = absurd (cc)
+found_some (Some p) name script_id = ((p.0, first_of (codes "SCRIPT") p.1, first_of (codes "LOG") p.1), refl)
 
 -- what a command that was entered is found as
 pub found_entered : (f : Found) (sub : Option (Text × List Row)) (name : Text) (entered : Entered)
     → Some (rows_of f) ≡ option_map (λ e. e.1) sub → Some name ≡ option_map (λ e. e.0) sub → entered_of sub ≡ Some entered
     → (entered.0 ≡ name) × (first_value f (codes "SCRIPT") ≡ entered.1) × (first_value f (codes "LOG") ≡ entered.2)
-found_entered f None name entered rows named words = cc
-found_entered f (Some p) name entered rows named words =
+found_entered f None name entered rows script_id words = cc
+found_entered f (Some p) name entered rows script_id words =
     let same : rows_of f ≡ p.1 = same_some (rows_of f) p.1 rows in
     let is : (p.0, first_of (codes "SCRIPT") p.1, first_of (codes "LOG") p.1) ≡ entered = same_some _ entered words in
     let script = first_value-rows f (codes "SCRIPT") in
     let log = first_value-rows f (codes "LOG") in (
-      sym (ap (λ (e : Entered). e.0) is) ∙ sym (same_some name p.0 named),
+      sym (ap (λ (e : Entered). e.0) is) ∙ sym (same_some name p.0 script_id),
       script ∙ ap (first_of (codes "SCRIPT")) same ∙ ap (λ (e : Entered). e.1) is,
       log ∙ ap (first_of (codes "LOG")) same ∙ ap (λ (e : Entered). e.2) is,
     )

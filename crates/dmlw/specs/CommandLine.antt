@@ -3,9 +3,9 @@ use Rattle.clap.specs.Words.{App, Row, Rule, Text, fault_of, first_of, new_app, 
 use Rattle.clap.specs.Simple.{on_top}
 
 -- the word doesn't begin with a hyphen
-abbrev pub is_plain : List ℕ → Bool
-is_plain [] = true
-is_plain (x ∷ xs) = not (x == 45)
+abbrev pub is_positional : List ℕ → Bool
+is_positional [] = true
+is_positional (x ∷ xs) = not (x == 45)
 
 -- a command line that asks for a script to be recorded; its first word is the program's name
 abbrev pub record_words : List ℕ → List ℕ → List ℕ → List (List ℕ)

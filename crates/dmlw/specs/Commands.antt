@@ -10,7 +10,7 @@ use Rattle.dmlw.specs.declared.command_line.Task.{Task}
 use Rattle.dmlw.specs.declared.command_line.Task.TheVariants as tasks
 use Rattle.dmlw.specs.declared.exit.Exit.{Exit}
 use Rattle.dmlw.specs.declared.exit.Exit.TheVariants.{Done, Refused, Usage}
-use Rattle.script_runner.specs.declared.fault.Fault.{Fault}
+use Rattle.script_runner.specs.declared.error.RunError.{RunError}
 use Rattle.dmlw.specs.Exits.{exit_by, status_of}
 use Rattle.dmlw.specs.Files.{Write, one_more}
 use Rattle.dmlw.specs.Lists.{ListsImage, Shows, ShowsFile, TellsStatus}
@@ -43,18 +43,18 @@ pub record EndsCommand (old new : Option (List Write)) (status : ℕ) : Type 0 w
   pub unwritten : 2 ≤ status → new ≡ old
 
 -- How the recording of a script in a log of this name ends: with the status of what it did.
-pub record EndsRecording (held : Option (List ℕ)) (log : List ℕ) (writes_old writes_new : Option (List Write)) (old new : Option (List ℕ)) (status : ℕ)
+pub record EndsRecording (contents : Option (List ℕ)) (log : List ℕ) (writes_old writes_new : Option (List Write)) (old new : Option (List ℕ)) (status : ℕ)
     : Type 0 where
-  pub done : Result (Unit {0}) Fault
-  pub recorded : Records held log writes_old writes_new old new done
+  pub done : Result (Unit {0}) RunError
+  pub recorded : Records contents log writes_old writes_new old new done
   pub exits : status ≡ status_of (exit_by done)
 
 -- How a command on the image in a file ends: no file was asked to be written, and the status is that of what it did.
-pub record EndsShowing (shows : Shows) (held : Option (List ℕ)) (writes_old writes_new : Option (List Write)) (old new : Option (List ℕ)) (status : ℕ)
+pub record EndsShowing (shows : Shows) (contents : Option (List ℕ)) (writes_old writes_new : Option (List Write)) (old new : Option (List ℕ)) (status : ℕ)
     : Type 0 where
   pub unwritten : writes_new ≡ writes_old
-  pub done : Result (Unit {0}) Fault
-  pub shown : ShowsFile shows held old new done
+  pub done : Result (Unit {0}) RunError
+  pub shown : ShowsFile shows contents old new done
   pub exits : status ≡ status_of (exit_by done)
 
 -- How a text ends that is shown, as one of this kind: no file was asked to be written, the status is that of its kind,
@@ -68,8 +68,8 @@ pub record EndsText (kind : ErrorKind) (writes_old writes_new : Option (List Wri
 
 -- how a task ends, over files that hold this
 abbrev pub EndsTask : Task → (List ℕ → Option (List ℕ)) → Option (List Write) → Option (List Write) → Option (List ℕ) → Option (List ℕ) → ℕ → Type 0
-EndsTask (tasks.Record script log) held writes_old writes_new old new status =
-    EndsRecording (held script.now) log.now writes_old writes_new old new status
-EndsTask (tasks.List log) held writes_old writes_new old new status = EndsShowing ListsImage (held log.now) writes_old writes_new old new status
-EndsTask (tasks.Status log) held writes_old writes_new old new status = EndsShowing TellsStatus (held log.now) writes_old writes_new old new status
-EndsTask (tasks.Show error) held writes_old writes_new old new status = EndsText (kind_of error) writes_old writes_new old new status
+EndsTask (tasks.Record script log) contents writes_old writes_new old new status =
+    EndsRecording (contents script.now) log.now writes_old writes_new old new status
+EndsTask (tasks.List log) contents writes_old writes_new old new status = EndsShowing ListsImage (contents log.now) writes_old writes_new old new status
+EndsTask (tasks.Status log) contents writes_old writes_new old new status = EndsShowing TellsStatus (contents log.now) writes_old writes_new old new status
+EndsTask (tasks.Show error) contents writes_old writes_new old new status = EndsText (kind_of error) writes_old writes_new old new status

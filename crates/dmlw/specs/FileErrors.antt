@@ -1,7 +1,7 @@
 use Rattle.std.specs.declared.io.ErrorKind.{ErrorKind}
 use Rattle.std.specs.declared.io.ErrorKind.TheVariants as kinds
-use Rattle.bio.specs.declared.refusal.Refusal.{Refusal}
-use Rattle.bio.specs.declared.refusal.Refusal.TheVariants as refusals
+use Rattle.refusals.specs.declared.refusal.Refusal.{Refusal}
+use Rattle.refusals.specs.declared.refusal.Refusal.TheVariants as refusals
 use Rattle.dmlw.specs.declared.files.FileError.{FileError}
 use Rattle.dmlw.specs.declared.files.FileError.TheVariants.{Unusable, Memory}
 

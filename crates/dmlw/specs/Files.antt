@@ -10,6 +10,6 @@ abbrev pub one_more : Option (List Write) → List ℕ → List ℕ → Option (
 one_more writes name bytes = option_map (λ before. before ++ record { name = name; bytes = bytes } ∷ []) writes
 
 -- these are the bytes that a file holds, where they are known
-abbrev pub IsHeld : Option (List ℕ) → List ℕ → Type 0
-IsHeld None bytes = Unit {0}
-IsHeld (Some known) bytes = bytes ≡ known
+abbrev pub MatchesContents : Option (List ℕ) → List ℕ → Type 0
+MatchesContents None bytes = Unit {0}
+MatchesContents (Some known) bytes = bytes ≡ known

@@ -2,11 +2,11 @@ ghost use Rattle.std.specs.Prelude.{◌≡◌, IfErr, List, codes, false, map, t
 ghost use Rattle.std.specs.Io.KnownBytes.{Keeps};
 ghost use Rattle.std.specs.IoError.{error_kind};
 ghost use Rattle.clap.specs.Words.{kind_of};
-ghost use Rattle.dmlw.specs.CommandLine.{is_plain, log_words, record_words};
+ghost use Rattle.dmlw.specs.CommandLine.{is_positional, log_words, record_words};
 ghost use Rattle.dmlw.specs.Commands.{EndsCommand, EndsRecording, EndsShowing, EndsTask, EndsUntasked, is_asked_for, unread_exit};
 ghost use Rattle.dmlw.specs.Tasks.{IsRead};
 ghost use Rattle.dmlw.specs.declared.command_line.Task.{Task};
-ghost use Rattle.script_runner.specs.Faults.{IsFileFault};
+ghost use Rattle.script_runner.specs.Errors.{IsFileError};
 ghost use Rattle.dmlw.specs.Exits.{exit_by, exit_of, status_of};
 ghost use Rattle.dmlw.specs.Lists.{ListsImage, TellsStatus};
 
@@ -16,10 +16,10 @@ use crate::files::Files;
 use crate::list::list;
 use crate::record::record;
 use crate::status::status;
-use bio::Refusal;
 use clap::Error;
 use clap::error::ErrorKind;
-use script_runner::Fault;
+use refusals::Refusal;
+use script_runner::RunError;
 use std::alloc::Global;
 use std::convert::AsStr;
 use std::io;
@@ -38,23 +38,23 @@ pub fn execute<'a, S: AsStr, F: Files, O: Write, E: Write>(
 ) -> u8
     // Whatever the words are: it does what they are read as, and no more.
     ensures does { (task : Task) × IsRead (map S.text words.entry.now) task ×
-        EndsTask task (F.held files.old) (F.writes files.old) (F.writes files.new)
+        EndsTask task (F.contents files.old) (F.writes files.old) (F.writes files.new)
         (O.contents out.old) (O.contents out.new) result }
     ensures command { EndsCommand (F.writes files.old) (F.writes files.new) result }
 
     // Words that don't begin with a hyphen are names of files.
     ensures record { (program script log : List ℕ) →
         map S.text words.entry.now ≡ record_words program script log →
-        is_plain script ≡ true → is_plain log ≡ true →
-        EndsRecording (F.held files.old script) log (F.writes files.old) (F.writes files.new)
+        is_positional script ≡ true → is_positional log ≡ true →
+        EndsRecording (F.contents files.old script) log (F.writes files.old) (F.writes files.new)
         (O.contents out.old) (O.contents out.new) result }
     ensures list { (program log : List ℕ) →
-        map S.text words.entry.now ≡ log_words program (codes "list") log → is_plain log ≡ true →
-        EndsShowing ListsImage (F.held files.old log) (F.writes files.old) (F.writes files.new)
+        map S.text words.entry.now ≡ log_words program (codes "list") log → is_positional log ≡ true →
+        EndsShowing ListsImage (F.contents files.old log) (F.writes files.old) (F.writes files.new)
         (O.contents out.old) (O.contents out.new) result }
     ensures status { (program log : List ℕ) →
-        map S.text words.entry.now ≡ log_words program (codes "status") log → is_plain log ≡ true →
-        EndsShowing TellsStatus (F.held files.old log) (F.writes files.old) (F.writes files.new)
+        map S.text words.entry.now ≡ log_words program (codes "status") log → is_positional log ≡ true →
+        EndsShowing TellsStatus (F.contents files.old log) (F.writes files.old) (F.writes files.new)
         (O.contents out.old) (O.contents out.new) result }
 {
     let exit = match read_words(alloc, words) {
@@ -85,13 +85,13 @@ pub fn refuse<E: Write>(error: io::Error, err: &mut E) -> u8
             let _ = writeln!(err, "error: a word of the command line isn't UTF-8 text");
             Exit::Usage
         }
-        _ => tell(Fault::from(error), err),
+        _ => tell(RunError::from(error), err),
     };
     exit.status()
 }
 
 // How a command ends that did this. A fault is told, behind what was printed before it.
-fn end<O: Write, E: Write>(done: Result<(), Fault>, out: &mut O, err: &mut E) -> Exit
+fn end<O: Write, E: Write>(done: Result<(), RunError>, out: &mut O, err: &mut E) -> Exit
     ensures exit { result ≡ exit_by done }
     ensures kept { Keeps (O.contents out.old) (O.contents out.new) }
 {
@@ -105,7 +105,7 @@ fn end<O: Write, E: Write>(done: Result<(), Fault>, out: &mut O, err: &mut E) ->
 }
 
 // Tells a fault. Where that fails too nobody is left to be told.
-fn tell<E: Write>(fault: Fault, err: &mut E) -> Exit
+fn tell<E: Write>(fault: RunError, err: &mut E) -> Exit
     ensures { result ≡ exit_of fault }
 {
     let _ = writeln!(err, "dmlw: {fault}");
@@ -119,7 +119,7 @@ fn show<O: Write, E: Write>(text: Error, out: &mut O, err: &mut E) -> Exit
     ensures silent { is_asked_for (kind_of text) ≡ false → Keeps (O.contents out.old) (O.contents out.new) }
 {
     match text.kind() {
-        ErrorKind::OutOfMemory => tell(Fault::from(Refusal::Memory), err),
+        ErrorKind::OutOfMemory => tell(RunError::from(Refusal::Memory), err),
         ErrorKind::DisplayHelp | ErrorKind::DisplayVersion => end(print(&text, out), out, err),
         _ => {
             let _ = print(&text, err);
@@ -128,8 +128,8 @@ fn show<O: Write, E: Write>(text: Error, out: &mut O, err: &mut E) -> Exit
     }
 }
 
-fn print<W: Write>(text: &Error, to: &mut W) -> Result<(), Fault>
-    ensures { IfErr result IsFileFault }
+fn print<W: Write>(text: &Error, to: &mut W) -> Result<(), RunError>
+    ensures { IfErr result IsFileError }
 {
     write!(to, "{text}")?;
     to.flush()?;

@@ -1,7 +1,7 @@
 ghost use Rattle.std.specs.Prelude.{◌≡◌};
 ghost use Rattle.dmlw.specs.Exits.{exit_of, status_of};
 
-use script_runner::Fault;
+use script_runner::RunError;
 
 /// How a command ended.
 #[derive(Clone, Copy, Debug, PartialEq, Eq)]
@@ -30,13 +30,13 @@ impl Exit {
     }
 }
 
-impl From<Fault> for Exit {
+impl From<RunError> for Exit {
     ghost from_gives = { λ fault exit. exit ≡ exit_of fault };
 
-    fn from(fault: Fault) -> Exit {
+    fn from(fault: RunError) -> Exit {
         match fault {
-            Fault::Refused { .. } => Exit::Refused,
-            Fault::LoggingEnded(_) => Exit::LoggingEnded,
+            RunError::Refused(_) => Exit::Refused,
+            RunError::LoggingEnded(_) => Exit::LoggingEnded,
         }
     }
 }

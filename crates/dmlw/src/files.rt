@@ -1,11 +1,11 @@
 ghost use Rattle.std.specs.Prelude.{◌≡◌, ◌≤◌, IfOk, List, Option, vec_len, ℕ};
 ghost use Rattle.std.specs.IoError.{error_kind};
-ghost use Rattle.script_runner.specs.Faults.{refused_by};
-ghost use Rattle.dmlw.specs.Files.{IsHeld, Write, one_more};
+ghost use Rattle.script_runner.specs.Errors.{refused_by};
+ghost use Rattle.dmlw.specs.Files.{MatchesContents, Write, one_more};
 ghost use Rattle.dmlw.specs.FileErrors.{file_error, file_refusal};
 
-use bio::Refusal;
-use script_runner::Fault;
+use refusals::Refusal;
+use script_runner::RunError;
 use std::alloc::Global;
 use std::io;
 use thiserror::Error;
@@ -43,25 +43,25 @@ impl From<FileError> for Refusal {
     }
 }
 
-impl From<FileError> for Fault {
+impl From<FileError> for RunError {
     ghost from_gives = { λ error fault. fault ≡ refused_by (file_refusal error) };
 
-    fn from(error: FileError) -> Fault {
-        Fault::from(Refusal::from(error))
+    fn from(error: FileError) -> RunError {
+        RunError::from(Refusal::from(error))
     }
 }
 
 /// The files that a command reads and writes, by name.
 pub trait Files {
     /// What the file of a name holds, where it is known.
-    ghost held: { Self → List ℕ → Option (List ℕ) };
+    ghost contents: { Self → List ℕ → Option (List ℕ) };
 
     /// The writes that were asked for, in order, where they are known.
     ghost writes: { Self → Option (List Write) };
 
     /// The whole of a file of at most `limit` bytes.
     fn read(&mut self, alloc: Global, name: &str, limit: u64) -> Result<Vec<u8>, FileError>
-        ensures held { IfOk result (λ bytes. IsHeld (held self.old name.now) bytes.items) }
+        ensures contents { IfOk result (λ bytes. MatchesContents (contents self.old name.now) bytes.items) }
         ensures within { IfOk result (λ bytes. vec_len bytes ≤ limit) }
         ensures writes { writes self.new ≡ writes self.old };
 

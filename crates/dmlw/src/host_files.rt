@@ -18,7 +18,7 @@ impl<'a, R: std::rt::Files> HostFiles<'a, R> {
 }
 
 impl<R: std::rt::Files> Files for HostFiles<'_, R> {
-    ghost held = { λ _ _. None };
+    ghost contents = { λ _ _. None };
 
     ghost writes = { λ _. None };
 

@@ -3,7 +3,7 @@ ghost use Rattle.dmlw.specs.Records.{FailsRecording, IsScriptLog, IsToldLog, Tel
 
 use crate::files::Files;
 use dmlw_script::{Kind, read_script};
-use script_runner::{Fault, Filled, run};
+use script_runner::{Filled, RunError, run};
 use std::alloc::Global;
 use std::io::Write;
 
@@ -18,12 +18,12 @@ pub fn record<F: Files, O: Write>(
     log: &str,
     files: &mut F,
     out: &mut O,
-) -> Result<(), Fault>
-    ensures log { WritesLog (F.held files.old script.now) log.now (F.writes files.old) (F.writes files.new) result }
-    ensures printed { OnOk result (TellsLog (F.held files.old script.now) log.now
+) -> Result<(), RunError>
+    ensures log { WritesLog (F.contents files.old script.now) log.now (F.writes files.old) (F.writes files.new) result }
+    ensures printed { OnOk result (TellsLog (F.contents files.old script.now) log.now
         (F.writes files.old) (F.writes files.new) (O.contents out.old) (O.contents out.new)) }
     ensures faults { IfErr result
-        (FailsRecording (F.held files.old script.now) (O.contents out.old) (O.contents out.new)) }
+        (FailsRecording (F.contents files.old script.now) (O.contents out.old) (O.contents out.new)) }
 {
     let filled = run_file(alloc, script, files, out)?;
     files.write(log, &filled.image)?;
@@ -36,12 +36,12 @@ fn run_file<F: Files, O: Write>(
     script: &str,
     files: &mut F,
     out: &mut O,
-) -> Result<Filled, Fault>
-    ensures log { IfOk result (λ filled. IsScriptLog (F.held files.old script.now) filled.image.items) }
-    ensures printed { IfOk result (λ filled. IsToldLog (F.held files.old script.now) filled.image.items
+) -> Result<Filled, RunError>
+    ensures log { IfOk result (λ filled. IsScriptLog (F.contents files.old script.now) filled.image.items) }
+    ensures printed { IfOk result (λ filled. IsToldLog (F.contents files.old script.now) filled.image.items
         (O.contents out.old) (O.contents out.new)) }
     ensures faults { IfErr result
-        (FailsRecording (F.held files.old script.now) (O.contents out.old) (O.contents out.new)) }
+        (FailsRecording (F.contents files.old script.now) (O.contents out.old) (O.contents out.new)) }
     ensures unwritten { F.writes files.new ≡ F.writes files.old }
 {
     let text = files.read(alloc, script, MAX_SCRIPT_BYTES)?;

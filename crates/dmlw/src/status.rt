@@ -3,8 +3,8 @@ ghost use Rattle.dmlw.specs.Lists.{ShowsFile, TellsStatus};
 
 use crate::files::Files;
 use crate::image::read_image;
-use bio::Refusal;
-use script_runner::Fault;
+use refusals::Refusal;
+use script_runner::RunError;
 use std::alloc::Global;
 use std::io::Write;
 
@@ -15,8 +15,8 @@ pub fn status<F: Files, O: Write>(
     log: &str,
     files: &mut F,
     out: &mut O,
-) -> Result<(), Fault>
-    ensures shown { ShowsFile TellsStatus (F.held files.old log.now)
+) -> Result<(), RunError>
+    ensures shown { ShowsFile TellsStatus (F.contents files.old log.now)
         (O.contents out.old) (O.contents out.new) result }
     ensures unwritten { F.writes files.new ≡ F.writes files.old }
 {
@@ -25,7 +25,7 @@ pub fn status<F: Files, O: Write>(
 }
 
 // Prints the status of the log that an image holds.
-fn tell_status<O: Write>(image: &[u8], out: &mut O) -> Result<(), Fault>
+fn tell_status<O: Write>(image: &[u8], out: &mut O) -> Result<(), RunError>
     ensures { TellsStatus image.now (O.contents out.old) (O.contents out.new) result }
 {
     let status = log_reader::status(image).map_err(Refusal::from)?;

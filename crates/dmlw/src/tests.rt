@@ -32,7 +32,7 @@ impl<'a> FakeFiles<'a> {
 }
 
 impl Files for FakeFiles<'_> {
-    ghost held = { λ _ _. None };
+    ghost contents = { λ _ _. None };
 
     ghost writes = { λ _. None };
 
@@ -360,7 +360,7 @@ fn reads_command_lines(rt: HostRuntime) {
 }
 
 #[test]
-fn takes_names_behind_two_hyphens(rt: HostRuntime) {
+fn takes_names_after_two_hyphens(rt: HostRuntime) {
     let alloc = rt.alloc();
     let ran = run(
         alloc,

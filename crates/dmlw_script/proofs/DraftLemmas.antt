@@ -8,11 +8,11 @@ use Rattle.std.proofs.Math.Bool.{or-false, or-true}
 use Rattle.std.proofs.lemmas.List.{length-append, length-set}
 use Rattle.dmlw_script.specs.declared.command.Command.{Command}
 use Rattle.dmlw_script.specs.declared.command.Command.TheVariants as commands
-use Rattle.dmlw_script.specs.Drafts.{named_next, with_name, Body, IsFlags}
-use Rattle.dmlw_script.specs.Names.{same_name}
+use Rattle.dmlw_script.specs.inside.Drafts.{named_next, with_name, Body, IsFlags}
+use Rattle.dmlw_script.specs.Ids.{same_name}
 use Rattle.dmlw_script.specs.Plans.{is_end_of, is_ended, request_of}
-use Rattle.dmlw_script.specs.declared.name.Name.{Name}
-use Rattle.bio.specs.declared.refusal.Refusal.TheVariants.{BadId}
+use Rattle.dmlw_script.specs.declared.script_id.ScriptId.{ScriptId}
+use Rattle.refusals.specs.declared.refusal.Refusal.TheVariants.{BadId}
 
 -- one more command
 pub is_ended-push : (request : ℕ) (body : List Command) (command : Command) → is_ended request (body ++ command ∷ []) ≡ (is_ended request body || is_end_of request command)
@@ -70,13 +70,13 @@ listed p [] = refl
 listed p (x ∷ xs) = listed_step (p x) _ _ _ (listed p xs)
 
 -- a new id
-pub with_new_name : (b : Body) (name : Name) → list_any (same_name name) b.names ≡ false → with_name b name ≡ Ok (record b { names = b.names ++ name ∷ [] })
+pub with_new_name : (b : Body) (name : ScriptId) → list_any (same_name name) b.names ≡ false → with_name b name ≡ Ok (record b { names = b.names ++ name ∷ [] })
 with_new_name b name new =
     let none : request_of name b.names ≡ None = cond-false _ _ _ (listed (same_name name) b.names ∙ new) in
     ap (λ o. named_next o b name) none
 
 -- an id that was submitted
-pub with_old_name : (b : Body) (name : Name) → list_any (same_name name) b.names ≡ true → with_name b name ≡ Err BadId
+pub with_old_name : (b : Body) (name : ScriptId) → list_any (same_name name) b.names ≡ true → with_name b name ≡ Err BadId
 with_old_name b name old =
     let some : request_of name b.names ≡ Some (position_or_len (same_name name) b.names) = cond-true _ _ _ (listed (same_name name) b.names ∙ old) in
     ap (λ o. named_next o b name) some

@@ -1,11 +1,11 @@
 pub mod WordLemmas
 pub mod DraftLemmas
 pub mod LineLemmas
-pub mod SentenceLaws
+pub mod ParsingLaws
 pub mod BodyLaws
 pub mod ReadingLaws
 pub mod FaultLaws
 pub mod TextLaws
-pub mod SpellingLaws
+pub mod CanonicalTextLaws
 pub mod ScriptLaws
 pub mod OneFault

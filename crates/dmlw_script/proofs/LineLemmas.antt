@@ -1,12 +1,12 @@
 use Rattle.std.proofs.Common.{◌≡◌, ℕ, ◌+◌, ◌<◌, ◌≤◌, Bool, true, false, cond, List, [], ◌∷◌, length, Option, Some, None, refl, ap, arith}
 use Rattle.std.specs.Prelude.{◌==◌, unwrap_or}
 use Rattle.std.specs.List.{onto_first}
-use Rattle.dmlw_script.specs.Words.{front, behind}
-use Rattle.dmlw_script.specs.Lines.{is_skipped, kept_numbers, lines_of}
+use Rattle.dmlw_script.specs.Words.{before_byte, after_byte}
+use Rattle.dmlw_script.specs.Lines.{is_skipped, unskipped_numbers, lines_of}
 
 -- the text behind the first line
 abbrev pub after_line : List ℕ → List ℕ
-after_line text = unwrap_or (behind 10 text) []
+after_line text = unwrap_or (after_byte 10 text) []
 
 -- a line of one byte
 alone_step : (t : Bool) (b : ℕ) → cond t ([] ∷ []) ((b ∷ []) ∷ []) ≡ cond t [] (b ∷ []) ∷ lines_of (unwrap_or (cond t (Some []) None) [])
@@ -20,7 +20,7 @@ first_step true b bytes f after same = refl
 first_step false b bytes f after same = ap (λ ls. onto_first b ls) same
 
 -- the first line of a text that isn't empty
-pub first_line : (b : ℕ) (bytes : List ℕ) → lines_of (b ∷ bytes) ≡ front 10 (b ∷ bytes) ∷ lines_of (after_line (b ∷ bytes))
+pub first_line : (b : ℕ) (bytes : List ℕ) → lines_of (b ∷ bytes) ≡ before_byte 10 (b ∷ bytes) ∷ lines_of (after_line (b ∷ bytes))
 first_line b [] = alone_step (b == 10) b
 first_line b (c ∷ bytes) = first_step (b == 10) b (c ∷ bytes) _ _ (first_line c bytes)
 
@@ -32,14 +32,14 @@ shorter_step false b bytes after low = omega arith
 -- the text behind the first line is no longer
 pub after_line_short : (text : List ℕ) → length (after_line text) ≤ length text
 after_line_short [] = omega arith
-after_line_short (b ∷ bytes) = let h = shorter_step (b == 10) b bytes (behind 10 bytes) (after_line_short bytes) in omega arith
+after_line_short (b ∷ bytes) = let h = shorter_step (b == 10) b bytes (after_byte 10 bytes) (after_line_short bytes) in omega arith
 
 -- and shorter where there is one
 pub after_line_shorter : (b : ℕ) (bytes : List ℕ) → length (after_line (b ∷ bytes)) < length (b ∷ bytes)
-after_line_shorter b bytes = shorter_step (b == 10) b bytes (behind 10 bytes) (after_line_short bytes)
+after_line_shorter b bytes = shorter_step (b == 10) b bytes (after_byte 10 bytes) (after_line_short bytes)
 
 -- the first line, and the shorter text behind it
-pub first_line_of : (text : List ℕ) → 0 < length text → (lines_of text ≡ front 10 text ∷ lines_of (after_line text)) × (length (after_line text) < length text)
+pub first_line_of : (text : List ℕ) → 0 < length text → (lines_of text ≡ before_byte 10 text ∷ lines_of (after_line text)) × (length (after_line text) < length text)
 first_line_of [] filled = absurd (omega arith)
 first_line_of (b ∷ bytes) filled = (first_line b bytes, after_line_shorter b bytes)
 
@@ -60,6 +60,6 @@ kept_step true number ns n low = omega arith
 kept_step false number ns n low = omega arith
 
 -- nor more that aren't skipped
-pub kept_short : (number : ℕ) (lines : List (List ℕ)) → length (kept_numbers number lines) ≤ length lines
+pub kept_short : (number : ℕ) (lines : List (List ℕ)) → length (unskipped_numbers number lines) ≤ length lines
 kept_short number [] = omega arith
-kept_short number (line ∷ lines) = let h = kept_step (is_skipped line) number (kept_numbers (number + 1) lines) (length lines) (kept_short (number + 1) lines) in omega arith
+kept_short number (line ∷ lines) = let h = kept_step (is_skipped line) number (unskipped_numbers (number + 1) lines) (length lines) (kept_short (number + 1) lines) in omega arith

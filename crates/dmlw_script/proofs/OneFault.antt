@@ -3,27 +3,27 @@ use Rattle.std.proofs.lemmas.Bool.{cases_lt}
 use Rattle.std.proofs.lemmas.List.{append-nil}
 use Rattle.bio.specs.Check.{range_answer}
 use Rattle.bio.specs.Refusals.{bad_bio_refusal}
-use Rattle.bio.specs.declared.refusal.Refusal.{Refusal}
+use Rattle.refusals.specs.declared.refusal.Refusal.{Refusal}
 use Rattle.bio.specs.declared.request.BadBio.{BadBio}
-use Rattle.dmlw_script.specs.declared.name.Name.{Name}
-use Rattle.dmlw_script.specs.declared.sentence.Sentence.{Sentence}
-use Rattle.dmlw_script.specs.declared.sentence.Sentence.TheVariants.{Write}
-use Rattle.dmlw_script.specs.Grammar.{Says, SpellsLines}
+use Rattle.dmlw_script.specs.declared.script_id.ScriptId.{ScriptId}
+use Rattle.dmlw_script.specs.declared.line.Line.{Line}
+use Rattle.dmlw_script.specs.declared.line.Line.TheVariants.{Write}
+use Rattle.dmlw_script.specs.Grammar.{ParsesAs, AreLinesOf}
 use Rattle.dmlw_script.specs.Plans.{Plan}
-use Rattle.dmlw_script.specs.Reading.{bad_id, bad_line, bad_request, id_fits, BeginsScript, FaultBehind, IsFirstFault, IsLineFault}
+use Rattle.dmlw_script.specs.Reading.{bad_id, bad_line, bad_request, id_fits, BeginsScript, FaultAfter, IsFirstFault, IsLineFault}
 use Rattle.dmlw_script.proofs.ReadingLaws.{spelled_lines}
-use Rattle.dmlw_script.proofs.SentenceLaws.{sentence_again}
+use Rattle.dmlw_script.proofs.ParsingLaws.{sentence_again}
 
 -- a line says one thing
-one_sentence : (line : List ℕ) (s t : Sentence) → Says line s → Says line t → s ≡ t
+one_sentence : (line : List ℕ) (s t : Line) → ParsesAs line s → ParsesAs line t → s ≡ t
 one_sentence line s t says_s says_t = let both = sym (sentence_again line s says_s) ∙ sentence_again line t says_t in cc
 
 -- lines are those of one script
-one_plan : (lines : List (List ℕ)) (p q : Plan) → SpellsLines lines p → SpellsLines lines q → p ≡ q
+one_plan : (lines : List (List ℕ)) (p q : Plan) → AreLinesOf lines p → AreLinesOf lines q → p ≡ q
 one_plan lines p q spells again = let both = sym (spelled_lines lines 1 p spells) ∙ spelled_lines lines 1 q again in cc
 
 -- a write that says the same has the same test of its sectors
-one_answer : (name other : Name) (first count byte f c b : ℕ) (p q : Plan) (bad worse : BadBio) → Write name first count byte ≡ Write other f c b → p ≡ q
+one_answer : (name other : ScriptId) (first count byte f c b : ℕ) (p q : Plan) (bad worse : BadBio) → Write name first count byte ≡ Write other f c b → p ≡ q
     → range_answer first count p.data_sectors ≡ Err bad → range_answer f c q.data_sectors ≡ Err worse → bad ≡ worse
 one_answer name other first count byte f c b p q bad worse same plans is_bad is_worse =
     let firsts : first ≡ f = cc in
@@ -34,34 +34,34 @@ one_answer name other first count byte f c b p q bad worse same plans is_bad is_
     cc
 
 -- an id that doesn't fit isn't one that fits
-one_fit : (s t : Sentence) (p q : Plan) → s ≡ t → p ≡ q → id_fits p s ≡ false → id_fits q t ≡ true → ⊥
+one_fit : (s t : Line) (p q : Plan) → s ≡ t → p ≡ q → id_fits p s ≡ false → id_fits q t ≡ true → ⊥
 one_fit s t p q same plans unfit fits =
-    let both : id_fits p s ≡ id_fits q t = ap (λ (x : Sentence). id_fits p x) same ∙ ap (λ (plan : Plan). id_fits plan t) plans in
+    let both : id_fits p s ≡ id_fits q t = ap (λ (x : Line). id_fits p x) same ∙ ap (λ (plan : Plan). id_fits plan t) plans in
     cc
 
 -- a line has one first reason why it can't stand there
 one_reason : (before : List (List ℕ)) (line : List ℕ) (r s : Refusal) → IsLineFault before line r → IsLineFault before line s → r ≡ s
 one_reason before line r s (bad_line f) (bad_line g) = refl
-one_reason before line r s (bad_line f) (bad_id t p behind spells unfit) = absurd (f t behind)
-one_reason before line r s (bad_line f) (bad_request name first count byte p bad behind spells fits is_bad) = absurd (f _ behind)
-one_reason before line r s (bad_id t p behind spells unfit) (bad_line g) = absurd (g t behind)
-one_reason before line r s (bad_id t p behind spells unfit) (bad_id u q there again not) = refl
-one_reason before line r s (bad_id t p behind spells unfit) (bad_request name first count byte q bad there again fits is_bad) =
-    absurd (one_fit t (Write name first count byte) p q (one_sentence line t (Write name first count byte) behind.says there.says) (one_plan before p q spells again) unfit fits)
-one_reason before line r s (bad_request name first count byte p bad behind spells fits is_bad) (bad_line g) = absurd (g _ behind)
-one_reason before line r s (bad_request name first count byte p bad behind spells fits is_bad) (bad_id u q there again unfit) =
-    absurd (one_fit u (Write name first count byte) q p (one_sentence line u (Write name first count byte) there.says behind.says) (one_plan before q p again spells) unfit fits)
-one_reason before line r s (bad_request name first count byte p bad behind spells fits is_bad) (bad_request other f c b q worse there again also is_worse) =
+one_reason before line r s (bad_line f) (bad_id t p after_byte spells unfit) = absurd (f t after_byte)
+one_reason before line r s (bad_line f) (bad_request name first count byte p bad after_byte spells fits is_bad) = absurd (f _ after_byte)
+one_reason before line r s (bad_id t p after_byte spells unfit) (bad_line g) = absurd (g t after_byte)
+one_reason before line r s (bad_id t p after_byte spells unfit) (bad_id u q there again not) = refl
+one_reason before line r s (bad_id t p after_byte spells unfit) (bad_request name first count byte q bad there again fits is_bad) =
+    absurd (one_fit t (Write name first count byte) p q (one_sentence line t (Write name first count byte) after_byte.says there.says) (one_plan before p q spells again) unfit fits)
+one_reason before line r s (bad_request name first count byte p bad after_byte spells fits is_bad) (bad_line g) = absurd (g _ after_byte)
+one_reason before line r s (bad_request name first count byte p bad after_byte spells fits is_bad) (bad_id u q there again unfit) =
+    absurd (one_fit u (Write name first count byte) q p (one_sentence line u (Write name first count byte) there.says after_byte.says) (one_plan before q p again spells) unfit fits)
+one_reason before line r s (bad_request name first count byte p bad after_byte spells fits is_bad) (bad_request other f c b q worse there again also is_worse) =
     ap bad_bio_refusal
     (one_answer name other first count byte f c b p q bad worse
-    (one_sentence line (Write name first count byte) (Write other f c b) behind.says there.says) (one_plan before p q spells again) is_bad is_worse)
+    (one_sentence line (Write name first count byte) (Write other f c b) after_byte.says there.says) (one_plan before p q spells again) is_bad is_worse)
 
 -- lines that begin a script begin by lines that do
 begins_before : (before more : List (List ℕ)) → BeginsScript (before ++ more) → BeginsScript before
 begins_before before more begins = record {
   more = more ++ begins.more;
   plan = begins.plan;
-  spells = subst (λ (lines : List (List ℕ)). SpellsLines lines begins.plan) (append_assoc before more begins.more) begins.spells;
+  spells = subst (λ (lines : List (List ℕ)). AreLinesOf lines begins.plan) (append_assoc before more begins.more) begins.spells;
 }
 
 -- lines in two parts, the first of which is longer than another
@@ -102,15 +102,15 @@ same_parts (first ∷ a) x (line ∷ b) y same lens =
     (cc, more.1)
 
 -- behind a fault no lines begin a script
-none_longer : (a x b : List (List ℕ)) (r : Refusal) → FaultBehind a x r → Longer a x b → BeginsScript b → ⊥
+none_longer : (a x b : List (List ℕ)) (r : Refusal) → FaultAfter a x r → Longer a x b → BeginsScript b → ⊥
 none_longer a x b r fault more begins =
-    let F : List (List ℕ) → Type 0 = λ ls. FaultBehind a ls r in
-    let there : FaultBehind a (more.line ∷ more.tail) r = subst F more.rest_is fault in
+    let F : List (List ℕ) → Type 0 = λ ls. FaultAfter a ls r in
+    let there : FaultAfter a (more.line ∷ more.tail) r = subst F more.rest_is fault in
     let regrouped : b ≡ (a ++ more.line ∷ []) ++ more.between = more.long_is ∙ sym (append_assoc a (more.line ∷ []) more.between) in
     there.0 (begins_before (a ++ more.line ∷ []) more.between (subst BeginsScript regrouped begins))
 
 -- behind the same lines there is one reason
-one_behind : (a x : List (List ℕ)) (r s : Refusal) → FaultBehind a x r → FaultBehind a x s → r ≡ s
+one_behind : (a x : List (List ℕ)) (r s : Refusal) → FaultAfter a x r → FaultAfter a x s → r ≡ s
 one_behind a [] r s at_r at_s = at_r.0 ∙ sym at_s.0
 one_behind a (line ∷ x) r s at_r at_s = one_reason a line r s at_r.1 at_s.1
 
@@ -133,23 +133,23 @@ one_first_fault lines m n r s f g =
     let place : m ≡ length f.before + 1 = f.place in
     let other : n ≡ length g.before + 1 = g.place in
     let parts = same_parts f.before f.more g.before g.more (sym f.split ∙ g.split) (omega arith) in
-    let B : List (List ℕ) → Type 0 = λ ls. FaultBehind ls g.more s in
-    let M : List (List ℕ) → Type 0 = λ ls. FaultBehind f.before ls s in
-    let there : FaultBehind f.before f.more s = subst M (sym parts.1) (subst B (sym parts.0) g.fault) in
+    let B : List (List ℕ) → Type 0 = λ ls. FaultAfter ls g.more s in
+    let M : List (List ℕ) → Type 0 = λ ls. FaultAfter f.before ls s in
+    let there : FaultAfter f.before f.more s = subst M (sym parts.1) (subst B (sym parts.0) g.fault) in
     (omega arith, one_behind f.before f.more r s f.fault there)
 
 -- lines of a script have none behind lines that begin one
-whole_behind : (before more : List (List ℕ)) (plan : Plan) (r : Refusal) → SpellsLines (before ++ more) plan → FaultBehind before more r → ⊥
+whole_behind : (before more : List (List ℕ)) (plan : Plan) (r : Refusal) → AreLinesOf (before ++ more) plan → FaultAfter before more r → ⊥
 whole_behind before [] plan r spells fault =
-    fault.1 plan (subst (λ (lines : List (List ℕ)). SpellsLines lines plan) (append-nil before) spells)
+    fault.1 plan (subst (λ (lines : List (List ℕ)). AreLinesOf lines plan) (append-nil before) spells)
 whole_behind before (line ∷ more) plan r spells fault =
     fault.0 (record {
       more = more;
       plan = plan;
-      spells = subst (λ (lines : List (List ℕ)). SpellsLines lines plan) (sym (append_assoc before (line ∷ []) more)) spells;
+      spells = subst (λ (lines : List (List ℕ)). AreLinesOf lines plan) (sym (append_assoc before (line ∷ []) more)) spells;
     })
 
 -- a script has no fault
-pub no_fault : (lines : List (List ℕ)) (plan : Plan) (m : ℕ) (r : Refusal) → SpellsLines lines plan → IsFirstFault lines m r → ⊥
+pub no_fault : (lines : List (List ℕ)) (plan : Plan) (m : ℕ) (r : Refusal) → AreLinesOf lines plan → IsFirstFault lines m r → ⊥
 no_fault lines plan m r spells f =
-    whole_behind f.before f.more plan r (subst (λ (ls : List (List ℕ)). SpellsLines ls plan) f.split spells) f.fault
+    whole_behind f.before f.more plan r (subst (λ (ls : List (List ℕ)). AreLinesOf ls plan) f.split spells) f.fault

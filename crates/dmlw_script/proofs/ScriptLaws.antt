@@ -8,15 +8,15 @@ use Rattle.std.proofs.lemmas.Option.{slice_get-get_or, slice_get_past}
 use Rattle.std.proofs.Math.Bool.{or-true}
 use Rattle.dmlw_script.specs.declared.command.Command.{Command}
 use Rattle.dmlw_script.specs.declared.command.Command.TheVariants as commands
-use Rattle.dmlw_script.specs.declared.name.Name.{Name}
-use Rattle.dmlw_script.specs.declared.sentence.Sentence.{Sentence}
-use Rattle.dmlw_script.specs.declared.sentence.Sentence.TheVariants.{Data, Log, Write, Flush, Complete, Close}
-use Rattle.dmlw_script.specs.Grammar.{IsLineOf, IsNumber, Says, Spells, SpellsLines}
-use Rattle.dmlw_script.specs.Lines.{command_line, is_plain, is_skipped, kept, kept_numbers, lines_of}
-use Rattle.dmlw_script.specs.Plans.{behind_command, body_sentences, is_end_of, is_ended, sentences_of, IsOrderly, IsPlan, MayCome, Plan}
-use Rattle.dmlw_script.specs.Spelling.{spelling}
+use Rattle.dmlw_script.specs.declared.script_id.ScriptId.{ScriptId}
+use Rattle.dmlw_script.specs.declared.line.Line.{Line}
+use Rattle.dmlw_script.specs.declared.line.Line.TheVariants.{Data, Log, Write, Flush, Complete, Close}
+use Rattle.dmlw_script.specs.Grammar.{IsLineOf, IsNumber, ParsesAs, IsTextOf, AreLinesOf}
+use Rattle.dmlw_script.specs.Lines.{command_line, is_ascii_line, is_skipped, unskipped, unskipped_numbers, lines_of}
+use Rattle.dmlw_script.specs.Plans.{count_after_command, lines_of_body, is_end_of, is_ended, lines_of_script, IsWellFormed, IsPlan, CanFollow, Plan}
+use Rattle.dmlw_script.specs.CanonicalText.{canonical_text}
 use Rattle.dmlw_script.specs.Words.{number_value}
-use Rattle.dmlw_script.proofs.SpellingLaws.{spelling_spells}
+use Rattle.dmlw_script.proofs.CanonicalTextLaws.{spelling_spells}
 use Rattle.dmlw_script.proofs.TextLaws.{one_script_of}
 use Rattle.dmlw_script.proofs.FaultLaws.{as_many}
 use Rattle.dmlw_script.proofs.OneFault.{longer}
@@ -24,46 +24,46 @@ use Rattle.dmlw_script.proofs.OneFault.{longer}
 -- ---- spellings
 
 -- scripts of one spelling are one
-pub same_from_spelling : (plan other : Plan) → IsPlan plan → IsPlan other → spelling plan ≡ spelling other → plan ≡ other
+pub same_from_spelling : (plan other : Plan) → IsPlan plan → IsPlan other → canonical_text plan ≡ canonical_text other → plan ≡ other
 same_from_spelling plan other is_plan is_other same =
-    one_script_of (spelling plan) plan other (spelling_spells plan is_plan)
-    (subst (λ (text : List ℕ). Spells text other) (sym same) (spelling_spells other is_other))
+    one_script_of (canonical_text plan) plan other (spelling_spells plan is_plan)
+    (subst (λ (text : List ℕ). IsTextOf text other) (sym same) (spelling_spells other is_other))
 
 -- ---- skipped lines
 
 -- a line that is skipped isn't kept
-kept_without : (before after : List (List ℕ)) (line : List ℕ) → is_skipped line ≡ true → kept (before ++ line ∷ after) ≡ kept (before ++ after)
-kept_without [] after line skipped = ap (λ (t : Bool). cond (not t) (line ∷ kept after) (kept after)) skipped
+kept_without : (before after : List (List ℕ)) (line : List ℕ) → is_skipped line ≡ true → unskipped (before ++ line ∷ after) ≡ unskipped (before ++ after)
+kept_without [] after line skipped = ap (λ (t : Bool). cond (not t) (line ∷ unskipped after) (unskipped after)) skipped
 kept_without (first ∷ before) after line skipped =
     ap (λ (ks : List (List ℕ)). cond (not (is_skipped first)) (first ∷ ks) ks) (kept_without before after line skipped)
 
 -- lines with one more are plain where they are, and it is
-plain_with : (before after : List (List ℕ)) (line : List ℕ) → is_plain line ≡ true → AllByRecursion (λ l. is_plain l ≡ true) (before ++ after)
-    → AllByRecursion (λ l. is_plain l ≡ true) (before ++ line ∷ after)
+plain_with : (before after : List (List ℕ)) (line : List ℕ) → is_ascii_line line ≡ true → AllByRecursion (λ l. is_ascii_line l ≡ true) (before ++ after)
+    → AllByRecursion (λ l. is_ascii_line l ≡ true) (before ++ line ∷ after)
 plain_with [] after line plain all = (plain, all)
 plain_with (first ∷ before) after line plain all = (all.0, plain_with before after line plain all.1)
 
 -- and without it
-plain_without : (before after : List (List ℕ)) (line : List ℕ) → AllByRecursion (λ l. is_plain l ≡ true) (before ++ line ∷ after)
-    → AllByRecursion (λ l. is_plain l ≡ true) (before ++ after)
+plain_without : (before after : List (List ℕ)) (line : List ℕ) → AllByRecursion (λ l. is_ascii_line l ≡ true) (before ++ line ∷ after)
+    → AllByRecursion (λ l. is_ascii_line l ≡ true) (before ++ after)
 plain_without [] after line all = all.1
 plain_without (first ∷ before) after line all = (all.0, plain_without before after line all.1)
 
 -- a skipped line may be put between the lines of a script
-pub spells_with : (before after : List (List ℕ)) (line : List ℕ) (plan : Plan) → is_plain line ≡ true → is_skipped line ≡ true
-    → SpellsLines (before ++ after) plan → SpellsLines (before ++ line ∷ after) plan
+pub spells_with : (before after : List (List ℕ)) (line : List ℕ) (plan : Plan) → is_ascii_line line ≡ true → is_skipped line ≡ true
+    → AreLinesOf (before ++ after) plan → AreLinesOf (before ++ line ∷ after) plan
 spells_with before after line plan plain skipped spells = record {
   plain = plain_with before after line plain spells.plain;
-  says = subst (λ (ks : List (List ℕ)). AllZip Says ks (sentences_of plan)) (sym (kept_without before after line skipped)) spells.says;
+  says = subst (λ (ks : List (List ℕ)). AllZip ParsesAs ks (lines_of_script plan)) (sym (kept_without before after line skipped)) spells.says;
   script = spells.script;
 }
 
 -- and may be left out
 pub spells_without : (before after : List (List ℕ)) (line : List ℕ) (plan : Plan) → is_skipped line ≡ true
-    → SpellsLines (before ++ line ∷ after) plan → SpellsLines (before ++ after) plan
+    → AreLinesOf (before ++ line ∷ after) plan → AreLinesOf (before ++ after) plan
 spells_without before after line plan skipped spells = record {
   plain = plain_without before after line spells.plain;
-  says = subst (λ (ks : List (List ℕ)). AllZip Says ks (sentences_of plan)) (kept_without before after line skipped) spells.says;
+  says = subst (λ (ks : List (List ℕ)). AllZip ParsesAs ks (lines_of_script plan)) (kept_without before after line skipped) spells.says;
   script = spells.script;
 }
 
@@ -76,13 +76,13 @@ record KeptAt (number : ℕ) (lines : List (List ℕ)) (i n : ℕ) : Type 0 wher
   pub more : List (List ℕ)
   pub split : lines ≡ before ++ line ∷ more
   pub number_is : n ≡ number + length before
-  pub behind : length (kept before) ≡ i
-  pub there : slice_get (kept lines) i ≡ Some line
+  pub after_byte : length (unskipped before) ≡ i
+  pub there : slice_get (unskipped lines) i ≡ Some line
 
 -- one line in front that is skipped
 kept_behind : (number : ℕ) (first : List ℕ) (lines : List (List ℕ)) (i n : ℕ) → is_skipped first ≡ true → KeptAt (number + 1) lines i n → KeptAt number (first ∷ lines) i n
 kept_behind number first lines i n skipped rest =
-    let same : kept (first ∷ lines) ≡ kept lines = ap (λ (t : Bool). cond (not t) (first ∷ kept lines) (kept lines)) skipped in
+    let same : unskipped (first ∷ lines) ≡ unskipped lines = ap (λ (t : Bool). cond (not t) (first ∷ unskipped lines) (unskipped lines)) skipped in
     let at : n ≡ number + 1 + length rest.before = rest.number_is in
     record {
       before = first ∷ rest.before;
@@ -90,14 +90,14 @@ kept_behind number first lines i n skipped rest =
       more = rest.more;
       split = ap (λ (ls : List (List ℕ)). first ∷ ls) rest.split;
       number_is = omega arith;
-      behind = ap (λ (t : Bool). length (cond (not t) (first ∷ kept rest.before) (kept rest.before))) skipped ∙ rest.behind;
+      after_byte = ap (λ (t : Bool). length (cond (not t) (first ∷ unskipped rest.before) (unskipped rest.before))) skipped ∙ rest.after_byte;
       there = ap (λ (ks : List (List ℕ)). slice_get ks i) same ∙ rest.there;
     }
 
 -- one line in front that is kept
 kept_next : (number : ℕ) (first : List ℕ) (lines : List (List ℕ)) (i n : ℕ) → is_skipped first ≡ false → KeptAt (number + 1) lines i n → KeptAt number (first ∷ lines) (suc i) n
-kept_next number first lines i n said rest =
-    let same : kept (first ∷ lines) ≡ first ∷ kept lines = ap (λ (t : Bool). cond (not t) (first ∷ kept lines) (kept lines)) said in
+kept_next number first lines i n parse_words rest =
+    let same : unskipped (first ∷ lines) ≡ first ∷ unskipped lines = ap (λ (t : Bool). cond (not t) (first ∷ unskipped lines) (unskipped lines)) parse_words in
     let at : n ≡ number + 1 + length rest.before = rest.number_is in
     record {
       before = first ∷ rest.before;
@@ -105,14 +105,14 @@ kept_next number first lines i n said rest =
       more = rest.more;
       split = ap (λ (ls : List (List ℕ)). first ∷ ls) rest.split;
       number_is = omega arith;
-      behind = ap (λ (t : Bool). length (cond (not t) (first ∷ kept rest.before) (kept rest.before))) said ∙ ap suc rest.behind;
+      after_byte = ap (λ (t : Bool). length (cond (not t) (first ∷ unskipped rest.before) (unskipped rest.before))) parse_words ∙ ap suc rest.after_byte;
       there = ap (λ (ks : List (List ℕ)). slice_get ks (suc i)) same ∙ rest.there;
     }
 
 -- a line in front that is the one
 kept_first : (number : ℕ) (first : List ℕ) (lines : List (List ℕ)) (n : ℕ) → is_skipped first ≡ false → Some number ≡ Some n → KeptAt number (first ∷ lines) zero n
-kept_first number first lines n said same =
-    let kept_front : kept (first ∷ lines) ≡ first ∷ kept lines = ap (λ (t : Bool). cond (not t) (first ∷ kept lines) (kept lines)) said in
+kept_first number first lines n parse_words same =
+    let kept_front : unskipped (first ∷ lines) ≡ first ∷ unskipped lines = ap (λ (t : Bool). cond (not t) (first ∷ unskipped lines) (unskipped lines)) parse_words in
     let is : number ≡ n = cc in
     record {
       before = [];
@@ -120,40 +120,40 @@ kept_first number first lines n said same =
       more = lines;
       split = refl;
       number_is = sym is ∙ omega arith;
-      behind = refl;
+      after_byte = refl;
       there = ap (λ (ks : List (List ℕ)). slice_get ks zero) kept_front;
     }
 
 -- one more line in front
 kept_step : (number : ℕ) (first : List ℕ) (lines : List (List ℕ)) (i n : ℕ) (t : Bool) → is_skipped first ≡ t
-    → slice_get (cond t (kept_numbers (number + 1) lines) (number ∷ kept_numbers (number + 1) lines)) i ≡ Some n
-    → ((j : ℕ) → slice_get (kept_numbers (number + 1) lines) j ≡ Some n → KeptAt (number + 1) lines j n) → KeptAt number (first ∷ lines) i n
+    → slice_get (cond t (unskipped_numbers (number + 1) lines) (number ∷ unskipped_numbers (number + 1) lines)) i ≡ Some n
+    → ((j : ℕ) → slice_get (unskipped_numbers (number + 1) lines) j ≡ Some n → KeptAt (number + 1) lines j n) → KeptAt number (first ∷ lines) i n
 kept_step number first lines i n true skipped e rest = kept_behind number first lines i n skipped (rest i e)
-kept_step number first lines zero n false said e rest = kept_first number first lines n said e
-kept_step number first lines (suc i) n false said e rest = kept_next number first lines i n said (rest i e)
+kept_step number first lines zero n false parse_words e rest = kept_first number first lines n parse_words e
+kept_step number first lines (suc i) n false parse_words e rest = kept_next number first lines i n parse_words (rest i e)
 
 -- a number of the lines that aren't skipped is that of a kept line
-kept_at : (number : ℕ) (lines : List (List ℕ)) (i n : ℕ) → slice_get (kept_numbers number lines) i ≡ Some n → KeptAt number lines i n
+kept_at : (number : ℕ) (lines : List (List ℕ)) (i n : ℕ) → slice_get (unskipped_numbers number lines) i ≡ Some n → KeptAt number lines i n
 kept_at number [] i n e = absurd (cc)
 kept_at number (first ∷ lines) i n e =
     kept_step number first lines i n (is_skipped first) refl e (λ j found. kept_at (number + 1) lines j n found)
 
 -- what a line says, which has this place among those that say something
-said_at : (lines : List (List ℕ)) (ss : List Sentence) (i : ℕ) (line : List ℕ) → AllZip Says lines ss → slice_get lines i ≡ Some line
-    → (s : Sentence) × (slice_get ss i ≡ Some s) × Says line s
+said_at : (lines : List (List ℕ)) (ss : List Line) (i : ℕ) (line : List ℕ) → AllZip ParsesAs lines ss → slice_get lines i ≡ Some line
+    → (s : Line) × (slice_get ss i ≡ Some s) × ParsesAs line s
 said_at [] [] i line says e = absurd (cc)
 said_at [] (s ∷ ss) i line says e = absurd (says)
 said_at (first ∷ lines) [] i line says e = absurd (says)
 said_at (first ∷ lines) (s ∷ ss) zero line says e =
     let same : first ≡ line = cc in
-    (s, refl, subst (λ (l : List ℕ). Says l s) same says.0)
+    (s, refl, subst (λ (l : List ℕ). ParsesAs l s) same says.0)
 said_at (first ∷ lines) (s ∷ ss) (suc i) line says e = said_at lines ss i line says.1 e
 
 -- the line of a command is the one that says it
-pub line_says : (text : List ℕ) (plan : Plan) (place number : ℕ) → Spells text plan → command_line text place ≡ Some number → IsLineOf (lines_of text) plan place number
+pub line_says : (text : List ℕ) (plan : Plan) (place number : ℕ) → IsTextOf text plan → command_line text place ≡ Some number → IsLineOf (lines_of text) plan place number
 line_says text plan place number spells e =
     let found = kept_at 1 (lines_of text) (place + 2) number e in
-    let said = said_at (kept (lines_of text)) (sentences_of plan) (place + 2) found.line spells.says found.there in
+    let parse_words = said_at (unskipped (lines_of text)) (lines_of_script plan) (place + 2) found.line spells.says found.there in
     let body : place + 2 ≡ suc (suc place) = omega arith in
     let at : number ≡ 1 + length found.before = found.number_is in
     record {
@@ -162,48 +162,48 @@ line_says text plan place number spells e =
       more = found.more;
       split = found.split;
       number_is = omega arith;
-      behind = found.behind;
-      sentence = said.0;
-      command = ap (slice_get (sentences_of plan)) (sym body) ∙ said.1;
-      says = said.2;
+      after_byte = found.after_byte;
+      parsed = parse_words.0;
+      command = ap (slice_get (lines_of_script plan)) (sym body) ∙ parse_words.1;
+      says = parse_words.2;
     }
 
 -- as many numbers are told as lines are kept
-length-kept_numbers : (number : ℕ) (lines : List (List ℕ)) → length (kept_numbers number lines) ≡ length (kept lines)
-length-kept_numbers number [] = refl
-length-kept_numbers number (line ∷ lines) = counted_step (is_skipped line) number line (kept_numbers (number + 1) lines) (kept lines) (length-kept_numbers (number + 1) lines)
+length-unskipped_numbers : (number : ℕ) (lines : List (List ℕ)) → length (unskipped_numbers number lines) ≡ length (unskipped lines)
+length-unskipped_numbers number [] = refl
+length-unskipped_numbers number (line ∷ lines) = counted_step (is_skipped line) number line (unskipped_numbers (number + 1) lines) (unskipped lines) (length-unskipped_numbers (number + 1) lines)
   where
     counted_step : (t : Bool) (n : ℕ) (l : List ℕ) (ns : List ℕ) (ks : List (List ℕ)) → length ns ≡ length ks → length (cond t ns (n ∷ ns)) ≡ length (cond (not t) (l ∷ ks) ks)
     counted_step true n l ns ks same = same
     counted_step false n l ns ks same = ap suc same
 
 -- a body's commands have a line each
-length-body_sentences : (names : List Name) (before : ℕ) (body : List Command) → length (body_sentences names before body) ≡ length body
-length-body_sentences names before [] = refl
-length-body_sentences names before (command ∷ body) = ap suc (length-body_sentences names (behind_command before command) body)
+length-lines_of_body : (names : List ScriptId) (before : ℕ) (body : List Command) → length (lines_of_body names before body) ≡ length body
+length-lines_of_body names before [] = refl
+length-lines_of_body names before (command ∷ body) = ap suc (length-lines_of_body names (count_after_command before command) body)
 
 -- as many lines are kept as the head and the commands have
-length-kept : (text : List ℕ) (plan : Plan) → Spells text plan → length (kept_numbers 1 (lines_of text)) ≡ length plan.commands + 2
-length-kept text plan spells =
-    let numbers = length-kept_numbers 1 (lines_of text) in
-    let says = as_many (kept (lines_of text)) (sentences_of plan) spells.says in
-    let body = length-body_sentences plan.names 0 plan.commands in
+length-unskipped : (text : List ℕ) (plan : Plan) → IsTextOf text plan → length (unskipped_numbers 1 (lines_of text)) ≡ length plan.commands + 2
+length-unskipped text plan spells =
+    let numbers = length-unskipped_numbers 1 (lines_of text) in
+    let says = as_many (unskipped (lines_of text)) (lines_of_script plan) spells.says in
+    let body = length-lines_of_body plan.names 0 plan.commands in
     omega arith
 
 -- each command of a script has a line
-pub line_found : (text : List ℕ) (plan : Plan) (place : ℕ) → Spells text plan → place < length plan.commands → (number : ℕ) × (command_line text place ≡ Some number)
+pub line_found : (text : List ℕ) (plan : Plan) (place : ℕ) → IsTextOf text plan → place < length plan.commands → (number : ℕ) × (command_line text place ≡ Some number)
 line_found text plan place spells within =
-    let all = length-kept text plan spells in
-    (get_or (kept_numbers 1 (lines_of text)) (place + 2) 0, slice_get-get_or (kept_numbers 1 (lines_of text)) (place + 2) 0 (omega arith))
+    let all = length-unskipped text plan spells in
+    (get_or (unskipped_numbers 1 (lines_of text)) (place + 2) 0, slice_get-get_or (unskipped_numbers 1 (lines_of text)) (place + 2) 0 (omega arith))
 
 -- just the commands of a script have a line
-pub lined : (text : List ℕ) (plan : Plan) (place : ℕ) → Spells text plan → length plan.commands ≤ place → command_line text place ≡ None
+pub lined : (text : List ℕ) (plan : Plan) (place : ℕ) → IsTextOf text plan → length plan.commands ≤ place → command_line text place ≡ None
 lined text plan place spells past =
-    let all = length-kept text plan spells in
-    slice_get_past (kept_numbers 1 (lines_of text)) (place + 2) (omega arith)
+    let all = length-unskipped text plan spells in
+    slice_get_past (unskipped_numbers 1 (lines_of text)) (place + 2) (omega arith)
 
 -- a line that says something isn't skipped
-said_kept : (line : List ℕ) (s : Sentence) → Says line s → is_skipped line ≡ false
+said_kept : (line : List ℕ) (s : Line) → ParsesAs line s → is_skipped line ≡ false
 said_kept line (Data n) says = ap is_skipped says.spelled
 said_kept line (Log n) says = ap is_skipped says.spelled
 said_kept line (Write name first count byte) says = ap is_skipped says.spelled
@@ -212,11 +212,11 @@ said_kept line (Complete name) says = ap is_skipped says.spelled
 said_kept line Close says = ap is_skipped says
 
 -- more lines are kept behind one that isn't skipped
-kept_more : (before between : List (List ℕ)) (line : List ℕ) → is_skipped line ≡ false → length (kept before) < length (kept (before ++ line ∷ between))
-kept_more [] between line said =
-    let here = ap (λ (t : Bool). length (cond (not t) (line ∷ kept between) (kept between))) said in
+kept_more : (before between : List (List ℕ)) (line : List ℕ) → is_skipped line ≡ false → length (unskipped before) < length (unskipped (before ++ line ∷ between))
+kept_more [] between line parse_words =
+    let here = ap (λ (t : Bool). length (cond (not t) (line ∷ unskipped between) (unskipped between))) parse_words in
     omega arith
-kept_more (first ∷ before) between line said = more_step (is_skipped first) (kept before) (kept (before ++ line ∷ between)) (kept_more before between line said)
+kept_more (first ∷ before) between line parse_words = more_step (is_skipped first) (unskipped before) (unskipped (before ++ line ∷ between)) (kept_more before between line parse_words)
   where
     more_step : (t : Bool) (few many : List (List ℕ)) → length few < length many → length (cond (not t) (first ∷ few) few) < length (cond (not t) (first ∷ many) many)
     more_step true few many less = less
@@ -232,11 +232,11 @@ not_later lines plan place m n a b =
     let more = longer a.before (a.line ∷ a.more) b.before (b.line ∷ b.more) (sym a.split ∙ b.split) (omega arith) in
     let rest : a.line ∷ a.more ≡ more.line ∷ more.tail = more.rest_is in
     let line : a.line ≡ more.line = cc in
-    let said : is_skipped more.line ≡ false = ap is_skipped (sym line) ∙ said_kept a.line a.sentence a.says in
-    let grown = kept_more a.before more.between more.line said in
-    let counted = ap (λ (ls : List (List ℕ)). length (kept ls)) more.long_is in
-    let few : length (kept a.before) ≡ place + 2 = a.behind in
-    let many : length (kept b.before) ≡ place + 2 = b.behind in
+    let parse_words : is_skipped more.line ≡ false = ap is_skipped (sym line) ∙ said_kept a.line a.parsed a.says in
+    let grown = kept_more a.before more.between more.line parse_words in
+    let counted = ap (λ (ls : List (List ℕ)). length (unskipped ls)) more.long_is in
+    let few : length (unskipped a.before) ≡ place + 2 = a.after_byte in
+    let many : length (unskipped b.before) ≡ place + 2 = b.after_byte in
     absurd (omega arith))
     (λ (no_less : n ≤ m). no_less)
     (cases_lt m n)
@@ -251,19 +251,19 @@ one_line lines plan place m n a b =
 -- ---- ends
 
 -- a command of an orderly body may come behind those before it
-orderly_at : (sectors : ℕ) (done before : List Command) (command : Command) (rest : List Command) → IsOrderly sectors done (before ++ command ∷ rest)
-    → MayCome sectors (done ++ before) command
-orderly_at sectors done [] command rest orderly =
-    subst (λ (x : List Command). MayCome sectors x command) (sym (append-nil done)) orderly.0
-orderly_at sectors done (first ∷ before) command rest orderly =
-    subst (λ (x : List Command). MayCome sectors x command) (append_assoc done (first ∷ []) before)
-    (orderly_at sectors (done ++ first ∷ []) before command rest orderly.1)
+well_formed_at : (sectors : ℕ) (done before : List Command) (command : Command) (rest : List Command) → IsWellFormed sectors done (before ++ command ∷ rest)
+    → CanFollow sectors (done ++ before) command
+well_formed_at sectors done [] command rest well_formed =
+    subst (λ (x : List Command). CanFollow sectors x command) (sym (append-nil done)) well_formed.0
+well_formed_at sectors done (first ∷ before) command rest well_formed =
+    subst (λ (x : List Command). CanFollow sectors x command) (append_assoc done (first ∷ []) before)
+    (well_formed_at sectors (done ++ first ∷ []) before command rest well_formed.1)
 
 -- each command of a script may come behind those before it
-pub may_come : (plan : Plan) (before : List Command) (command : Command) (rest : List Command) → IsPlan plan → plan.commands ≡ before ++ command ∷ rest
-    → MayCome plan.data_sectors before command
-may_come plan before command rest is split =
-    orderly_at plan.data_sectors [] before command rest (subst (λ (x : List Command). IsOrderly plan.data_sectors [] x) split is.orderly)
+pub can_follow : (plan : Plan) (before : List Command) (command : Command) (rest : List Command) → IsPlan plan → plan.commands ≡ before ++ command ∷ rest
+    → CanFollow plan.data_sectors before command
+can_follow plan before command rest is split =
+    well_formed_at plan.data_sectors [] before command rest (subst (λ (x : List Command). IsWellFormed plan.data_sectors [] x) split is.well_formed)
 
 -- a request that a command ends has ended behind it
 ended_behind : (request : ℕ) (before between : List Command) → is_ended request (before ++ commands.Complete request ∷ between) ≡ true
@@ -277,8 +277,8 @@ pub ends_once : (plan : Plan) (before between rest : List Command) (request : �
 ends_once plan before between rest request is split =
     let regrouped : plan.commands ≡ (before ++ commands.Complete request ∷ between) ++ commands.Complete request ∷ rest =
     split ∙ sym (append_assoc before (commands.Complete request ∷ between) (commands.Complete request ∷ rest)) in
-    let may = may_come plan (before ++ commands.Complete request ∷ between) (commands.Complete request) rest is regrouped in
-    let ended = ended_behind request before between in
+    let may = can_follow plan (before ++ commands.Complete request ∷ between) (commands.Complete request) rest is regrouped in
+    let closed = ended_behind request before between in
     let not_ended = may.1 in
     cc
 

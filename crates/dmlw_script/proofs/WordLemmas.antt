@@ -5,7 +5,7 @@ use Rattle.std.specs.Char.{is_ascii_digit}
 use Rattle.std.specs.List.{list_all, position_or_len}
 use Rattle.std.proofs.lemmas.Bool.{and_right, cases_lt, cond-true, cond-false, ltb-true, ltb-false, lt-ltb, le-ltb, le-leb}
 use Rattle.std.proofs.lemmas.Bool.Decides.{nat_tests}
-use Rattle.dmlw_script.specs.Words.{front, behind, number_after, number_of, with_digit}
+use Rattle.dmlw_script.specs.Words.{before_byte, after_byte, number_after, number_of, with_digit}
 
 -- one more byte before the mark
 front_step : (t : Bool) (n b : ℕ) (bytes f : List ℕ) → take n bytes ≡ f → take (cond (not t) (1 + n) 0) (b ∷ bytes) ≡ cond t [] (b ∷ f)
@@ -21,12 +21,12 @@ behind_step false n b bytes rest same =
     rw (test, one) same
 
 -- what stands before the first such byte, by its place
-pub front_by_place : (mark : ℕ) (bytes : List ℕ) → take (position_or_len (λ b. b == mark) bytes) bytes ≡ front mark bytes
+pub front_by_place : (mark : ℕ) (bytes : List ℕ) → take (position_or_len (λ b. b == mark) bytes) bytes ≡ before_byte mark bytes
 front_by_place mark [] = refl
 front_by_place mark (b ∷ bytes) = front_step (b == mark) _ b bytes _ (front_by_place mark bytes)
 
 -- what stands behind the first such byte, by its place
-pub behind_by_place : (mark : ℕ) (bytes : List ℕ) → behind mark bytes ≡ cond (nat_lt (position_or_len (λ b. b == mark) bytes) (length bytes)) (Some (drop (position_or_len (λ b. b == mark) bytes + 1) bytes)) None
+pub behind_by_place : (mark : ℕ) (bytes : List ℕ) → after_byte mark bytes ≡ cond (nat_lt (position_or_len (λ b. b == mark) bytes) (length bytes)) (Some (drop (position_or_len (λ b. b == mark) bytes + 1) bytes)) None
 behind_by_place mark [] = refl
 behind_by_place mark (b ∷ bytes) = behind_step (b == mark) _ b bytes _ (behind_by_place mark bytes)
 
@@ -69,13 +69,13 @@ chosen_none true n e = absurd (cc)
 chosen_none false n e = refl
 
 -- what a cut at the first such byte gives
-pub cut_some : (mark : ℕ) (bytes : List ℕ) (place : ℕ) → Some place ≡ position (λ b. b == mark) bytes → (place < length bytes) × (take place bytes ≡ front mark bytes) × (behind mark bytes ≡ Some (drop (place + 1) bytes))
+pub cut_some : (mark : ℕ) (bytes : List ℕ) (place : ℕ) → Some place ≡ position (λ b. b == mark) bytes → (place < length bytes) × (take place bytes ≡ before_byte mark bytes) × (after_byte mark bytes ≡ Some (drop (place + 1) bytes))
 cut_some mark bytes place e =
     let h : (nat_lt (position_or_len (λ b. b == mark) bytes) (length bytes) ≡ true) × (place ≡ position_or_len (λ b. b == mark) bytes) = chosen_some _ _ _ e in
     rw h.1 (ltb-true _ _ h.0, front_by_place mark bytes, behind_by_place mark bytes ∙ cond-true _ _ _ h.0)
 
 -- what no cut leaves
-pub cut_none : (mark : ℕ) (bytes : List ℕ) → None ≡ position (λ b. b == mark) bytes → (bytes ≡ front mark bytes) × (behind mark bytes ≡ None)
+pub cut_none : (mark : ℕ) (bytes : List ℕ) → None ≡ position (λ b. b == mark) bytes → (bytes ≡ before_byte mark bytes) × (after_byte mark bytes ≡ None)
 cut_none mark bytes e =
     let h : nat_lt (position_or_len (λ b. b == mark) bytes) (length bytes) ≡ false = chosen_none _ _ e in
     (sym (take_all _ bytes (ltb-false _ _ h)) ∙ front_by_place mark bytes, behind_by_place mark bytes ∙ cond-false _ _ _ h)

@@ -1,12 +1,12 @@
 -- The grammar of a recorder's scripts, as a relation between texts and scripts.
 use Rattle.std.specs.Prelude.{◌≡◌, ℕ, ◌<◌, true, ◌+◌, List, [], ◌∷◌, ◌++◌, Some, codes, length, slice_get}
 use Rattle.std.specs.List.{join_with_byte, AllByRecursion, AllZip}
-use Rattle.dmlw_script.specs.declared.name.Name.{Name}
-use Rattle.dmlw_script.specs.declared.sentence.Sentence.{Sentence}
-use Rattle.dmlw_script.specs.declared.sentence.Sentence.TheVariants.{Data, Log, Write, Flush, Complete, Close}
-use Rattle.dmlw_script.specs.Lines.{is_plain, kept, lines_of}
-use Rattle.dmlw_script.specs.Names.{is_id, named}
-use Rattle.dmlw_script.specs.Plans.{body_sentences, sentences_of, IsPlan, Plan}
+use Rattle.dmlw_script.specs.declared.script_id.ScriptId.{ScriptId}
+use Rattle.dmlw_script.specs.declared.line.Line.{Line}
+use Rattle.dmlw_script.specs.declared.line.Line.TheVariants.{Data, Log, Write, Flush, Complete, Close}
+use Rattle.dmlw_script.specs.Lines.{is_ascii_line, unskipped, lines_of}
+use Rattle.dmlw_script.specs.Ids.{is_id, script_id}
+use Rattle.dmlw_script.specs.Plans.{lines_of_body, lines_of_script, IsPlan, Plan}
 use Rattle.dmlw_script.specs.Words.{byte_text, is_number, number_value}
 
 -- the word is a number of this value
@@ -14,27 +14,27 @@ abbrev pub IsNumber : List ℕ → ℕ → Type 0
 IsNumber word n = (is_number word ≡ true) × (number_value word ≡ n)
 
 -- the word is the id of this name
-abbrev pub IsId : List ℕ → Name → Type 0
-IsId word name = (is_id word ≡ true) × (name ≡ named word)
+abbrev pub IsId : List ℕ → ScriptId → Type 0
+IsId word name = (is_id word ≡ true) × (name ≡ script_id word)
 
 -- words with one space between each two
 abbrev pub spaced : List (List ℕ) → List ℕ
 spaced words = join_with_byte 32 words
 
 -- the line is this first word and a number
-pub record SaysNumber (verb line : List ℕ) (n : ℕ) : Type 0 where
+pub record ParsesAsNumber (verb line : List ℕ) (n : ℕ) : Type 0 where
   pub word : List ℕ
   pub number : IsNumber word n
   pub spelled : line ≡ spaced (verb ∷ word ∷ [])
 
 -- the line is this first word and an id
-pub record SaysId (verb line : List ℕ) (name : Name) : Type 0 where
+pub record ParsesAsId (verb line : List ℕ) (name : ScriptId) : Type 0 where
   pub word : List ℕ
   pub id : IsId word name
   pub spelled : line ≡ spaced (verb ∷ word ∷ [])
 
 -- the line is a write: its id, its first sector, its number of sectors and its byte
-pub record SaysWrite (line : List ℕ) (name : Name) (first count byte : ℕ) : Type 0 where
+pub record ParsesAsWrite (line : List ℕ) (name : ScriptId) (first count byte : ℕ) : Type 0 where
   pub id_word : List ℕ
   pub first_word : List ℕ
   pub count_word : List ℕ
@@ -45,24 +45,24 @@ pub record SaysWrite (line : List ℕ) (name : Name) (first count byte : ℕ) : 
   pub spelled : line ≡ spaced (codes "w" ∷ id_word ∷ first_word ∷ count_word ∷ byte_text byte ∷ [])
 
 -- what a line says by its words
-abbrev pub Says : List ℕ → Sentence → Type 0
-Says line (Data sectors) = SaysNumber (codes "data") line sectors
-Says line (Log sectors) = SaysNumber (codes "log") line sectors
-Says line (Write name first count byte) = SaysWrite line name first count byte
-Says line (Flush name) = SaysId (codes "f") line name
-Says line (Complete name) = SaysId (codes "c") line name
-Says line Close = line ≡ codes "close"
+abbrev pub ParsesAs : List ℕ → Line → Type 0
+ParsesAs line (Data sectors) = ParsesAsNumber (codes "data") line sectors
+ParsesAs line (Log sectors) = ParsesAsNumber (codes "log") line sectors
+ParsesAs line (Write name first count byte) = ParsesAsWrite line name first count byte
+ParsesAs line (Flush name) = ParsesAsId (codes "f") line name
+ParsesAs line (Complete name) = ParsesAsId (codes "c") line name
+ParsesAs line Close = line ≡ codes "close"
 
 -- the lines are those of a script of a recorder: plain ones, of which those that aren't skipped say what the script's
 -- lines say, one after the other
-pub record SpellsLines (lines : List (List ℕ)) (plan : Plan) : Type 0 where
-  pub plain : AllByRecursion (λ line. is_plain line ≡ true) lines
-  pub says : AllZip Says (kept lines) (sentences_of plan)
+pub record AreLinesOf (lines : List (List ℕ)) (plan : Plan) : Type 0 where
+  pub plain : AllByRecursion (λ line. is_ascii_line line ≡ true) lines
+  pub says : AllZip ParsesAs (unskipped lines) (lines_of_script plan)
   pub script : IsPlan plan
 
 -- the text is one of this script
-abbrev pub Spells : List ℕ → Plan → Type 0
-Spells text plan = SpellsLines (lines_of text) plan
+abbrev pub IsTextOf : List ℕ → Plan → Type 0
+IsTextOf text plan = AreLinesOf (lines_of text) plan
 
 -- the line of this number, counted from 1, says what the script's command at this place says, and stands there among
 -- the lines that aren't skipped: behind the two of the head and those of the commands before it
@@ -72,7 +72,7 @@ pub record IsLineOf (lines : List (List ℕ)) (plan : Plan) (place number : ℕ)
   pub more : List (List ℕ)
   pub split : lines ≡ before ++ line ∷ more
   pub number_is : number ≡ length before + 1
-  pub behind : length (kept before) ≡ place + 2
-  pub sentence : Sentence
-  pub command : slice_get (body_sentences plan.names 0 plan.commands) place ≡ Some sentence
-  pub says : Says line sentence
+  pub after_byte : length (unskipped before) ≡ place + 2
+  pub parsed : Line
+  pub command : slice_get (lines_of_body plan.names 0 plan.commands) place ≡ Some parsed
+  pub says : ParsesAs line parsed

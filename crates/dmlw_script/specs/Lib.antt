@@ -1,11 +1,9 @@
 pub mod Words
-pub mod Names
+pub mod Ids
 pub mod Lines
-pub mod Sentences
 pub mod Plans
-pub mod Drafts
-pub mod Readers
 pub mod Grammar
 pub mod Reading
-pub mod Spelling
+pub mod CanonicalText
 pub mod Texts
+pub mod inside

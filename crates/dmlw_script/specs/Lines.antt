@@ -8,8 +8,8 @@ lines_of [] = []
 lines_of (byte ∷ bytes) = if byte == 10 then [] ∷ lines_of bytes else onto_first byte (lines_of bytes)
 
 -- the bytes of a line are ASCII, and not zero
-abbrev pub is_plain : List ℕ → Bool
-is_plain line = list_all (λ byte. nat_lt 0 byte && nat_lt byte 128) line
+abbrev pub is_ascii_line : List ℕ → Bool
+is_ascii_line line = list_all (λ byte. nat_lt 0 byte && nat_lt byte 128) line
 
 -- an empty line, or a comment
 abbrev pub is_skipped : List ℕ → Bool
@@ -17,23 +17,23 @@ is_skipped [] = true
 is_skipped (byte ∷ line) = byte == 35
 
 -- the lines that aren't skipped
-abbrev pub kept : List (List ℕ) → List (List ℕ)
-kept lines = filter (λ line. not (is_skipped line)) lines
+abbrev pub unskipped : List (List ℕ) → List (List ℕ)
+unskipped lines = filter (λ line. not (is_skipped line)) lines
 
 -- the numbers of the lines that aren't skipped, where the first line has this number
-abbrev pub kept_numbers : ℕ → List (List ℕ) → List ℕ
-kept_numbers number [] = []
-kept_numbers number (line ∷ lines) =
-    if is_skipped line then kept_numbers (number + 1) lines else number ∷ kept_numbers (number + 1) lines
+abbrev pub unskipped_numbers : ℕ → List (List ℕ) → List ℕ
+unskipped_numbers number [] = []
+unskipped_numbers number (line ∷ lines) =
+    if is_skipped line then unskipped_numbers (number + 1) lines else number ∷ unskipped_numbers (number + 1) lines
 
 -- the number of the line that the command at this place was read from: two lines of the head stand before the body
 abbrev pub command_line : List ℕ → ℕ → Option ℕ
-command_line text place = slice_get (kept_numbers 1 (lines_of text)) (place + 2)
+command_line text place = slice_get (unskipped_numbers 1 (lines_of text)) (place + 2)
 
 -- no line feed stands in the line
 abbrev pub IsUnbroken : List ℕ → Type 0
 IsUnbroken line = list_all (λ byte. not (byte == 10)) line ≡ true
 
 -- the text of these lines, with a line feed behind each
-abbrev pub ended : List (List ℕ) → List ℕ
-ended lines = flat_map (λ line. line ++ 10 ∷ []) lines
+abbrev pub with_line_feeds : List (List ℕ) → List ℕ
+with_line_feeds lines = flat_map (λ line. line ++ 10 ∷ []) lines

@@ -4,14 +4,14 @@ use Rattle.std.specs.Char.{is_ascii_digit}
 use Rattle.std.specs.List.{list_all}
 
 -- what stands before the first such byte, or all where there is none
-abbrev pub front : ℕ → List ℕ → List ℕ
-front mark [] = []
-front mark (b ∷ bytes) = if b == mark then [] else b ∷ front mark bytes
+abbrev pub before_byte : ℕ → List ℕ → List ℕ
+before_byte mark [] = []
+before_byte mark (b ∷ bytes) = if b == mark then [] else b ∷ before_byte mark bytes
 
 -- what stands behind the first such byte, where there is one
-abbrev pub behind : ℕ → List ℕ → Option (List ℕ)
-behind mark [] = None
-behind mark (b ∷ bytes) = if b == mark then Some bytes else behind mark bytes
+abbrev pub after_byte : ℕ → List ℕ → Option (List ℕ)
+after_byte mark [] = None
+after_byte mark (b ∷ bytes) = if b == mark then Some bytes else after_byte mark bytes
 
 -- the number that a digit behind n makes, if it is a digit and the number is below 2 ^ 64
 abbrev pub with_digit : ℕ → ℕ → Option ℕ

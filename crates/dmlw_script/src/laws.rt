@@ -1,67 +1,67 @@
 //! Laws of the grammar, apart from the code: each function does nothing, and its clause is the law.
 ghost use Rattle.std.specs.Prelude.{◌≡◌, ◌≢◌, ◌^◌, ◌<◌, ◌≤◌, ◌++◌, ◌∷◌, ◌⊎◌, [], None, Some, decimal, length, true, ℕ, List};
 ghost use Rattle.std.specs.List.{AllByRecursion};
-ghost use Rattle.bio.specs.declared.refusal.Refusal.{Refusal};
+ghost use Rattle.refusals.specs.declared.refusal.Refusal.{Refusal};
 ghost use Rattle.dmlw_script.specs.declared.command.Command.{Command};
 ghost use Rattle.dmlw_script.specs.declared.command.Command.TheVariants.{Complete};
-ghost use Rattle.dmlw_script.specs.Grammar.{IsLineOf, IsNumber, Spells, SpellsLines};
-ghost use Rattle.dmlw_script.specs.Lines.{command_line, ended, is_plain, is_skipped, IsUnbroken, lines_of};
-ghost use Rattle.dmlw_script.specs.Plans.{IsPlan, MayCome, Plan};
+ghost use Rattle.dmlw_script.specs.Grammar.{IsLineOf, IsNumber, IsTextOf, AreLinesOf};
+ghost use Rattle.dmlw_script.specs.Lines.{command_line, with_line_feeds, is_ascii_line, is_skipped, IsUnbroken, lines_of};
+ghost use Rattle.dmlw_script.specs.Plans.{IsPlan, CanFollow, Plan};
 ghost use Rattle.dmlw_script.specs.Reading.{IsFirstFault};
-ghost use Rattle.dmlw_script.specs.Spelling.{spelling};
+ghost use Rattle.dmlw_script.specs.CanonicalText.{canonical_text};
 
 /// Lines make a text by a line feed behind each, which the last may lack unless it is empty.
 pub fn lines_make_a_text()
-    ensures ended { (lines : List (List ℕ)) → AllByRecursion IsUnbroken lines → lines_of (ended lines) ≡ lines }
+    ensures with_line_feeds { (lines : List (List ℕ)) → AllByRecursion IsUnbroken lines → lines_of (with_line_feeds lines) ≡ lines }
     ensures last { (lines : List (List ℕ)) (last : List ℕ) → AllByRecursion IsUnbroken lines → IsUnbroken last → last ≢ [] →
-        lines_of (ended lines ++ last) ≡ lines ++ last ∷ [] }
+        lines_of (with_line_feeds lines ++ last) ≡ lines ++ last ∷ [] }
 {}
 
 /// A text is one script's at most.
 pub fn one_script()
-    ensures { (text : List ℕ) (plan other : Plan) → Spells text plan → Spells text other → plan ≡ other }
+    ensures { (text : List ℕ) (plan other : Plan) → IsTextOf text plan → IsTextOf text other → plan ≡ other }
 {}
 
 /// Each script has a text: its spelling.
-pub fn each_script_is_spelled()
-    ensures { (plan : Plan) → IsPlan plan → Spells (spelling plan) plan }
+pub fn each_script_has_a_text()
+    ensures { (plan : Plan) → IsPlan plan → IsTextOf (canonical_text plan) plan }
 {}
 
 /// Scripts that are printed alike are one.
 #[tactic(auto, using(crate::proofs::ScriptLaws::same_from_spelling))]
-pub fn scripts_have_own_spellings()
-    ensures { (plan other : Plan) → IsPlan plan → IsPlan other → spelling plan ≡ spelling other → plan ≡ other }
+pub fn scripts_have_own_texts()
+    ensures { (plan other : Plan) → IsPlan plan → IsPlan other → canonical_text plan ≡ canonical_text other → plan ≡ other }
 {}
 
 /// An empty line or a comment may be put between any two lines of a script's text, or be left out: the
 /// script stays the same.
 pub fn skipped_lines_say_nothing()
     ensures put_in { (before after : List (List ℕ)) (line : List ℕ) (plan : Plan) →
-        is_plain line ≡ true → is_skipped line ≡ true →
-        SpellsLines (before ++ after) plan → SpellsLines (before ++ line ∷ after) plan }
+        is_ascii_line line ≡ true → is_skipped line ≡ true →
+        AreLinesOf (before ++ after) plan → AreLinesOf (before ++ line ∷ after) plan }
     ensures left_out { (before after : List (List ℕ)) (line : List ℕ) (plan : Plan) →
         is_skipped line ≡ true →
-        SpellsLines (before ++ line ∷ after) plan → SpellsLines (before ++ after) plan }
+        AreLinesOf (before ++ line ∷ after) plan → AreLinesOf (before ++ after) plan }
 {}
 
 /// The line that is told for a command is the one that says it, behind the head and the lines of the
 /// commands before it. Each command has one such line, and behind the last command there is none.
 pub fn lines_are_those_of_commands()
-    ensures says { (text : List ℕ) (plan : Plan) (place number : ℕ) → Spells text plan →
+    ensures says { (text : List ℕ) (plan : Plan) (place number : ℕ) → IsTextOf text plan →
         command_line text place ≡ Some number → IsLineOf (lines_of text) plan place number }
-    ensures found { (text : List ℕ) (plan : Plan) (place : ℕ) → Spells text plan →
+    ensures found { (text : List ℕ) (plan : Plan) (place : ℕ) → IsTextOf text plan →
         place < length plan.commands → (number : ℕ) × (command_line text place ≡ Some number) }
     ensures one { (lines : List (List ℕ)) (plan : Plan) (place m n : ℕ) →
         IsLineOf lines plan place m → IsLineOf lines plan place n → m ≡ n }
-    ensures none { (text : List ℕ) (plan : Plan) (place : ℕ) → Spells text plan →
+    ensures none { (text : List ℕ) (plan : Plan) (place : ℕ) → IsTextOf text plan →
         length plan.commands ≤ place → command_line text place ≡ None }
 {}
 
 /// Each command of a script may come behind those before it, and no request ends twice.
-#[tactic(auto, using(crate::proofs::ScriptLaws::may_come, crate::proofs::ScriptLaws::ends_once))]
+#[tactic(auto, using(crate::proofs::ScriptLaws::can_follow, crate::proofs::ScriptLaws::ends_once))]
 pub fn requests_end_once()
-    ensures may_come { (plan : Plan) (before : List Command) (command : Command) (rest : List Command) →
-        IsPlan plan → plan.commands ≡ before ++ command ∷ rest → MayCome plan.data_sectors before command }
+    ensures can_follow { (plan : Plan) (before : List Command) (command : Command) (rest : List Command) →
+        IsPlan plan → plan.commands ≡ before ++ command ∷ rest → CanFollow plan.data_sectors before command }
     ensures once { (plan : Plan) (before between rest : List Command) (request : ℕ) → IsPlan plan →
         plan.commands ≡ before ++ Complete request ∷ (between ++ Complete request ∷ rest) → ⊥ }
 {}
@@ -75,10 +75,10 @@ pub fn numbers_are_decimal()
 /// A text is a script's or has a first fault: one, its line and its reason. The text of a script has
 /// none.
 pub fn texts_have_one_first_fault()
-    ensures each { (lines : List (List ℕ)) → ((plan : Plan) × SpellsLines lines plan)
+    ensures each { (lines : List (List ℕ)) → ((plan : Plan) × AreLinesOf lines plan)
         ⊎ ((line : ℕ) × (refusal : Refusal) × IsFirstFault lines line refusal) }
     ensures one { (lines : List (List ℕ)) (m n : ℕ) (r s : Refusal) →
         IsFirstFault lines m r → IsFirstFault lines n s → (m ≡ n) × (r ≡ s) }
     ensures none { (lines : List (List ℕ)) (plan : Plan) (m : ℕ) (r : Refusal) →
-        SpellsLines lines plan → IsFirstFault lines m r → ⊥ }
+        AreLinesOf lines plan → IsFirstFault lines m r → ⊥ }
 {}

@@ -7,26 +7,24 @@
 //!
 //! `specs/Grammar` is the grammar, a relation between texts and scripts, and `specs/Plans` says what
 //! a script is, `specs/Texts` what is shown of an id and of a fault. A new kind of line is a case of
-//! `Sentence`, of `Says` and of `Command`.
+//! `Line`, of `ParsesAs` and of `Command`.
 #![tactic(auto)]
 
 pub use command::Command;
-pub use fault::ScriptFault;
-pub use name::Name;
 pub use printer::print_script;
 pub use reader::{Kind, line_of, read_script};
-pub use script::{MAX_DISK_SECTORS, Script};
+pub use script::Script;
+pub use script_id::ScriptId;
 
 mod command;
 mod draft;
-mod fault;
 pub mod laws;
-mod name;
+mod line;
+mod line_error;
 mod printer;
 mod reader;
 mod script;
-mod sentence;
-mod stop;
+mod script_id;
 #[cfg(test)]
 mod tests;
 mod words;

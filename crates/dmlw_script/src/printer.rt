@@ -1,33 +1,33 @@
 ghost use Rattle.std.specs.Prelude.{◌≡◌, ◌<◌, ◌+◌, ◌^◌, ◌++◌, ◌∷◌, [], decimal, flat_map, length, IfOk, OnOk};
-ghost use Rattle.dmlw_script.specs.Grammar.{Spells};
-ghost use Rattle.dmlw_script.specs.Names.{letters_of};
-ghost use Rattle.dmlw_script.specs.Plans.{behind_command, body_sentences, sentence_at as the_sentence_at, HasName};
-ghost use Rattle.dmlw_script.specs.Spelling.{ended_line, line_text, spelling};
+ghost use Rattle.dmlw_script.specs.Grammar.{IsTextOf};
+ghost use Rattle.dmlw_script.specs.Ids.{letters_of};
+ghost use Rattle.dmlw_script.specs.Plans.{count_after_command, lines_of_body, line_at as the_sentence_at, HasName};
+ghost use Rattle.dmlw_script.specs.CanonicalText.{ended_line, line_text, canonical_text};
 ghost use Rattle.dmlw_script.specs.Words.{byte_text, hex_digit as the_hex_digit};
 
 use crate::command::Command;
-use crate::name::Name;
+use crate::line::Line;
 use crate::script::Script;
-use crate::sentence::Sentence;
+use crate::script_id::ScriptId;
 use std::alloc::{AllocError, Global};
 
 /// The one spelling of a script: no comments, no empty lines, no leading zeroes, and a line feed
 /// behind each line. Reading it gives the same script.
 pub fn print_script(alloc: Global, script: &Script) -> Result<Vec<u8>, AllocError>
-    ensures spelled { IfOk result (λ text. text.items ≡ spelling script.now) }
+    ensures spelled { IfOk result (λ text. text.items ≡ canonical_text script.now) }
     // What is printed is a text of this script, and so read as it.
-    ensures again { IfOk result (λ text. Spells text.items script.now) }
+    ensures again { IfOk result (λ text. IsTextOf text.items script.now) }
 {
     let mut out = Vec::new(alloc);
     push_line(
         &mut out,
-        Sentence::Data {
+        Line::Data {
             sectors: script.data_sectors(),
         },
     )?;
     push_line(
         &mut out,
-        Sentence::Log {
+        Line::Log {
             sectors: script.log_sectors(),
         },
     )?;
@@ -37,55 +37,55 @@ pub fn print_script(alloc: Global, script: &Script) -> Result<Vec<u8>, AllocErro
 
 // The lines of a script's body.
 fn push_body(out: &mut Vec<u8>, script: &Script) -> Result<(), AllocError>
-    ensures { OnOk result (out.new.items ≡ out.old.items ++ flat_map ended_line (body_sentences script.now.names 0 script.now.commands)) }
+    ensures { OnOk result (out.new.items ≡ out.old.items ++ flat_map ended_line (lines_of_body script.now.names 0 script.now.commands)) }
 {
     let names = script.names();
     let mut before = 0;
     for command in script.commands() {
-        push_line(out, sentence_at(names, before, *command))?;
-        before = behind(before, *command);
+        push_line(out, line_at(names, before, *command))?;
+        before = submitted_after(before, *command);
     }
     Ok(())
 }
 
 // What the line of a command says, before which so many requests were submitted.
-fn sentence_at(names: &[Name], before: usize, command: Command) -> Sentence
+fn line_at(names: &[ScriptId], before: usize, command: Command) -> Line
     requires { HasName (length names.now) before command }
     ensures { result ≡ the_sentence_at names.now before command }
 {
     match command {
-        Command::Write { first, count, byte } => Sentence::Write {
+        Command::Write { first, count, byte } => Line::Write {
             name: names[before],
             first: u64::from(first),
             count: u64::from(count),
             byte,
         },
-        Command::Flush => Sentence::Flush {
+        Command::Flush => Line::Flush {
             name: names[before],
         },
-        Command::Complete { request } => Sentence::Complete {
+        Command::Complete { request } => Line::Complete {
             name: names[request],
         },
-        Command::Close => Sentence::Close,
+        Command::Close => Line::Close,
     }
 }
 
 // A line.
-fn push_line(out: &mut Vec<u8>, sentence: Sentence) -> Result<(), AllocError>
-    ensures { OnOk result (out.new.items ≡ out.old.items ++ ended_line sentence) }
+fn push_line(out: &mut Vec<u8>, parsed: Line) -> Result<(), AllocError>
+    ensures { OnOk result (out.new.items ≡ out.old.items ++ ended_line parsed) }
 {
-    match sentence {
-        Sentence::Data { sectors } => push_size(out, b"data ", sectors)?,
-        Sentence::Log { sectors } => push_size(out, b"log ", sectors)?,
-        Sentence::Write {
+    match parsed {
+        Line::Data { sectors } => push_size(out, b"data ", sectors)?,
+        Line::Log { sectors } => push_size(out, b"log ", sectors)?,
+        Line::Write {
             name,
             first,
             count,
             byte,
         } => push_write(out, name, first, count, byte)?,
-        Sentence::Flush { name } => push_name(out, b"f ", name)?,
-        Sentence::Complete { name } => push_name(out, b"c ", name)?,
-        Sentence::Close => out.extend_from_slice(b"close")?,
+        Line::Flush { name } => push_name(out, b"f ", name)?,
+        Line::Complete { name } => push_name(out, b"c ", name)?,
+        Line::Close => out.extend_from_slice(b"close")?,
     }
     out.push(b'\n')?;
     Ok(())
@@ -100,7 +100,7 @@ fn push_size(out: &mut Vec<u8>, verb: &[u8], sectors: u64) -> Result<(), AllocEr
 }
 
 // A line's first word and space, and an id.
-fn push_name(out: &mut Vec<u8>, verb: &[u8], name: Name) -> Result<(), AllocError>
+fn push_name(out: &mut Vec<u8>, verb: &[u8], name: ScriptId) -> Result<(), AllocError>
     ensures { OnOk result (out.new.items ≡ out.old.items ++ (verb.now ++ letters_of name)) }
 {
     out.extend_from_slice(verb)?;
@@ -110,12 +110,12 @@ fn push_name(out: &mut Vec<u8>, verb: &[u8], name: Name) -> Result<(), AllocErro
 // The line of a write, but for its line feed.
 fn push_write(
     out: &mut Vec<u8>,
-    name: Name,
+    name: ScriptId,
     first: u64,
     count: u64,
     byte: u8,
 ) -> Result<(), AllocError>
-    ensures { OnOk result (out.new.items ≡ out.old.items ++ line_text (Sentence.Write name first count byte)) }
+    ensures { OnOk result (out.new.items ≡ out.old.items ++ line_text (Line.Write name first count byte)) }
 {
     push_name(out, b"w ", name)?;
     out.push(b' ')?;
@@ -169,9 +169,9 @@ fn hex_digit(half: u8) -> u8
 }
 
 // How many requests were submitted behind a command, before which there were so many.
-fn behind(before: usize, command: Command) -> usize
+fn submitted_after(before: usize, command: Command) -> usize
     requires { before + 1 < 2 ^ 64 }
-    ensures { result ≡ behind_command before command }
+    ensures { result ≡ count_after_command before command }
 {
     match command {
         Command::Write { .. } | Command::Flush => before + 1,

@@ -1,17 +1,17 @@
 ghost use Rattle.std.specs.Prelude.{◌≡◌, ◌<◌, ◌≤◌, ◌∷◌, [], None, IfErr, IfOk, MatchOption, OnOk, length};
-ghost use Rattle.dmlw_script.specs.Lines.{command_line, lines_of, is_plain as is_plain_line, is_skipped as is_a_skipped_line};
-ghost use Rattle.dmlw_script.specs.Grammar.{Spells};
+ghost use Rattle.dmlw_script.specs.Lines.{command_line, lines_of, is_ascii_line as is_plain_line, is_skipped as is_a_skipped_line};
+ghost use Rattle.dmlw_script.specs.Grammar.{IsTextOf};
 ghost use Rattle.dmlw_script.specs.Plans.{is_disk_size as is_a_disk_size, Plan};
 ghost use Rattle.dmlw_script.specs.Reading.{IsFaultOf, IsReadAs, IsRunFaultOf};
-ghost use Rattle.dmlw_script.specs.Readers.{data_size as the_data_size, fault_of, log_size as the_log_size, read_text, Reads};
+ghost use Rattle.dmlw_script.specs.inside.Readers.{data_size as the_data_size, fault_of, log_size as the_log_size, read_text, Reads};
 
 use crate::draft::Draft;
-use crate::fault::ScriptFault;
-use crate::script::{MAX_DISK_SECTORS, Script};
-use crate::sentence::{Sentence, sentence_of};
-use crate::stop::Stop;
+use crate::line::{Line, parse_line};
+use crate::line_error::LineError;
+use crate::script::Script;
 use crate::words::cut;
-use bio::Refusal;
+use refusals::{Fault, Refusal};
+use sectors::MAX_DEVICE_SECTORS;
 use std::alloc::Global;
 
 // The lines of a head.
@@ -36,8 +36,8 @@ struct Reader {
 }
 
 impl Reader {
-    ghost use Rattle.dmlw_script.specs.Drafts.{Follows};
-    ghost use Rattle.dmlw_script.specs.Readers.{body_line, finish_step, line_step, progress_of, sentence_step, Finishes, IsReader};
+    ghost use Rattle.dmlw_script.specs.inside.Drafts.{Follows};
+    ghost use Rattle.dmlw_script.specs.inside.Readers.{body_line, finish_step, line_step, progress_of, sentence_step, Finishes, IsReader};
     ghost use Rattle.dmlw_script.specs.Plans.{IsPlan};
 
     fn new(alloc: Global, kind: Kind) -> Reader
@@ -54,59 +54,59 @@ impl Reader {
     }
 
     // Reads the next line.
-    fn read_line(&mut self, line: &[u8]) -> Result<(), Stop>
+    fn read_line(&mut self, line: &[u8]) -> Result<(), LineError>
         requires { IsReader self.old }
         ensures reader { OnOk result (IsReader self.new) }
         ensures kind { OnOk result (self.new.kind ≡ self.old.kind) }
         ensures step { Follows result (progress_of self.new) (line_step self.old.kind (progress_of self.old) line.now) }
     {
-        if !is_plain(line) {
-            return Err(Stop::Fault(Refusal::BadLine));
+        if !is_ascii_line(line) {
+            return Err(LineError::Refused(Refusal::BadLine));
         }
         if is_skipped(line) {
             return Ok(());
         }
-        let sentence = sentence_of(line).ok_or(Refusal::BadLine)?;
-        self.read_sentence(sentence)
+        let parsed = parse_line(line).ok_or(Refusal::BadLine)?;
+        self.read_sentence(parsed)
     }
 
     // Reads the next line that isn't skipped.
-    fn read_sentence(&mut self, sentence: Sentence) -> Result<(), Stop>
+    fn read_sentence(&mut self, parsed: Line) -> Result<(), LineError>
         requires { IsReader self.old }
         ensures reader { OnOk result (IsReader self.new) }
         ensures kind { OnOk result (self.new.kind ≡ self.old.kind) }
         ensures step { Follows result (progress_of self.new)
-            (sentence_step self.old.kind self.old.data_sectors self.old.log_sectors (progress_of self.old) sentence) }
+            (sentence_step self.old.kind self.old.data_sectors self.old.log_sectors (progress_of self.old) parsed) }
     {
         match (self.data_sectors, self.log_sectors) {
             (None, _) => {
-                self.data_sectors = Some(data_size(sentence).ok_or(Refusal::BadLine)?);
+                self.data_sectors = Some(data_size(parsed).ok_or(Refusal::BadLine)?);
                 Ok(())
             }
             (Some(_), None) => {
-                self.log_sectors = Some(log_size(sentence).ok_or(Refusal::BadLine)?);
+                self.log_sectors = Some(log_size(parsed).ok_or(Refusal::BadLine)?);
                 Ok(())
             }
-            (Some(sectors), Some(_)) => self.read_body(sentence, sectors),
+            (Some(sectors), Some(_)) => self.read_body(parsed, sectors),
         }
     }
 
     // Reads the next line of the body.
-    fn read_body(&mut self, sentence: Sentence, sectors: u64) -> Result<(), Stop>
+    fn read_body(&mut self, parsed: Line, sectors: u64) -> Result<(), LineError>
         requires disk { sectors ≤ 1048576 }
         requires reader { IsReader self.old }
         ensures reader { OnOk result (IsReader self.new) }
         ensures kind { OnOk result (self.new.kind ≡ self.old.kind) }
-        ensures step { Follows result (progress_of self.new) (body_line self.old.kind sectors (progress_of self.old) sentence) }
+        ensures step { Follows result (progress_of self.new) (body_line self.old.kind sectors (progress_of self.old) parsed) }
     {
         match self.kind {
-            Kind::Record => self.draft.read(sentence, sectors),
-            Kind::Run => Err(Stop::Fault(Refusal::BadLine)),
+            Kind::Record => self.draft.read(parsed, sectors),
+            Kind::Run => Err(LineError::Refused(Refusal::BadLine)),
         }
     }
 
     // The text ends here.
-    fn finish(self) -> Result<Script, Stop>
+    fn finish(self) -> Result<Script, LineError>
         requires { IfOk (finish_step self.kind (progress_of self)) IsPlan }
         ensures { Finishes result (finish_step self.kind (progress_of self)) }
     {
@@ -120,7 +120,7 @@ impl Reader {
             (Kind::Record, Some(data_sectors), Some(log_sectors)) => {
                 Ok(draft.into_script(data_sectors, log_sectors))
             }
-            _ => Err(Stop::Fault(Refusal::BadLine)),
+            _ => Err(LineError::Refused(Refusal::BadLine)),
         }
     }
 }
@@ -132,11 +132,11 @@ impl Reader {
 /// whole), as `BadId` where an id is submitted again or isn't open at its end, and as `NotWhole`,
 /// `TooLong` or `PastEnd` where `bio::check` refuses a write's sectors for the data disk. Want of
 /// memory is `Memory`, and names no line.
-pub fn read_script(alloc: Global, text: &[u8], kind: Kind) -> Result<Script, ScriptFault>
+pub fn read_script(alloc: Global, text: &[u8], kind: Kind) -> Result<Script, Fault>
     // What is read is a recorder's script, and so spelled.
-    ensures found { IfOk result (λ script. (kind ≡ Kind.Record) × Spells text.now script) }
+    ensures found { IfOk result (λ script. (kind ≡ Kind.Record) × IsTextOf text.now script) }
     // What is so spelled is read, unless memory runs out.
-    ensures only { kind ≡ Kind.Record → (plan : Plan) → Spells text.now plan → IsReadAs plan result }
+    ensures only { kind ≡ Kind.Record → (plan : Plan) → IsTextOf text.now plan → IsReadAs plan result }
     // A fault is told with the first line at which no continuation is a script.
     ensures fault { IfErr result (λ fault. kind ≡ Kind.Record → IsFaultOf text.now fault fault.line) }
     // A run's text is refused behind its head.
@@ -146,22 +146,22 @@ pub fn read_script(alloc: Global, text: &[u8], kind: Kind) -> Result<Script, Scr
 }
 
 // Reads the lines of a text in turn.
-fn read(alloc: Global, text: &[u8], kind: Kind) -> Result<Script, ScriptFault>
+fn read(alloc: Global, text: &[u8], kind: Kind) -> Result<Script, Fault>
     ensures { Reads result (read_text kind text.now) }
 {
     let mut reader = Reader::new(alloc, kind);
     let mut number: u64 = 1;
     let mut rest = text;
     while let Some((line, after)) = next_line(rest) {
-        if let Err(stop) = reader.read_line(line) {
-            return Err(fault_at(number, stop));
+        if let Err(error) = reader.read_line(line) {
+            return Err(fault_at(number, error));
         }
         number += 1;
         rest = after;
     }
     match reader.finish() {
         Ok(script) => Ok(script),
-        Err(stop) => Err(fault_at(number, stop)),
+        Err(error) => Err(fault_at(number, error)),
     }
 }
 
@@ -181,15 +181,15 @@ fn next_line(text: &[u8]) -> Option<(&[u8], &[u8])>
 }
 
 // Why reading ended at a line.
-fn fault_at(line: u64, stop: Stop) -> ScriptFault
-    ensures { result ≡ fault_of line stop }
+fn fault_at(line: u64, error: LineError) -> Fault
+    ensures { result ≡ fault_of line error }
 {
-    match stop {
-        Stop::Memory => ScriptFault {
+    match error {
+        LineError::Memory => Fault {
             line: None,
             refusal: Refusal::Memory,
         },
-        Stop::Fault(refusal) => ScriptFault {
+        LineError::Refused(refusal) => Fault {
             line: Some(line),
             refusal,
         },
@@ -197,21 +197,21 @@ fn fault_at(line: u64, stop: Stop) -> ScriptFault
 }
 
 // The size of the data disk that a line says.
-fn data_size(sentence: Sentence) -> Option<u64>
-    ensures { result ≡ the_data_size sentence }
+fn data_size(parsed: Line) -> Option<u64>
+    ensures { result ≡ the_data_size parsed }
 {
-    match sentence {
-        Sentence::Data { sectors } if is_disk_size(sectors) => Some(sectors),
+    match parsed {
+        Line::Data { sectors } if is_disk_size(sectors) => Some(sectors),
         _ => None,
     }
 }
 
 // The size of the log disk that a line says.
-fn log_size(sentence: Sentence) -> Option<u64>
-    ensures { result ≡ the_log_size sentence }
+fn log_size(parsed: Line) -> Option<u64>
+    ensures { result ≡ the_log_size parsed }
 {
-    match sentence {
-        Sentence::Log { sectors } if is_disk_size(sectors) => Some(sectors),
+    match parsed {
+        Line::Log { sectors } if is_disk_size(sectors) => Some(sectors),
         _ => None,
     }
 }
@@ -220,11 +220,11 @@ fn log_size(sentence: Sentence) -> Option<u64>
 fn is_disk_size(sectors: u64) -> bool
     ensures { result ≡ is_a_disk_size sectors }
 {
-    0 < sectors && sectors <= MAX_DISK_SECTORS
+    0 < sectors && sectors <= MAX_DEVICE_SECTORS
 }
 
 // A line of bytes that a script's text may hold.
-fn is_plain(line: &[u8]) -> bool
+fn is_ascii_line(line: &[u8]) -> bool
     ensures { result ≡ is_plain_line line.now }
 {
     line.iter().all(|byte| 0 < *byte && *byte < 128)

@@ -1,12 +1,9 @@
 ghost use Rattle.std.specs.Prelude.{◌≡◌};
 
 use crate::command::Command;
-use crate::name::Name;
+use crate::script_id::ScriptId;
 use indexmap::IndexSet;
 use std::marker::Model;
-
-/// The most sectors of a disk.
-pub const MAX_DISK_SECTORS: u64 = 1_048_576;
 
 /// A script of the grammar. Disks are counted in sectors of 512 bytes. Contracts see it as a `Plan`
 /// (`specs/Plans`), and each value is one that `IsPlan` holds of.
@@ -14,7 +11,7 @@ pub const MAX_DISK_SECTORS: u64 = 1_048_576;
 pub struct Script {
     data_sectors: u64,
     log_sectors: u64,
-    names: IndexSet<Name>,
+    names: IndexSet<ScriptId>,
     commands: Vec<Command>,
 }
 
@@ -35,7 +32,7 @@ impl Script {
     pub(crate) fn new(
         data_sectors: u64,
         log_sectors: u64,
-        names: IndexSet<Name>,
+        names: IndexSet<ScriptId>,
         commands: Vec<Command>,
     ) -> Script
         requires { IsPlan (record { data_sectors = data_sectors; log_sectors = log_sectors; names = names.keys; commands = commands.items }) }
@@ -66,7 +63,7 @@ impl Script {
     }
 
     /// The ids in the order of their submissions: a request's number is the place of its id.
-    pub fn names(&self) -> &[Name]
+    pub fn names(&self) -> &[ScriptId]
         ensures names { result.now ≡ self.now.names }
         ensures script { IsPlan self.now }
     {

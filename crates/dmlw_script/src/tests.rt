@@ -1,5 +1,5 @@
 use super::*;
-use bio::Refusal;
+use refusals::Refusal;
 use std::alloc::{AllocError, Global};
 use std::test::Fail;
 

@@ -1,5 +1,5 @@
 ghost use Rattle.std.specs.Prelude.{◌≡◌, ◌==◌, option_copied, position};
-ghost use Rattle.dmlw_script.specs.Words.{front, behind, half_of, byte_of as the_byte, number_of as the_number, with_digit};
+ghost use Rattle.dmlw_script.specs.Words.{before_byte, after_byte, half_of, byte_of as the_byte, number_of as the_number, with_digit};
 
 /// The most digits of a number.
 const NUMBER_DIGITS: usize = 20;
@@ -7,8 +7,8 @@ const NUMBER_DIGITS: usize = 20;
 /// The bytes before the first `mark`, and those behind it where it is there.
 #[tactic(auto, using(crate::proofs::WordLemmas::front_by_place, crate::proofs::WordLemmas::behind_by_place))]
 pub(crate) fn cut(bytes: &[u8], mark: u8) -> (&[u8], Option<&[u8]>)
-    ensures front { result.0.now ≡ front mark bytes.now }
-    ensures behind { option_copied result.1 ≡ behind mark bytes.now }
+    ensures before_byte { result.0.now ≡ before_byte mark bytes.now }
+    ensures after_byte { option_copied result.1 ≡ after_byte mark bytes.now }
 {
     match place_of(bytes, mark) {
         Some(place) => (&bytes[..place], Some(&bytes[place + 1..])),

@@ -6,10 +6,7 @@ pub use Rattle.log_format.specs.Entries
 pub mod QueueEvent
 pub mod CompletionList
 pub mod Results
-pub mod Held
-pub mod Slots
-pub mod Steps
-pub mod Meaning
+pub mod Waiting
 pub mod CoreState
-pub mod Stands
 pub mod Refusals
+pub mod inside

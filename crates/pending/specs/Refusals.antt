@@ -1,5 +1,5 @@
-use Rattle.bio.specs.declared.refusal.Refusal.{Refusal}
-use Rattle.bio.specs.declared.refusal.Refusal.TheVariants as refusals
+use Rattle.refusals.specs.declared.refusal.Refusal.{Refusal}
+use Rattle.refusals.specs.declared.refusal.Refusal.TheVariants as refusals
 use Rattle.pending.specs.declared.recording.CloseError.{CloseError}
 use Rattle.pending.specs.declared.recording.CloseError.TheVariants as close_errors
 

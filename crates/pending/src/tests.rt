@@ -1,6 +1,7 @@
 use super::*;
-use bio::{Bio, Bytes, End, Id, Refusal};
+use bio::{Bio, Bytes, End, Id};
 use log_format::{Entry, Flags};
+use refusals::Refusal;
 use std::alloc::Global;
 use std::test::Fail;
 
@@ -241,13 +242,13 @@ fn recording_goes_on_after_a_take(rt: HostRuntime) -> Result<(), Fail> {
     core.submit(&write(alloc, 7, 67, false)?)?;
     core.submit(&Bio::Discard { first: 8, count: 1 })?;
     core.submit(&Bio::Flush)?;
-    for (ended, want) in [
+    for (pending_at, want) in [
         (6, [].as_slice()),
         (5, [].as_slice()),
         (7, [7].as_slice()),
         (4, [2, 4].as_slice()),
     ] {
-        end(&mut core, ended, true);
+        end(&mut core, pending_at, true);
         assert_eq!(rt; taken(alloc, &mut core)?.as_slice(), want, "after {ended}");
     }
     assert_eq!(rt; core.close(), Ok(()));

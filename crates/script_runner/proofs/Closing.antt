@@ -1,10 +1,10 @@
 use Rattle.std.proofs.Common.{◌≡◌, ◌∙◌, ℕ, Bool, true, false, Option, Some, None, is_none, inl, inr, List, [], ◌∷◌, length, ap, sym, refl, subst}
 use Rattle.std.specs.List.{AllByRecursion, slice_get}
-use Rattle.bio.specs.Lawful.{is_quiet}
+use Rattle.bio.specs.Lawful.{none_open}
 use Rattle.bio.specs.declared.event.CoreEvent.{CoreEvent}
 use Rattle.bio.specs.declared.outcome.End.{End}
 use Rattle.bio.specs.declared.outcome.End.TheVariants as ends
-use Rattle.bio.specs.PlaceLaws.{bool_cases}
+use Rattle.sectors.specs.PlaceLaws.{bool_cases}
 use Rattle.dmlw_script.specs.Plans.{submissions}
 use Rattle.dmlw_script.specs.declared.command.Command.{Command}
 use Rattle.dmlw_script.specs.declared.command.Command.TheVariants.{Close}
@@ -16,16 +16,16 @@ use Rattle.pending.specs.Refusals.{close_refusal}
 use Rattle.script_runner.specs.declared.fill.Filled.{Filled}
 use Rattle.script_runner.specs.declared.recording.Request.{Request}
 use Rattle.script_runner.specs.declared.recording.Request.TheVariants.{Failed}
-use Rattle.script_runner.specs.declared.recording.Stop.{Stop}
-use Rattle.script_runner.specs.declared.recording.Stop.TheVariants.{AtLine, Whole}
-use Rattle.script_runner.specs.Faults.{ended_by}
+use Rattle.script_runner.specs.declared.recording.StepError.{StepError}
+use Rattle.script_runner.specs.declared.recording.StepError.TheVariants.{AtLine, Whole}
+use Rattle.script_runner.specs.declared.error.RunError.TheVariants.{LoggingEnded}
 use Rattle.script_runner.specs.Image.{fits}
 use Rattle.script_runner.specs.Recorded.{ClosesQuietly, HasOpen, entries_of}
-use Rattle.script_runner.specs.Recordings.{GoesOn, IsFollowing, IsTracing, failed_from}
+use Rattle.script_runner.specs.inside.Recordings.{GoesOn, IsFollowing, IsTracing, failed_from}
 use Rattle.script_runner.specs.RunFaults.{IsLoggingEnd, StopsAtClose, busy, full, no_memory, unclosed}
 use Rattle.script_runner.proofs.Running.{before_first}
 use Rattle.script_runner.proofs.Telling.{each_failed}
-use Rattle.script_runner.proofs.Tracing.{has_open, none_open}
+use Rattle.script_runner.proofs.Tracing.{has_open, none_is_open}
 
 -- the first Close of a script, before there is a log: what stands of its requests
 pub record IsAtClose (script front : List Command) (core : CoreState) (requests : List Request) (is_short : Bool) (filled : Option Filled)
@@ -37,8 +37,8 @@ pub record IsAtClose (script front : List Command) (core : CoreState) (requests 
   pub unfilled : is_none filled ≡ true
 
 -- a core of which no request is found open is quiet
-quiet_unless : (events_now : List CoreEvent) → (is_quiet events_now ≡ false → ⊥) → is_quiet events_now ≡ true
-quiet_unless events_now closed = elim (bool_cases (is_quiet events_now)) [
+quiet_unless : (events_now : List CoreEvent) → (none_open events_now ≡ false → ⊥) → none_open events_now ≡ true
+quiet_unless events_now closed = elim (bool_cases (none_open events_now)) [
   | inl none_open_now ↦ none_open_now
   | inr one_open ↦ absurd (closed one_open)
 ]
@@ -60,40 +60,40 @@ none_failed requests is_short failing unshort =
 
 -- a Close was refused
 pub close_refused : (script front : List Command) (sectors : ℕ) (core : CoreState) (requests : List Request) (is_short : Bool)
-    (filled : Option Filled) (error : CloseError) (stop : Stop) → IsAtClose script front core requests is_short filled
-    → (error ≡ close_errors.Busy → is_quiet core.events ≡ false) → (is_quiet core.events ≡ false → error ≡ close_errors.Busy)
+    (filled : Option Filled) (error : CloseError) (stop : StepError) → IsAtClose script front core requests is_short filled
+    → (error ≡ close_errors.Busy → none_open core.events ≡ false) → (none_open core.events ≡ false → error ≡ close_errors.Busy)
     → stop ≡ AtLine (close_refusal error) → StopsAtClose sectors script front (failed_from 0 requests) stop
-close_refused script front sectors core requests is_short filled close_errors.Busy stop at opened held is =
+close_refused script front sectors core requests is_short filled close_errors.Busy stop at opened opens is =
     subst (StopsAtClose sectors script front (failed_from 0 requests)) (sym is) (record {
       first = at.follows.unclosed at.unfilled;
       cause = busy (has_open front core.events requests filled at.traces at.numbered (opened refl));
     })
-close_refused script front sectors core requests is_short filled close_errors.Memory stop at opened held is =
-    let quiet = quiet_unless core.events (λ one_open. cc (held one_open)) in
+close_refused script front sectors core requests is_short filled close_errors.Memory stop at opened opens is =
+    let quiet = quiet_unless core.events (λ one_open. cc (opens one_open)) in
     subst (StopsAtClose sectors script front (failed_from 0 requests)) (sym is) (record {
       first = at.follows.unclosed at.unfilled;
-      cause = unclosed (none_open front core.events requests is_short filled at.follows at.traces at.unfilled at.numbered quiet);
+      cause = unclosed (none_is_open front core.events requests is_short filled at.follows at.traces at.unfilled at.numbered quiet);
     })
 
 -- a Close that was taken finds no request open
 pub close_taken : (script front : List Command) (core : CoreState) (requests : List Request) (is_short : Bool) (filled : Option Filled)
-    → IsAtClose script front core requests is_short filled → (is_quiet core.events ≡ false → ⊥)
+    → IsAtClose script front core requests is_short filled → (none_open core.events ≡ false → ⊥)
     → ClosesQuietly (failed_from 0 requests) script
 close_taken script front core requests is_short filled at taken closes opened =
-    none_open front core.events requests is_short filled at.follows at.traces at.unfilled at.numbered (quiet_unless core.events taken)
+    none_is_open front core.events requests is_short filled at.follows at.traces at.unfilled at.numbered (quiet_unless core.events taken)
     (subst (HasOpen (failed_from 0 requests)) (before_first script front at.goes (at.follows.unclosed at.unfilled)) opened)
 
 -- the same where memory was never short
 pub closed_quietly : (script front : List Command) (core : CoreState) (requests : List Request) (is_short : Bool) (filled : Option Filled)
-    → IsAtClose script front core requests is_short filled → is_short ≡ false → (is_quiet core.events ≡ false → ⊥) → ClosesQuietly [] script
+    → IsAtClose script front core requests is_short filled → is_short ≡ false → (none_open core.events ≡ false → ⊥) → ClosesQuietly [] script
 closed_quietly script front core requests is_short filled at unshort taken =
     subst (λ (failed : List ℕ). ClosesQuietly failed script) (none_failed requests is_short at.follows.failing unshort)
     (close_taken script front core requests is_short filled at taken)
 
 -- logging ended at a Close
 pub logging_ended : (script front : List Command) (sectors : ℕ) (core : CoreState) (requests : List Request) (is_short : Bool)
-    (filled : Option Filled) (end : End) (stop : Stop) → IsAtClose script front core requests is_short filled
-    → IsLoggingEnd (failed_from 0 requests) sectors script end → stop ≡ Whole (ended_by end)
+    (filled : Option Filled) (end : End) (stop : StepError) → IsAtClose script front core requests is_short filled
+    → IsLoggingEnd (failed_from 0 requests) sectors script end → stop ≡ Whole (LoggingEnded end)
     → StopsAtClose sectors script front (failed_from 0 requests) stop
 logging_ended script front sectors core requests is_short filled end stop at ends_now is =
     subst (StopsAtClose sectors script front (failed_from 0 requests)) (sym is)

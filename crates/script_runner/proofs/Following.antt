@@ -4,15 +4,15 @@ use Rattle.std.proofs.lemmas.Bool.{cases_lt, and_parts, or_parts}
 use Rattle.std.proofs.lemmas.Bool.Decides.{nat_tests}
 use Rattle.std.proofs.lemmas.List.Folds.{list_any-append}
 use Rattle.std.proofs.lemmas.Option.{slice_get_within}
-use Rattle.bio.specs.Lawful.{is_recording}
+use Rattle.bio.specs.Lawful.{has_no_close, has_no_stop, is_recording}
 use Rattle.bio.specs.declared.event.CoreEvent.{CoreEvent}
 use Rattle.bio.specs.declared.event.CoreEvent.TheVariants as events
 use Rattle.bio.specs.declared.outcome.End.{End}
 use Rattle.bio.specs.declared.request.Bio.{Bio}
 use Rattle.bio.specs.Events.{end_of, first_place, is_close, is_open_at, is_stop, is_end_of as ends_at}
 use Rattle.bio.specs.EventLaws.{differ-eqb, first_place-snoc, first_place_after-snoc, is_open_at-open, open-is_open_at}
-use Rattle.bio.specs.Places.{or_here}
-use Rattle.bio.specs.PlaceLaws.{bool_cases, length-snoc, none_first_below, slice_get-append_front, slice_get-append_here}
+use Rattle.sectors.specs.Places.{or_here}
+use Rattle.sectors.specs.PlaceLaws.{bool_cases, length-snoc, none_first_below, slice_get-append_front, slice_get-append_here}
 use Rattle.bio.specs.Requests.{is_tracked}
 use Rattle.dmlw_script.specs.Plans.{is_end_of, is_ended, is_submission}
 use Rattle.dmlw_script.specs.declared.command.Command.{Command}
@@ -24,7 +24,7 @@ use Rattle.script_runner.specs.declared.fill.Filled.{Filled}
 use Rattle.script_runner.specs.declared.recording.Request.{Request}
 use Rattle.script_runner.specs.declared.recording.Request.TheVariants.{Tracked, Passed, Failed}
 use Rattle.script_runner.specs.Recorded.{has_close, is_close as ends_recording}
-use Rattle.script_runner.specs.Recordings.{IsFollowing, request_of}
+use Rattle.script_runner.specs.inside.Recordings.{IsFollowing, request_of}
 
 -- why a run stops
 
@@ -154,7 +154,7 @@ pub closing : (front : List Command) (core new : CoreState) (requests : List Req
     → IsFollowing front core.events requests is_short filled → new ≡ closed_by core → is_none made ≡ false
     → IsFollowing (front ++ Close ∷ []) new.events requests is_short made
 closing front core new requests is_short filled made has news there =
-    let now = by_case (is_none (first_place is_close core.events)) refl in
+    let now = by_case (has_no_close core.events) refl in
     let after = subst (λ (state : CoreState). IsFollowing front state.events requests is_short filled) (sym news) now.0 in
     record {
       below = after.below;
@@ -162,13 +162,13 @@ closing front core new requests is_short filled made has news there =
       going = λ number id here goes. after.going number id here (unended number front Close goes).0;
       short = after.short;
       failing = after.failing;
-      closed = λ _. subst (λ (state : CoreState). is_none (first_place is_close state.events) ≡ false) (sym news) now.1;
+      closed = λ _. subst (λ (state : CoreState). has_no_close state.events ≡ false) (sym news) now.1;
       unclosed = λ none. absurd (cc (none, there));
     }
   where
-    by_case : (b : Bool) → is_none (first_place is_close core.events) ≡ b
+    by_case : (b : Bool) → has_no_close core.events ≡ b
         → IsFollowing front (if b then added_to core events.Close else core).events requests is_short filled
-        × (is_none (first_place is_close (if b then added_to core events.Close else core).events) ≡ false)
+        × (has_no_close (if b then added_to core events.Close else core).events ≡ false)
     by_case true none = (
       grown front core.events events.Close requests is_short filled has (λ id. refl),
       ap is_none (first_place-snoc is_close core.events events.Close) ∙ now_some (first_place is_close core.events),
@@ -335,8 +335,8 @@ filled_behind front closed_core new requests is_short made has same =
     subst (λ (es : List CoreEvent). IsFollowing front es requests is_short made) (sym same) has
 
 -- a core that was closed records no submission
-pub closed_passes : (core : CoreState) (bio : Bio) → is_none (first_place is_close core.events) ≡ false → records core bio ≡ false
-closed_passes core bio closed = rw closed (by_stop (is_none (first_place is_stop core.events)) (is_tracked bio))
+pub closed_passes : (core : CoreState) (bio : Bio) → has_no_close core.events ≡ false → records core bio ≡ false
+closed_passes core bio closed = rw closed (by_stop (has_no_stop core.events) (is_tracked bio))
   where
     by_stop : (stop tracked : Bool) → (stop && false && tracked) ≡ false
     by_stop true tracked = refl

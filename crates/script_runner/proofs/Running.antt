@@ -9,14 +9,14 @@ use Rattle.bio.specs.declared.event.CoreEvent.{CoreEvent}
 use Rattle.bio.specs.declared.event.CoreEvent.TheVariants as events
 use Rattle.bio.specs.declared.request.Bio.{Bio}
 use Rattle.bio.specs.EventLaws.{first_place-snoc, is_none-none}
-use Rattle.bio.specs.PlaceLaws.{slice_get-append_front}
+use Rattle.sectors.specs.PlaceLaws.{slice_get-append_front}
 use Rattle.bio.specs.Events.{first_place, is_close, is_stop}
-use Rattle.bio.specs.Lawful.{is_recording}
-use Rattle.bio.specs.Places.{or_here}
+use Rattle.bio.specs.Lawful.{has_no_close, has_no_stop, is_recording}
+use Rattle.sectors.specs.Places.{or_here}
 use Rattle.bio.specs.Requests.{is_tracked}
 use Rattle.dmlw_script.specs.declared.command.Command.{Command}
 use Rattle.dmlw_script.specs.declared.command.Command.TheVariants.{Write, Flush, Complete, Close}
-use Rattle.dmlw_script.specs.Plans.{IsOrderly, IsPlan, MayCome, Plan, is_disk_size, is_submission}
+use Rattle.dmlw_script.specs.Plans.{IsWellFormed, IsPlan, CanFollow, Plan, is_disk_size, is_submission}
 use Rattle.bio.specs.Check.{range_answer}
 use Rattle.pending.specs.CompletionList.{Item, completion_list}
 use Rattle.pending.specs.CoreState.{CoreState, added_to, closed_by, items_of, records}
@@ -27,7 +27,7 @@ use Rattle.script_runner.specs.declared.recording.Request.{Request}
 use Rattle.script_runner.specs.declared.recording.Request.TheVariants.{Tracked}
 use Rattle.script_runner.specs.Image.{MakesLog, entries_left, fits}
 use Rattle.script_runner.specs.Recorded.{IsWithin, before_close, entries_of, event_of, events_of, has_close, ids_of, submitted_from, until_close, is_close as ends}
-use Rattle.script_runner.specs.Recordings.{GoesOn, HasRun, IsRecording, Stands}
+use Rattle.script_runner.specs.inside.Recordings.{GoesOn, HasRun, IsRecording, Stands}
 
 -- ids
 
@@ -107,7 +107,7 @@ still_none test es event none fails =
 still_recording : (es : List CoreEvent) (event : CoreEvent) → is_recording es ≡ true
     → is_stop (Some event) ≡ false → is_close (Some event) ≡ false → is_recording (es ++ event ∷ []) ≡ true
 still_recording es event going no_stop no_close =
-    let parts = and_parts (is_none (first_place is_stop es)) (is_none (first_place is_close es)) going in
+    let parts = and_parts (has_no_stop es) (has_no_close es) going in
     rw (still_none is_stop es event parts.0 no_stop, still_none is_close es event parts.1 no_close) refl
 
 -- one more command was recorded that isn't a Close
@@ -247,8 +247,8 @@ pub closed : (script front : List Command) (core new : CoreState) (requests : Li
     → IsRecording script front core requests → GoesOn script front Close → new ≡ closed_by core
     → entries_left new ≡ entries_of script
 closed script front core new requests is goes news =
-    let unclosed : is_none (first_place is_close core.events) ≡ true =
-    (and_parts (is_none (first_place is_stop core.events)) (is_none (first_place is_close core.events)) is.going).1 in
+    let unclosed : has_no_close core.events ≡ true =
+    (and_parts (has_no_stop core.events) (has_no_close core.events) is.going).1 in
     let state : new ≡ added_to core events.Close =
     news ∙ ap (λ (b : Bool). if b then added_to core events.Close else core) unclosed in
     let commands : until_close script ≡ front ++ Close ∷ [] = ap until_close goes.1 ∙ until_here front goes.0 is.unclosed in
@@ -302,7 +302,7 @@ within_larger : (first count sectors : ℕ) → sectors ≤ 1048576 → range_an
 within_larger first count sectors less fine = grind arith
 
 -- a command that may come is within the largest disk
-comes_within : (sectors : ℕ) (before : List Command) (command : Command) → sectors ≤ 1048576 → MayCome sectors before command
+comes_within : (sectors : ℕ) (before : List Command) (command : Command) → sectors ≤ 1048576 → CanFollow sectors before command
     → IsWithin command
 comes_within sectors before (Write first count byte) less comes = within_larger first count sectors less comes.0
 comes_within sectors before Flush less comes = tt
@@ -311,20 +311,20 @@ comes_within sectors before Close less comes = tt
 
 -- each command of an orderly script may be run
 each_within : (sectors : ℕ) (before body : List Command) (place : ℕ) (command : Command) → sectors ≤ 1048576
-    → IsOrderly sectors before body → slice_get body place ≡ Some command → IsWithin command
-each_within sectors before [] place command less orderly here = absurd (cc here)
-each_within sectors before (c ∷ body) zero command less orderly here =
+    → IsWellFormed sectors before body → slice_get body place ≡ Some command → IsWithin command
+each_within sectors before [] place command less well_formed here = absurd (cc here)
+each_within sectors before (c ∷ body) zero command less well_formed here =
     let same : c ≡ command = cc here in
-    subst IsWithin same (comes_within sectors before c less orderly.0)
-each_within sectors before (c ∷ body) (suc place) command less orderly here =
-    each_within sectors (before ++ c ∷ []) body place command less orderly.1 here
+    subst IsWithin same (comes_within sectors before c less well_formed.0)
+each_within sectors before (c ∷ body) (suc place) command less well_formed here =
+    each_within sectors (before ++ c ∷ []) body place command less well_formed.1 here
 
 -- each command of a script may be run
 pub command_within : (plan : Plan) (place : ℕ) (other : Command) → IsPlan plan → place < length plan.commands
     → IsWithin (slice_index_or plan.commands place other)
 command_within plan place other is here =
     each_within plan.data_sectors [] plan.commands place (slice_index_or plan.commands place other) (disk_most plan.data_sectors is.data_size)
-    is.orderly (slice_get-get_or plan.commands place other here)
+    is.well_formed (slice_get-get_or plan.commands place other here)
   where
     disk_most : (sectors : ℕ) → is_disk_size sectors ≡ true → sectors ≤ 1048576
     disk_most sectors size = grind arith

@@ -8,19 +8,19 @@ use Rattle.std.proofs.lemmas.List.Sums.{sum_by-append}
 use Rattle.std.proofs.lemmas.Option.{slice_get-get_or, slice_get_within}
 use Rattle.bio.specs.declared.outcome.End.{End}
 use Rattle.bio.specs.declared.outcome.End.TheVariants.{Memory}
-use Rattle.bio.specs.declared.refusal.Refusal.{Refusal}
+use Rattle.refusals.specs.declared.refusal.Refusal.{Refusal}
 use Rattle.dmlw_script.specs.declared.command.Command.{Command}
 use Rattle.dmlw_script.specs.declared.command.Command.TheVariants.{Write, Flush, Complete, Close}
-use Rattle.dmlw_script.specs.declared.name.Name.{Name}
+use Rattle.dmlw_script.specs.declared.script_id.ScriptId.{ScriptId}
 use Rattle.dmlw_script.specs.Lines.{command_line}
-use Rattle.dmlw_script.specs.Plans.{HasName, IsPlan, MayCome, Plan, submissions}
-use Rattle.script_runner.specs.declared.fault.Fault.{Fault}
-use Rattle.script_runner.specs.declared.fault.Fault.TheVariants.{Refused, LoggingEnded}
+use Rattle.dmlw_script.specs.Plans.{HasName, IsPlan, CanFollow, Plan, submissions}
+use Rattle.script_runner.specs.declared.error.RunError.{RunError}
+use Rattle.script_runner.specs.declared.error.RunError.TheVariants.{Refused, LoggingEnded}
 use Rattle.script_runner.specs.declared.recording.Recording.{Recording}
 use Rattle.script_runner.specs.declared.recording.Request.TheVariants.{Failed}
-use Rattle.script_runner.specs.declared.recording.Stop.TheVariants.{AtLine, Whole}
+use Rattle.script_runner.specs.declared.recording.StepError.TheVariants.{AtLine, Whole}
 use Rattle.script_runner.specs.Printed.{printed}
-use Rattle.script_runner.specs.Recordings.{Follows, GoesOn, HasTold, failed_from}
+use Rattle.script_runner.specs.inside.Recordings.{Follows, GoesOn, HasTold, failed_from}
 use Rattle.script_runner.specs.Recorded.{before_close}
 use Rattle.script_runner.specs.RunFaults.{EndsLogging, EndsRun, IsLoggingEnd, StopsAt, StopsQuietly, close, file, logging, no_memory}
 use Rattle.script_runner.proofs.Running.{before_all, before_first}
@@ -32,17 +32,17 @@ use Rattle.script_runner.proofs.Telling.{all_failed, count_of, each_failed, subm
 abbrev pub IsOrderlyScript : Plan → Type 0
 IsOrderlyScript plan =
     (before : List Command) (command : Command) (rest : List Command) → plan.commands ≡ before ++ command ∷ rest
-    → MayCome plan.data_sectors before command
+    → CanFollow plan.data_sectors before command
 
 -- the command stands at this place of a script
 pub record ComesNext (plan : Plan) (place : ℕ) (command : Command) : Type 0 where
   pub here : slice_get plan.commands place ≡ Some command
   pub goes : GoesOn plan.commands (take place plan.commands) command
-  pub comes : MayCome plan.data_sectors (take place plan.commands) command
-  pub named : (names : List Name) → names ≡ plan.names → HasName (length names) (submissions (take place plan.commands)) command
+  pub comes : CanFollow plan.data_sectors (take place plan.commands) command
+  pub script_id : (names : List ScriptId) → names ≡ plan.names → HasName (length names) (submissions (take place plan.commands)) command
 
 -- a request of a script has a name
-has_name : (sectors names : ℕ) (front : List Command) (command : Command) (rest : List Command) → MayCome sectors front command
+has_name : (sectors names : ℕ) (front : List Command) (command : Command) (rest : List Command) → CanFollow sectors front command
     → names ≡ submissions (front ++ command ∷ rest) → HasName names (submissions front) command
 has_name sectors names front (Write first count byte) rest comes numbered =
     let all = sum_by-append count_of front (Write first count byte ∷ rest) in
@@ -58,27 +58,27 @@ has_name sectors names front Close rest comes numbered = tt
 -- the command at a place of a script comes next there
 command_next : (plan : Plan) (place : ℕ) (other : Command) → IsPlan plan → IsOrderlyScript plan → place < length plan.commands
     → ComesNext plan place (slice_index_or plan.commands place other)
-command_next plan place other is orderly within =
+command_next plan place other is well_formed within =
     let command = slice_index_or plan.commands place other in
     let rest = drop (suc place) plan.commands in
     let goes : plan.commands ≡ take place plan.commands ++ command ∷ rest =
     sym (take-append-drop place plan.commands)
     ∙ ap (λ (body : List Command). take place plan.commands ++ body) (drop-cons plan.commands place other within) in
-    let comes = orderly (take place plan.commands) command rest goes in
+    let comes = well_formed (take place plan.commands) command rest goes in
     record {
       here = slice_get-get_or plan.commands place other within;
       goes = (rest, goes);
       comes = comes;
-      named = λ names same. has_name plan.data_sectors (length names) (take place plan.commands) command rest comes
+      script_id = λ names same. has_name plan.data_sectors (length names) (take place plan.commands) command rest comes
           (ap length same ∙ is.numbered ∙ ap submissions goes);
     }
 
 -- the same of the commands as a list
 pub item_next : (plan : Plan) (items : List Command) (place : ℕ) (other : Command) → items ≡ plan.commands → IsPlan plan
     → IsOrderlyScript plan → place < length items → ComesNext plan place (slice_index_or items place other)
-item_next plan items place other same is orderly =
+item_next plan items place other same is well_formed =
     subst (λ (body : List Command). place < length body → ComesNext plan place (slice_index_or body place other)) (sym same)
-    (command_next plan place other is orderly)
+    (command_next plan place other is well_formed)
 
 -- the core followed the requests of all commands of a list
 pub items_follow : (plan : Plan) (items : List Command) (place : ℕ) (recording : Recording) → items ≡ plan.commands
@@ -89,7 +89,7 @@ items_follow plan items place recording same follows past =
 -- the end of a run
 
 -- each request that failed was submitted
-each_submitted : (names : List Name) (front : List Command) (before after : Option (List ℕ)) (recording : Recording)
+each_submitted : (names : List ScriptId) (front : List Command) (before after : Option (List ℕ)) (recording : Recording)
     → HasTold names front before after recording
     → All (λ request. request < submissions front) (failed_from 0 recording.requests.items)
 each_submitted names front before after recording has =
@@ -116,12 +116,12 @@ logging_told plan front end before after recording first has ends =
     }
 
 -- a run ended by a fault for which no line is named
-pub ends_whole : (text : List ℕ) (plan : Plan) (front : List Command) (command : Command) (fault : Fault)
+pub ends_whole : (text : List ℕ) (plan : Plan) (front : List Command) (command : Command) (fault : RunError)
     (before after now : Option (List ℕ)) (recording : Recording) → recording.log_sectors ≡ plan.log_sectors
     → GoesOn plan.commands front command → HasTold plan.names front before after recording → StopsQuietly after now (Whole fault)
     → StopsAt recording.log_sectors plan.commands front (failed_from 0 recording.requests.items) command (Whole fault) → EndsRun text plan before now fault
 ends_whole text plan front command fault before after now recording same goes has quiet (inl stops) = file fault stops
-ends_whole text plan front command (Refused line refusal) before after now recording same goes has quiet (inr (closes, stops)) =
+ends_whole text plan front command (Refused found) before after now recording same goes has quiet (inr (closes, stops)) =
     absurd stops.cause
 ends_whole text plan front command (LoggingEnded end) before after now recording same goes has quiet (inr (closes, stops)) =
     let first = before_first plan.commands front (subst (GoesOn plan.commands front) closes goes) stops.first in
@@ -143,7 +143,7 @@ pub ends_at_line : (text : List ℕ) (plan : Plan) (place : ℕ) (command : Comm
     (before after now : Option (List ℕ)) (recording : Recording) → ComesNext plan place command
     → HasTold plan.names (take place plan.commands) before after recording → now ≡ after → line ≡ command_line text place
     → StopsAt recording.log_sectors plan.commands (take place plan.commands) (failed_from 0 recording.requests.items) command (AtLine refusal)
-    → EndsRun text plan before now (Refused line refusal)
+    → EndsRun text plan before now (Refused (record { line = line; refusal = refusal }))
 ends_at_line text plan place command refusal line before after now recording next has quiet here (inl stops) = absurd stops
 ends_at_line text plan place command refusal line before after now recording next has quiet here (inr (closes, stops)) =
     let requests = recording.requests.items in

@@ -10,13 +10,13 @@ use Rattle.std.proofs.lemmas.List.Sums.{sum_by-append}
 use Rattle.std.proofs.lemmas.Option.{slice_get_within}
 use Rattle.std.proofs.lemmas.Str.{encodes-IsAscii}
 use Rattle.std.proofs.lemmas.Str.Ascii.{IsAscii-from_all}
-use Rattle.bio.specs.PlaceLaws.{slice_get-append_front, slice_get-append_here}
+use Rattle.sectors.specs.PlaceLaws.{slice_get-append_front, slice_get-append_here}
 use Rattle.dmlw_script.specs.declared.command.Command.{Command}
 use Rattle.dmlw_script.specs.declared.command.Command.TheVariants.{Write, Flush, Complete, Close}
-use Rattle.dmlw_script.specs.declared.name.Name.{Name}
-use Rattle.dmlw_script.specs.Names.{is_name_byte, letters_of, named}
-use Rattle.dmlw_script.specs.Plans.{IsName, Plan, behind_command, is_submission, name_at, submissions}
-use Rattle.dmlw_script.specs.Words.{front as before_mark}
+use Rattle.dmlw_script.specs.declared.script_id.ScriptId.{ScriptId}
+use Rattle.dmlw_script.specs.Ids.{is_name_byte, letters_of, script_id}
+use Rattle.dmlw_script.specs.Plans.{IsName, Plan, count_after_command, is_submission, name_at, submissions}
+use Rattle.dmlw_script.specs.Words.{before_byte as before_mark}
 use Rattle.pending.specs.declared.recording.Submitted.{Submitted}
 use Rattle.pending.specs.declared.recording.Submitted.TheVariants as submits
 use Rattle.script_runner.specs.declared.fill.Filled.{Filled}
@@ -25,9 +25,9 @@ use Rattle.script_runner.specs.declared.recording.Request.{Request}
 use Rattle.script_runner.specs.declared.recording.Request.TheVariants.{Tracked, Passed, Failed}
 use Rattle.script_runner.specs.Printed.{IsLate, IsWritten, Prints, body_text, command_text, is_one_of, outcome_line, printed, submission_text}
 use Rattle.script_runner.specs.Recorded.{has_close, is_write, until_close, is_close as ends}
-use Rattle.bio.specs.CallLaws.{appends_twice}
+use Rattle.script_runner.specs.CallLaws.{appends_twice}
 use Rattle.script_runner.proofs.Running.{all_tracked, closes_here, one_more}
-use Rattle.script_runner.specs.Recordings.{FailsLate, HasTold, IsFailing, failed_from, is_failed, request_of}
+use Rattle.script_runner.specs.inside.Recordings.{FailsLate, HasTold, IsFailing, failed_from, is_failed, request_of}
 
 -- what is submitted
 
@@ -44,7 +44,7 @@ submissions_push : (front : List Command) (command : Command) → submissions (f
 submissions_push front command = sum_by-append count_of front (command ∷ []) ∙ ap (λ (n : ℕ). submissions front + n) (omega arith)
 
 -- a command adds the requests that it submits
-behind_is : (before : ℕ) (command : Command) → behind_command before command ≡ before + count_of command
+behind_is : (before : ℕ) (command : Command) → count_after_command before command ≡ before + count_of command
 behind_is before (Write first count byte) = refl
 behind_is before Flush = refl
 behind_is before (Complete request) = omega arith
@@ -53,21 +53,21 @@ behind_is before Close = omega arith
 -- what is printed
 
 -- the text of commands and of those behind them
-body_append : (names : List Name) (failed : List ℕ) (before : ℕ) (front rest : List Command)
+body_append : (names : List ScriptId) (failed : List ℕ) (before : ℕ) (front rest : List Command)
     → body_text names failed before (front ++ rest) ≡ body_text names failed before front ++ body_text names failed (before + submissions front) rest
 body_append names failed before [] rest = ap (λ (n : ℕ). body_text names failed n rest) (omega arith)
 body_append names failed before (command ∷ front) rest =
-    let count : behind_command before command + submissions front ≡ before + submissions (command ∷ front) =
+    let count : count_after_command before command + submissions front ≡ before + submissions (command ∷ front) =
     ap (λ (n : ℕ). n + submissions front) (behind_is before command) ∙ omega arith
     ∙ ap (λ (n : ℕ). before + n) (sym (submissions_cons command front)) in
     ap (λ (text : List ℕ). command_text names failed before command ++ text)
-    (body_append names failed (behind_command before command) front rest
-    ∙ ap (λ (n : ℕ). body_text names failed (behind_command before command) front ++ body_text names failed n rest) count)
-    ∙ sym (append_assoc (command_text names failed before command) (body_text names failed (behind_command before command) front)
+    (body_append names failed (count_after_command before command) front rest
+    ∙ ap (λ (n : ℕ). body_text names failed (count_after_command before command) front ++ body_text names failed n rest) count)
+    ∙ sym (append_assoc (command_text names failed before command) (body_text names failed (count_after_command before command) front)
     (body_text names failed (before + submissions (command ∷ front)) rest))
 
 -- the text of one more command
-printed_push : (names : List Name) (failed : List ℕ) (front : List Command) (command : Command)
+printed_push : (names : List ScriptId) (failed : List ℕ) (front : List Command) (command : Command)
     → printed names failed (front ++ command ∷ []) ≡ printed names failed front ++ command_text names failed (submissions front) command
 printed_push names failed front command =
     body_append names failed 0 front (command ∷ [])
@@ -102,34 +102,34 @@ low_letters (byte ∷ word) size all =
     kept false bytes low rest = (low, rest)
 
 -- a name is printed by its letters
-letters_encoded : (name : Name) → IsName name → encode_utf8_all (letters_of name) ≡ letters_of name
+letters_encoded : (name : ScriptId) → IsName name → encode_utf8_all (letters_of name) ≡ letters_of name
 letters_encoded name is =
     let word = is.0 in
     let letters = and_parts _ (list_all is_name_byte word) is.1 in
-    subst (λ (n : Name). encode_utf8_all (letters_of n) ≡ letters_of n) (sym is.2)
-    (encodes-IsAscii (letters_of (named word)) (IsAscii-from_all (letters_of (named word))
-    (All-from_recursion (λ byte. byte < 128) (letters_of (named word)) (low_letters word _ letters.1))))
+    subst (λ (n : ScriptId). encode_utf8_all (letters_of n) ≡ letters_of n) (sym is.2)
+    (encodes-IsAscii (letters_of (script_id word)) (IsAscii-from_all (letters_of (script_id word))
+    (All-from_recursion (λ byte. byte < 128) (letters_of (script_id word)) (low_letters word _ letters.1))))
 
 -- a line of two words
 line_of : (word other : List ℕ) → word ++ 32 ∷ (other ++ 10 ∷ []) ≡ word ++ codes " " ++ other ++ codes "\n"
 line_of word other = sym (append_assoc (word ++ codes " ") other (codes "\n") ∙ append_assoc word (codes " ") (other ++ codes "\n"))
 
 -- what became of a request was told
-pub outcome_told : (names : List Name) (number : ℕ) (name : Name) (outcome : List ℕ) (before after : Option (List ℕ))
+pub outcome_told : (names : List ScriptId) (number : ℕ) (name : ScriptId) (outcome : List ℕ) (before after : Option (List ℕ))
     → AllByRecursion IsName names → number < length names → name ≡ name_at names number
     → Appends before after (encode_utf8_all (letters_of name) ++ 32 ∷ (outcome ++ 10 ∷ []))
     → Appends before after (outcome_line (name_at names number) outcome)
 outcome_told names number name outcome before after ids here same told =
-    let is : IsName (name_at names number) = All-get_or IsName names number (named []) here (All-from_recursion IsName names ids) in
+    let is : IsName (name_at names number) = All-get_or IsName names number (script_id []) here (All-from_recursion IsName names ids) in
     subst (Appends before after)
-    (ap (λ (n : Name). encode_utf8_all (letters_of n) ++ 32 ∷ (outcome ++ 10 ∷ [])) same
+    (ap (λ (n : ScriptId). encode_utf8_all (letters_of n) ++ 32 ∷ (outcome ++ 10 ∷ [])) same
     ∙ ap (λ (letters : List ℕ). letters ++ 32 ∷ (outcome ++ 10 ∷ [])) (letters_encoded (name_at names number) is)
     ∙ line_of (letters_of (name_at names number)) outcome) told
 
 -- what is told by a command
 
 -- one more command was run, which printed its text
-told_on : (names : List Name) (front : List Command) (before after now : Option (List ℕ)) (old new : Recording) (command : Command)
+told_on : (names : List ScriptId) (front : List Command) (before after now : Option (List ℕ)) (old new : Recording) (command : Command)
     → HasTold names front before after old → length new.requests.items ≡ submissions (front ++ command ∷ [])
     → FailsLate (front ++ command ∷ []) new.requests.items new.filled
     → ((failed : List ℕ) → IsFailing failed new.requests.items
@@ -243,7 +243,7 @@ late_kept front command requests (Some log) late = (
 )
 
 -- what a submission prints
-submission_prints : (names : List Name) (failed : List ℕ) (before : ℕ) (command : Command) → is_submission command ≡ true
+submission_prints : (names : List ScriptId) (failed : List ℕ) (before : ℕ) (command : Command) → is_submission command ≡ true
     → command_text names failed before command ≡ submission_text names failed before
 submission_prints names failed before (Write first count byte) submits = refl
 submission_prints names failed before Flush submits = refl
@@ -251,7 +251,7 @@ submission_prints names failed before (Complete request) submits = absurd (cc su
 submission_prints names failed before Close submits = absurd (cc submits)
 
 -- a request was submitted, and told of where it failed
-told_submission : (names : List Name) (front : List Command) (before after now : Option (List ℕ)) (old new : Recording)
+told_submission : (names : List ScriptId) (front : List Command) (before after now : Option (List ℕ)) (old new : Recording)
     (command : Command) (request : Request) → is_submission command ≡ true → HasTold names front before after old
     → new.requests.items ≡ old.requests.items ++ request ∷ [] → new.filled ≡ old.filled
     → (is_none old.filled ≡ false → request ≡ Failed → is_write command ≡ true)
@@ -277,7 +277,7 @@ told_submission names front before after now old new command request submits has
     ))
 
 -- a request failed, and that was told
-pub told_failed : (names : List Name) (front : List Command) (before after now : Option (List ℕ)) (old new : Recording)
+pub told_failed : (names : List ScriptId) (front : List Command) (before after now : Option (List ℕ)) (old new : Recording)
     (command : Command) → is_submission command ≡ true → (is_none old.filled ≡ false → is_write command ≡ true)
     → HasTold names front before after old → new.requests.items ≡ old.requests.items ++ Failed ∷ [] → new.filled ≡ old.filled
     → (number : ℕ) → number ≡ length old.requests.items → Appends after now (outcome_line (name_at names number) (codes "failed"))
@@ -287,7 +287,7 @@ told_failed names front before after now old new command submits wrote has pushe
     (subst (λ (n : ℕ). Appends after now (outcome_line (name_at names n) (codes "failed"))) counts told)
 
 -- a request was submitted that didn't fail
-pub told_submitted : (names : List Name) (front : List Command) (before after now : Option (List ℕ)) (old new : Recording)
+pub told_submitted : (names : List ScriptId) (front : List Command) (before after now : Option (List ℕ)) (old new : Recording)
     (command : Command) (request : Request) → is_submission command ≡ true → HasTold names front before after old
     → new.requests.items ≡ old.requests.items ++ request ∷ [] → new.filled ≡ old.filled → is_failed request ≡ false → now ≡ after
     → HasTold names (front ++ command ∷ []) before now new
@@ -297,7 +297,7 @@ told_submitted names front before after now old new command request submits has 
     (subst (λ (bytes : Option (List ℕ)). Appends after bytes []) (sym quiet) (appends_none after)))
 
 -- a request was ended, which printed this
-told_end : (names : List Name) (front : List Command) (before after now : Option (List ℕ)) (old new : Recording)
+told_end : (names : List ScriptId) (front : List Command) (before after now : Option (List ℕ)) (old new : Recording)
     (request : ℕ) (found : Request) → HasTold names front before after old → slice_get old.requests.items request ≡ Some found
     → new.requests.items ≡ old.requests.items → new.filled ≡ old.filled
     → Appends after now (if is_failed found then [] else outcome_line (name_at names request) (codes "ok"))
@@ -317,7 +317,7 @@ told_end names front before after now old new request found has here kept same t
     ))
 
 -- a request has ended that didn't fail
-pub told_ended : (names : List Name) (front : List Command) (before after now : Option (List ℕ)) (old new : Recording)
+pub told_ended : (names : List ScriptId) (front : List Command) (before after now : Option (List ℕ)) (old new : Recording)
     (request : ℕ) (found : Request) → HasTold names front before after old → slice_get old.requests.items request ≡ Some found
     → new.requests.items ≡ old.requests.items → new.filled ≡ old.filled → is_failed found ≡ false
     → Appends after now (outcome_line (name_at names request) (codes "ok"))
@@ -327,7 +327,7 @@ told_ended names front before after now old new request found has here kept same
     (subst (λ (b : Bool). Appends after now (if b then [] else outcome_line (name_at names request) (codes "ok"))) (sym fine) told)
 
 -- a request has ended that failed
-pub told_nothing : (names : List Name) (front : List Command) (before after now : Option (List ℕ)) (old new : Recording)
+pub told_nothing : (names : List ScriptId) (front : List Command) (before after now : Option (List ℕ)) (old new : Recording)
     (request : ℕ) → HasTold names front before after old → slice_get old.requests.items request ≡ Some Failed
     → new.requests.items ≡ old.requests.items → new.filled ≡ old.filled → now ≡ after
     → HasTold names (front ++ Complete request ∷ []) before now new
@@ -336,7 +336,7 @@ told_nothing names front before after now old new request has here kept same qui
     (subst (λ (bytes : Option (List ℕ)). Appends after bytes []) (sym quiet) (appends_none after))
 
 -- the recording was closed, and requests fail late
-told_close : (names : List Name) (front : List Command) (before after : Option (List ℕ)) (old new : Recording)
+told_close : (names : List ScriptId) (front : List Command) (before after : Option (List ℕ)) (old new : Recording)
     → HasTold names front before after old → new.requests.items ≡ old.requests.items
     → FailsLate (front ++ Close ∷ []) new.requests.items new.filled
     → HasTold names (front ++ Close ∷ []) before after new
@@ -347,7 +347,7 @@ told_close names front before after old new has kept late =
     (λ failed failing. (subst (IsFailing failed) kept failing, appends_none after))
 
 -- the recording was closed before
-pub told_closed : (names : List Name) (front : List Command) (before after : Option (List ℕ)) (old new : Recording)
+pub told_closed : (names : List ScriptId) (front : List Command) (before after : Option (List ℕ)) (old new : Recording)
     → HasTold names front before after old → new.requests.items ≡ old.requests.items → new.filled ≡ old.filled
     → HasTold names (front ++ Close ∷ []) before after new
 told_closed names front before after old new has kept same =
@@ -357,7 +357,7 @@ told_closed names front before after old new has kept same =
     (late_kept front Close old.requests.items old.filled has.late)))
 
 -- the recording is closed, with no request that failed
-pub told_first_close : (names : List Name) (front : List Command) (before after : Option (List ℕ)) (old new : Recording)
+pub told_first_close : (names : List ScriptId) (front : List Command) (before after : Option (List ℕ)) (old new : Recording)
     (log : Filled) (ids : List ℕ) → HasTold names front before after old → new.requests.items ≡ old.requests.items
     → new.filled ≡ Some log → old.requests.items ≡ map Tracked ids → HasTold names (front ++ Close ∷ []) before after new
 told_first_close names front before after old new log ids has kept made tracked =
@@ -431,7 +431,7 @@ all_failed requests number request here =
     ap (is_one_of (failed_from 0 requests)) (omega arith) ∙ failed_at 0 number requests request here
 
 -- a script was run to its end: where the requests that failed did so late, what was told is what it prints
-printed_all : (names : List Name) (script : List Command) (before after : Option (List ℕ)) (recording : Recording)
+printed_all : (names : List ScriptId) (script : List Command) (before after : Option (List ℕ)) (recording : Recording)
     → HasTold names script before after recording
     → ((number : ℕ) → slice_get recording.requests.items number ≡ Some Failed → IsLate script number)
     → Prints names script before after
@@ -445,29 +445,29 @@ printed_all names script before after recording has late =
     )
 
 -- a script was run whose log is made
-pub printed_filled : (names : List Name) (script : List Command) (before after : Option (List ℕ)) (recording : Recording) (log : Filled)
+pub printed_filled : (names : List ScriptId) (script : List Command) (before after : Option (List ℕ)) (recording : Recording) (log : Filled)
     → HasTold names script before after recording → recording.filled ≡ Some log → Prints names script before after
 printed_filled names script before after recording log has made =
     let late : FailsLate script recording.requests.items (Some log) = subst (FailsLate script recording.requests.items) made has.late in
     printed_all names script before after recording has late.1
 
 -- a script was run that wasn't closed
-pub printed_open : (names : List Name) (script : List Command) (before after : Option (List ℕ)) (recording : Recording) (ids : List ℕ)
+pub printed_open : (names : List ScriptId) (script : List Command) (before after : Option (List ℕ)) (recording : Recording) (ids : List ℕ)
     → HasTold names script before after recording → recording.requests.items ≡ map Tracked ids → Prints names script before after
 printed_open names script before after recording ids has tracked =
     printed_all names script before after recording has
     (λ number here. absurd (all_tracked ids recording.requests.items number Failed tracked here (λ id same. cc same)))
 
 -- one more command of a script was run, of its list of commands
-pub item_told : (plan : Plan) (items : List Command) (names : List Name) (place : ℕ) (other : Command) (before after now : Option (List ℕ)) (old new : Recording)
+pub item_told : (plan : Plan) (items : List Command) (names : List ScriptId) (place : ℕ) (other : Command) (before after now : Option (List ℕ)) (old new : Recording)
     → items ≡ plan.commands → names ≡ plan.names → HasTold plan.names (take place plan.commands) before after old → place < length items
     → (HasTold names (take place plan.commands) before after old
     → HasTold names (take place plan.commands ++ slice_index_or items place other ∷ []) before now new)
     → HasTold plan.names (take (place + 1) plan.commands) before now new
-item_told plan items names place other before after now old new same named has here step =
+item_told plan items names place other before after now old new same script_id has here step =
     one_more (λ (body : List Command). HasTold plan.names body before now new) plan items place other same here
-    (subst (λ (ns : List Name). HasTold ns (take place plan.commands ++ slice_index_or items place other ∷ []) before now new) named
-    (step (subst (λ (ns : List Name). HasTold ns (take place plan.commands) before after old) (sym named) has)))
+    (subst (λ (ns : List ScriptId). HasTold ns (take place plan.commands ++ slice_index_or items place other ∷ []) before now new) script_id
+    (step (subst (λ (ns : List ScriptId). HasTold ns (take place plan.commands) before after old) (sym script_id) has)))
 
 -- a script's commands were run to the end of their list
 pub items_told : (plan : Plan) (items : List Command) (place : ℕ) (before after : Option (List ℕ)) (recording : Recording)

@@ -5,7 +5,7 @@ use Rattle.std.proofs.lemmas.Bool.Decides.{nat_tests}
 use Rattle.std.proofs.lemmas.List.Elements.{All-from_recursion, recursion_from_All}
 use Rattle.std.proofs.lemmas.List.Folds.{list_any-append}
 use Rattle.std.proofs.lemmas.Option.{slice_get_cases, slice_get_within}
-use Rattle.bio.specs.Lawful.{is_quiet, is_recording}
+use Rattle.bio.specs.Lawful.{has_no_close, is_recording, none_open}
 use Rattle.bio.specs.declared.event.CoreEvent.{CoreEvent}
 use Rattle.bio.specs.declared.event.CoreEvent.TheVariants as events
 use Rattle.bio.specs.declared.outcome.End.{End}
@@ -13,8 +13,8 @@ use Rattle.bio.specs.declared.request.Bio.{Bio}
 use Rattle.bio.specs.Events.{end_of, first_place, is_close, is_open_at, is_stop, is_end_of as ends_at}
 use Rattle.bio.specs.EventLaws.{first_place-snoc, first_place_after-snoc, is_open_at-open, open-is_open_at}
 use Rattle.bio.specs.Requests.{is_tracked}
-use Rattle.bio.specs.Places.{all_below, or_here}
-use Rattle.bio.specs.PlaceLaws.{all_below-each, bool_cases, length-snoc, slice_get-append_front, slice_get-append_here}
+use Rattle.sectors.specs.Places.{all_below, or_here}
+use Rattle.sectors.specs.PlaceLaws.{all_below-each, bool_cases, length-snoc, slice_get-append_front, slice_get-append_here}
 use Rattle.dmlw_script.specs.Plans.{is_end_of, is_ended, is_submission, submissions}
 use Rattle.dmlw_script.specs.declared.command.Command.{Command}
 use Rattle.dmlw_script.specs.declared.command.Command.TheVariants.{Write, Flush, Complete, Close}
@@ -26,7 +26,7 @@ use Rattle.script_runner.specs.declared.recording.Request.{Request}
 use Rattle.script_runner.specs.declared.recording.Request.TheVariants.{Tracked, Passed, Failed}
 use Rattle.script_runner.specs.Printed.{is_one_of}
 use Rattle.script_runner.specs.Recorded.{HasOpen}
-use Rattle.script_runner.specs.Recordings.{HasRun, IsFollowing, IsTracing, failed_from, request_of}
+use Rattle.script_runner.specs.inside.Recordings.{HasRun, IsFollowing, IsTracing, failed_from, request_of}
 use Rattle.script_runner.proofs.Running.{unfilled}
 use Rattle.script_runner.proofs.Following.{found_in}
 use Rattle.script_runner.proofs.Telling.{all_failed, each_failed}
@@ -90,7 +90,7 @@ still_ended es event over =
 -- a recording ends at a Stop
 stopped_ended : (es : List CoreEvent) (cause : End) → is_recording (es ++ events.Stop cause ∷ []) ≡ false
 stopped_ended es cause =
-    rw (first_place-snoc is_stop es (events.Stop cause)) (now (first_place is_stop es) (is_none (first_place is_close (es ++ events.Stop cause ∷ []))))
+    rw (first_place-snoc is_stop es (events.Stop cause)) (now (first_place is_stop es) (has_no_close (es ++ events.Stop cause ∷ [])))
   where
     now : (stop : Option ℕ) (b : Bool) → (is_none (or_here stop true (length es)) && b) ≡ false
     now None b = refl
@@ -176,7 +176,7 @@ pub traced_close : (front : List Command) (core new : CoreState) (requests : Lis
     → IsTracing (front ++ Close ∷ []) new.events requests made
 traced_close front core new requests filled made has news there =
     let now = subst (λ (state : CoreState). IsTracing front state.events requests filled) (sym news)
-    (by_case (is_none (first_place is_close core.events))) in
+    (by_case (has_no_close core.events)) in
     record {
       known = λ id opened.
           let found = now.known id opened in (found.0, found.1, ended_kept found.0 front Close refl ∙ found.2);
@@ -377,7 +377,7 @@ at_one P (other ∷ numbers) number all one = elim (bool_cases (other == number)
 
 -- a core that isn't quiet has a request open
 pub has_open : (front : List Command) (es : List CoreEvent) (requests : List Request) (filled : Option Filled)
-    → IsTracing front es requests filled → length requests ≡ submissions front → is_quiet es ≡ false → HasOpen (failed_from 0 requests) front
+    → IsTracing front es requests filled → length requests ≡ submissions front → none_open es ≡ false → HasOpen (failed_from 0 requests) front
 has_open front es requests filled has numbered some =
     let one = one_below (is_open_at es) (length es) some in
     let found = has.known one.0 one.1 in
@@ -391,10 +391,10 @@ has_open front es requests filled has numbered some =
     )
 
 -- a core that is quiet, of which there is no log, has no request open
-pub none_open : (front : List Command) (es : List CoreEvent) (requests : List Request) (is_short : Bool) (filled : Option Filled)
+pub none_is_open : (front : List Command) (es : List CoreEvent) (requests : List Request) (is_short : Bool) (filled : Option Filled)
     → IsFollowing front es requests is_short filled → IsTracing front es requests filled → is_none filled ≡ true
-    → length requests ≡ submissions front → is_quiet es ≡ true → HasOpen (failed_from 0 requests) front → ⊥
-none_open front es requests is_short filled follows has none numbered quiet opened = by_request (slice_get requests opened.0) refl
+    → length requests ≡ submissions front → none_open es ≡ true → HasOpen (failed_from 0 requests) front → ⊥
+none_is_open front es requests is_short filled follows has none numbered quiet opened = by_request (slice_get requests opened.0) refl
   where
     before : (other : ℕ) → slice_get requests other ≡ Some Failed → opened.0 < other
     before other here =

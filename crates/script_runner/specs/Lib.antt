@@ -1,6 +1,7 @@
-pub mod Faults
+pub mod Errors
+pub mod CallLaws
 pub mod Image
 pub mod Recorded
 pub mod Printed
-pub mod Recordings
 pub mod RunFaults
+pub mod inside

@@ -15,23 +15,17 @@ use Rattle.pending.specs.QueueEvent.{recorded}
 -- a write passes the test of its sectors, for the largest disk
 abbrev pub IsWithin : Command → Type 0
 IsWithin (Write first count byte) = range_answer first count 1048576 ≡ Ok tt
-IsWithin Flush = Unit {0}
-IsWithin (Complete request) = Unit {0}
-IsWithin Close = Unit {0}
+IsWithin _ = Unit {0}
 
 -- the command ends the recording
 abbrev pub is_close : Command → Bool
 is_close Close = true
-is_close (Write first count byte) = false
-is_close Flush = false
-is_close (Complete request) = false
+is_close _ = false
 
 -- the command submits a write
 abbrev pub is_write : Command → Bool
 is_write (Write first count byte) = true
-is_write Flush = false
-is_write (Complete request) = false
-is_write Close = false
+is_write _ = false
 
 -- a command ends the recording
 abbrev pub has_close : List Command → Bool

@@ -3,17 +3,17 @@ use Rattle.std.specs.Prelude.{◌≡◌, ℕ, ◌<◌, ◌⊎◌, All, false, Li
 use Rattle.std.specs.Io.KnownBytes.{Appends}
 use Rattle.bio.specs.declared.outcome.End.{End}
 use Rattle.bio.specs.declared.outcome.End.TheVariants as ends
-use Rattle.bio.specs.declared.refusal.Refusal.{Refusal}
-use Rattle.bio.specs.declared.refusal.Refusal.TheVariants as refusals
+use Rattle.refusals.specs.declared.refusal.Refusal.{Refusal}
+use Rattle.refusals.specs.declared.refusal.Refusal.TheVariants as refusals
 use Rattle.dmlw_script.specs.declared.command.Command.{Command}
 use Rattle.dmlw_script.specs.declared.command.Command.TheVariants.{Close}
 use Rattle.dmlw_script.specs.Lines.{command_line}
 use Rattle.dmlw_script.specs.Plans.{Plan, submissions}
-use Rattle.script_runner.specs.declared.fault.Fault.{Fault}
-use Rattle.script_runner.specs.declared.fault.Fault.TheVariants.{Refused, LoggingEnded}
-use Rattle.script_runner.specs.declared.recording.Stop.{Stop}
-use Rattle.script_runner.specs.declared.recording.Stop.TheVariants.{AtLine, Whole}
-use Rattle.script_runner.specs.Faults.{IsFileFault}
+use Rattle.script_runner.specs.declared.error.RunError.{RunError}
+use Rattle.script_runner.specs.declared.error.RunError.TheVariants.{Refused, LoggingEnded}
+use Rattle.script_runner.specs.declared.recording.StepError.{StepError}
+use Rattle.script_runner.specs.declared.recording.StepError.TheVariants.{AtLine, Whole}
+use Rattle.script_runner.specs.Errors.{IsFileError}
 use Rattle.script_runner.specs.Image.{fits}
 use Rattle.script_runner.specs.Printed.{printed}
 use Rattle.script_runner.specs.Recorded.{ClosesQuietly, HasOpen, before_close, entries_of, has_close}
@@ -32,23 +32,23 @@ pub data IsLoggingEnd (failed : List ℕ) (log_sectors : ℕ) (script : List Com
       → IsLoggingEnd failed log_sectors script ends.Full
 
 -- a run stops for want of memory, or since an output can't be written
-abbrev pub StopsForFile : Stop → Type 0
+abbrev pub StopsForFile : StepError → Type 0
 StopsForFile (AtLine refusal) = ⊥
-StopsForFile (Whole fault) = IsFileFault fault
+StopsForFile (Whole fault) = IsFileError fault
 
 -- why a run of a script stops at the Close behind these commands, where these requests failed
-abbrev pub IsCloseStop : ℕ → List Command → List Command → List ℕ → Stop → Type 0
+abbrev pub IsCloseStop : ℕ → List Command → List Command → List ℕ → StepError → Type 0
 IsCloseStop log_sectors script front failed (AtLine refusal) = IsCloseRefusal failed front refusal
 IsCloseStop log_sectors script front failed (Whole (LoggingEnded end)) = IsLoggingEnd failed log_sectors script end
-IsCloseStop log_sectors script front failed (Whole (Refused line refusal)) = ⊥
+IsCloseStop log_sectors script front failed (Whole (Refused fault)) = ⊥
 
 -- a run of a script stops at its first Close, behind these commands
-pub record StopsAtClose (log_sectors : ℕ) (script front : List Command) (failed : List ℕ) (stop : Stop) : Type 0 where
+pub record StopsAtClose (log_sectors : ℕ) (script front : List Command) (failed : List ℕ) (stop : StepError) : Type 0 where
   pub first : has_close front ≡ false
   pub cause : IsCloseStop log_sectors script front failed stop
 
 -- a run of a script stops at this command behind these
-abbrev pub StopsAt : ℕ → List Command → List Command → List ℕ → Command → Stop → Type 0
+abbrev pub StopsAt : ℕ → List Command → List Command → List ℕ → Command → StepError → Type 0
 StopsAt log_sectors script front failed command stop =
     StopsForFile stop ⊎ ((command ≡ Close) × StopsAtClose log_sectors script front failed stop)
 
@@ -74,14 +74,14 @@ pub record EndsLogging (script : Plan) (end : End) (before after : Option (List 
 
 -- A fault that ends the run of a script that was read from this text: an output can't be written or there is no memory,
 -- of which nothing more is said; logging ended; or the first Close was refused, which names its line.
-pub data EndsRun (text : List ℕ) (script : Plan) (before after : Option (List ℕ)) : Fault → Type 0 where
-  file : (fault : Fault) → IsFileFault fault → EndsRun text script before after fault
+pub data EndsRun (text : List ℕ) (script : Plan) (before after : Option (List ℕ)) : RunError → Type 0 where
+  file : (fault : RunError) → IsFileError fault → EndsRun text script before after fault
   logging : (end : End) → EndsLogging script end before after → EndsRun text script before after (LoggingEnded end)
   close : (line : Option ℕ) (refusal : Refusal) → RefusesClose text script line refusal before after
-      → EndsRun text script before after (Refused line refusal)
+      → EndsRun text script before after (Refused (record { line = line; refusal = refusal }))
 
 -- a run stops at a line that is refused, or since logging ended, and nothing is printed for it
-abbrev pub StopsQuietly : Option (List ℕ) → Option (List ℕ) → Stop → Type 0
+abbrev pub StopsQuietly : Option (List ℕ) → Option (List ℕ) → StepError → Type 0
 StopsQuietly before after (AtLine refusal) = after ≡ before
 StopsQuietly before after (Whole (LoggingEnded end)) = after ≡ before
-StopsQuietly before after (Whole (Refused line refusal)) = Unit {0}
+StopsQuietly before after (Whole (Refused fault)) = Unit {0}

@@ -5,13 +5,13 @@
 //! the script's events (`specs/Recorded` says which these are, `specs/Image` which bytes a log has) and
 //! the lines are those of `specs/Printed`; where it fails, `specs/RunFaults` says when a Close is
 //! refused and when logging ends, and what was printed before. `fill_log` fills a log with the entries that a core still
-//! has to give, `empty_log` makes one of none. A `Fault` is why a command ended before its time.
+//! has to give, `empty_log` makes one of none. A `RunError` says why a command ended before its time.
 #![tactic(auto)]
 
-pub use fault::Fault;
+pub use error::RunError;
 pub use fill::{Filled, empty_log, fill_log};
 pub use recording::run;
 
-mod fault;
+mod error;
 mod fill;
 mod recording;

@@ -6,20 +6,23 @@ ghost use Rattle.bio.specs.declared.event.CoreEvent.TheVariants.{Submit};
 ghost use Rattle.bio.specs.Check.{check_answer, range_answer};
 ghost use Rattle.bio.specs.Lawful.{is_lawful};
 ghost use Rattle.bio.specs.Requests.{is_tracked};
-ghost use Rattle.dmlw_script.specs.Plans.{HasName, IsName, MayCome, is_ended, is_submission, name_at, submissions};
+ghost use Rattle.dmlw_script.specs.Plans.{HasName, IsName, CanFollow, is_ended, is_submission, name_at, submissions};
 ghost use Rattle.pending.specs.Refusals.{close_refusal};
-ghost use Rattle.script_runner.specs.declared.recording.Stop.TheVariants.{AtLine, Whole};
-ghost use Rattle.script_runner.specs.Faults.{ended_by, io_refusal, memory_fault, refused_by};
+ghost use Rattle.script_runner.specs.declared.recording.StepError.TheVariants.{AtLine, Whole};
+ghost use Rattle.script_runner.specs.Errors.{io_refusal, memory_error, refused_by};
+ghost use Rattle.script_runner.specs.declared.error.RunError.TheVariants.{LoggingEnded};
 ghost use Rattle.script_runner.specs.Image.{HasEntries, MakesLog};
 ghost use Rattle.script_runner.specs.Printed.{Prints, outcome_line};
 ghost use Rattle.script_runner.specs.Recorded.{IsWithin, entries_of, event_of, ids_of, is_write};
 ghost use Rattle.script_runner.specs.RunFaults.{EndsRun, StopsAt, StopsAtClose, StopsForFile, StopsQuietly};
 
-use crate::fault::Fault;
-use crate::fill::{Filled, MAX_SECTORS, empty_log, fill_log};
-use bio::{Bio, Bytes, End, Id, Refusal, SECTOR_BYTES};
-use dmlw_script::{Command, Name, Script, laws, line_of};
+use crate::error::RunError;
+use crate::fill::{Filled, empty_log, fill_log};
+use bio::{Bio, Bytes, End, Id};
+use dmlw_script::{Command, Script, ScriptId, laws, line_of};
 use pending::{CloseError, Core, Submitted};
+use refusals::{Fault, Refusal};
+use sectors::SECTOR_BYTES;
 use std::alloc::{AllocError, AllocFailed, Global};
 use std::io;
 use std::io::Write;
@@ -39,7 +42,7 @@ enum Request {
 }
 
 impl From<Submitted> for Request {
-    ghost use Rattle.script_runner.specs.Recordings.{request_of};
+    ghost use Rattle.script_runner.specs.inside.Recordings.{request_of};
     ghost use Rattle.std.specs.Prelude.{◌≡◌};
 
     ghost from_gives = { λ submitted request. request ≡ request_of submitted };
@@ -54,43 +57,43 @@ impl From<Submitted> for Request {
 
 // Why a script's run ends before its last line.
 #[derive(Clone, Copy, Debug, PartialEq, Eq)]
-enum Stop {
+enum StepError {
     // The line that is run is refused.
     AtLine(Refusal),
     // Something else, for which no line is named.
-    Whole(Fault),
+    Whole(RunError),
 }
 
-impl From<CloseError> for Stop {
+impl From<CloseError> for StepError {
     ghost from_gives = { λ error stop. stop ≡ AtLine (close_refusal error) };
 
-    fn from(error: CloseError) -> Stop {
-        Stop::AtLine(Refusal::from(error))
+    fn from(error: CloseError) -> StepError {
+        StepError::AtLine(Refusal::from(error))
     }
 }
 
-impl From<End> for Stop {
-    ghost from_gives = { λ end stop. stop ≡ Whole (ended_by end) };
+impl From<End> for StepError {
+    ghost from_gives = { λ end stop. stop ≡ Whole (LoggingEnded end) };
 
-    fn from(end: End) -> Stop {
-        Stop::Whole(Fault::from(end))
+    fn from(end: End) -> StepError {
+        StepError::Whole(RunError::from(end))
     }
 }
 
-impl<T: Drop> From<AllocFailed<T>> for Stop {
-    ghost from_gives = { λ _ stop. stop ≡ Whole memory_fault };
+impl<T: Drop> From<AllocFailed<T>> for StepError {
+    ghost from_gives = { λ _ stop. stop ≡ Whole memory_error };
 
-    fn from(_error: AllocFailed<T>) -> Stop {
-        Stop::Whole(Fault::from(Refusal::Memory))
+    fn from(_error: AllocFailed<T>) -> StepError {
+        StepError::Whole(RunError::from(Refusal::Memory))
     }
 }
 
-impl From<io::Error> for Stop {
+impl From<io::Error> for StepError {
     ghost from_gives = { λ error stop.
         stop ≡ Whole (refused_by (io_refusal (error_kind error))) };
 
-    fn from(error: io::Error) -> Stop {
-        Stop::Whole(Fault::from(error))
+    fn from(error: io::Error) -> StepError {
+        StepError::Whole(RunError::from(error))
     }
 }
 
@@ -112,7 +115,7 @@ struct Recording {
 }
 
 impl Recording {
-    ghost use Rattle.script_runner.specs.Recordings.{Follows, GoesOn, HasTold, Stands, Traces, failed_from};
+    ghost use Rattle.script_runner.specs.inside.Recordings.{Follows, GoesOn, HasTold, Stands, Traces, failed_from};
 
     // No line of the script was run.
     fn new(alloc: Global, script: &Script) -> Result<Recording, AllocError>
@@ -133,7 +136,12 @@ impl Recording {
     }
 
     // Submits the next request.
-    fn submit<O: Write>(&mut self, bio: &Bio, names: &[Name], out: &mut O) -> Result<(), Stop>
+    fn submit<O: Write>(
+        &mut self,
+        bio: &Bio,
+        names: &[ScriptId],
+        out: &mut O,
+    ) -> Result<(), StepError>
         requires { IsOk (check_answer bio.now 1048576) }
         ensures stands { (script front : List Command) (command : Command) →
             event_of (ids_of script) command ≡ Submit bio.now → Stands script front self.old →
@@ -165,9 +173,9 @@ impl Recording {
         first: u32,
         count: u16,
         byte: u8,
-        names: &[Name],
+        names: &[ScriptId],
         out: &mut O,
-    ) -> Result<(), Stop>
+    ) -> Result<(), StepError>
         requires { range_answer first count 1048576 ≡ Ok tt }
         ensures stands { (script front : List Command) → Stands script front self.old →
             OnOk result (Stands script (front ++ Command.Write first count byte ∷ []) self.new) }
@@ -198,7 +206,7 @@ impl Recording {
     }
 
     // There is no memory for the next request: it fails, and logging ends.
-    fn fail<O: Write>(&mut self, names: &[Name], out: &mut O) -> Result<(), Stop>
+    fn fail<O: Write>(&mut self, names: &[ScriptId], out: &mut O) -> Result<(), StepError>
         ensures short { OnOk result (self.new.is_short ≡ true) }
         ensures filled { OnOk result (self.new.filled ≡ self.old.filled) }
         ensures told { (front : List Command) (command : Command) (before : Option (List ℕ)) →
@@ -226,9 +234,9 @@ impl Recording {
     fn complete<O: Write>(
         &mut self,
         request: usize,
-        names: &[Name],
+        names: &[ScriptId],
         out: &mut O,
-    ) -> Result<(), Stop>
+    ) -> Result<(), StepError>
         ensures stands { (script front : List Command) →
             GoesOn script front (Command.Complete request) → Stands script front self.old →
             OnOk result (Stands script (front ++ Command.Complete request ∷ []) self.new) }
@@ -247,26 +255,26 @@ impl Recording {
         ensures log { self.new.log_sectors ≡ self.old.log_sectors }
     {
         let Some(found) = request_at(&self.requests, request) else {
-            return Err(Stop::AtLine(Refusal::BadId));
+            return Err(StepError::AtLine(Refusal::BadId));
         };
         match found {
             Request::Tracked(id) if self.core.is_open(id) => {
                 self.core.complete(id, true);
                 tell(names, request, "ok", out)
             }
-            Request::Tracked(_) => Err(Stop::AtLine(Refusal::BadId)),
+            Request::Tracked(_) => Err(StepError::AtLine(Refusal::BadId)),
             Request::Passed => tell(names, request, "ok", out),
             Request::Failed => Ok(()),
         }
     }
 
     // Ends the recording, and fills the log at the first time.
-    fn close(&mut self) -> Result<(), Stop>
+    fn close(&mut self) -> Result<(), StepError>
         ensures stands { (script front : List Command) →
             GoesOn script front Command.Close → Stands script front self.old → Follows front self.old →
             Traces front self.old → length self.old.requests.items ≡ submissions front →
             OnOk result (Stands script (front ++ Command.Close ∷ []) self.new) }
-        ensures told { (names : List Name) (script front : List Command) (before after : Option (List ℕ)) →
+        ensures told { (names : List ScriptId) (script front : List Command) (before after : Option (List ℕ)) →
             Stands script front self.old → HasTold names front before after self.old →
             OnOk result (HasTold names (front ++ Command.Close ∷ []) before after self.new) }
         ensures refused { (bytes : Option (List ℕ)) → IfErr result (StopsQuietly bytes bytes) }
@@ -284,7 +292,7 @@ impl Recording {
         self.core.close()?;
         if self.filled.is_none() {
             if self.is_short {
-                return Err(Stop::from(End::Memory));
+                return Err(StepError::from(End::Memory));
             }
             self.filled = Some(fill_log(self.alloc, &mut self.core, self.log_sectors)?);
         }
@@ -292,7 +300,12 @@ impl Recording {
     }
 
     // Runs a command.
-    fn step<O: Write>(&mut self, command: Command, names: &[Name], out: &mut O) -> Result<(), Stop>
+    fn step<O: Write>(
+        &mut self,
+        command: Command,
+        names: &[ScriptId],
+        out: &mut O,
+    ) -> Result<(), StepError>
         requires { IsWithin command }
         ensures stands { (script front : List Command) →
             GoesOn script front command → Stands script front self.old → Follows front self.old →
@@ -307,7 +320,7 @@ impl Recording {
         ensures faults { (script front : List Command) (sectors : ℕ) →
             GoesOn script front command → Stands script front self.old → Follows front self.old →
             Traces front self.old → length self.old.requests.items ≡ submissions front →
-            MayCome sectors front command → HasName (length names.now) (submissions front) command →
+            CanFollow sectors front command → HasName (length names.now) (submissions front) command →
             IfErr result (StopsAt self.old.log_sectors script front
             (failed_from 0 self.old.requests.items) command) }
         ensures follows { (front : List Command) → Follows front self.old →
@@ -331,7 +344,7 @@ impl Recording {
     fn end(self) -> Result<Filled, End>
         ensures log { (script : List Command) → Stands script script self →
             IfOk result (HasEntries self.log_sectors (entries_of script)) }
-        ensures printed { (names : List Name) (script : List Command) (before after : Option (List ℕ)) →
+        ensures printed { (names : List ScriptId) (script : List Command) (before after : Option (List ℕ)) →
             Stands script script self → HasTold names script before after self →
             OnOk result (Prints names script before after) }
         ensures made { (script : List Command) → Stands script script self →
@@ -362,7 +375,12 @@ fn request_at(requests: &[Request], number: usize) -> Option<Request>
 }
 
 // Tells what became of a request.
-fn tell<O: Write>(names: &[Name], request: usize, outcome: &str, out: &mut O) -> Result<(), Stop>
+fn tell<O: Write>(
+    names: &[ScriptId],
+    request: usize,
+    outcome: &str,
+    out: &mut O,
+) -> Result<(), StepError>
     ensures told { AllByRecursion IsName names.now →
         OnOk result (Appends (O.contents out.old) (O.contents out.new)
         (outcome_line (name_at names.now request) outcome.now)) }
@@ -371,7 +389,7 @@ fn tell<O: Write>(names: &[Name], request: usize, outcome: &str, out: &mut O) ->
 {
     match names.get(request) {
         Some(name) => Ok(writeln!(out, "{name} {outcome}")?),
-        None => Err(Stop::AtLine(Refusal::BadId)),
+        None => Err(StepError::AtLine(Refusal::BadId)),
     }
 }
 
@@ -381,7 +399,7 @@ pub fn run<O: Write>(
     text: &[u8],
     script: &Script,
     out: &mut O,
-) -> Result<Filled, Fault>
+) -> Result<Filled, RunError>
     ensures log { IfOk result (HasEntries script.now.log_sectors (entries_of script.now.commands)) }
     ensures made { OnOk result (MakesLog script.now.log_sectors script.now.commands) }
     ensures printed { OnOk result
@@ -394,10 +412,10 @@ pub fn run<O: Write>(
     for (place, command) in script.commands().iter().enumerate() {
         match recording.step(*command, script.names(), out) {
             Ok(()) => {}
-            Err(Stop::Whole(fault)) => return Err(fault),
-            Err(Stop::AtLine(refusal)) => {
+            Err(StepError::Whole(fault)) => return Err(fault),
+            Err(StepError::AtLine(refusal)) => {
                 let line = line_of(text, place);
-                return Err(Fault::Refused { line, refusal });
+                return Err(RunError::Refused(Fault { line, refusal }));
             }
         }
     }

@@ -18,24 +18,24 @@ returns-in_err-script-clause-complete c = λ entered enters complete.
 
 pub returns-then-eq-clause-asks : goal.returns-then-eq-clause-asks
 returns-then-eq-clause-asks c =
-    let named = name_of_rows _ _ _ c.in_ok-name.ensures.name in
-    let some = found_some (subcommand_rows_of c.args.matches.now) c.in_ok-name.name.now named in
+    let script_id = name_of_rows _ _ _ c.in_ok-name.ensures.name in
+    let some = found_some (subcommand_rows_of c.args.matches.now) c.in_ok-name.name.now script_id in
     let found = found_entered (found_of c.in_ok-name.found.now) (subcommand_rows_of c.args.matches.now) c.in_ok-name.name.now some.0
-    c.in_ok-name.ensures.rows named some.1 in
+    c.in_ok-name.ensures.rows script_id some.1 in
     (some.0, some.1, (found.0 ∙ same_text _ _ c.if-eq.ensures, sym found.1 ∙ sym c.in_ok-script.ensures, sym found.2 ∙ sym c.in_ok-log.ensures))
 
 pub returns-then-eq-2-clause-asks : goal.returns-then-eq-2-clause-asks
 returns-then-eq-2-clause-asks c =
-    let named = name_of_rows _ _ _ c.in_ok-name.ensures.name in
-    let some = found_some (subcommand_rows_of c.args.matches.now) c.in_ok-name.name.now named in
+    let script_id = name_of_rows _ _ _ c.in_ok-name.ensures.name in
+    let some = found_some (subcommand_rows_of c.args.matches.now) c.in_ok-name.name.now script_id in
     let found = found_entered (found_of c.in_ok-name.found.now) (subcommand_rows_of c.args.matches.now) c.in_ok-name.name.now some.0
-    c.in_ok-name.ensures.rows named some.1 in
+    c.in_ok-name.ensures.rows script_id some.1 in
     (some.0, some.1, (found.0 ∙ same_text _ _ c.if-eq-2.ensures, sym found.2 ∙ sym c.in_ok-log.ensures))
 
 pub returns-then-eq-3-clause-asks : goal.returns-then-eq-3-clause-asks
 returns-then-eq-3-clause-asks c =
-    let named = name_of_rows _ _ _ c.in_ok-name.ensures.name in
-    let some = found_some (subcommand_rows_of c.args.matches.now) c.in_ok-name.name.now named in
+    let script_id = name_of_rows _ _ _ c.in_ok-name.ensures.name in
+    let some = found_some (subcommand_rows_of c.args.matches.now) c.in_ok-name.name.now script_id in
     let found = found_entered (found_of c.in_ok-name.found.now) (subcommand_rows_of c.args.matches.now) c.in_ok-name.name.now some.0
-    c.in_ok-name.ensures.rows named some.1 in
+    c.in_ok-name.ensures.rows script_id some.1 in
     (some.0, some.1, (found.0 ∙ same_text _ _ c.if-eq-3.ensures, sym found.2 ∙ sym c.in_ok-log.ensures))

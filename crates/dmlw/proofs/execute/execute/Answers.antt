@@ -22,7 +22,7 @@ returns-clause-record g c = λ program script log words_are plain_script plain_l
           let status = c.status.ensures ∙ ap status_of (w.exit-is ∙ w.end-exit.ensures.exit) in
           let recorded = w.record-recorded.ensures in
           let records = records_all _ _ _ _ _ _ _ recorded.log recorded.printed recorded.faults in
-          rw (w.files-is, w.out-is) (recording_ends (g.F.Files.held c.args.files.now) script log _ _ _ _ _ _ _ _ _ records
+          rw (w.files-is, w.out-is) (recording_ends (g.F.Files.contents c.args.files.now) script log _ _ _ _ _ _ _ _ _ records
           w.end-exit.ensures.kept (sym (same_some _ _ asked.1)) (sym (same_some _ _ asked.2)) status)
       | in-List w ↦
           let asked = read_asks _ (tasks.List w.in-List.log) entered w.in-List.ensures enters complete in
@@ -33,7 +33,7 @@ returns-clause-record g c = λ program script log words_are plain_script plain_l
       | in-Show w ↦
           let kind = read_asks _ (tasks.Show w.in-Show.text) entered w.in-Show.ensures enters complete in
           let refused = subst (λ (k : ErrorKind). EndsUntasked k w.show-exit.result) kind w.show-exit.ensures.ends in
-          rw w.files-is (refused_ends (g.F.Files.held c.args.files.now script) log _ _ _ _ _ refused (c.status.ensures ∙ ap status_of w.exit-is))
+          rw w.files-is (refused_ends (g.F.Files.contents c.args.files.now script) log _ _ _ _ _ refused (c.status.ensures ∙ ap status_of w.exit-is))
     ]
 
 pub returns-clause-list : goal.returns-clause-list
@@ -48,7 +48,7 @@ returns-clause-list g c = λ program log words_are plain.
       | in-List w ↦
           let asked = read_asks _ (tasks.List w.in-List.log) entered w.in-List.ensures enters complete in
           let status = c.status.ensures ∙ ap status_of (w.exit-is ∙ w.end-exit-in-List.ensures.exit) in
-          rw (w.files-is, w.out-is) (showing_ends ListsImage lists_kept (g.F.Files.held c.args.files.now) _ log _ _ _ _ _ _ _
+          rw (w.files-is, w.out-is) (showing_ends ListsImage lists_kept (g.F.Files.contents c.args.files.now) _ log _ _ _ _ _ _ _
           (same_some _ _ asked.1) w.list-listed.ensures.shown w.end-exit-in-List.ensures.kept w.list-listed.ensures.unwritten status)
       | in-Status w ↦
           let asked = read_asks _ (tasks.Status w.in-Status.log) entered w.in-Status.ensures enters complete in
@@ -56,7 +56,7 @@ returns-clause-list g c = λ program log words_are plain.
       | in-Show w ↦
           let kind = read_asks _ (tasks.Show w.in-Show.text) entered w.in-Show.ensures enters complete in
           let refused = subst (λ (k : ErrorKind). EndsUntasked k w.show-exit.result) kind w.show-exit.ensures.ends in
-          rw (w.files-is, w.out-is) (unread_ends ListsImage (g.F.Files.held c.args.files.now log) _ _ _ _ _ refused (c.status.ensures ∙ ap status_of w.exit-is)
+          rw (w.files-is, w.out-is) (unread_ends ListsImage (g.F.Files.contents c.args.files.now log) _ _ _ _ _ refused (c.status.ensures ∙ ap status_of w.exit-is)
           (w.show-exit.ensures.silent (ap is_asked_for kind)))
     ]
 
@@ -75,12 +75,12 @@ returns-clause-status g c = λ program log words_are plain.
       | in-Status w ↦
           let asked = read_asks _ (tasks.Status w.in-Status.log) entered w.in-Status.ensures enters complete in
           let status = c.status.ensures ∙ ap status_of (w.exit-is ∙ w.end-exit-in-Status.ensures.exit) in
-          rw (w.files-is, w.out-is) (showing_ends TellsStatus tells_kept (g.F.Files.held c.args.files.now) _ log _ _ _ _ _ _ _
+          rw (w.files-is, w.out-is) (showing_ends TellsStatus tells_kept (g.F.Files.contents c.args.files.now) _ log _ _ _ _ _ _ _
           (same_some _ _ asked.1) w.status-told.ensures.shown w.end-exit-in-Status.ensures.kept w.status-told.ensures.unwritten status)
       | in-Show w ↦
           let kind = read_asks _ (tasks.Show w.in-Show.text) entered w.in-Show.ensures enters complete in
           let refused = subst (λ (k : ErrorKind). EndsUntasked k w.show-exit.result) kind w.show-exit.ensures.ends in
-          rw (w.files-is, w.out-is) (unread_ends TellsStatus (g.F.Files.held c.args.files.now log) _ _ _ _ _ refused (c.status.ensures ∙ ap status_of w.exit-is)
+          rw (w.files-is, w.out-is) (unread_ends TellsStatus (g.F.Files.contents c.args.files.now log) _ _ _ _ _ refused (c.status.ensures ∙ ap status_of w.exit-is)
           (w.show-exit.ensures.silent (ap is_asked_for kind)))
     ]
 
@@ -92,20 +92,20 @@ returns-clause-does g c = elim c.match-read_words.branch [
       let records = records_all _ _ _ _ _ _ _ recorded.log recorded.printed recorded.faults in (
         tasks.Record w.in-Record.script w.in-Record.log,
         w.in-Record.ensures,
-        rw (w.files-is, w.out-is) (recording_ends (g.F.Files.held c.args.files.now) _ _ _ _ _ _ _ _ _ _ _ records w.end-exit.ensures.kept refl refl status),
+        rw (w.files-is, w.out-is) (recording_ends (g.F.Files.contents c.args.files.now) _ _ _ _ _ _ _ _ _ _ _ records w.end-exit.ensures.kept refl refl status),
       )
   | in-List w ↦
       let status = c.status.ensures ∙ ap status_of (w.exit-is ∙ w.end-exit-in-List.ensures.exit) in (
         tasks.List w.in-List.log,
         w.in-List.ensures,
-        rw (w.files-is, w.out-is) (showing_ends ListsImage lists_kept (g.F.Files.held c.args.files.now) _ _ _ _ _ _ _ _ _
+        rw (w.files-is, w.out-is) (showing_ends ListsImage lists_kept (g.F.Files.contents c.args.files.now) _ _ _ _ _ _ _ _ _
             refl w.list-listed.ensures.shown w.end-exit-in-List.ensures.kept w.list-listed.ensures.unwritten status),
       )
   | in-Status w ↦
       let status = c.status.ensures ∙ ap status_of (w.exit-is ∙ w.end-exit-in-Status.ensures.exit) in (
         tasks.Status w.in-Status.log,
         w.in-Status.ensures,
-        rw (w.files-is, w.out-is) (showing_ends TellsStatus tells_kept (g.F.Files.held c.args.files.now) _ _ _ _ _ _ _ _ _
+        rw (w.files-is, w.out-is) (showing_ends TellsStatus tells_kept (g.F.Files.contents c.args.files.now) _ _ _ _ _ _ _ _ _
             refl w.status-told.ensures.shown w.end-exit-in-Status.ensures.kept w.status-told.ensures.unwritten status),
       )
   | in-Show w ↦ (

@@ -1,4 +1,4 @@
-use Rattle.bio.specs.CallLaws.{on_error}
+use Rattle.script_runner.specs.CallLaws.{on_error}
 use Rattle.dmlw.proofs.Failing.{fails_for_file}
 use Rattle.dmlw.proofs.record.record.Goals as goal
 

@@ -1,6 +1,6 @@
 use Rattle.std.proofs.Common.{ℕ, List, refl, subst}
-use Rattle.dmlw_script.specs.Grammar.{Spells}
-use Rattle.bio.specs.CallLaws.{on_error}
+use Rattle.dmlw_script.specs.Grammar.{IsTextOf}
+use Rattle.script_runner.specs.CallLaws.{on_error}
 use Rattle.dmlw.proofs.Failing.{fails_for_file, fails_for_output, fails_run, fails_unread, status_told}
 use Rattle.dmlw.proofs.record.run_file.Goals as goal
 
@@ -8,8 +8,8 @@ pub returns-clause-log : goal.returns-clause-log
 returns-clause-log g c = record {
   text = c.in_ok-text.text.items;
   script = c.in_ok-script.script;
-  read = c.in_ok-text.ensures.held;
-  spelled = subst (λ (text : List ℕ). Spells text c.in_ok-script.script) c.deref.ensures.value c.in_ok-script.ensures.found.1;
+  read = c.in_ok-text.ensures.contents;
+  spelled = subst (λ (text : List ℕ). IsTextOf text c.in_ok-script.script) c.deref.ensures.value c.in_ok-script.ensures.found.1;
   made = c.in_ok-filled.ensures.made;
   image = c.in_ok-filled.ensures.log.image;
 }
@@ -21,8 +21,8 @@ returns-clause-printed g c =
       text = c.in_ok-text.text.items;
       script = c.in_ok-script.script;
       lines = run.0;
-      read = c.in_ok-text.ensures.held;
-      spelled = subst (λ (text : List ℕ). Spells text c.in_ok-script.script) c.deref.ensures.value c.in_ok-script.ensures.found.1;
+      read = c.in_ok-text.ensures.contents;
+      spelled = subst (λ (text : List ℕ). IsTextOf text c.in_ok-script.script) c.deref.ensures.value c.in_ok-script.ensures.found.1;
       made = c.in_ok-filled.ensures.made;
       image = c.in_ok-filled.ensures.log.image;
       run = run.1;
@@ -38,14 +38,14 @@ returns-in_err-text-clause-faults g c =
 pub returns-in_err-script-clause-faults : goal.returns-in_err-script-clause-faults
 returns-in_err-script-clause-faults g c =
     on_error c.from_residual-in_err-script.result c.from_residual-in_err-script.ensures.1
-    (λ fault is. fails_unread _ _ c.in_ok-text.text.items c.deref.result.now c.in_err-script.field-0.0 fault c.in_ok-text.ensures.held
+    (λ fault is. fails_unread _ _ c.in_ok-text.text.items c.deref.result.now c.in_err-script.field-0.0 fault c.in_ok-text.ensures.contents
     c.deref.ensures.value (c.in_err-script.ensures.fault refl) (λ plan spells. c.in_err-script.ensures.only refl plan spells) is)
 
 pub returns-in_err-filled-clause-faults : goal.returns-in_err-filled-clause-faults
 returns-in_err-filled-clause-faults g c =
     on_error c.from_residual-in_err-filled.result c.from_residual-in_err-filled.ensures.1
     (λ fault is. fails_run _ _ _ c.in_ok-text.text.items c.deref.result.now c.deref-2.result.now c.in_ok-script.script _ fault
-    c.in_ok-text.ensures.held c.deref.ensures.value c.deref-2.ensures.value c.in_ok-script.ensures.found.1 c.in_err-filled.ensures.faults is)
+    c.in_ok-text.ensures.contents c.deref.ensures.value c.deref-2.ensures.value c.in_ok-script.ensures.found.1 c.in_err-filled.ensures.faults is)
 
 pub returns-in_err-writeln-clause-faults : goal.returns-in_err-writeln-clause-faults
 returns-in_err-writeln-clause-faults g c =

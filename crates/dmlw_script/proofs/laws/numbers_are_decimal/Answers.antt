@@ -1,5 +1,5 @@
 use Rattle.dmlw_script.proofs.ScriptLaws.{zero_in_front}
-use Rattle.dmlw_script.proofs.SpellingLaws.{decimal_number}
+use Rattle.dmlw_script.proofs.CanonicalTextLaws.{decimal_number}
 use Rattle.dmlw_script.proofs.laws.numbers_are_decimal.Goals as goal
 
 pub returns-clause-digits : goal.returns-clause-digits

@@ -2,13 +2,13 @@ use Rattle.std.proofs.Common.{◌≡◌, ◌+◌, ◌-◌, length, take, drop, S
 use Rattle.dmlw_script.proofs.WordLemmas.{cut_some, cut_none}
 use Rattle.dmlw_script.proofs.words.cut.Goals as goal
 
-pub returns-in-Some-clause-front : goal.returns-in-Some-clause-front
-returns-in-Some-clause-front c = (cut_some _ _ _ c.in-Some.ensures).1
+pub returns-in-Some-clause-before_byte : goal.returns-in-Some-clause-before_byte
+returns-in-Some-clause-before_byte c = (cut_some _ _ _ c.in-Some.ensures).1
 
-pub returns-in-Some-clause-behind : goal.returns-in-Some-clause-behind
-returns-in-Some-clause-behind c =
+pub returns-in-Some-clause-after_byte : goal.returns-in-Some-clause-after_byte
+returns-in-Some-clause-after_byte c =
     let all : take (length c.args.bytes.now - (c.in-Some.place + 1)) (drop (c.in-Some.place + 1) c.args.bytes.now) ≡ drop (c.in-Some.place + 1) c.args.bytes.now = take_all _ _ (omega (arith, length-drop (c.in-Some.place + 1) c.args.bytes.now)) in
     ap Some all ∙ sym (cut_some _ _ _ c.in-Some.ensures).2
 
-pub returns-in-None-clause-front : goal.returns-in-None-clause-front
-returns-in-None-clause-front c = (cut_none _ _ c.in-None.ensures).0
+pub returns-in-None-clause-before_byte : goal.returns-in-None-clause-before_byte
+returns-in-None-clause-before_byte c = (cut_none _ _ c.in-None.ensures).0

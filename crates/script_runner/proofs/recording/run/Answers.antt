@@ -1,13 +1,12 @@
 use Rattle.std.proofs.Common.{◌∙◌, ℕ, List, ap, arith, inr, subst, sym, take}
-use Rattle.bio.specs.declared.refusal.Refusal.{Refusal}
-use Rattle.script_runner.specs.declared.fault.Fault.TheVariants.{Refused}
-use Rattle.script_runner.specs.Faults.{ended_by}
+use Rattle.refusals.specs.declared.refusal.Refusal.{Refusal}
+use Rattle.script_runner.specs.declared.error.RunError.TheVariants.{Refused, LoggingEnded}
 use Rattle.script_runner.specs.Image.{HasEntries, MakesLog}
 use Rattle.script_runner.specs.Recorded.{entries_of}
 use Rattle.dmlw_script.specs.declared.command.Command.{Command}
-use Rattle.script_runner.specs.Recordings.{Follows, Stands, Traces, failed_from}
+use Rattle.script_runner.specs.inside.Recordings.{Follows, Stands, Traces, failed_from}
 use Rattle.script_runner.specs.RunFaults.{EndsRun, StopsAt, StopsQuietly, file}
-use Rattle.bio.specs.CallLaws.{on_error}
+use Rattle.script_runner.specs.CallLaws.{on_error}
 use Rattle.script_runner.proofs.Running.{item_within, items_ran, one_more}
 use Rattle.script_runner.proofs.Stopping.{ends_at_line, ends_open, ends_whole, item_next, items_follow}
 use Rattle.script_runner.proofs.Telling.{item_told, items_told}
@@ -38,7 +37,7 @@ loop-place-preserved g c =
     let traces = c.loop-place.invariant.4 in
     let same = c.commands-command-items.ensures.commands in
     let next = item_next script items c.loop-place.place _ same c.commands-command-items.ensures.script
-    (λ before command rest split. c.requests_end_once.ensures.may_come script before command rest c.commands-command-items.ensures.script split)
+    (λ before command rest split. c.requests_end_once.ensures.can_follow script before command rest c.commands-command-items.ensures.script split)
     (omega arith) in (
       record {
         stands = one_more (λ (body : List Command). Stands script.commands body new) script items c.loop-place.place _ same (omega arith)
@@ -83,7 +82,7 @@ returns-in-Err-Whole-clause-faults g c =
     let front = take c.loop-place.place script.commands in
     let told = c.loop-place.invariant.2 in
     let next = item_next script items c.loop-place.place _ c.commands-command-items.ensures.commands c.commands-command-items.ensures.script
-    (λ before command rest split. c.requests_end_once.ensures.may_come script before command rest c.commands-command-items.ensures.script split)
+    (λ before command rest split. c.requests_end_once.ensures.can_follow script before command rest c.commands-command-items.ensures.script split)
     (omega arith) in
     subst (EndsRun c.args.text.now script (g.O.Write.contents c.args.out.now) (g.O.Write.contents c.step.new.out)) (sym c.in-Err-Whole.fault-is)
     (ends_whole c.args.text.now script front _ _ _ _ _ recording c.loop-place.invariant.0.log next.goes told
@@ -91,7 +90,7 @@ returns-in-Err-Whole-clause-faults g c =
     (subst (StopsAt recording.log_sectors script.commands front (failed_from 0 recording.requests.items) _) c.in-Err-Whole.field-0-is
     (c.in-Err-Whole.ensures.faults script.commands front script.data_sectors next.goes c.loop-place.invariant.0.stands
     c.loop-place.invariant.3 c.loop-place.invariant.4 told.numbered next.comes
-    (next.named c.names.result.now c.names.ensures.names))))
+    (next.script_id c.names.result.now c.names.ensures.names))))
 
 pub returns-in-Err-AtLine-clause-faults : goal.returns-in-Err-AtLine-clause-faults
 returns-in-Err-AtLine-clause-faults g c =
@@ -101,9 +100,9 @@ returns-in-Err-AtLine-clause-faults g c =
     let front = take c.loop-place.place script.commands in
     let told = c.loop-place.invariant.2 in
     let next = item_next script items c.loop-place.place _ c.commands-command-items.ensures.commands c.commands-command-items.ensures.script
-    (λ before command rest split. c.requests_end_once.ensures.may_come script before command rest c.commands-command-items.ensures.script split)
+    (λ before command rest split. c.requests_end_once.ensures.can_follow script before command rest c.commands-command-items.ensures.script split)
     (omega arith) in
-    subst (λ (refusal : Refusal). EndsRun c.args.text.now script (g.O.Write.contents c.args.out.now) (g.O.Write.contents c.step.new.out) (Refused c.line_of-line.result refusal))
+    subst (λ (refusal : Refusal). EndsRun c.args.text.now script (g.O.Write.contents c.args.out.now) (g.O.Write.contents c.step.new.out) (Refused (record { line = c.line_of-line.result; refusal = refusal })))
     (sym c.in-Err-AtLine.refusal-is)
     (ends_at_line c.args.text.now script c.loop-place.place _ _ c.line_of-line.result _ _ _ recording next told
     (subst (StopsQuietly (g.O.Write.contents c.loop-place.out) (g.O.Write.contents c.step.new.out)) c.in-Err-AtLine.field-0-is c.in-Err-AtLine.ensures.refused)
@@ -111,7 +110,7 @@ returns-in-Err-AtLine-clause-faults g c =
     (subst (StopsAt recording.log_sectors script.commands front (failed_from 0 recording.requests.items) _) c.in-Err-AtLine.field-0-is
     (c.in-Err-AtLine.ensures.faults script.commands front script.data_sectors next.goes c.loop-place.invariant.0.stands
     c.loop-place.invariant.3 c.loop-place.invariant.4 told.numbered next.comes
-    (next.named c.names.result.now c.names.ensures.names))))
+    (next.script_id c.names.result.now c.names.ensures.names))))
 
 pub returns-in_err-end-clause-faults : goal.returns-in_err-end-clause-faults
 returns-in_err-end-clause-faults g c =
@@ -122,7 +121,7 @@ returns-in_err-end-clause-faults g c =
     c.commands-command-items.ensures.commands c.loop-place.invariant.3 (omega arith) in
     on_error c.from_residual-in_err-end.result c.from_residual-in_err-end.ensures.1
     (λ fault is. subst (EndsRun c.args.text.now c.args.script.now (g.O.Write.contents c.args.out.now) (g.O.Write.contents c.loop-place.out))
-    (sym (is ∙ ap ended_by c.in_err-end.ensures.memory))
+    (sym (is ∙ ap LoggingEnded c.in_err-end.ensures.memory))
     (ends_open c.args.text.now c.args.script.now _ _ c.loop-place.recording told follows c.in_err-end.ensures.unfilled))
 
 pub returns-clause-made : goal.returns-clause-made

@@ -1,5 +1,5 @@
 use Rattle.std.proofs.Common.{◌≡◌, take}
-use Rattle.script_runner.specs.Recordings.{Follows, HasTold, Traces}
+use Rattle.script_runner.specs.inside.Recordings.{Follows, HasTold, Traces}
 use Rattle.script_runner.proofs.Running.{HasRunTo}
 use Rattle.script_runner.proofs.recording.run.Given as goal
 

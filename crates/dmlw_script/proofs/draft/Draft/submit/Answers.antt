@@ -2,9 +2,9 @@ use Rattle.std.proofs.Common.{◌≡◌, true, false, List, [], ◌∷◌, ◌++
 use Rattle.std.specs.List.{list_any}
 use Rattle.std.proofs.lemmas.Bool.{cond-false, not-true, not-false}
 use Rattle.std.proofs.lemmas.List.{length-append}
-use Rattle.dmlw_script.specs.declared.name.Name.{Name}
-use Rattle.dmlw_script.specs.Drafts.{body_of, Body}
-use Rattle.dmlw_script.specs.Names.{same_name}
+use Rattle.dmlw_script.specs.declared.script_id.ScriptId.{ScriptId}
+use Rattle.dmlw_script.specs.inside.Drafts.{body_of, Body}
+use Rattle.dmlw_script.specs.Ids.{same_name}
 use Rattle.dmlw_script.proofs.DraftLemmas.{flags_submit, with_new_name, with_old_name}
 use Rattle.dmlw_script.proofs.draft.Draft.submit.Goals as goal
 
@@ -26,5 +26,5 @@ returns-clause-draft c =
 pub returns-clause-step : goal.returns-clause-step
 returns-clause-step c =
     let new : list_any (same_name c.args.name) c.args.self.now.names.keys ≡ false = not-true _ (sym c.in_ok-insert.ensures.added ∙ c.if-not-branch.false) in
-    let body = λ (names : List Name). let b : Body = record { names = names; body = c.args.self.now.commands.items } in b in
+    let body = λ (names : List ScriptId). let b : Body = record { names = names; body = c.args.self.now.commands.items } in b in
     with_new_name (body_of c.args.self.now) c.args.name new ∙ ap (λ names. Ok (body names)) (sym (new_keys c))

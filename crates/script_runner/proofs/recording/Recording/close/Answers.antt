@@ -4,9 +4,9 @@ use Rattle.dmlw_script.specs.declared.command.Command.TheVariants.{Close}
 use Rattle.log_format.specs.declared.entry.Entry.{Entry}
 use Rattle.script_runner.specs.Image.{HasEntries, fits}
 use Rattle.script_runner.specs.Recorded.{ids_of}
-use Rattle.script_runner.specs.Recordings.{failed_from}
+use Rattle.script_runner.specs.inside.Recordings.{failed_from}
 use Rattle.script_runner.specs.RunFaults.{no_memory}
-use Rattle.bio.specs.CallLaws.{on_error}
+use Rattle.script_runner.specs.CallLaws.{on_error}
 use Rattle.script_runner.proofs.Closing.{IsAtClose, close_refused, close_taken, closed_quietly, fill_ended, logging_ended, none_failed, unfilled_unless}
 use Rattle.script_runner.proofs.Following.{closing, filled_behind}
 use Rattle.script_runner.proofs.Running.{closed, unfilled}

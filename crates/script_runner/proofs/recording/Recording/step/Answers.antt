@@ -1,6 +1,6 @@
 use Rattle.std.proofs.Common.{inr, refl, subst}
 use Rattle.dmlw_script.specs.declared.command.Command.TheVariants.{Flush}
-use Rattle.script_runner.specs.Recordings.{GoesOn}
+use Rattle.script_runner.specs.inside.Recordings.{GoesOn}
 use Rattle.script_runner.proofs.Following.{where_error}
 use Rattle.script_runner.proofs.recording.Recording.step.Goals as goal
 
@@ -12,7 +12,7 @@ pub returns-in-Close-clause-refused : goal.returns-in-Close-clause-refused
 returns-in-Close-clause-refused g c = c.close.ensures.refused (g.O.Write.contents c.args.out.now)
 
 pub returns-in-Close-clause-faults : goal.returns-in-Close-clause-faults
-returns-in-Close-clause-faults g c = λ script front sectors goes run follows traces counted comes named.
+returns-in-Close-clause-faults g c = λ script front sectors goes run follows traces counted comes script_id.
     where_error c.close.result (c.close.ensures.faults script front (subst (GoesOn script front) c.in-Close.is goes) run follows traces counted)
     (λ stop stops. inr (c.in-Close.is, stops))
 

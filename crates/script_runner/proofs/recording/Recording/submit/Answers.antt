@@ -1,6 +1,6 @@
 use Rattle.std.proofs.Common.{◌∙◌, ap, refl}
 use Rattle.bio.specs.declared.outcome.End.TheVariants.{Memory}
-use Rattle.script_runner.specs.Recordings.{is_failed, request_of}
+use Rattle.script_runner.specs.inside.Recordings.{is_failed, request_of}
 use Rattle.script_runner.proofs.Following.{closed_passes, followed, stopped, where_not_ok}
 use Rattle.script_runner.proofs.Running.{submitted}
 use Rattle.script_runner.proofs.Telling.{submitted_fine, told_submitted}

@@ -1,0 +1,306 @@
+use Rattle.std.proofs.Common.{◌≡◌, ◌≢◌, ℕ, zero, suc, ◌+◌, ◌-◌, ◌^◌, ◌<◌, ◌≤◌, Bool, true, false, not, ◌&&◌, cond, List, [], ◌∷◌, ◌++◌, length, Ok, Err, refl, ap, ◌∙◌, sym, subst, arith, rules, append_assoc, lit<}
+use Rattle.std.specs.Prelude.{◌/◌, ◌%◌, ◌==◌, codes, decimal, flat_map, map, nat_le, nat_lt, replicate, Result}
+use Rattle.std.specs.Char.{is_ascii_digit}
+use Rattle.std.specs.List.{list_all, onto_first, AllByRecursion, AllZip}
+use Rattle.std.proofs.lemmas.Bool.{and_from, and_parts, cond-true, le-leb, leb-true, lt-ltb, ltb-false}
+use Rattle.std.proofs.lemmas.Bool.Decides.{nat_tests}
+use Rattle.std.proofs.lemmas.Fmt.{decimal_nonempty, digits_decimal, digits_value-decimal, length-decimal-le}
+use Rattle.std.proofs.lemmas.List.Elements.{All-from_recursion}
+use Rattle.std.proofs.lemmas.Str.Parse.{numerals_by_fold, IsNumeralModel}
+use Rattle.bio.specs.Check.{range_answer}
+use Rattle.bio.specs.declared.request.BadBio.{BadBio}
+use Rattle.dmlw_script.specs.declared.command.Command.{Command}
+use Rattle.dmlw_script.specs.declared.command.Command.TheVariants as commands
+use Rattle.dmlw_script.specs.declared.script_id.ScriptId.{ScriptId}
+use Rattle.dmlw_script.specs.declared.line.Line.{Line}
+use Rattle.dmlw_script.specs.declared.line.Line.TheVariants.{Data, Log, Write, Flush, Complete, Close}
+use Rattle.dmlw_script.specs.Grammar.{IsId, IsNumber, ParsesAs, IsTextOf, AreLinesOf}
+use Rattle.dmlw_script.specs.Lines.{with_line_feeds, is_ascii_line, is_skipped, unskipped, lines_of, IsUnbroken}
+use Rattle.dmlw_script.specs.Ids.{is_id, is_name_byte, letters_of, script_id}
+use Rattle.dmlw_script.specs.Plans.{lines_of_body, name_at, lines_of_script, submissions, IsName, IsWellFormed, IsPlan, Plan}
+use Rattle.dmlw_script.specs.CanonicalText.{ended_line, line_text, canonical_text}
+use Rattle.dmlw_script.specs.Words.{byte_text, before_byte, hex_digit, number_after, number_value}
+use Rattle.dmlw_script.proofs.BodyLaws.{submissions-cons, submissions-push, submits}
+use Rattle.dmlw_script.proofs.ParsingLaws.{all_weaker, lacks}
+
+-- ---- words
+
+-- the decimal digits of std are ours
+number_model : IsNumeralModel (λ ds. list_all is_ascii_digit ds ≡ true) number_value
+number_model = numerals_by_fold _ (search rules) number_after (search rules)
+
+-- what is written of a number is that number
+pub decimal_number : (n : ℕ) → n < 2 ^ 64 → IsNumber (decimal n) n
+decimal_number n low =
+    let value : number_value (decimal n) ≡ n = digits_value-decimal number_model n low in
+    let some : nat_lt 0 (length (decimal n)) ≡ true = lt-ltb _ _ (decimal_nonempty n low) in
+    let short : nat_le (length (decimal n)) 20 ≡ true = le-leb _ _ (length-decimal-le 20 n (lit< tt) (omega (arith, low)) low) in
+    let digits : list_all is_ascii_digit (decimal n) ≡ true = digits_decimal number_model n low in
+    let below : nat_lt (number_value (decimal n)) (2 ^ 64) ≡ true = lt-ltb _ _ (subst (λ (k : ℕ). k < 2 ^ 64) (sym value) low) in
+    (and_from _ _ (and_from _ _ (and_from _ _ some short) digits) below, value)
+
+-- one more byte before the zeroes
+zeros_step : (t : Bool) (b : ℕ) (word f : List ℕ) → not t ≡ true → f ≡ word → cond t [] (b ∷ f) ≡ b ∷ word
+zeros_step true b word f apart same = absurd (cc)
+zeros_step false b word f apart same = ap (λ x. b ∷ x) same
+
+-- zeroes behind a word without one leave it in front
+front_zeros : (word : List ℕ) (n : ℕ) → lacks 0 word ≡ true → before_byte 0 (word ++ replicate n 0) ≡ word
+front_zeros [] zero lack = refl
+front_zeros [] (suc n) lack = refl
+front_zeros (b ∷ word) n lack =
+    let parts : (not (b == 0) ≡ true) × (lacks 0 word ≡ true) = and_parts _ _ lack in
+    zeros_step (b == 0) b word _ parts.0 (front_zeros word n parts.1)
+
+-- a character of an id isn't zero
+name_byte_not_zero : (b : ℕ) → is_name_byte b ≡ true → not (b == 0) ≡ true
+name_byte_not_zero b letter = grind (arith, nat_tests)
+
+-- the letters of an id are the id
+pub letters_id : (name : ScriptId) → IsName name → IsId (letters_of name) name
+letters_id name is =
+    let word = is.0 in
+    let letters : letters_of name ≡ word = ap letters_of is.2 ∙ front_zeros word (16 - length word) (all_weaker is_name_byte (λ b. not (b == 0)) name_byte_not_zero word (and_parts _ _ is.1).1) in
+    (subst (λ (x : List ℕ). is_id x ≡ true) (sym letters) is.1, is.2 ∙ ap script_id (sym letters))
+
+-- ---- lines
+
+-- a byte of a printed line
+abbrev is_visible : ℕ → Bool
+is_visible byte = nat_le 32 byte && nat_lt byte 127
+
+-- each byte is one of a printed line
+abbrev IsVisible : List ℕ → Type 0
+IsVisible word = list_all is_visible word ≡ true
+
+-- two such texts in a row
+visible_append : (a b : List ℕ) → IsVisible a → IsVisible b → IsVisible (a ++ b)
+visible_append [] b first second = second
+visible_append (x ∷ a) b first second =
+    let parts : (is_visible x ≡ true) × IsVisible a = and_parts _ _ first in
+    and_from _ _ parts.0 (visible_append a b parts.1 second)
+
+-- a digit is one
+visible_digit : (b : ℕ) → is_ascii_digit b ≡ true → is_visible b ≡ true
+visible_digit b digit = grind (arith, nat_tests)
+
+-- a character of an id is one
+visible_name_byte : (b : ℕ) → is_name_byte b ≡ true → is_visible b ≡ true
+visible_name_byte b letter = grind (arith, nat_tests)
+
+-- a line feed isn't one
+visible_not_feed : (b : ℕ) → is_visible b ≡ true → not (b == 10) ≡ true
+visible_not_feed b visible = grind (arith, nat_tests)
+
+-- such a byte is plain
+visible_plain : (b : ℕ) → is_visible b ≡ true → (nat_lt 0 b && nat_lt b 128) ≡ true
+visible_plain b visible = grind (arith, nat_tests)
+
+-- a hexadecimal digit is one
+visible_hex : (half : ℕ) → half < 16 → is_visible (hex_digit half) ≡ true
+visible_hex half low = grind (arith, nat_tests)
+
+-- a number's digits are such bytes
+visible_number : (n : ℕ) → n < 2 ^ 64 → IsVisible (decimal n)
+visible_number n low = all_weaker _ _ visible_digit (decimal n) (digits_decimal number_model n low)
+
+-- an id's characters are such bytes
+visible_id : (name : ScriptId) → IsName name → IsVisible (letters_of name)
+visible_id name is = all_weaker is_name_byte is_visible visible_name_byte (letters_of name) (and_parts _ _ (letters_id name is).0).1
+
+-- a byte's digits are such bytes
+visible_byte : (byte : ℕ) → byte < 256 → IsVisible (byte_text byte)
+visible_byte byte low = and_from _ _ (visible_hex (byte / 16) (omega arith)) (and_from _ _ (visible_hex (byte % 16) (omega arith)) refl)
+
+-- what can be written of a sentence
+pub record IsWritten (s : Line) : Type 0 where
+  pub says : ParsesAs (line_text s) s
+  pub visible : IsVisible (line_text s)
+  pub parse_words : is_skipped (line_text s) ≡ false
+
+-- a first word and a number
+written_number : (verb : List ℕ) (n : ℕ) → IsVisible verb → n < 2 ^ 64 → IsVisible (verb ++ 32 ∷ decimal n)
+written_number verb n visible low = visible_append verb (32 ∷ decimal n) visible (visible_number n low)
+
+-- a first word and an id
+written_id : (verb : List ℕ) (name : ScriptId) → IsVisible verb → IsName name → IsVisible (verb ++ 32 ∷ letters_of name)
+written_id verb name visible is = visible_append verb (32 ∷ letters_of name) visible (visible_id name is)
+
+-- the data disk's line
+pub data_written : (n : ℕ) → n < 2 ^ 64 → IsWritten (Data n)
+data_written n low = record { says = record { word = decimal n; number = decimal_number n low; spelled = refl }; visible = written_number (codes "data") n refl low; parse_words = refl }
+
+-- the log disk's line
+pub log_written : (n : ℕ) → n < 2 ^ 64 → IsWritten (Log n)
+log_written n low = record { says = record { word = decimal n; number = decimal_number n low; spelled = refl }; visible = written_number (codes "log") n refl low; parse_words = refl }
+
+-- a flush's line
+pub flush_written : (name : ScriptId) → IsName name → IsWritten (Flush name)
+flush_written name is = record { says = record { word = letters_of name; id = letters_id name is; spelled = refl }; visible = written_id (codes "f") name refl is; parse_words = refl }
+
+-- an end's line
+pub complete_written : (name : ScriptId) → IsName name → IsWritten (Complete name)
+complete_written name is = record { says = record { word = letters_of name; id = letters_id name is; spelled = refl }; visible = written_id (codes "c") name refl is; parse_words = refl }
+
+-- the line of a close
+pub close_written : IsWritten Close
+close_written = record { says = refl; visible = refl; parse_words = refl }
+
+-- a write's line
+pub write_written : (name : ScriptId) (first count byte : ℕ) → IsName name → first < 2 ^ 64 → count < 2 ^ 64 → byte < 256 → IsWritten (Write name first count byte)
+write_written name first count byte is first_low count_low byte_low = record {
+  says = record {
+    id_word = letters_of name;
+    first_word = decimal first;
+    count_word = decimal count;
+    id = letters_id name is;
+    first_number = decimal_number first first_low;
+    count_number = decimal_number count count_low;
+    is_byte = byte_low;
+    spelled = refl;
+  };
+  visible =
+      visible_append (codes "w") (32 ∷ (letters_of name ++ 32 ∷ (decimal first ++ 32 ∷ (decimal count ++ 32 ∷ byte_text byte)))) refl
+      (visible_append (letters_of name) (32 ∷ (decimal first ++ 32 ∷ (decimal count ++ 32 ∷ byte_text byte))) (visible_id name is)
+      (visible_append (decimal first) (32 ∷ (decimal count ++ 32 ∷ byte_text byte)) (visible_number first first_low)
+      (visible_append (decimal count) (32 ∷ byte_text byte) (visible_number count count_low) (visible_byte byte byte_low))));
+  parse_words = refl;
+}
+
+-- ---- scripts
+
+-- a test that was passed
+passed : (t : Bool) (bad : BadBio) (r : Result (Unit {0}) BadBio) → cond t (Err bad) r ≡ Ok tt → (t ≡ false) × (r ≡ Ok tt)
+passed true bad r e = absurd (cc)
+passed false bad r e = (refl, e)
+
+-- sectors that pass the test are few and within the disk
+range_ok : (first count sectors : ℕ) → range_answer first count sectors ≡ Ok tt → (count ≤ 2048) × (first + count ≤ sectors)
+range_ok first count sectors e =
+    let some = passed (count == 0) _ _ e in
+    let short = passed (nat_lt 2048 count) _ _ some.1 in
+    let within = passed (nat_lt sectors (first + count)) _ _ short.1 in
+    (ltb-false _ _ short.0, ltb-false _ _ within.0)
+
+-- a request's id is one
+id_at : (names : List ScriptId) (request : ℕ) → AllByRecursion IsName names → request < length names → IsName (name_at names request)
+id_at names request ids inside = All-from_recursion IsName names ids request (script_id []) inside
+
+-- a submission's id is one
+submission_id : (names : List ScriptId) (n : ℕ) (body : List Command) (command : Command) → AllByRecursion IsName names → length names ≡ n + submissions (command ∷ body) → submits command ≡ 1 → IsName (name_at names n)
+submission_id names n body command ids numbered one = id_at names n ids (omega (arith, numbered, submissions-cons command body, one))
+
+-- each line of a body can be written
+body_written : (sectors : ℕ) (names : List ScriptId) (n : ℕ) (done body : List Command) → sectors ≤ 1048576 → AllByRecursion IsName names → n ≡ submissions done → length names ≡ n + submissions body →
+    IsWellFormed sectors done body → AllByRecursion IsWritten (lines_of_body names n body)
+body_written sectors names n done [] small ids counted numbered well_formed = tt
+body_written sectors names n done (commands.Write first count byte ∷ body) small ids counted numbered well_formed =
+    let r = range_ok first count sectors well_formed.0.0 in (
+      write_written (name_at names n) first count byte (submission_id names n body (commands.Write first count byte) ids numbered refl) (omega (arith, r.1)) (omega (arith, r.0)) well_formed.0.1,
+      body_written sectors names (n + 1) (done ++ commands.Write first count byte ∷ []) body small ids (sym (submissions-push done (commands.Write first count byte) ∙ omega (arith, counted)))
+          (omega (arith, numbered, submissions-cons (commands.Write first count byte) body)) well_formed.1,
+    )
+body_written sectors names n done (commands.Flush ∷ body) small ids counted numbered well_formed = (
+  flush_written (name_at names n) (submission_id names n body commands.Flush ids numbered refl),
+  body_written sectors names (n + 1) (done ++ commands.Flush ∷ []) body small ids (sym (submissions-push done commands.Flush ∙ omega (arith, counted)))
+      (omega (arith, numbered, submissions-cons commands.Flush body)) well_formed.1,
+)
+body_written sectors names n done (commands.Complete request ∷ body) small ids counted numbered well_formed = (
+  complete_written (name_at names request) (id_at names request ids (omega (arith, numbered, well_formed.0.0, counted))),
+  body_written sectors names n (done ++ commands.Complete request ∷ []) body small ids (sym (submissions-push done (commands.Complete request) ∙ omega (arith, counted)))
+      (omega (arith, numbered, submissions-cons (commands.Complete request) body)) well_formed.1,
+)
+body_written sectors names n done (commands.Close ∷ body) small ids counted numbered well_formed = (
+  close_written,
+  body_written sectors names n (done ++ commands.Close ∷ []) body small ids (sym (submissions-push done commands.Close ∙ omega (arith, counted)))
+      (omega (arith, numbered, submissions-cons commands.Close body)) well_formed.1,
+)
+
+-- each sentence of a script can be written
+pub plan_written : (plan : Plan) → IsPlan plan → AllByRecursion IsWritten (lines_of_script plan)
+plan_written plan is =
+    let d : plan.data_sectors ≤ 1048576 = leb-true _ _ (and_parts _ _ is.data_size).1 in
+    let l : plan.log_sectors ≤ 1048576 = leb-true _ _ (and_parts _ _ is.log_size).1 in (
+      data_written plan.data_sectors (omega (arith, d)),
+      (
+        log_written plan.log_sectors (omega (arith, l)),
+        body_written plan.data_sectors plan.names 0 [] plan.commands d is.ids refl (is.numbered ∙ omega arith) is.well_formed,
+      ),
+    )
+
+-- one more byte of a line
+feed_step : (t : Bool) (b : ℕ) (line : List ℕ) (rest ls : List (List ℕ)) → not t ≡ true → ls ≡ line ∷ rest → cond t ([] ∷ ls) (onto_first b ls) ≡ (b ∷ line) ∷ rest
+feed_step true b line rest ls apart same = absurd (cc)
+feed_step false b line rest ls apart same = ap (onto_first b) same
+
+-- a line, its line feed, and more lines
+pub fed_line : (line rest : List ℕ) → lacks 10 line ≡ true → lines_of (line ++ 10 ∷ rest) ≡ line ∷ lines_of rest
+fed_line [] rest lack = refl
+fed_line (b ∷ line) rest lack =
+    let parts : (not (b == 10) ≡ true) × (lacks 10 line ≡ true) = and_parts _ _ lack in
+    feed_step (b == 10) b line (lines_of rest) _ parts.0 (fed_line line rest parts.1)
+
+-- the lines of a spelling
+spelled_lines_are : (ss : List Line) → AllByRecursion IsWritten ss → lines_of (flat_map ended_line ss) ≡ map line_text ss
+spelled_lines_are [] written = refl
+spelled_lines_are (s ∷ ss) written =
+    ap lines_of (append_assoc (line_text s) (10 ∷ []) (flat_map ended_line ss))
+    ∙ fed_line (line_text s) (flat_map ended_line ss) (all_weaker _ _ visible_not_feed (line_text s) written.0.visible)
+    ∙ ap (λ x. line_text s ∷ x) (spelled_lines_are ss written.1)
+
+-- they are plain
+plain_lines : (ss : List Line) → AllByRecursion IsWritten ss → AllByRecursion (λ line. is_ascii_line line ≡ true) (map line_text ss)
+plain_lines [] written = tt
+plain_lines (s ∷ ss) written = (all_weaker _ _ visible_plain (line_text s) written.0.visible, plain_lines ss written.1)
+
+-- none of them is skipped
+kept_lines : (ss : List Line) → AllByRecursion IsWritten ss → unskipped (map line_text ss) ≡ map line_text ss
+kept_lines [] written = refl
+kept_lines (s ∷ ss) written = cond-true _ _ _ (ap not written.0.parse_words) ∙ ap (λ x. line_text s ∷ x) (kept_lines ss written.1)
+
+-- they say the sentences
+says_lines : (ss : List Line) → AllByRecursion IsWritten ss → AllZip ParsesAs (map line_text ss) ss
+says_lines [] written = tt
+says_lines (s ∷ ss) written = (written.0.says, says_lines ss written.1)
+
+-- the spelling of a script spells it
+pub spelling_spells : (plan : Plan) → IsPlan plan → IsTextOf (canonical_text plan) plan
+spelling_spells plan is =
+    let ss = lines_of_script plan in
+    let written = plan_written plan is in
+    subst (λ (x : List (List ℕ)). AreLinesOf x plan) (sym (spelled_lines_are ss written))
+    (record {
+      plain = plain_lines ss written;
+      says = subst (λ (x : List (List ℕ)). AllZip ParsesAs x ss) (sym (kept_lines ss written)) (says_lines ss written);
+      script = is;
+    })
+
+-- ---- texts of lines
+
+-- a line of one byte
+alone_step : (t : Bool) (b : ℕ) → not t ≡ true → cond t ([] ∷ []) (onto_first b []) ≡ (b ∷ []) ∷ []
+alone_step true b apart = absurd (cc)
+alone_step false b apart = refl
+
+-- a line with no line feed behind it
+fed_last : (line : List ℕ) → IsUnbroken line → line ≢ [] → lines_of line ≡ line ∷ []
+fed_last [] whole some = absurd (some refl)
+fed_last (b ∷ []) whole some =
+    let parts : (not (b == 10) ≡ true) × IsUnbroken [] = and_parts _ _ whole in
+    alone_step (b == 10) b parts.0
+fed_last (b ∷ c ∷ line) whole some =
+    let parts : (not (b == 10) ≡ true) × IsUnbroken (c ∷ line) = and_parts _ _ whole in
+    feed_step (b == 10) b (c ∷ line) [] _ parts.0 (fed_last (c ∷ line) parts.1 (λ none. absurd (cc)))
+
+-- lines with a line feed behind each
+pub ended_lines : (lines : List (List ℕ)) → AllByRecursion IsUnbroken lines → lines_of (with_line_feeds lines) ≡ lines
+ended_lines [] whole = refl
+ended_lines (line ∷ lines) whole =
+    ap lines_of (append_assoc line (10 ∷ []) (with_line_feeds lines)) ∙ fed_line line (with_line_feeds lines) whole.0 ∙ ap (λ x. line ∷ x) (ended_lines lines whole.1)
+
+-- the same, and a last line with none
+pub ended_but_last : (lines : List (List ℕ)) (last : List ℕ) → AllByRecursion IsUnbroken lines → IsUnbroken last → last ≢ [] → lines_of (with_line_feeds lines ++ last) ≡ lines ++ last ∷ []
+ended_but_last [] last whole unbroken some = fed_last last unbroken some
+ended_but_last (line ∷ lines) last whole unbroken some =
+    ap lines_of (append_assoc (line ++ 10 ∷ []) (with_line_feeds lines) last ∙ append_assoc line (10 ∷ []) (with_line_feeds lines ++ last))
+    ∙ fed_line line (with_line_feeds lines ++ last) whole.0 ∙ ap (λ x. line ∷ x) (ended_but_last lines last whole.1 unbroken some)

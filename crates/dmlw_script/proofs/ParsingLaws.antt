@@ -1,0 +1,335 @@
+use Rattle.std.proofs.Common.{◌≡◌, ℕ, ◌+◌, ◌-◌, ◌*◌, ◌/◌, ◌%◌, ◌<◌, ◌≤◌, Bool, true, false, ◌&&◌, cond, List, [], ◌∷◌, ◌++◌, Option, Some, None, ◌⊎◌, inl, inr, ⊎_elim, refl, ap, subst, ◌∙◌, sym, arith}
+use Rattle.std.specs.Prelude.{◌==◌, codes, nat_lt, nat_le, not}
+use Rattle.std.specs.Char.{is_ascii_digit}
+use Rattle.std.specs.List.{list_all}
+use Rattle.std.specs.Option.{option_map}
+use Rattle.std.specs.Str.{bytes_eq}
+use Rattle.std.proofs.lemmas.Bool.{and_parts, and_from, cond-true, cond-false, eq-eqb, eqb-true, leb-true, lt-ltb, le-ltb}
+use Rattle.std.proofs.lemmas.Bool.Decides.{nat_tests}
+use Rattle.std.proofs.lemmas.Slice.Eq.{bytes_eq-Decides}
+use Rattle.std.proofs.lemmas.Option.{cond_some}
+use Rattle.dmlw_script.specs.declared.script_id.ScriptId.{ScriptId}
+use Rattle.dmlw_script.specs.declared.line.Line.{Line}
+use Rattle.dmlw_script.specs.declared.line.Line.TheVariants.{Data, Log, Write, Flush, Complete, Close}
+use Rattle.dmlw_script.specs.Grammar.{IsId, IsNumber, ParsesAs, ParsesAsId, ParsesAsNumber}
+use Rattle.dmlw_script.specs.Ids.{is_id, is_name_byte, id_of_word}
+use Rattle.dmlw_script.specs.inside.Parsing.{◌>>=◌, parse_words, parse_line, write_of}
+use Rattle.dmlw_script.specs.Words.{after_byte, byte_from, byte_of, byte_text, before_byte, half_of, hex_digit, is_number, number_of}
+
+-- ---- choices
+
+-- which side was chosen
+pub chosen : {A : Type 0} (t : Bool) (x y z : A) → cond t x y ≡ z → ((t ≡ true) × (x ≡ z)) ⊎ ((t ≡ false) × (y ≡ z))
+chosen true x y z e = inl (refl, e)
+chosen false x y z e = inr (refl, e)
+
+-- what goes on well has a value, and goes on well from there
+bind_some : {A B : Type 0} (o : Option A) (f : A → Option B) (y : B) → (o >>= f) ≡ Some y → (x : A) × (o ≡ Some x) × (f x ≡ Some y)
+bind_some None f y e = absurd (cc)
+bind_some (Some x) f y e = (x, refl, e)
+
+-- a mapped value is one that was there
+map_some : {A B : Type 0} (f : A → B) (o : Option A) (y : B) → option_map f o ≡ Some y → (x : A) × (o ≡ Some x) × (f x ≡ y)
+map_some f None y e = absurd (cc)
+map_some f (Some x) y e = (x, refl, cc)
+
+-- ---- words
+
+-- no such byte stands in the word
+abbrev pub lacks : ℕ → List ℕ → Bool
+lacks mark word = list_all (λ b. not (b == mark)) word
+
+-- what is true of each byte stays so of a weaker test
+pub all_weaker : (p q : ℕ → Bool) → ((b : ℕ) → p b ≡ true → q b ≡ true) → (word : List ℕ) → list_all p word ≡ true → list_all q word ≡ true
+all_weaker p q weaker [] all = refl
+all_weaker p q weaker (b ∷ word) all =
+    let parts : (p b ≡ true) × (list_all p word ≡ true) = and_parts _ _ all in
+    and_from _ _ (weaker b parts.0) (all_weaker p q weaker word parts.1)
+
+-- a digit is no space
+digit_not_space : (b : ℕ) → is_ascii_digit b ≡ true → not (b == 32) ≡ true
+digit_not_space b digit = grind (arith, nat_tests)
+
+-- a character of an id is no space
+name_byte_not_space : (b : ℕ) → is_name_byte b ≡ true → not (b == 32) ≡ true
+name_byte_not_space b letter = grind (arith, nat_tests)
+
+-- one more byte before the mark
+front_step : (t : Bool) (b : ℕ) (word f bytes rest : List ℕ) (behind_rest : Option (List ℕ)) → not t ≡ true → f ≡ word → behind_rest ≡ Some rest → (cond t [] (b ∷ f) ≡ b ∷ word) × (cond t (Some bytes) behind_rest ≡ Some rest)
+front_step true b word f bytes rest behind_rest apart same there = absurd (cc)
+front_step false b word f bytes rest behind_rest apart same there = (ap (λ x. b ∷ x) same, there)
+
+-- a cut behind a word that lacks the mark
+pub cut_at : (mark : ℕ) (word rest : List ℕ) → lacks mark word ≡ true → (before_byte mark (word ++ mark ∷ rest) ≡ word) × (after_byte mark (word ++ mark ∷ rest) ≡ Some rest)
+cut_at mark [] rest lack = let same : (mark == mark) ≡ true = eq-eqb mark mark refl in (cond-true _ _ _ same, cond-true _ _ _ same)
+cut_at mark (b ∷ word) rest lack =
+    let parts : (not (b == mark) ≡ true) × (lacks mark word ≡ true) = and_parts _ _ lack in
+    let more = cut_at mark word rest parts.1 in
+    front_step (b == mark) b word _ _ rest _ parts.0 more.0 more.1
+
+-- one more byte before the mark, or the mark
+joined_step : (t : Bool) (b mark : ℕ) (bytes f rest : List ℕ) (behind_rest : Option (List ℕ)) → (t ≡ true → b ≡ mark) → (behind_rest ≡ Some rest → bytes ≡ f ++ mark ∷ rest) → cond t (Some bytes) behind_rest ≡ Some rest → b ∷ bytes ≡ cond t [] (b ∷ f) ++ mark ∷ rest
+joined_step true b mark bytes f rest behind_rest here more e = let same : bytes ≡ rest = cc in rw (here refl, same) refl
+joined_step false b mark bytes f rest behind_rest here more e = ap (λ x. b ∷ x) (more e)
+
+-- the parts of a cut, joined by the mark
+pub cut_joined : (mark : ℕ) (bytes rest : List ℕ) → after_byte mark bytes ≡ Some rest → bytes ≡ before_byte mark bytes ++ mark ∷ rest
+cut_joined mark [] rest e = absurd (cc)
+cut_joined mark (b ∷ bytes) rest e = joined_step (b == mark) b mark bytes _ rest _ (eqb-true b mark) (cut_joined mark bytes rest) e
+
+-- no space stands in a number
+pub number_lacks_space : (word : List ℕ) → is_number word ≡ true → lacks 32 word ≡ true
+number_lacks_space word number =
+    let digits : list_all is_ascii_digit word ≡ true = (and_parts _ _ (and_parts _ _ number).0).1 in
+    all_weaker _ _ digit_not_space word digits
+
+-- no space stands in an id
+pub id_lacks_space : (word : List ℕ) → is_id word ≡ true → lacks 32 word ≡ true
+id_lacks_space word id = all_weaker _ _ name_byte_not_space word (and_parts _ _ id).1
+
+-- ---- numbers, ids and bytes
+
+-- what is read as a number is one
+pub number_read : (word : List ℕ) (n : ℕ) → number_of word ≡ Some n → IsNumber word n
+number_read word n e = cond_some _ _ _ e
+
+-- a number is read as it is
+pub number_again : (word : List ℕ) (n : ℕ) → IsNumber word n → number_of word ≡ Some n
+number_again word n is = cond-true _ _ _ is.0 ∙ ap Some is.1
+
+-- what is read as an id is one
+pub id_read : (word : List ℕ) (name : ScriptId) → id_of_word word ≡ Some name → IsId word name
+id_read word name e = let parts = cond_some _ _ _ e in (parts.0, sym parts.1)
+
+-- an id is read as it is
+pub id_again : (word : List ℕ) (name : ScriptId) → IsId word name → id_of_word word ≡ Some name
+id_again word name is = cond-true _ _ _ is.0 ∙ ap Some (sym is.1)
+
+-- a digit from 0 to 9
+half_low : (digit half : ℕ) → (nat_le 48 digit && nat_le digit 57) ≡ true → digit - 48 ≡ half → (half < 16) × (digit ≡ hex_digit half)
+half_low digit half range value =
+    let low : 48 ≤ digit = leb-true 48 digit (and_parts (nat_le 48 digit) (nat_le digit 57) range).0 in
+    let high : digit ≤ 57 = leb-true digit 57 (and_parts (nat_le 48 digit) (nat_le digit 57) range).1 in
+    let small : nat_lt half 10 ≡ true = lt-ltb half 10 (omega arith) in
+    let sum : digit ≡ 48 + half = omega arith in
+    (omega arith, sum ∙ sym (cond-true _ _ _ small))
+
+-- a digit from a to f
+half_high : (digit half : ℕ) → (nat_le 97 digit && nat_le digit 102) ≡ true → digit - 87 ≡ half → (half < 16) × (digit ≡ hex_digit half)
+half_high digit half range value =
+    let low : 97 ≤ digit = leb-true 97 digit (and_parts (nat_le 97 digit) (nat_le digit 102) range).0 in
+    let high : digit ≤ 102 = leb-true digit 102 (and_parts (nat_le 97 digit) (nat_le digit 102) range).1 in
+    let large : nat_lt half 10 ≡ false = le-ltb half 10 (omega arith) in
+    let sum : digit ≡ 87 + half = omega arith in
+    (omega arith, sum ∙ sym (cond-false _ _ _ large))
+
+-- what is read as a digit is one
+half_read : (digit half : ℕ) → half_of digit ≡ Some half → (half < 16) × (digit ≡ hex_digit half)
+half_read digit half e =
+    ⊎_elim
+    (λ (low : ((nat_le 48 digit && nat_le digit 57) ≡ true) × (Some (digit - 48) ≡ Some half)). half_low digit half low.0 (let h = low.1 in cc))
+    (λ (other : ((nat_le 48 digit && nat_le digit 57) ≡ false) × (cond (nat_le 97 digit && nat_le digit 102) (Some (digit - 87)) None ≡ Some half)).
+    let high = cond_some _ _ _ other.1 in half_high digit half high.0 high.1)
+    (chosen _ _ _ _ e)
+
+-- a digit is read as it is
+half_again : (half : ℕ) → half < 16 → half_of (hex_digit half) ≡ Some half
+half_again half low = grind (arith, nat_tests)
+
+-- a byte has two digits
+byte_parts : (h l : Option ℕ) (byte : ℕ) → byte_from h l ≡ Some byte → (x : ℕ) × (y : ℕ) × (h ≡ Some x) × (l ≡ Some y) × (16 * x + y ≡ byte)
+byte_parts None l byte e = absurd (cc)
+byte_parts (Some x) None byte e = absurd (cc)
+byte_parts (Some x) (Some y) byte e = (x, y, refl, refl, cc)
+
+-- two digits are a byte's
+byte_two : (high low byte x y : ℕ) → x < 16 → high ≡ hex_digit x → y < 16 → low ≡ hex_digit y → 16 * x + y ≡ byte → (byte < 256) × (high ∷ low ∷ [] ≡ byte_text byte)
+byte_two high low byte x y x_low is_x y_low is_y sum =
+    let over : x ≡ byte / 16 = omega arith in
+    let rest : y ≡ byte % 16 = omega arith in
+    (omega arith, ap (λ d. d ∷ low ∷ []) (is_x ∙ ap hex_digit over) ∙ ap (λ d. hex_digit (byte / 16) ∷ d ∷ []) (is_y ∙ ap hex_digit rest))
+
+-- the byte of two digits
+pub byte_read : (word : List ℕ) (byte : ℕ) → byte_of word ≡ Some byte → (byte < 256) × (word ≡ byte_text byte)
+byte_read [] byte e = absurd (cc)
+byte_read (high ∷ []) byte e = absurd (cc)
+byte_read (high ∷ low ∷ []) byte e =
+    let parts = byte_parts (half_of high) (half_of low) byte e in
+    let h = half_read high parts.0 parts.2 in
+    let l = half_read low parts.1 parts.3 in
+    byte_two high low byte parts.0 parts.1 h.0 h.1 l.0 l.1 parts.4
+byte_read (high ∷ low ∷ more ∷ word) byte e = absurd (cc)
+
+-- a byte is read as it is
+pub byte_again : (byte : ℕ) → byte < 256 → byte_of (byte_text byte) ≡ Some byte
+byte_again byte low =
+    let whole : 16 * (byte / 16) + byte % 16 ≡ byte = omega arith in
+    rw (half_again (byte / 16) (omega arith), half_again (byte % 16) (omega arith), whole) refl
+
+-- ---- sentences
+
+-- the test of two texts tells whether they are one
+same_bytes : (xs ys : List ℕ) → bytes_eq xs ys ≡ true → xs ≡ ys
+same_bytes xs ys e = (bytes_eq-Decides xs ys).0 e
+
+-- the first word and the others
+abbrev first_word : List ℕ → List ℕ → List ℕ
+first_word verb words = verb ++ 32 ∷ words
+
+-- the parts that a write was read by
+record WriteParts (words : List ℕ) (s : Line) : Type 0 where
+  from_first : List ℕ
+  from_count : List ℕ
+  byte_word : List ℕ
+  name : ScriptId
+  first : ℕ
+  count : ℕ
+  byte : ℕ
+  cut_first : after_byte 32 words ≡ Some from_first
+  cut_count : after_byte 32 from_first ≡ Some from_count
+  cut_byte : after_byte 32 from_count ≡ Some byte_word
+  is_name : id_of_word (before_byte 32 words) ≡ Some name
+  is_first : number_of (before_byte 32 from_first) ≡ Some first
+  is_count : number_of (before_byte 32 from_count) ≡ Some count
+  is_byte : byte_of byte_word ≡ Some byte
+  is : s ≡ Write name first count byte
+
+-- a write was read by its parts
+write_parts : (words : List ℕ) (s : Line) → write_of words ≡ Some s → WriteParts words s
+write_parts words s e =
+    let a = bind_some (after_byte 32 words) _ s e in
+    let b = bind_some (after_byte 32 a.0) _ s a.2 in
+    let c = bind_some (id_of_word (before_byte 32 words)) _ s b.2 in
+    let d = bind_some (number_of (before_byte 32 a.0)) _ s c.2 in
+    let f = bind_some (number_of (before_byte 32 b.0)) _ s d.2 in
+    let g = bind_some (after_byte 32 b.0) _ s f.2 in
+    let h = bind_some (byte_of g.0) _ s g.2 in
+    record {
+      from_first = a.0;
+      from_count = b.0;
+      byte_word = g.0;
+      name = c.0;
+      first = d.0;
+      count = f.0;
+      byte = h.0;
+      cut_first = a.1;
+      cut_count = b.1;
+      cut_byte = g.1;
+      is_name = c.1;
+      is_first = d.1;
+      is_count = f.1;
+      is_byte = h.1;
+      is = let last = h.2 in cc;
+    }
+
+-- what is heard as a write is said
+write_read : (words : List ℕ) (s : Line) → write_of words ≡ Some s → ParsesAs (first_word (codes "w") words) s
+write_read words s e =
+    let p = write_parts words s e in
+    let b = byte_read p.byte_word p.byte p.is_byte in
+    let whole : words ≡ before_byte 32 words ++ 32 ∷ (before_byte 32 p.from_first ++ 32 ∷ (before_byte 32 p.from_count ++ 32 ∷ byte_text p.byte)) =
+    cut_joined 32 words p.from_first p.cut_first
+    ∙ ap (λ x. before_byte 32 words ++ 32 ∷ x) (cut_joined 32 p.from_first p.from_count p.cut_count
+    ∙ ap (λ x. before_byte 32 p.from_first ++ 32 ∷ x) (cut_joined 32 p.from_count p.byte_word p.cut_byte
+    ∙ ap (λ x. before_byte 32 p.from_count ++ 32 ∷ x) b.1)) in
+    rw p.is record {
+      id_word = before_byte 32 words;
+      first_word = before_byte 32 p.from_first;
+      count_word = before_byte 32 p.from_count;
+      id = id_read (before_byte 32 words) _ p.is_name;
+      first_number = number_read (before_byte 32 p.from_first) _ p.is_first;
+      count_number = number_read (before_byte 32 p.from_count) _ p.is_count;
+      is_byte = b.0;
+      spelled = ap (λ x. first_word (codes "w") x) whole;
+    }
+
+-- the parts of `parse_words` behind its tests
+abbrev said_one_id : List ℕ → List ℕ → Option Line
+said_one_id verb words =
+    cond (bytes_eq verb (codes "f")) (option_map (λ name. Flush name) (id_of_word words))
+    (cond (bytes_eq verb (codes "c")) (option_map (λ name. Complete name) (id_of_word words)) None)
+
+-- behind the tests for the head
+abbrev said_no_size : List ℕ → List ℕ → Option Line
+said_no_size verb words = cond (bytes_eq verb (codes "w")) (write_of words) (said_one_id verb words)
+
+-- behind the first test
+abbrev said_no_data : List ℕ → List ℕ → Option Line
+said_no_data verb words = cond (bytes_eq verb (codes "log")) (option_map (λ n. Log n) (number_of words)) (said_no_size verb words)
+
+-- a first word and a number
+said_number : (verb words : List ℕ) (n : ℕ) → number_of words ≡ Some n → ParsesAsNumber verb (first_word verb words) n
+said_number verb words n e = record { word = words; number = number_read words n e; spelled = refl }
+
+-- a first word and an id
+said_id : (verb words : List ℕ) (name : ScriptId) → id_of_word words ≡ Some name → ParsesAsId verb (first_word verb words) name
+said_id verb words name e = record { word = words; id = id_read words name e; spelled = refl }
+
+-- what is heard of the words is said
+said_read : (verb words : List ℕ) (s : Line) → parse_words verb words ≡ Some s → ParsesAs (first_word verb words) s
+said_read verb words s e =
+    ⊎_elim
+    (λ (h : (bytes_eq verb (codes "data") ≡ true) × (option_map (λ n. Data n) (number_of words) ≡ Some s)).
+    let p = map_some (λ n. Data n) (number_of words) s h.1 in rw (same_bytes verb _ h.0, ← p.2) (said_number (codes "data") words p.0 p.1))
+    (λ (not_data : (bytes_eq verb (codes "data") ≡ false) × (said_no_data verb words ≡ Some s)).
+    ⊎_elim
+    (λ (h : (bytes_eq verb (codes "log") ≡ true) × (option_map (λ n. Log n) (number_of words) ≡ Some s)).
+    let p = map_some (λ n. Log n) (number_of words) s h.1 in rw (same_bytes verb _ h.0, ← p.2) (said_number (codes "log") words p.0 p.1))
+    (λ (not_log : (bytes_eq verb (codes "log") ≡ false) × (said_no_size verb words ≡ Some s)).
+    ⊎_elim
+    (λ (h : (bytes_eq verb (codes "w") ≡ true) × (write_of words ≡ Some s)). rw (same_bytes verb _ h.0) (write_read words s h.1))
+    (λ (not_write : (bytes_eq verb (codes "w") ≡ false) × (said_one_id verb words ≡ Some s)).
+    ⊎_elim
+    (λ (h : (bytes_eq verb (codes "f") ≡ true) × (option_map (λ name. Flush name) (id_of_word words) ≡ Some s)).
+    let p = map_some (λ name. Flush name) (id_of_word words) s h.1 in rw (same_bytes verb _ h.0, ← p.2) (said_id (codes "f") words p.0 p.1))
+    (λ (not_flush : (bytes_eq verb (codes "f") ≡ false) × (cond (bytes_eq verb (codes "c")) (option_map (λ name. Complete name) (id_of_word words)) None ≡ Some s)).
+    ⊎_elim
+    (λ (h : (bytes_eq verb (codes "c") ≡ true) × (option_map (λ name. Complete name) (id_of_word words) ≡ Some s)).
+    let p = map_some (λ name. Complete name) (id_of_word words) s h.1 in rw (same_bytes verb _ h.0, ← p.2) (said_id (codes "c") words p.0 p.1))
+    (λ (none : (bytes_eq verb (codes "c") ≡ false) × (None ≡ Some s)). absurd (let bad = none.1 in cc))
+    (chosen _ _ _ _ not_flush.1))
+    (chosen _ _ _ _ not_write.1))
+    (chosen _ _ _ _ not_log.1))
+    (chosen _ _ _ _ not_data.1))
+    (chosen _ _ _ _ e)
+
+-- what is heard is said
+pub sentence_read : (line : List ℕ) (s : Line) → parse_line line ≡ Some s → ParsesAs line s
+sentence_read line s e =
+    ⊎_elim
+    (λ (h : (bytes_eq line (codes "close") ≡ true) × (Some Close ≡ Some s)).
+    let is : Close ≡ s = (let k = h.1 in cc) in rw (← is) (same_bytes line _ h.0))
+    (λ (h : (bytes_eq line (codes "close") ≡ false) × ((after_byte 32 line >>= parse_words (before_byte 32 line)) ≡ Some s)).
+    let p = bind_some (after_byte 32 line) (parse_words (before_byte 32 line)) s h.1 in
+    subst (λ (x : List ℕ). ParsesAs x s) (sym (cut_joined 32 line p.0 p.1)) (said_read (before_byte 32 line) p.0 s p.2))
+    (chosen _ _ _ _ e)
+
+-- what has this value goes on from it
+bind_at : {A B : Type 0} (o : Option A) (f : A → Option B) (x : A) (y : Option B) → o ≡ Some x → f x ≡ y → (o >>= f) ≡ y
+bind_at None f x y e g = absurd (cc)
+bind_at (Some z) f x y e g = let same : z ≡ x = cc in ap f same ∙ g
+
+-- a write is heard as it is
+write_again : (id fw cw : List ℕ) (name : ScriptId) (first count byte : ℕ) → IsId id name → IsNumber fw first → IsNumber cw count → byte < 256 →
+    write_of (id ++ 32 ∷ (fw ++ 32 ∷ (cw ++ 32 ∷ byte_text byte))) ≡ Some (Write name first count byte)
+write_again id fw cw name first count byte is_id is_first is_count low =
+    let a = cut_at 32 id (fw ++ 32 ∷ (cw ++ 32 ∷ byte_text byte)) (id_lacks_space id is_id.0) in
+    let b = cut_at 32 fw (cw ++ 32 ∷ byte_text byte) (number_lacks_space fw is_first.0) in
+    let c = cut_at 32 cw (byte_text byte) (number_lacks_space cw is_count.0) in
+    bind_at _ _ _ _ a.1
+    (bind_at _ _ _ _ b.1
+    (bind_at _ _ _ _ (ap id_of_word a.0 ∙ id_again id name is_id)
+    (bind_at _ _ _ _ (ap number_of b.0 ∙ number_again fw first is_first)
+    (bind_at _ _ _ _ (ap number_of c.0 ∙ number_again cw count is_count)
+    (bind_at _ _ _ _ c.1
+    (bind_at _ _ _ _ (byte_again byte low) refl))))))
+
+-- what is said is heard
+pub sentence_again : (line : List ℕ) (s : Line) → ParsesAs line s → parse_line line ≡ Some s
+sentence_again line (Data n) says = rw says.spelled (ap (option_map (λ k. Data k)) (number_again says.word n says.number))
+sentence_again line (Log n) says = rw says.spelled (ap (option_map (λ k. Log k)) (number_again says.word n says.number))
+sentence_again line (Write name first count byte) says =
+    rw says.spelled (write_again says.id_word says.first_word says.count_word name first count byte says.id says.first_number says.count_number says.is_byte)
+sentence_again line (Flush name) says = rw says.spelled (ap (option_map (λ k. Flush k)) (id_again says.word name says.id))
+sentence_again line (Complete name) says = rw says.spelled (ap (option_map (λ k. Complete k)) (id_again says.word name says.id))
+sentence_again line Close says = rw says refl

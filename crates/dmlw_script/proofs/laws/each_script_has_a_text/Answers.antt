@@ -1,0 +1,5 @@
+use Rattle.dmlw_script.proofs.CanonicalTextLaws.{spelling_spells}
+use Rattle.dmlw_script.proofs.laws.each_script_has_a_text.Goals as goal
+
+pub returns : goal.returns
+returns c = spelling_spells

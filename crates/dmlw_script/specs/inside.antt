@@ -1,0 +1,3 @@
+pub mod Parsing
+pub mod Drafts
+pub mod Readers

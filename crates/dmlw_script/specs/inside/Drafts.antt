@@ -1,0 +1,87 @@
+-- The steps of the reader over a body. `Grammar` and `Reading` say in the grammar's words what they come to.
+use Rattle.std.specs.Prelude.{◌≡◌, ℕ, Bool, false, List, [], ◌∷◌, ◌++◌, Option, Some, None, Result, Ok, Err, length, slice_index_or, if◌then◌else◌}
+use Rattle.refusals.specs.declared.refusal.Refusal.{Refusal}
+use Rattle.refusals.specs.declared.refusal.Refusal.TheVariants.{BadLine, BadId}
+use Rattle.bio.specs.declared.request.BadBio.{BadBio}
+use Rattle.bio.specs.Check.{range_answer}
+use Rattle.bio.specs.Refusals.{bad_bio_refusal}
+use Rattle.dmlw_script.specs.declared.command.Command.{Command}
+use Rattle.dmlw_script.specs.declared.command.Command.TheVariants as commands
+use Rattle.dmlw_script.specs.declared.draft.Draft.{Draft}
+use Rattle.dmlw_script.specs.declared.script_id.ScriptId.{ScriptId}
+use Rattle.dmlw_script.specs.declared.line.Line.{Line}
+use Rattle.dmlw_script.specs.declared.line.Line.TheVariants as sentences
+use Rattle.dmlw_script.specs.declared.line_error.LineError.{LineError}
+use Rattle.dmlw_script.specs.declared.line_error.LineError.TheVariants as line_errors
+use Rattle.dmlw_script.specs.Plans.{is_ended, request_of}
+
+-- a script's body, as far as it was read: the ids that were submitted, and the commands
+pub record Body : Type 0 where
+  pub names : List ScriptId
+  pub body : List Command
+
+-- what was read into a draft
+abbrev pub body_of : Draft → Body
+body_of d = record { names = d.names.keys; body = d.commands.items }
+
+-- each of n requests has its flag, which says whether it has ended, and no other request has
+pub record IsFlags (n : ℕ) (flags : List Bool) (body : List Command) : Type 0 where
+  pub in_step : length flags ≡ n
+  pub each : (request : ℕ) → slice_index_or flags request false ≡ is_ended request body
+
+-- a draft's flags are those of its requests
+abbrev pub IsDraft : Draft → Type 0
+IsDraft d = IsFlags (length d.names.keys) d.has_ended.items d.commands.items
+
+-- goes on with a value that is there
+infixl 10 ◌>>=◌
+abbrev pub ◌>>=◌ : {A B : Type 0} → Result A Refusal → (A → Result B Refusal) → Result B Refusal
+(Ok x) >>= f = f x
+(Err refusal) >>= f = Err refusal
+
+-- the next command, behind a body
+abbrev pub with_command : Body → Command → Body
+with_command b command = record b { body = b.body ++ command ∷ [] }
+
+-- the next request's id, which must be new
+abbrev pub named_next : Option ℕ → Body → ScriptId → Result Body Refusal
+named_next (Some request) b name = Err BadId
+named_next None b name = Ok (record b { names = b.names ++ name ∷ [] })
+
+-- the next request's id, behind a body
+abbrev pub with_name : Body → ScriptId → Result Body Refusal
+with_name b name = named_next (request_of name b.names) b name
+
+-- what is asked of a request's sectors
+abbrev pub as_refusal : Result (Unit {0}) BadBio → Result (Unit {0}) Refusal
+as_refusal (Ok fine) = Ok tt
+as_refusal (Err bad) = Err (bad_bio_refusal bad)
+
+-- what is asked of a request's sectors, as a refusal
+abbrev pub sectors_answer : ℕ → ℕ → ℕ → Result (Unit {0}) Refusal
+sectors_answer first count sectors = as_refusal (range_answer first count sectors)
+
+-- an end, whose request must be open
+abbrev pub ended_next : Option ℕ → Body → Result Body Refusal
+ended_next None b = Err BadId
+ended_next (Some request) b = if is_ended request b.body then Err BadId else Ok (with_command b (commands.Complete request))
+
+-- the body behind one more line, for a data disk of so many sectors
+abbrev pub body_step : ℕ → Body → Line → Result Body Refusal
+body_step sectors b (sentences.Write name first count byte) = do
+  submitted ← with_name b name
+  fine ← sectors_answer first count sectors
+  Ok (with_command submitted (commands.Write first count byte))
+body_step sectors b (sentences.Flush name) = do
+  submitted ← with_name b name
+  Ok (with_command submitted commands.Flush)
+body_step sectors b (sentences.Complete name) = ended_next (request_of name b.names) b
+body_step sectors b sentences.Close = Ok (with_command b commands.Close)
+body_step sectors b (sentences.Data n) = Err BadLine
+body_step sectors b (sentences.Log n) = Err BadLine
+
+-- what a call answers that leaves this value, where a step says what it should come to
+abbrev pub Follows : {A : Type 0} → Result (Unit {0}) LineError → A → Result A Refusal → Type 0
+Follows (Ok done) after step = step ≡ Ok after
+Follows (Err (line_errors.Refused refusal)) after step = step ≡ Err refusal
+Follows (Err line_errors.Memory) after step = Unit {0}

@@ -1,0 +1,41 @@
+ghost use Rattle.std.specs.Prelude.{◌≡◌};
+ghost use Rattle.dmlw_script.specs.declared.line_error.LineError.TheVariants.{Memory};
+ghost use Rattle.dmlw_script.specs.declared.line_error.LineError.TheVariants as line_errors;
+ghost use Rattle.bio.specs.Refusals.{bad_bio_refusal};
+
+use bio::BadBio;
+use refusals::Refusal;
+use std::alloc::AllocFailed;
+
+/// Why reading ends at a line.
+#[derive(Clone, Copy, Debug, PartialEq, Eq)]
+pub(crate) enum LineError {
+    /// A growth was refused.
+    Memory,
+    /// The line is at fault.
+    Refused(Refusal),
+}
+
+impl<T: Drop> From<AllocFailed<T>> for LineError {
+    ghost from_gives = { λ _ stop. stop ≡ Memory };
+
+    fn from(_failed: AllocFailed<T>) -> LineError {
+        LineError::Memory
+    }
+}
+
+impl From<Refusal> for LineError {
+    ghost from_gives = { λ refusal stop. stop ≡ line_errors.Refused refusal };
+
+    fn from(refusal: Refusal) -> LineError {
+        LineError::Refused(refusal)
+    }
+}
+
+impl From<BadBio> for LineError {
+    ghost from_gives = { λ bad stop. stop ≡ line_errors.Refused (bad_bio_refusal bad) };
+
+    fn from(bad: BadBio) -> LineError {
+        LineError::Refused(Refusal::from(bad))
+    }
+}

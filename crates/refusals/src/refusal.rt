@@ -1,0 +1,162 @@
+ghost use Rattle.std.specs.Prelude.{◌≡◌, ◌-◌, Some, slice_get};
+ghost use Rattle.refusals.specs.Table.{all_refusals, row_of};
+ghost use Rattle.refusals.specs.Texts.{refusal_text};
+
+use std::fmt;
+
+/// What the project refuses by. Each refusal has a number from 1 to 38 and a name; `Memory` and
+/// `EndMemory` share theirs.
+#[derive(Clone, Copy, Debug, PartialEq, Eq)]
+pub enum Refusal {
+    /// A device failed in this call.
+    Io,
+    /// A growth was refused.
+    Memory,
+    /// A request reaches past the device's end.
+    PastEnd,
+    /// A request covers over 2,048 sectors.
+    TooLong,
+    /// A request's data isn't whole sectors, or covers none.
+    NotWhole,
+    /// A dust layer has no such message.
+    BadMessage,
+    /// The block is listed as bad.
+    AlreadyBad,
+    /// The block isn't listed as bad.
+    NotBad,
+    /// A table line names no target.
+    UnknownTarget,
+    /// A table line has a number of words that the target doesn't have.
+    WrongCount,
+    /// A word of a table line is no number.
+    BadNumber,
+    /// A value of a table line is out of its range.
+    OutOfRange,
+    /// A log doesn't begin with the magic number.
+    BadMagic,
+    /// A log is of another format version.
+    BadVersion,
+    /// A log's sector size is none of 512, 1024, 2048, 4096.
+    BadSectorSize,
+    /// A mark has sectors or a text that is too long.
+    BadMark,
+    /// An entry reaches past what a device can have.
+    TooLarge,
+    /// Logging ended: the next entry doesn't fit.
+    Full,
+    /// Logging ended: the log's device failed.
+    Device,
+    /// Logging ended: a growth was refused.
+    EndMemory,
+    /// A log is shorter than it says.
+    CutShort,
+    /// The reader has refused before.
+    Failed,
+    /// A mark's text has a zero byte.
+    BadText,
+    /// Requests are open at the close.
+    Busy,
+    /// No mark has this text.
+    NoSuchMark,
+    /// No flush follows.
+    NoFlush,
+    /// An entry reaches past the target's end.
+    PastTarget,
+    /// A request isn't aligned to log sectors of 4,096 bytes.
+    Unaligned,
+    /// A flakey line has no such feature.
+    BadFeature,
+    /// A script's line isn't of the grammar.
+    BadLine,
+    /// A script's id is submitted twice, or isn't open.
+    BadId,
+    /// A file can't be read or written, or has a length that it may not have.
+    File,
+    /// More entries are asked for than the log has.
+    PastEntries,
+    /// A moment isn't one of the events, or an image isn't of the device's size.
+    BadMoment,
+    /// The cache machine has no such step.
+    BadStep,
+    /// A mark comes after the close.
+    AfterClose,
+    /// The seats at a close aren't the recorder's own.
+    Foreign,
+    /// A thread can't be started.
+    NoThread,
+}
+
+impl Refusal {
+    // The one table: number and name.
+    fn row(self) -> (u8, &'static str)
+        ensures number { result.0 ≡ (row_of self).0 }
+        ensures name { result.1.now ≡ (row_of self).1 }
+    {
+        match self {
+            Refusal::Io => (1, "Io"),
+            Refusal::Memory => (2, "Memory"),
+            Refusal::PastEnd => (3, "PastEnd"),
+            Refusal::TooLong => (4, "TooLong"),
+            Refusal::NotWhole => (5, "NotWhole"),
+            Refusal::BadMessage => (6, "BadMessage"),
+            Refusal::AlreadyBad => (7, "AlreadyBad"),
+            Refusal::NotBad => (8, "NotBad"),
+            Refusal::UnknownTarget => (9, "UnknownTarget"),
+            Refusal::WrongCount => (10, "WrongCount"),
+            Refusal::BadNumber => (11, "BadNumber"),
+            Refusal::OutOfRange => (12, "OutOfRange"),
+            Refusal::BadMagic => (13, "BadMagic"),
+            Refusal::BadVersion => (14, "BadVersion"),
+            Refusal::BadSectorSize => (15, "BadSectorSize"),
+            Refusal::BadMark => (16, "BadMark"),
+            Refusal::TooLarge => (17, "TooLarge"),
+            Refusal::Full => (18, "Full"),
+            Refusal::Device => (19, "Device"),
+            Refusal::EndMemory => (20, "Memory"),
+            Refusal::CutShort => (21, "CutShort"),
+            Refusal::Failed => (22, "Failed"),
+            Refusal::BadText => (23, "BadText"),
+            Refusal::Busy => (24, "Busy"),
+            Refusal::NoSuchMark => (25, "NoSuchMark"),
+            Refusal::NoFlush => (26, "NoFlush"),
+            Refusal::PastTarget => (27, "PastTarget"),
+            Refusal::Unaligned => (28, "Unaligned"),
+            Refusal::BadFeature => (29, "BadFeature"),
+            Refusal::BadLine => (30, "BadLine"),
+            Refusal::BadId => (31, "BadId"),
+            Refusal::File => (32, "File"),
+            Refusal::PastEntries => (33, "PastEntries"),
+            Refusal::BadMoment => (34, "BadMoment"),
+            Refusal::BadStep => (35, "BadStep"),
+            Refusal::AfterClose => (36, "AfterClose"),
+            Refusal::Foreign => (37, "Foreign"),
+            Refusal::NoThread => (38, "NoThread"),
+        }
+    }
+
+    /// The number, from 1 to 38. It stands for one refusal: its place in the list of all, counted from 1.
+    #[tactic(auto, using(crate::specs::Table::number_names))]
+    pub fn number(self) -> u8
+        ensures number { result ≡ (row_of self).0 }
+        ensures place { slice_get all_refusals (result - 1) ≡ Some self }
+    {
+        self.row().0
+    }
+
+    /// The name that goes with the number.
+    pub fn name(self) -> &'static str
+        ensures { result.now ≡ (row_of self).1 }
+    {
+        self.row().1
+    }
+}
+
+impl fmt::Display for Refusal {
+    ghost output = { λ refusal. Some (refusal_text refusal) };
+
+    fn fmt<W: fmt::Write>(&self, f: &mut fmt::Formatter<W>) -> fmt::Result {
+        let number = self.number();
+        let name = self.name();
+        write!(f, "{number} {name}")
+    }
+}

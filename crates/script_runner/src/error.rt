@@ -1,0 +1,77 @@
+ghost use Rattle.std.specs.Prelude.{◌≡◌, Some};
+ghost use Rattle.std.specs.IoError.{error_kind};
+ghost use Rattle.refusals.specs.Texts.{without_line};
+ghost use Rattle.script_runner.specs.Errors.{error_text, io_refusal, memory_error, refused_by};
+ghost use Rattle.script_runner.specs.declared.error.RunError.TheVariants.{Refused, LoggingEnded};
+
+use bio::End;
+use refusals::{Fault, Refusal};
+use std::alloc::AllocError;
+use std::{fmt, io};
+
+/// Why a command ended before its time. It is shown as its fault: its line, if it names one, and its
+/// number and name.
+#[derive(Clone, Copy, Debug, PartialEq, Eq)]
+pub enum RunError {
+    /// It was refused, for a script perhaps at a line.
+    Refused(Fault),
+    /// Logging ended before its time.
+    LoggingEnded(End),
+}
+
+impl fmt::Display for RunError {
+    ghost output = { λ error. Some (error_text error) };
+
+    fn fmt<W: fmt::Write>(&self, f: &mut fmt::Formatter<W>) -> fmt::Result {
+        match self {
+            RunError::Refused(fault) => write!(f, "{fault}"),
+            RunError::LoggingEnded(end) => {
+                let refusal = Refusal::from(*end);
+                write!(f, "{refusal}")
+            }
+        }
+    }
+}
+
+impl From<Fault> for RunError {
+    ghost from_gives = { λ fault error. error ≡ Refused fault };
+
+    fn from(fault: Fault) -> RunError {
+        RunError::Refused(fault)
+    }
+}
+
+impl From<Refusal> for RunError {
+    ghost from_gives = { λ refusal error. error ≡ refused_by refusal };
+
+    fn from(refusal: Refusal) -> RunError {
+        RunError::Refused(Fault::from(refusal))
+    }
+}
+
+impl From<io::Error> for RunError {
+    ghost from_gives = { λ io_error error. error ≡ refused_by (io_refusal (error_kind io_error)) };
+
+    fn from(error: io::Error) -> RunError {
+        match error.kind() {
+            io::ErrorKind::OutOfMemory => RunError::from(Refusal::Memory),
+            _ => RunError::from(Refusal::File),
+        }
+    }
+}
+
+impl From<AllocError> for RunError {
+    ghost from_gives = { λ _ error. error ≡ memory_error };
+
+    fn from(_error: AllocError) -> RunError {
+        RunError::from(Refusal::Memory)
+    }
+}
+
+impl From<End> for RunError {
+    ghost from_gives = { λ end error. error ≡ LoggingEnded end };
+
+    fn from(end: End) -> RunError {
+        RunError::LoggingEnded(end)
+    }
+}

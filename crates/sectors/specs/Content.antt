@@ -1,0 +1,55 @@
+use Rattle.std.specs.Prelude.{◌≡◌, ℕ, ◌+◌, ◌-◌, ◌*◌, ◌/◌, ◌<◌, ◌&&◌, nat_le, nat_lt, Option, Some, None, unwrap_or, List, length, take, drop, replicate, ◌⊎◌, if◌then◌else◌}
+use Rattle.sectors.specs.Places.{collect}
+
+-- what a device has in each sector of 512 bytes
+abbrev pub Content : Type 0
+Content = ℕ → List ℕ
+
+-- the bytes of one sector of an image
+abbrev pub sector_of : List ℕ → Content
+sector_of bytes sector = take 512 (drop (512 * sector) bytes)
+
+-- the bytes of a range of sectors, one after another
+abbrev pub gather : Content → ℕ → ℕ → List ℕ
+gather content first count = collect (λ place. content (first + place)) count
+
+-- the whole sectors of these bytes stand in the content from this sector on
+abbrev pub HasBytes : Content → ℕ → List ℕ → Type 0
+HasBytes content first bytes = (sector : ℕ) → sector < length bytes / 512 → content (first + sector) ≡ sector_of bytes sector
+
+-- the contents are one below this sector
+abbrev pub AgreeBelow : ℕ → Content → Content → Type 0
+AgreeBelow end old new = (sector : ℕ) → sector < end → new sector ≡ old sector
+
+-- each sector of a disk has 512 bytes
+abbrev pub IsWhole : ℕ → Content → Type 0
+IsWhole disk content = (sector : ℕ) → sector < disk → length (content sector) ≡ 512
+
+-- the values that a call has for some of the sectors
+abbrev pub Patch : Type 0
+Patch = ℕ → Option (List ℕ)
+
+-- the values for a range of sectors, the first of them counted as 0
+unfoldable pub over : ℕ → ℕ → (ℕ → List ℕ) → Patch
+over first count value sector =
+    if nat_le first sector && nat_lt sector (first + count) then Some (value (sector - first)) else None
+
+-- the values that a write has for its sectors
+abbrev pub writes : ℕ → List ℕ → Patch
+writes first bytes = over first (length bytes / 512) (sector_of bytes)
+
+-- the values that a discard has for its sectors: zeroes
+abbrev pub discards : ℕ → ℕ → Patch
+discards first count = over first count (λ _. replicate 512 0)
+
+-- the values of a call that changes nothing
+abbrev pub nothing : Patch
+nothing sector = None
+
+-- the content with all of a call's values
+abbrev pub put : Patch → Content → Content
+put patch content sector = unwrap_or (patch sector) (content sector)
+
+-- the new content is the old one with the call's values in some of their sectors, none or all included
+abbrev pub Patched : Patch → Content → Content → Type 0
+Patched patch old new = (sector : ℕ) → (new sector ≡ old sector) ⊎ (new sector ≡ put patch old sector)

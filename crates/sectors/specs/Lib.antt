@@ -1,0 +1,5 @@
+pub mod Places
+pub mod Content
+pub mod PlaceLaws
+pub mod ContentLaws
+pub mod SectorLaws

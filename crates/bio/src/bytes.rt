@@ -1,18 +1,35 @@
-ghost use Rattle.std.specs.Prelude.{◌≡◌, ◌==◌, IfOk, length, List, ℕ};
+ghost use Rattle.std.specs.Prelude.{◌≡◌, ◌==◌, IfOk, length};
+ghost use Rattle.std.specs.Arc.{arc_value};
 
 use std::alloc::AllocError;
 use std::marker::Model;
+use std::sync::Arc;
 
 /// A list of bytes, as a request's data or a mark's text. Contracts see it as that list.
+///
+/// Bytes that are shared lie in memory once, however often they are cloned. Those that are made from a
+/// vector are held alone until they are cloned or `into_shared` is called.
 #[derive(Debug, Drop)]
 pub struct Bytes {
-    bytes: Vec<u8>,
+    storage: Storage,
+}
+
+// Where the bytes lie.
+#[derive(Debug, Drop)]
+enum Storage {
+    // In a vector of their own.
+    Alone(Vec<u8>),
+    // In a vector that clones of these bytes have too.
+    Shared(Arc<Vec<u8>>),
 }
 
 impl Model for Bytes {
+    ghost use Rattle.std.specs.Prelude.{List, ℕ};
+    ghost use Rattle.bio.specs.inside.Storage.{stored};
+
     ghost Value = { List ℕ };
 
-    ghost view = { λ b. b.bytes.items };
+    ghost view = { λ b. stored b.storage };
 }
 
 impl Bytes {
@@ -20,44 +37,81 @@ impl Bytes {
     pub fn from_vec(bytes: Vec<u8>) -> Bytes
         ensures { result ≡ bytes.items }
     {
-        Bytes { bytes }
+        Bytes {
+            storage: Storage::Alone(bytes),
+        }
     }
 
-    /// Gives the vector back. Takes no memory.
-    pub fn into_vec(self) -> Vec<u8>
-        ensures { result.items ≡ self }
+    /// The same bytes, of which each clone takes no more memory. Takes memory for a few words, and none
+    /// where they are shared already.
+    pub fn into_shared(self) -> Result<Bytes, AllocError>
+        ensures { IfOk result (λ shared. shared ≡ self) }
     {
-        let Bytes { bytes } = self;
-        bytes
+        let Bytes { storage } = self;
+        let shared = match storage {
+            Storage::Alone(bytes) => share(bytes)?,
+            Storage::Shared(bytes) => bytes,
+        };
+        Ok(Bytes {
+            storage: Storage::Shared(shared),
+        })
+    }
+
+    /// Gives the vector back. Takes no memory but where the bytes are shared with a clone that is still
+    /// there: then they are copied.
+    pub fn into_vec(self) -> Result<Vec<u8>, AllocError>
+        ensures { IfOk result (λ bytes. bytes.items ≡ self) }
+    {
+        let Bytes { storage } = self;
+        match storage {
+            Storage::Alone(bytes) => Ok(bytes),
+            Storage::Shared(bytes) => Arc::unwrap_or_clone(bytes),
+        }
     }
 
     pub fn as_slice(&self) -> &[u8]
         ensures { result.now ≡ self.now }
     {
-        self.bytes.as_slice()
+        match &self.storage {
+            Storage::Alone(bytes) => bytes.as_slice(),
+            Storage::Shared(bytes) => bytes.as_slice(),
+        }
     }
 
     pub fn len(&self) -> usize
         ensures { result ≡ length self.now }
     {
-        self.bytes.len()
+        self.as_slice().len()
     }
 
     pub fn is_empty(&self) -> bool
         ensures { result ≡ (length self.now == 0) }
     {
-        self.bytes.is_empty()
+        self.as_slice().is_empty()
     }
+}
+
+// Puts a vector where clones can share it.
+fn share(bytes: Vec<u8>) -> Result<Arc<Vec<u8>>, AllocError>
+    ensures { IfOk result (λ shared. (arc_value shared).items ≡ bytes.items) }
+{
+    let alloc = bytes.allocator().clone()?;
+    Ok(Arc::new(alloc, bytes)?)
 }
 
 impl Clone for Bytes {
     ghost is_clone = { λ from to. to ≡ from };
 
+    /// The same bytes. Of bytes that are shared, and of none, it takes no memory; else they are copied
+    /// once, and the copy is shared by its own clones.
     fn clone(&self) -> Result<Bytes, AllocError>
         ensures { IfOk result (λ copy. copy ≡ self.now) }
     {
-        Ok(Bytes {
-            bytes: self.bytes.clone()?,
-        })
+        let storage = match &self.storage {
+            Storage::Alone(bytes) if bytes.is_empty() => Storage::Alone(bytes.clone()?),
+            Storage::Alone(bytes) => Storage::Shared(share(bytes.clone()?)?),
+            Storage::Shared(bytes) => Storage::Shared(bytes.clone()?),
+        };
+        Ok(Bytes { storage })
     }
 }

@@ -1,0 +1,9 @@
+use Rattle.std.specs.Prelude.{ℕ, List}
+use Rattle.std.specs.Arc.{arc_value}
+use Rattle.bio.specs.declared.bytes.Storage.{Storage}
+use Rattle.bio.specs.declared.bytes.Storage.TheVariants.{Alone, Shared}
+
+-- the bytes, wherever they lie
+abbrev pub stored : Storage → List ℕ
+stored (Alone bytes) = bytes.items
+stored (Shared bytes) = (arc_value bytes).items

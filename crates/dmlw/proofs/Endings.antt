@@ -4,12 +4,12 @@ use Rattle.dmlw.specs.declared.exit.Exit.{Exit}
 use Rattle.dmlw.specs.declared.exit.Exit.TheVariants.{Refused}
 use Rattle.script_runner.specs.declared.error.RunError.{RunError}
 use Rattle.script_runner.specs.Errors.{memory_error}
-use Rattle.script_runner.specs.RunFaults.{EndsRun, close, file as output, logging}
+use Rattle.script_runner.specs.RunFaults.{EndsRun, close, file as by_file, logging}
 use Rattle.dmlw.specs.Commands.{EndsRecording, EndsShowing}
 use Rattle.dmlw.specs.Exits.{exit_by, status_of}
 use Rattle.dmlw.specs.Files.{Write}
 use Rattle.dmlw.specs.Lists.{Shows, ShowsFile}
-use Rattle.dmlw.specs.Records.{FailsRecording, Records, TellsLog, WritesLog, file, run as ran, text as unread}
+use Rattle.dmlw.specs.Records.{FailsRecording, Records, PrintsLog, WritesLog, file, run as ran, text as unread}
 use Rattle.dmlw_script.specs.Plans.{Plan}
 use Rattle.dmlw.proofs.Listing.{IsKept, shows_kept}
 use Rattle.script_runner.specs.CallLaws.{appends_kept, keeps_twice}
@@ -17,11 +17,11 @@ use Rattle.script_runner.specs.CallLaws.{appends_kept, keeps_twice}
 -- why a run ended is kept
 run_kept : (text : List ℕ) (script : Plan) (old middle new : Option (List ℕ)) (fault : RunError) → EndsRun text script old middle fault
     → Keeps middle new → EndsRun text script old new fault
-run_kept text script old middle new fault (output f is) kept = output f is
+run_kept text script old middle new fault (by_file f is) kept = by_file f is
 run_kept text script old middle new fault (logging end is) kept = logging end (record {
   failed = is.failed;
   submitted = is.submitted;
-  told = appends_kept old middle new _ is.told kept;
+  output = appends_kept old middle new _ is.output kept;
   cause = is.cause;
 })
 run_kept text script old middle new fault (close line refusal is) kept = close line refusal (record {
@@ -31,7 +31,7 @@ run_kept text script old middle new fault (close line refusal is) kept = close l
   first = is.first;
   here = is.here;
   submitted = is.submitted;
-  told = appends_kept old middle new _ is.told kept;
+  output = appends_kept old middle new _ is.output kept;
   cause = is.cause;
 })
 
@@ -44,22 +44,22 @@ failure_kept contents old middle new fault (unread bytes line refusal read none 
 failure_kept contents old middle new fault (ran bytes script f read spells ends) kept =
     ran bytes script f read spells (run_kept bytes script old middle new f ends kept)
 
--- what recording has told is kept
+-- what recording has printed is kept
 records_kept : (contents : Option (List ℕ)) (log : List ℕ) (writes_old writes_new : Option (List Write)) (old middle new : Option (List ℕ))
     (done : Result (Unit {0}) RunError) → Records contents log writes_old writes_new old middle done → Keeps middle new
     → Records contents log writes_old writes_new old new done
-records_kept contents log writes_old writes_new old middle new (Ok u) (bytes, told, writes) kept = (
+records_kept contents log writes_old writes_new old middle new (Ok u) (bytes, output, writes) kept = (
   bytes,
   record {
-    text = told.text;
-    script = told.script;
-    lines = told.lines;
-    read = told.read;
-    spelled = told.spelled;
-    made = told.made;
-    image = told.image;
-    run = told.run;
-    told = appends_kept old middle new _ told.told kept;
+    text = output.text;
+    script = output.script;
+    lines = output.lines;
+    read = output.read;
+    spelled = output.spelled;
+    made = output.made;
+    image = output.image;
+    run = output.run;
+    output = appends_kept old middle new _ output.output kept;
   },
   writes,
 )
@@ -69,10 +69,10 @@ records_kept contents log writes_old writes_new old middle new (Err fault) (writ
 -- what recording comes to, by the clauses of the call
 pub records_all : (contents : Option (List ℕ)) (log : List ℕ) (writes_old writes_new : Option (List Write)) (old new : Option (List ℕ))
     (done : Result (Unit {0}) RunError) → WritesLog contents log writes_old writes_new done
-    → OnOk done (TellsLog contents log writes_old writes_new old new)
+    → OnOk done (PrintsLog contents log writes_old writes_new old new)
     → IfErr done (FailsRecording contents old new) → Records contents log writes_old writes_new old new done
-records_all contents log writes_old writes_new old new (Ok u) writes told fails = told
-records_all contents log writes_old writes_new old new (Err fault) writes told fails = (writes, fails)
+records_all contents log writes_old writes_new old new (Ok u) writes output fails = output
+records_all contents log writes_old writes_new old new (Err fault) writes output fails = (writes, fails)
 
 -- how a recording ends of the files that were named
 pub recording_ends : (contents : List ℕ → Option (List ℕ)) (script log script_name log_name : List ℕ) (writes_old writes_new : Option (List Write))

@@ -19,7 +19,7 @@ use Rattle.dmlw.specs.FileErrors.{file_refusal}
 use Rattle.dmlw.specs.Files.{MatchesContents}
 use Rattle.dmlw.specs.Records.{FailsRecording, file, run as run_fails, status_line, text as unread}
 
--- a file's error is told as such
+-- a file's error is printed as such
 file_told : (error : FileError) → IsFileError (refused_by (file_refusal error))
 file_told errors.Unusable = inl refl
 file_told errors.Memory = inr refl
@@ -29,22 +29,22 @@ pub fails_for_file : (contents before after : Option (List ℕ)) (error : FileEr
     → FailsRecording contents before after fault
 fails_for_file contents before after error fault is = file fault (subst IsFileError (sym is) (file_told error))
 
--- an output's error is told as such
-io_told : (kind : ErrorKind) → IsFileError (refused_by (io_refusal kind))
-io_told kinds.OutOfMemory = inr refl
-io_told _ = inl refl
+-- an output's error is printed as such
+io_shown : (kind : ErrorKind) → IsFileError (refused_by (io_refusal kind))
+io_shown kinds.OutOfMemory = inr refl
+io_shown _ = inl refl
 
 -- recording ended by an error of the output
 pub fails_for_output : (contents before after : Option (List ℕ)) (kind : ErrorKind) (fault : RunError) → fault ≡ refused_by (io_refusal kind)
     → FailsRecording contents before after fault
-fails_for_output contents before after kind fault is = file fault (subst IsFileError (sym is) (io_told kind))
+fails_for_output contents before after kind fault is = file fault (subst IsFileError (sym is) (io_shown kind))
 
 -- recording ended since no script was read
 pub fails_unread : (contents before : Option (List ℕ)) (bytes text : List ℕ) (error : Fault) (fault : RunError) → MatchesContents contents bytes
     → text ≡ bytes → IsFaultOf text error error.line → ((plan : Plan) → IsTextOf text plan → error ≡ is_memory)
     → fault ≡ Refused error → FailsRecording contents before before fault
-fails_unread contents before bytes text error fault is same wrong only told =
-    subst (FailsRecording contents before before) (sym told)
+fails_unread contents before bytes text error fault is same wrong only output =
+    subst (FailsRecording contents before before) (sym output)
     (by_line error.line refl (subst (λ (all : List ℕ). IsFaultOf all error error.line) same wrong))
   where
     by_line : (line : Option ℕ) → error.line ≡ line → IsFaultOf bytes error line
@@ -65,9 +65,9 @@ fails_run contents before after bytes text other plan fault again is same also s
     (subst (λ (all : List ℕ). EndsRun all plan before after fault) also ends))
 
 -- what a script prints was printed, and then the status of its log
-pub status_told : (before ran told now : Option (List ℕ)) (lines : List ℕ) (status other : Status) → Appends before ran lines
-    → Appends ran told (status_line status) → Keeps told now → status ≡ other → Appends before now (lines ++ status_line other)
-status_told before ran told now lines status other first second keeps are =
-    let both : Appends before told (lines ++ status_line status) = appends_twice before ran told lines (status_line status) first second in
-    appends_kept before told now (lines ++ status_line other)
-    (subst (λ (more : Status). Appends before told (lines ++ status_line more)) are both) keeps
+pub status_printed : (before ran output now : Option (List ℕ)) (lines : List ℕ) (status other : Status) → Appends before ran lines
+    → Appends ran output (status_line status) → Keeps output now → status ≡ other → Appends before now (lines ++ status_line other)
+status_printed before ran output now lines status other first second keeps are =
+    let both : Appends before output (lines ++ status_line status) = appends_twice before ran output lines (status_line status) first second in
+    appends_kept before output now (lines ++ status_line other)
+    (subst (λ (more : Status). Appends before output (lines ++ status_line more)) are both) keeps

@@ -13,10 +13,10 @@ use Rattle.dmlw.specs.declared.exit.Exit.TheVariants.{Done, Refused, Usage}
 use Rattle.script_runner.specs.declared.error.RunError.{RunError}
 use Rattle.dmlw.specs.Exits.{exit_by, status_of}
 use Rattle.dmlw.specs.Files.{Write, one_more}
-use Rattle.dmlw.specs.Lists.{ListsImage, Shows, ShowsFile, TellsStatus}
+use Rattle.dmlw.specs.Lists.{ListsImage, Shows, ShowsFile, ShowsStatus}
 use Rattle.dmlw.specs.Records.{Records}
 
--- How a command line ends that has no task, by what clap makes of it: want of memory is a refusal, help and the
+-- How a command line ends that has no task, by what clap makes of it: memory running out is a refusal, help and the
 -- version are done unless they can't be printed, and the others are usage faults.
 abbrev pub EndsUntasked : ErrorKind → Exit → Type 0
 EndsUntasked OutOfMemory exit = exit ≡ Refused
@@ -71,5 +71,5 @@ abbrev pub EndsTask : Task → (List ℕ → Option (List ℕ)) → Option (List
 EndsTask (tasks.Record script log) contents writes_old writes_new old new status =
     EndsRecording (contents script.now) log.now writes_old writes_new old new status
 EndsTask (tasks.List log) contents writes_old writes_new old new status = EndsShowing ListsImage (contents log.now) writes_old writes_new old new status
-EndsTask (tasks.Status log) contents writes_old writes_new old new status = EndsShowing TellsStatus (contents log.now) writes_old writes_new old new status
+EndsTask (tasks.Status log) contents writes_old writes_new old new status = EndsShowing ShowsStatus (contents log.now) writes_old writes_new old new status
 EndsTask (tasks.Show error) contents writes_old writes_new old new status = EndsText (kind_of error) writes_old writes_new old new status

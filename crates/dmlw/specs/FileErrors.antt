@@ -10,7 +10,7 @@ abbrev pub file_error : ErrorKind → FileError
 file_error kinds.OutOfMemory = Memory
 file_error _ = Unusable
 
--- the refusal that a file's error is told by
+-- the refusal that a file's error is shown by
 abbrev pub file_refusal : FileError → Refusal
 file_refusal Unusable = refusals.File
 file_refusal Memory = refusals.Memory

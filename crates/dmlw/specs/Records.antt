@@ -37,13 +37,13 @@ abbrev pub WritesLog : Option (List ℕ) → List ℕ → Option (List Write) �
 WritesLog contents name old new r =
     MatchResult r (λ _. AsksLog contents name old new) (λ fault. (new ≡ old) ⊎ (IsFileError fault × AsksLog contents name old new))
 
--- the line that tells how far a log has come
+-- the line that says how far a log has come
 abbrev pub status_line : Status → List ℕ
 status_line status = status_text status ++ codes "\n"
 
 -- The bytes are those of the log of the script that a file's bytes spell, and known bytes grew by what that script
--- prints and by the line that tells how far its log has come.
-pub record IsToldLog (contents : Option (List ℕ)) (bytes : List ℕ) (before after : Option (List ℕ)) : Type 0 where
+-- prints and by the line that says how far its log has come.
+pub record IsPrintedLog (contents : Option (List ℕ)) (bytes : List ℕ) (before after : Option (List ℕ)) : Type 0 where
   pub text : List ℕ
   pub script : Plan
   pub lines : List ℕ
@@ -52,14 +52,14 @@ pub record IsToldLog (contents : Option (List ℕ)) (bytes : List ℕ) (before a
   pub made : MakesLog script.log_sectors script.commands
   pub image : bytes ≡ log_image script.log_sectors (entries_of script.commands)
   pub run : IsPrinted script.names script.commands lines
-  pub told : Appends before after (lines ++ status_line (status_of 512 (entries_of script.commands) None))
+  pub output : Appends before after (lines ++ status_line (status_of 512 (entries_of script.commands) None))
 
--- one more write was asked for, of the file of this name, which is to hold the log of that script; and it was told
-abbrev pub TellsLog : Option (List ℕ) → List ℕ → Option (List Write) → Option (List Write) → Option (List ℕ) → Option (List ℕ) → Type 0
-TellsLog contents name old new before after =
-    (bytes : List ℕ) × IsToldLog contents bytes before after × (new ≡ one_more old name bytes)
+-- one more write was asked for, of the file of this name, which is to hold the log of that script; and what happened was printed
+abbrev pub PrintsLog : Option (List ℕ) → List ℕ → Option (List Write) → Option (List Write) → Option (List ℕ) → Option (List ℕ) → Type 0
+PrintsLog contents name old new before after =
+    (bytes : List ℕ) × IsPrintedLog contents bytes before after × (new ≡ one_more old name bytes)
 
--- the text spells no script
+-- the text is no script's
 abbrev pub IsNoScript : List ℕ → Type 0
 IsNoScript text = (script : Plan) → IsTextOf text script → ⊥
 
@@ -74,8 +74,8 @@ pub data FailsRecording (contents : Option (List ℕ)) (before after : Option (L
       → EndsRun bytes script before after fault → FailsRecording contents before after fault
 
 -- What recording a script in a log of this name comes to, from what a writer held to what it holds: where it succeeds
--- it has told what happened and how far the log has come; where it fails, why, and what happened before that.
+-- it has printed what happened and how far the log has come; where it fails, why, and what happened before that.
 abbrev pub Records : Option (List ℕ) → List ℕ → Option (List Write) → Option (List Write) → Option (List ℕ) → Option (List ℕ) → Result (Unit {0}) RunError → Type 0
-Records contents name writes_old writes_new old new (Ok done) = TellsLog contents name writes_old writes_new old new
+Records contents name writes_old writes_new old new (Ok done) = PrintsLog contents name writes_old writes_new old new
 Records contents name writes_old writes_new old new (Err fault) =
     WritesLog contents name writes_old writes_new (Err fault) × FailsRecording contents old new fault

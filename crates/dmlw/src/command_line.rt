@@ -16,7 +16,7 @@ pub enum Task<'a> {
     Record { script: &'a str, log: &'a str },
     /// To list the entries of the log in the file of this name.
     List { log: &'a str },
-    /// To tell the status of the log in the file of this name.
+    /// To print the status of the log in the file of this name.
     Status { log: &'a str },
     /// To show a text: help, the version, or why the line isn't one of the program's.
     Show(Error),

@@ -8,7 +8,7 @@ ghost use Rattle.dmlw.specs.Tasks.{IsRead};
 ghost use Rattle.dmlw.specs.declared.command_line.Task.{Task};
 ghost use Rattle.script_runner.specs.Errors.{IsFileError};
 ghost use Rattle.dmlw.specs.Exits.{exit_by, exit_of, status_of};
-ghost use Rattle.dmlw.specs.Lists.{ListsImage, TellsStatus};
+ghost use Rattle.dmlw.specs.Lists.{ListsImage, ShowsStatus};
 
 use crate::command_line::{Task, read_words};
 use crate::exit::Exit;
@@ -54,7 +54,7 @@ pub fn execute<'a, S: AsStr, F: Files, O: Write, E: Write>(
         (O.contents out.old) (O.contents out.new) result }
     ensures status { (program log : List ℕ) →
         map S.text words.entry.now ≡ log_words program (codes "status") log → is_positional log ≡ true →
-        EndsShowing TellsStatus (F.contents files.old log) (F.writes files.old) (F.writes files.new)
+        EndsShowing ShowsStatus (F.contents files.old log) (F.writes files.old) (F.writes files.new)
         (O.contents out.old) (O.contents out.new) result }
 {
     let exit = match read_words(alloc, words) {
@@ -67,15 +67,15 @@ pub fn execute<'a, S: AsStr, F: Files, O: Write, E: Write>(
             end(listed, out, err)
         }
         Task::Status { log } => {
-            let told = status(alloc, log, files, out);
-            end(told, out, err)
+            let done = status(alloc, log, files, out);
+            end(done, out, err)
         }
         Task::Show(text) => show(text, out, err),
     };
     exit.status()
 }
 
-/// Tells why a command line can't be read, and answers the exit status: 2 where a word isn't UTF-8
+/// Says why a command line can't be read, and answers the exit status: 2 where a word isn't UTF-8
 /// text, else 1.
 pub fn refuse<E: Write>(error: io::Error, err: &mut E) -> u8
     ensures { result ≡ status_of (unread_exit (error_kind error)) }
@@ -85,12 +85,12 @@ pub fn refuse<E: Write>(error: io::Error, err: &mut E) -> u8
             let _ = writeln!(err, "error: a word of the command line isn't UTF-8 text");
             Exit::Usage
         }
-        _ => tell(RunError::from(error), err),
+        _ => report(RunError::from(error), err),
     };
     exit.status()
 }
 
-// How a command ends that did this. A fault is told, behind what was printed before it.
+// How a command ends that did this. A fault is reported, after what was printed before it.
 fn end<O: Write, E: Write>(done: Result<(), RunError>, out: &mut O, err: &mut E) -> Exit
     ensures exit { result ≡ exit_by done }
     ensures kept { Keeps (O.contents out.old) (O.contents out.new) }
@@ -99,13 +99,13 @@ fn end<O: Write, E: Write>(done: Result<(), RunError>, out: &mut O, err: &mut E)
         Ok(()) => Exit::Done,
         Err(fault) => {
             let _ = out.flush();
-            tell(fault, err)
+            report(fault, err)
         }
     }
 }
 
-// Tells a fault. Where that fails too nobody is left to be told.
-fn tell<E: Write>(fault: RunError, err: &mut E) -> Exit
+// Reports a fault. Where that fails too nobody is left to hear of it.
+fn report<E: Write>(fault: RunError, err: &mut E) -> Exit
     ensures { result ≡ exit_of fault }
 {
     let _ = writeln!(err, "dmlw: {fault}");
@@ -119,7 +119,7 @@ fn show<O: Write, E: Write>(text: Error, out: &mut O, err: &mut E) -> Exit
     ensures silent { is_asked_for (kind_of text) ≡ false → Keeps (O.contents out.old) (O.contents out.new) }
 {
     match text.kind() {
-        ErrorKind::OutOfMemory => tell(RunError::from(Refusal::Memory), err),
+        ErrorKind::OutOfMemory => report(RunError::from(Refusal::Memory), err),
         ErrorKind::DisplayHelp | ErrorKind::DisplayVersion => end(print(&text, out), out, err),
         _ => {
             let _ = print(&text, err);

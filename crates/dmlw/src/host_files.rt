@@ -24,7 +24,7 @@ impl<R: std::rt::Files> Files for HostFiles<'_, R> {
 
     fn read(&mut self, alloc: Global, name: &str, limit: u64) -> Result<Vec<u8>, FileError> {
         let mut bytes = Vec::new(alloc);
-        // One byte more than the limit tells a file that is too long.
+        // One byte more than the limit says a file that is too long.
         fs::open(self.runtime, name)?
             .take(limit.saturating_add(1))
             .read_to_end(&mut bytes)?;

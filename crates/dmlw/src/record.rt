@@ -1,5 +1,5 @@
 ghost use Rattle.std.specs.Prelude.{◌≡◌, IfErr, IfOk, OnOk};
-ghost use Rattle.dmlw.specs.Records.{FailsRecording, IsScriptLog, IsToldLog, TellsLog, WritesLog};
+ghost use Rattle.dmlw.specs.Records.{FailsRecording, IsScriptLog, IsPrintedLog, PrintsLog, WritesLog};
 
 use crate::files::Files;
 use dmlw_script::{Kind, read_script};
@@ -20,7 +20,7 @@ pub fn record<F: Files, O: Write>(
     out: &mut O,
 ) -> Result<(), RunError>
     ensures log { WritesLog (F.contents files.old script.now) log.now (F.writes files.old) (F.writes files.new) result }
-    ensures printed { OnOk result (TellsLog (F.contents files.old script.now) log.now
+    ensures printed { OnOk result (PrintsLog (F.contents files.old script.now) log.now
         (F.writes files.old) (F.writes files.new) (O.contents out.old) (O.contents out.new)) }
     ensures faults { IfErr result
         (FailsRecording (F.contents files.old script.now) (O.contents out.old) (O.contents out.new)) }
@@ -38,7 +38,7 @@ fn run_file<F: Files, O: Write>(
     out: &mut O,
 ) -> Result<Filled, RunError>
     ensures log { IfOk result (λ filled. IsScriptLog (F.contents files.old script.now) filled.image.items) }
-    ensures printed { IfOk result (λ filled. IsToldLog (F.contents files.old script.now) filled.image.items
+    ensures printed { IfOk result (λ filled. IsPrintedLog (F.contents files.old script.now) filled.image.items
         (O.contents out.old) (O.contents out.new)) }
     ensures faults { IfErr result
         (FailsRecording (F.contents files.old script.now) (O.contents out.old) (O.contents out.new)) }

@@ -1,5 +1,5 @@
 ghost use Rattle.std.specs.Prelude.{◌≡◌};
-ghost use Rattle.dmlw.specs.Lists.{ShowsFile, TellsStatus};
+ghost use Rattle.dmlw.specs.Lists.{ShowsFile, ShowsStatus};
 
 use crate::files::Files;
 use crate::image::read_image;
@@ -16,17 +16,17 @@ pub fn status<F: Files, O: Write>(
     files: &mut F,
     out: &mut O,
 ) -> Result<(), RunError>
-    ensures shown { ShowsFile TellsStatus (F.contents files.old log.now)
+    ensures shown { ShowsFile ShowsStatus (F.contents files.old log.now)
         (O.contents out.old) (O.contents out.new) result }
     ensures unwritten { F.writes files.new ≡ F.writes files.old }
 {
     let image = read_image(alloc, log, files)?;
-    tell_status(&image, out)
+    print_status(&image, out)
 }
 
 // Prints the status of the log that an image holds.
-fn tell_status<O: Write>(image: &[u8], out: &mut O) -> Result<(), RunError>
-    ensures { TellsStatus image.now (O.contents out.old) (O.contents out.new) result }
+fn print_status<O: Write>(image: &[u8], out: &mut O) -> Result<(), RunError>
+    ensures { ShowsStatus image.now (O.contents out.old) (O.contents out.new) result }
 {
     let status = log_reader::status(image).map_err(Refusal::from)?;
     writeln!(out, "{status}")?;

@@ -390,8 +390,8 @@ fn refuses_unreadable_words(rt: HostRuntime) {
     assert_eq!(rt; refuse(error, &mut err), 2);
     let error = io::Error::from(io::ErrorKind::OutOfMemory);
     assert_eq!(rt; refuse(error, &mut err), 1);
-    let told = "error: a word of the command line isn't UTF-8 text\ndmlw: 2 Memory\n";
-    assert!(rt; err.as_slice() == told.as_bytes());
+    let output = "error: a word of the command line isn't UTF-8 text\ndmlw: 2 Memory\n";
+    assert!(rt; err.as_slice() == output.as_bytes());
 }
 
 // Where an allocation is refused (`rt try --test --fail-alloc N`) that is what is told, in place of an

@@ -18,7 +18,7 @@ use Rattle.dmlw_script.specs.declared.command.Command.{Command}
 use Rattle.dmlw_script.specs.declared.command.Command.TheVariants as commands
 use Rattle.dmlw_script.specs.declared.script_id.ScriptId.{ScriptId}
 use Rattle.dmlw_script.specs.declared.line.Line.{Line}
-use Rattle.dmlw_script.specs.declared.line.Line.TheVariants as sentences
+use Rattle.dmlw_script.specs.declared.line.Line.TheVariants as parsed_lines
 use Rattle.dmlw_script.specs.inside.Drafts.{◌>>=◌, body_step, ended_next, named_next, sectors_answer, as_refusal, with_command, with_name, Body}
 use Rattle.dmlw_script.specs.Ids.{script_id, same_name}
 use Rattle.dmlw_script.specs.Plans.{count_after_command, lines_of_body, is_ended, is_submission, name_at, request_of, line_at, submissions, IsName, IsWellFormed, CanFollow}
@@ -26,7 +26,7 @@ use Rattle.dmlw_script.proofs.DraftLemmas.{listed, with_new_name}
 
 -- ---- names
 
--- the test of two names tells whether they are one
+-- the test of two names says whether they are one
 pub same_name_is : (a b : ScriptId) → same_name a b ≡ true → a ≡ b
 same_name_is a b e = let name = λ (letters : List ℕ). let n : ScriptId = record { letters = letters } in n in ap name ((bytes_eq-Decides a.letters b.letters).0 e)
 
@@ -72,7 +72,7 @@ name_of_request name names request d e =
     let here : same_name name (get_or names request d) ≡ true = subst (λ (x : ℕ). same_name name (get_or names x d) ≡ true) p.1 (passes_at_first (same_name name) names d inside) in
     (omega (arith, p.1), sym (same_name_is name (get_or names request d) here))
 
--- a name behind others is none of them, where no two names are one
+-- a name after others is none of them, where no two names are one
 pub new_name : (before_byte rest : List ScriptId) (name : ScriptId) → IsDistinct same_name (before_byte ++ name ∷ rest) → list_any (same_name name) before_byte ≡ false
 new_name before_byte rest name distinct =
     list_any_none (same_name name) before_byte (λ k d inside.
@@ -94,18 +94,18 @@ pub record IsSound (sectors : ℕ) (b : Body) : Type 0 where
 
 -- what a sentence says may stand in a script, as far as that is known of the sentence alone
 abbrev pub IsFine : Line → Type 0
-IsFine (sentences.Write name first count byte) = IsName name × (byte < 256)
-IsFine (sentences.Flush name) = IsName name
-IsFine (sentences.Complete name) = Unit {0}
-IsFine (sentences.Data sectors) = Unit {0}
-IsFine (sentences.Log sectors) = Unit {0}
-IsFine sentences.Close = Unit {0}
+IsFine (parsed_lines.Write name first count byte) = IsName name × (byte < 256)
+IsFine (parsed_lines.Flush name) = IsName name
+IsFine (parsed_lines.Complete name) = Unit {0}
+IsFine (parsed_lines.Data sectors) = Unit {0}
+IsFine (parsed_lines.Log sectors) = Unit {0}
+IsFine parsed_lines.Close = Unit {0}
 
 -- the requests that one command submits
 abbrev pub submits : Command → ℕ
 submits command = cond (is_submission command) 1 0
 
--- one more command behind others
+-- one more command after others
 pub submissions-push : (body : List Command) (command : Command) → submissions (body ++ command ∷ []) ≡ submissions body + submits command
 submissions-push body command = sum_by-append submits body (command ∷ []) ∙ ap (λ n. submissions body + n) (omega arith)
 
@@ -143,7 +143,7 @@ pub record Grows (b c : Body) (s : Line) : Type 0 where
   pub says : (rest : List ScriptId) → line_at (c.names ++ rest) (length b.names) command ≡ s
   pub counts : count_after_command (length b.names) command ≡ length c.names
 
--- the name behind others, whatever follows it
+-- the name after others, whatever follows it
 name_behind : (names rest : List ScriptId) (name : ScriptId) → name_at ((names ++ name ∷ []) ++ rest) (length names) ≡ name
 name_behind names rest name = ap (λ x. name_at x (length names)) (append_assoc names (name ∷ []) rest) ∙ get_or-append_seam names name rest (script_id [])
 
@@ -225,38 +225,38 @@ ended_ok true b c command e = absurd (cc)
 ended_ok false b c command e = (refl, cc)
 
 -- an end
-end_grows : (sectors : ℕ) (b c : Body) (name : ScriptId) (o : Option ℕ) → request_of name b.names ≡ o → ended_next o b ≡ Ok c → IsSound sectors b → IsSound sectors c × Grows b c (sentences.Complete name)
+end_grows : (sectors : ℕ) (b c : Body) (name : ScriptId) (o : Option ℕ) → request_of name b.names ≡ o → ended_next o b ≡ Ok c → IsSound sectors b → IsSound sectors c × Grows b c (parsed_lines.Complete name)
 end_grows sectors b c name None is e sound = absurd (cc)
 end_grows sectors b c name (Some request) is e sound =
     let p = name_of_request name b.names request (script_id []) is in
     let q = ended_ok (is_ended request b.body) b c (commands.Complete request) e in
-    other_grows sectors b (commands.Complete request) (sentences.Complete name) (omega (arith, p.0, sound.numbered), q.0) refl
-    (λ rest. ap (λ (n : ScriptId). sentences.Complete n) (get_or_append_left b.names rest (script_id []) request p.0 ∙ p.1)) sound c q.1
+    other_grows sectors b (commands.Complete request) (parsed_lines.Complete name) (omega (arith, p.0, sound.numbered), q.0) refl
+    (λ rest. ap (λ (n : ScriptId). parsed_lines.Complete n) (get_or_append_left b.names rest (script_id []) request p.0 ∙ p.1)) sound c q.1
 
 -- one more line keeps a body sound, and adds a line that says this
 pub step_grows : (sectors : ℕ) (b c : Body) (s : Line) → body_step sectors b s ≡ Ok c → IsFine s → IsSound sectors b → IsSound sectors c × Grows b c s
-step_grows sectors b c (sentences.Write name first count byte) e fine sound =
+step_grows sectors b c (parsed_lines.Write name first count byte) e fine sound =
     let p = bind_ok (with_name b name) _ c e in
     let q = bind_ok (sectors_answer first count sectors) _ c p.2 in
     let n = named_ok (request_of name b.names) b p.0 name p.1 in
-    submit_grows sectors b name (commands.Write first count byte) (sentences.Write name first count byte) n.0 fine.0
+    submit_grows sectors b name (commands.Write first count byte) (parsed_lines.Write name first count byte) n.0 fine.0
     (told_ok (range_answer first count sectors) q.0 q.1, fine.1) refl
-    (λ ns same. ap (λ (x : ScriptId). sentences.Write x first count byte) same) sound c
+    (λ ns same. ap (λ (x : ScriptId). parsed_lines.Write x first count byte) same) sound c
     (ap (λ (x : Body). with_command x (commands.Write first count byte)) n.1 ∙ (let last = q.2 in cc))
-step_grows sectors b c (sentences.Flush name) e fine sound =
+step_grows sectors b c (parsed_lines.Flush name) e fine sound =
     let p = bind_ok (with_name b name) _ c e in
     let n = named_ok (request_of name b.names) b p.0 name p.1 in
-    submit_grows sectors b name commands.Flush (sentences.Flush name) n.0 fine tt refl
-    (λ ns same. ap (λ (x : ScriptId). sentences.Flush x) same) sound c
+    submit_grows sectors b name commands.Flush (parsed_lines.Flush name) n.0 fine tt refl
+    (λ ns same. ap (λ (x : ScriptId). parsed_lines.Flush x) same) sound c
     (ap (λ (x : Body). with_command x commands.Flush) n.1 ∙ (let last = p.2 in cc))
-step_grows sectors b c (sentences.Complete name) e fine sound = end_grows sectors b c name (request_of name b.names) refl e sound
-step_grows sectors b c sentences.Close e fine sound = other_grows sectors b commands.Close sentences.Close tt refl (λ rest. refl) sound c (cc)
-step_grows sectors b c (sentences.Data n) e fine sound = absurd (cc)
-step_grows sectors b c (sentences.Log n) e fine sound = absurd (cc)
+step_grows sectors b c (parsed_lines.Complete name) e fine sound = end_grows sectors b c name (request_of name b.names) refl e sound
+step_grows sectors b c parsed_lines.Close e fine sound = other_grows sectors b commands.Close parsed_lines.Close tt refl (λ rest. refl) sound c (cc)
+step_grows sectors b c (parsed_lines.Data n) e fine sound = absurd (cc)
+step_grows sectors b c (parsed_lines.Log n) e fine sound = absurd (cc)
 
 -- ---- runs
 
--- the body behind the lines that say this
+-- the body after the lines that say this
 abbrev pub run_body : ℕ → Body → List Line → Result Body Refusal
 run_body sectors b [] = Ok b
 run_body sectors b (s ∷ ss) = body_step sectors b s >>= λ c. run_body sectors c ss
@@ -320,7 +320,7 @@ with_name_again before_byte more names name before whole distinct =
     with_new_name (record { names = before_byte; body = before }) name
     (new_name before_byte more name (subst (λ (x : List ScriptId). IsDistinct same_name x) whole distinct))
 
--- one line of a body, and the lines behind it
+-- one line of a body, and the lines after it
 again_step : (sectors : ℕ) (names before_byte next : List ScriptId) (before body : List Command) (command : Command) →
     body_step sectors (record { names = before_byte; body = before }) (line_at names (length before_byte) command) ≡ Ok (record { names = next; body = before ++ command ∷ [] }) →
     count_after_command (length before_byte) command ≡ length next →
@@ -383,7 +383,7 @@ end_again sectors names before_byte rest before request whole distinct inside go
     ap (λ x. request_of x before_byte) here ∙ request_of_name before_byte request (script_id []) (front_distinct before_byte rest (subst (λ (x : List ScriptId). IsDistinct same_name x) whole distinct)) inside in
     ap (λ o. ended_next o b) place ∙ cond-false _ _ _ going
 
--- the lines of a body give it again: those behind its beginning lead from there to all of it
+-- the lines of a body give it again: those after its beginning lead from there to all of it
 pub run_again : (sectors : ℕ) (names before_byte rest : List ScriptId) (before body : List Command) → names ≡ before_byte ++ rest → IsDistinct same_name names →
     length before_byte ≡ submissions before → length rest ≡ submissions body → IsWellFormed sectors before body →
     run_body sectors (record { names = before_byte; body = before }) (lines_of_body names (length before_byte) body) ≡ Ok (record { names = names; body = before ++ body })

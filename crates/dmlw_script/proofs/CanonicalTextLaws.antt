@@ -44,7 +44,7 @@ zeros_step : (t : Bool) (b : ℕ) (word f : List ℕ) → not t ≡ true → f �
 zeros_step true b word f apart same = absurd (cc)
 zeros_step false b word f apart same = ap (λ x. b ∷ x) same
 
--- zeroes behind a word without one leave it in front
+-- zeroes after a word without one leave it in front
 front_zeros : (word : List ℕ) (n : ℕ) → lacks 0 word ≡ true → before_byte 0 (word ++ replicate n 0) ≡ word
 front_zeros [] zero lack = refl
 front_zeros [] (suc n) lack = refl
@@ -263,7 +263,7 @@ says_lines : (ss : List Line) → AllByRecursion IsWritten ss → AllZip ParsesA
 says_lines [] written = tt
 says_lines (s ∷ ss) written = (written.0.says, says_lines ss written.1)
 
--- the spelling of a script spells it
+-- the spelling of a script is a text of it
 pub spelling_spells : (plan : Plan) → IsPlan plan → IsTextOf (canonical_text plan) plan
 spelling_spells plan is =
     let ss = lines_of_script plan in
@@ -282,7 +282,7 @@ alone_step : (t : Bool) (b : ℕ) → not t ≡ true → cond t ([] ∷ []) (ont
 alone_step true b apart = absurd (cc)
 alone_step false b apart = refl
 
--- a line with no line feed behind it
+-- a line with no line feed after it
 fed_last : (line : List ℕ) → IsUnbroken line → line ≢ [] → lines_of line ≡ line ∷ []
 fed_last [] whole some = absurd (some refl)
 fed_last (b ∷ []) whole some =
@@ -292,7 +292,7 @@ fed_last (b ∷ c ∷ line) whole some =
     let parts : (not (b == 10) ≡ true) × IsUnbroken (c ∷ line) = and_parts _ _ whole in
     feed_step (b == 10) b (c ∷ line) [] _ parts.0 (fed_last (c ∷ line) parts.1 (λ none. absurd (cc)))
 
--- lines with a line feed behind each
+-- lines with a line feed after each
 pub ended_lines : (lines : List (List ℕ)) → AllByRecursion IsUnbroken lines → lines_of (with_line_feeds lines) ≡ lines
 ended_lines [] whole = refl
 ended_lines (line ∷ lines) whole =

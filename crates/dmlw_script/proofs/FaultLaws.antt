@@ -20,17 +20,17 @@ use Rattle.dmlw_script.specs.Grammar.{ParsesAs, AreLinesOf}
 use Rattle.dmlw_script.specs.Lines.{is_ascii_line, is_skipped, unskipped}
 use Rattle.dmlw_script.specs.Ids.{same_name}
 use Rattle.dmlw_script.specs.Plans.{is_disk_size, is_ended, request_of, Plan}
-use Rattle.dmlw_script.specs.inside.Readers.{and_then, at_line, data_size, finish_step, finished, heard, line_step, log_size, nothing, read_lines, sentence_step, with_body, with_data, with_log, Progress}
+use Rattle.dmlw_script.specs.inside.Readers.{and_then, at_line, data_size, finish_step, finished, step_if_parsed, line_step, log_size, nothing, read_lines, parsed_step, with_body, with_data, with_log, Progress}
 use Rattle.dmlw_script.specs.Reading.{is_open, bad_id, bad_line, bad_request, BeginsScript, FaultAfter, IsFirstFault, IsLineAfter, IsLineFault, StandsAfter}
 use Rattle.dmlw_script.specs.inside.Parsing.{parse_line}
 use Rattle.dmlw_script.proofs.BodyLaws.{unlisted, run_body}
 use Rattle.dmlw_script.proofs.DraftLemmas.{listed}
 use Rattle.dmlw_script.proofs.ReadingLaws.{body_run, go, go_heard, lines_go, lines_spell, no_body, plain_step, plan_of, run, said_step, skipped_step, spelled_lines, with_body_ok, with_head, GoneBy}
-use Rattle.dmlw_script.proofs.ParsingLaws.{sentence_again, sentence_read}
+use Rattle.dmlw_script.proofs.ParsingLaws.{parsed_again, parsed_read}
 
 -- ---- where reading ends
 
--- what reading ends at, behind lines that lead to p
+-- what reading ends at, after lines that lead to p
 abbrev pub EndsAt : Kind → Progress → List (List ℕ) → Refusal → Type 0
 EndsAt kind p [] refusal = finish_step kind p ≡ Err refusal
 EndsAt kind p (line ∷ more) refusal = line_step kind p line ≡ Err refusal
@@ -52,7 +52,7 @@ at_line_err number (Err refusal) fault e =
     let same : record { line = Some number; refusal = refusal } ≡ fault = cc in
     (sym (ap (λ (f : Fault). f.line) same), ap (λ (f : Fault). Err f.refusal) same)
 
--- a fault behind a line that was read
+-- a fault after a line that was read
 fault_later : (kind : Kind) (p q : Progress) (number : ℕ) (line : List ℕ) (lines : List (List ℕ)) (fault : Fault) → line_step kind p line ≡ Ok q → Faulted kind q (number + 1) lines fault → Faulted kind p number (line ∷ lines) fault
 fault_later kind p q number line lines fault step f = record {
   before = line ∷ f.before;
@@ -64,7 +64,7 @@ fault_later kind p q number line lines fault step f = record {
   ends = f.ends;
 }
 
--- a fault at a line, or behind it
+-- a fault at a line, or after it
 fault_here : (kind : Kind) (p : Progress) (number : ℕ) (line : List ℕ) (lines : List (List ℕ)) (fault : Fault) (r : Result Progress Refusal) → line_step kind p line ≡ r →
     and_then (at_line number r) (λ q. read_lines kind q (number + 1) lines) ≡ Err fault →
     ((q : Progress) → read_lines kind q (number + 1) lines ≡ Err fault → Faulted kind q (number + 1) lines fault) → Faulted kind p number (line ∷ lines) fault
@@ -117,7 +117,7 @@ refused_ends before q line refusal gone step b =
     ∙ ap (λ r. and_then (at_line (1 + length before) r) (λ x. read_lines kinds.Record x (1 + length before + 1) b.more)) step in
     cc
 
--- lines behind which the text can't end are no script
+-- lines after which the text can't end are no script
 pub unfinished : (before : List (List ℕ)) (q : Progress) (refusal : Refusal) → go kinds.Record nothing before ≡ Ok q → finish_step kinds.Record q ≡ Err refusal → (plan : Plan) → AreLinesOf before plan → ⊥
 unfinished before q refusal gone finish plan spells =
     let read = sym (spelled_lines before 1 plan spells) ∙ ap (λ x. read_lines kinds.Record nothing 1 x) (sym (append-nil before)) ∙ lines_go kinds.Record nothing q 1 before [] gone
@@ -138,7 +138,7 @@ Reached [] q = q ≡ nothing
 Reached (t ∷ []) q = (d : ℕ) × (q ≡ record { data_sectors = Some d; log_sectors = None; body = no_body })
 Reached (t ∷ u ∷ ss) q = (d : ℕ) × (l : ℕ) × (b : Body) × (q ≡ with_head d l b) × (run_body d no_body ss ≡ Ok b)
 
--- where lines behind the head lead to
+-- where lines after the head lead to
 reached_body : (d : ℕ) (t u : Line) (ss : List Line) (q : Progress) (o : Option ℕ) →
     (with_log (record { data_sectors = Some d; log_sectors = None; body = no_body }) o >>= λ p. run kinds.Record p ss) ≡ Ok q → Reached (t ∷ u ∷ ss) q
 reached_body d t u ss q None e = absurd (cc)
@@ -146,7 +146,7 @@ reached_body d t u ss q (Some l) e =
     let h = with_body_ok (with_head d l no_body) q (run_body d no_body ss) (sym (body_run d l no_body ss) ∙ e) in
     (d, l, h.0, sym h.2, h.1)
 
--- where lines behind the first lead to
+-- where lines after the first lead to
 reached_head : (t : Line) (ss : List Line) (q : Progress) (o : Option ℕ) → (with_data nothing o >>= λ p. run kinds.Record p ss) ≡ Ok q → Reached (t ∷ ss) q
 reached_head t ss q None e = absurd (cc)
 reached_head t [] q (Some d) e = (d, cc)
@@ -165,13 +165,13 @@ as_many (line ∷ lines) [] says = absurd says
 as_many (line ∷ lines) (s ∷ ss) says = ap suc (as_many lines ss says.1)
 
 -- a line says one thing
-one_sentence : (line : List ℕ) (s t : Line) → parse_line line ≡ Some s → ParsesAs line t → s ≡ t
-one_sentence line s t is says = let again = sym is ∙ sentence_again line t says in cc
+one_parsed : (line : List ℕ) (s t : Line) → parse_line line ≡ Some s → ParsesAs line t → s ≡ t
+one_parsed line s t is says = let again = sym is ∙ parsed_again line t says in cc
 
 -- a line of the grammar that says something else isn't there
-only_sentence : (before : List (List ℕ)) (line : List ℕ) (s : Line) (n : ℕ) → parse_line line ≡ Some s → length (unskipped before) ≡ n → (StandsAfter n s → ⊥) → (t : Line) → IsLineAfter before line t → ⊥
-only_sentence before line s n is many never t b =
-    never (subst (λ (x : Line). StandsAfter n x) (sym (one_sentence line s t is b.says)) (subst (λ (k : ℕ). StandsAfter k t) many b.stands))
+only_parsed : (before : List (List ℕ)) (line : List ℕ) (s : Line) (n : ℕ) → parse_line line ≡ Some s → length (unskipped before) ≡ n → (StandsAfter n s → ⊥) → (t : Line) → IsLineAfter before line t → ⊥
+only_parsed before line s n is many never t b =
+    never (subst (λ (x : Line). StandsAfter n x) (sym (one_parsed line s t is b.says)) (subst (λ (k : ℕ). StandsAfter k t) many b.stands))
 
 -- what has no size of a data disk doesn't stand first
 no_data : (s : Line) → data_size s ≡ None → StandsAfter zero s → ⊥
@@ -206,18 +206,18 @@ with_body_err : (p : Progress) (r : Result Body Refusal) (refusal : Refusal) →
 with_body_err p (Ok b) refusal e = absurd (cc)
 with_body_err p (Err x) refusal e = cc
 
--- a line of the grammar behind a head, where the lines before it are a script
+-- a line of the grammar after a head, where the lines before it are a script
 record InBody (before : List (List ℕ)) (line : List ℕ) (s : Line) (d l : ℕ) (b : Body) : Type 0 where
   many : (n : ℕ) × (length (unskipped before) ≡ suc (suc n))
   plain : is_ascii_line line ≡ true
   is : parse_line line ≡ Some s
   spells : AreLinesOf before (plan_of d l b)
 
--- a body's line stands behind the head
+-- a body's line stands after the head
 behind_body : (before : List (List ℕ)) (line : List ℕ) (s : Line) (d l : ℕ) (b : Body) → InBody before line s d l b → ((n : ℕ) → StandsAfter (suc (suc n)) s) → IsLineAfter before line s
 behind_body before line s d l b i stands = record {
   plain = i.plain;
-  says = sentence_read line s i.is;
+  says = parsed_read line s i.is;
   stands = subst (λ (k : ℕ). StandsAfter k s) (sym i.many.1) (stands i.many.0);
 }
 
@@ -287,44 +287,44 @@ body_fault before line (Complete name) d l b refusal e i = end_fault before line
 body_fault before line Close d l b refusal e i = absurd (cc)
 body_fault before line (Data n) d l b refusal e i =
     let same : BadLine ≡ refusal = cc in
-    subst (λ (x : Refusal). IsLineFault before line x) same (bad_line (only_sentence before line (Data n) (suc (suc i.many.0)) i.is i.many.1 (λ stands. stands)))
+    subst (λ (x : Refusal). IsLineFault before line x) same (bad_line (only_parsed before line (Data n) (suc (suc i.many.0)) i.is i.many.1 (λ stands. stands)))
 body_fault before line (Log n) d l b refusal e i =
     let same : BadLine ≡ refusal = cc in
-    subst (λ (x : Refusal). IsLineFault before line x) same (bad_line (only_sentence before line (Log n) (suc (suc i.many.0)) i.is i.many.1 (λ stands. stands)))
+    subst (λ (x : Refusal). IsLineFault before line x) same (bad_line (only_parsed before line (Log n) (suc (suc i.many.0)) i.is i.many.1 (λ stands. stands)))
 
--- lines behind which a text may end
+-- lines after which a text may end
 gone_spells : (before : List (List ℕ)) (d l : ℕ) (b : Body) → go kinds.Record nothing before ≡ Ok (with_head d l b) → AreLinesOf before (plan_of d l b)
 gone_spells before d l b gone =
     lines_spell before 1 (plan_of d l b)
     (ap (λ x. read_lines kinds.Record nothing 1 x) (sym (append-nil before)) ∙ lines_go kinds.Record nothing (with_head d l b) 1 before [] gone)
 
 -- why a line that says this is refused
-sentence_fault : (before : List (List ℕ)) (q : Progress) (line : List ℕ) (s : Line) (refusal : Refusal) (ss : List Line) → go kinds.Record nothing before ≡ Ok q → is_ascii_line line ≡ true →
-    parse_line line ≡ Some s → Reached ss q → length (unskipped before) ≡ length ss → sentence_step kinds.Record q.data_sectors q.log_sectors q s ≡ Err refusal → IsLineFault before line refusal
-sentence_fault before q line s refusal [] gone plain is there many e =
-    let h = with_data_err nothing (data_size s) refusal (subst (λ (x : Progress). sentence_step kinds.Record x.data_sectors x.log_sectors x s ≡ Err refusal) there e) in
-    subst (λ (x : Refusal). IsLineFault before line x) h.1 (bad_line (only_sentence before line s zero is many (no_data s h.0)))
-sentence_fault before q line s refusal (t ∷ []) gone plain is there many e =
-    let h = with_log_err (record { data_sectors = Some there.0; log_sectors = None; body = no_body }) (log_size s) refusal (subst (λ (x : Progress). sentence_step kinds.Record x.data_sectors x.log_sectors x s ≡ Err refusal) there.1 e) in
-    subst (λ (x : Refusal). IsLineFault before line x) h.1 (bad_line (only_sentence before line s (suc zero) is many (no_log s h.0)))
-sentence_fault before q line s refusal (t ∷ u ∷ ss) gone plain is there many e =
+parsed_fault : (before : List (List ℕ)) (q : Progress) (line : List ℕ) (s : Line) (refusal : Refusal) (ss : List Line) → go kinds.Record nothing before ≡ Ok q → is_ascii_line line ≡ true →
+    parse_line line ≡ Some s → Reached ss q → length (unskipped before) ≡ length ss → parsed_step kinds.Record q.data_sectors q.log_sectors q s ≡ Err refusal → IsLineFault before line refusal
+parsed_fault before q line s refusal [] gone plain is there many e =
+    let h = with_data_err nothing (data_size s) refusal (subst (λ (x : Progress). parsed_step kinds.Record x.data_sectors x.log_sectors x s ≡ Err refusal) there e) in
+    subst (λ (x : Refusal). IsLineFault before line x) h.1 (bad_line (only_parsed before line s zero is many (no_data s h.0)))
+parsed_fault before q line s refusal (t ∷ []) gone plain is there many e =
+    let h = with_log_err (record { data_sectors = Some there.0; log_sectors = None; body = no_body }) (log_size s) refusal (subst (λ (x : Progress). parsed_step kinds.Record x.data_sectors x.log_sectors x s ≡ Err refusal) there.1 e) in
+    subst (λ (x : Refusal). IsLineFault before line x) h.1 (bad_line (only_parsed before line s (suc zero) is many (no_log s h.0)))
+parsed_fault before q line s refusal (t ∷ u ∷ ss) gone plain is there many e =
     let d = there.0 in
     let l = there.1 in
     let b = there.2 in
-    let step = with_body_err (with_head d l b) (body_step d b s) refusal (subst (λ (x : Progress). sentence_step kinds.Record x.data_sectors x.log_sectors x s ≡ Err refusal) there.3 e) in
+    let step = with_body_err (with_head d l b) (body_step d b s) refusal (subst (λ (x : Progress). parsed_step kinds.Record x.data_sectors x.log_sectors x s ≡ Err refusal) there.3 e) in
     body_fault before line s d l b refusal step
     (record { many = (length ss, many); plain = plain; is = is; spells = gone_spells before d l b (gone ∙ ap Ok there.3) })
 
 -- why a line that isn't skipped is refused
 heard_fault : (before : List (List ℕ)) (q : Progress) (line : List ℕ) (refusal : Refusal) (g : GoneBy kinds.Record nothing q before) (o : Option Line) → go kinds.Record nothing before ≡ Ok q → is_ascii_line line ≡ true →
-    parse_line line ≡ o → heard kinds.Record q o ≡ Err refusal → IsLineFault before line refusal
+    parse_line line ≡ o → step_if_parsed kinds.Record q o ≡ Err refusal → IsLineFault before line refusal
 heard_fault before q line refusal g None gone plain is e =
     let same : BadLine ≡ refusal = cc in
-    subst (λ (x : Refusal). IsLineFault before line x) same (bad_line (λ s b. let again = sym is ∙ sentence_again line s b.says in cc))
+    subst (λ (x : Refusal). IsLineFault before line x) same (bad_line (λ s b. let again = sym is ∙ parsed_again line s b.says in cc))
 heard_fault before q line refusal g (Some s) gone plain is e =
-    sentence_fault before q line s refusal g.ss gone plain is (reached g.ss q g.leads) (as_many (unskipped before) g.ss g.heard.says) e
+    parsed_fault before q line s refusal g.ss gone plain is (reached g.ss q g.leads) (as_many (unskipped before) g.ss g.step_if_parsed.says) e
 
--- why a line is refused behind lines that lead somewhere
+-- why a line is refused after lines that lead somewhere
 pub line_fault : (before : List (List ℕ)) (q : Progress) (line : List ℕ) (refusal : Refusal) → go kinds.Record nothing before ≡ Ok q → line_step kinds.Record q line ≡ Err refusal → IsLineFault before line refusal
 line_fault before q line refusal gone e =
     ⊎_elim
@@ -344,7 +344,7 @@ fault_behind : (before more : List (List ℕ)) (q : Progress) (refusal : Refusal
 fault_behind before [] q refusal gone ends = (unfinished_is q.data_sectors q.log_sectors q.body refusal ends, unfinished before q refusal gone ends)
 fault_behind before (line ∷ more) q refusal gone ends = (refused_ends before q line refusal gone ends, line_fault before q line refusal gone ends)
 
--- a fault is told with the first line that is at fault
+-- a fault is reported with the first line that is at fault
 pub first_fault : (lines : List (List ℕ)) (fault : Fault) (number : ℕ) → fault.line ≡ Some number → read_lines kinds.Record nothing 1 lines ≡ Err fault → IsFirstFault lines number fault.refusal
 first_fault lines fault number is e =
     let f = faulted kinds.Record nothing 1 lines fault e in

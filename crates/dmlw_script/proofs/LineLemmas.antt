@@ -4,7 +4,7 @@ use Rattle.std.specs.List.{onto_first}
 use Rattle.dmlw_script.specs.Words.{before_byte, after_byte}
 use Rattle.dmlw_script.specs.Lines.{is_skipped, unskipped_numbers, lines_of}
 
--- the text behind the first line
+-- the text after the first line
 abbrev pub after_line : List ℕ → List ℕ
 after_line text = unwrap_or (after_byte 10 text) []
 
@@ -29,7 +29,7 @@ shorter_step : (t : Bool) (b : ℕ) (bytes : List ℕ) (after : Option (List ℕ
 shorter_step true b bytes after low = omega arith
 shorter_step false b bytes after low = omega arith
 
--- the text behind the first line is no longer
+-- the text after the first line is no longer
 pub after_line_short : (text : List ℕ) → length (after_line text) ≤ length text
 after_line_short [] = omega arith
 after_line_short (b ∷ bytes) = let h = shorter_step (b == 10) b bytes (after_byte 10 bytes) (after_line_short bytes) in omega arith
@@ -38,7 +38,7 @@ after_line_short (b ∷ bytes) = let h = shorter_step (b == 10) b bytes (after_b
 pub after_line_shorter : (b : ℕ) (bytes : List ℕ) → length (after_line (b ∷ bytes)) < length (b ∷ bytes)
 after_line_shorter b bytes = shorter_step (b == 10) b bytes (after_byte 10 bytes) (after_line_short bytes)
 
--- the first line, and the shorter text behind it
+-- the first line, and the shorter text after it
 pub first_line_of : (text : List ℕ) → 0 < length text → (lines_of text ≡ before_byte 10 text ∷ lines_of (after_line text)) × (length (after_line text) < length text)
 first_line_of [] filled = absurd (omega arith)
 first_line_of (b ∷ bytes) filled = (first_line b bytes, after_line_shorter b bytes)

@@ -12,11 +12,11 @@ use Rattle.dmlw_script.specs.Grammar.{ParsesAs, AreLinesOf}
 use Rattle.dmlw_script.specs.Plans.{Plan}
 use Rattle.dmlw_script.specs.Reading.{bad_id, bad_line, bad_request, id_fits, BeginsScript, FaultAfter, IsFirstFault, IsLineFault}
 use Rattle.dmlw_script.proofs.ReadingLaws.{spelled_lines}
-use Rattle.dmlw_script.proofs.ParsingLaws.{sentence_again}
+use Rattle.dmlw_script.proofs.ParsingLaws.{parsed_again}
 
 -- a line says one thing
-one_sentence : (line : List ℕ) (s t : Line) → ParsesAs line s → ParsesAs line t → s ≡ t
-one_sentence line s t says_s says_t = let both = sym (sentence_again line s says_s) ∙ sentence_again line t says_t in cc
+one_parsed : (line : List ℕ) (s t : Line) → ParsesAs line s → ParsesAs line t → s ≡ t
+one_parsed line s t says_s says_t = let both = sym (parsed_again line s says_s) ∙ parsed_again line t says_t in cc
 
 -- lines are those of one script
 one_plan : (lines : List (List ℕ)) (p q : Plan) → AreLinesOf lines p → AreLinesOf lines q → p ≡ q
@@ -47,14 +47,14 @@ one_reason before line r s (bad_line f) (bad_request name first count byte p bad
 one_reason before line r s (bad_id t p after_byte spells unfit) (bad_line g) = absurd (g t after_byte)
 one_reason before line r s (bad_id t p after_byte spells unfit) (bad_id u q there again not) = refl
 one_reason before line r s (bad_id t p after_byte spells unfit) (bad_request name first count byte q bad there again fits is_bad) =
-    absurd (one_fit t (Write name first count byte) p q (one_sentence line t (Write name first count byte) after_byte.says there.says) (one_plan before p q spells again) unfit fits)
+    absurd (one_fit t (Write name first count byte) p q (one_parsed line t (Write name first count byte) after_byte.says there.says) (one_plan before p q spells again) unfit fits)
 one_reason before line r s (bad_request name first count byte p bad after_byte spells fits is_bad) (bad_line g) = absurd (g _ after_byte)
 one_reason before line r s (bad_request name first count byte p bad after_byte spells fits is_bad) (bad_id u q there again unfit) =
-    absurd (one_fit u (Write name first count byte) q p (one_sentence line u (Write name first count byte) there.says after_byte.says) (one_plan before q p again spells) unfit fits)
+    absurd (one_fit u (Write name first count byte) q p (one_parsed line u (Write name first count byte) there.says after_byte.says) (one_plan before q p again spells) unfit fits)
 one_reason before line r s (bad_request name first count byte p bad after_byte spells fits is_bad) (bad_request other f c b q worse there again also is_worse) =
     ap bad_bio_refusal
     (one_answer name other first count byte f c b p q bad worse
-    (one_sentence line (Write name first count byte) (Write other f c b) after_byte.says there.says) (one_plan before p q spells again) is_bad is_worse)
+    (one_parsed line (Write name first count byte) (Write other f c b) after_byte.says there.says) (one_plan before p q spells again) is_bad is_worse)
 
 -- lines that begin a script begin by lines that do
 begins_before : (before more : List (List ℕ)) → BeginsScript (before ++ more) → BeginsScript before
@@ -72,7 +72,7 @@ pub record Longer (short_part : List (List ℕ)) (rest long_part : List (List �
   pub long_is : long_part ≡ short_part ++ line ∷ between
   pub rest_is : rest ≡ line ∷ tail
 
--- a longer first part has the shorter one and the line behind it
+-- a longer first part has the shorter one and the line after it
 pub longer : (a x b y : List (List ℕ)) → a ++ x ≡ b ++ y → length a < length b → Longer a x b
 longer [] x [] y same less = absurd (omega arith)
 longer [] x (line ∷ b) y same less = record { line = line; between = b; tail = b ++ y; long_is = refl; rest_is = same }
@@ -89,7 +89,7 @@ longer (first ∷ a) x (line ∷ b) y same less =
       rest_is = more.rest_is;
     }
 
--- first parts of one length are one, and so is what is behind them
+-- first parts of one length are one, and so is what is after them
 same_parts : (a x b y : List (List ℕ)) → a ++ x ≡ b ++ y → length a ≡ length b → (a ≡ b) × (x ≡ y)
 same_parts [] x [] y same lens = (refl, same)
 same_parts [] x (line ∷ b) y same lens = absurd (omega arith)
@@ -101,7 +101,7 @@ same_parts (first ∷ a) x (line ∷ b) y same lens =
     let heads = more.0 in
     (cc, more.1)
 
--- behind a fault no lines begin a script
+-- after a fault no lines begin a script
 none_longer : (a x b : List (List ℕ)) (r : Refusal) → FaultAfter a x r → Longer a x b → BeginsScript b → ⊥
 none_longer a x b r fault more begins =
     let F : List (List ℕ) → Type 0 = λ ls. FaultAfter a ls r in
@@ -109,12 +109,12 @@ none_longer a x b r fault more begins =
     let regrouped : b ≡ (a ++ more.line ∷ []) ++ more.between = more.long_is ∙ sym (append_assoc a (more.line ∷ []) more.between) in
     there.0 (begins_before (a ++ more.line ∷ []) more.between (subst BeginsScript regrouped begins))
 
--- behind the same lines there is one reason
+-- after the same lines there is one reason
 one_behind : (a x : List (List ℕ)) (r s : Refusal) → FaultAfter a x r → FaultAfter a x s → r ≡ s
 one_behind a [] r s at_r at_s = at_r.0 ∙ sym at_s.0
 one_behind a (line ∷ x) r s at_r at_s = one_reason a line r s at_r.1 at_s.1
 
--- no first fault is behind another
+-- no first fault is after another
 not_behind : (lines : List (List ℕ)) (m n : ℕ) (r s : Refusal) → IsFirstFault lines m r → IsFirstFault lines n s → n ≤ m
 not_behind lines m n r s f g =
     let place : m ≡ length f.before + 1 = f.place in
@@ -138,7 +138,7 @@ one_first_fault lines m n r s f g =
     let there : FaultAfter f.before f.more s = subst M (sym parts.1) (subst B (sym parts.0) g.fault) in
     (omega arith, one_behind f.before f.more r s f.fault there)
 
--- lines of a script have none behind lines that begin one
+-- lines of a script have none after lines that begin one
 whole_behind : (before more : List (List ℕ)) (plan : Plan) (r : Refusal) → AreLinesOf (before ++ more) plan → FaultAfter before more r → ⊥
 whole_behind before [] plan r spells fault =
     fault.1 plan (subst (λ (lines : List (List ℕ)). AreLinesOf lines plan) (append-nil before) spells)

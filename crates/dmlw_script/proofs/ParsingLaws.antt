@@ -59,7 +59,7 @@ front_step : (t : Bool) (b : ℕ) (word f bytes rest : List ℕ) (behind_rest : 
 front_step true b word f bytes rest behind_rest apart same there = absurd (cc)
 front_step false b word f bytes rest behind_rest apart same there = (ap (λ x. b ∷ x) same, there)
 
--- a cut behind a word that lacks the mark
+-- a cut after a word that lacks the mark
 pub cut_at : (mark : ℕ) (word rest : List ℕ) → lacks mark word ≡ true → (before_byte mark (word ++ mark ∷ rest) ≡ word) × (after_byte mark (word ++ mark ∷ rest) ≡ Some rest)
 cut_at mark [] rest lack = let same : (mark == mark) ≡ true = eq-eqb mark mark refl in (cond-true _ _ _ same, cond-true _ _ _ same)
 cut_at mark (b ∷ word) rest lack =
@@ -168,7 +168,7 @@ byte_again byte low =
 
 -- ---- sentences
 
--- the test of two texts tells whether they are one
+-- the test of two texts says whether they are one
 same_bytes : (xs ys : List ℕ) → bytes_eq xs ys ≡ true → xs ≡ ys
 same_bytes xs ys e = (bytes_eq-Decides xs ys).0 e
 
@@ -243,17 +243,17 @@ write_read words s e =
       spelled = ap (λ x. first_word (codes "w") x) whole;
     }
 
--- the parts of `parse_words` behind its tests
+-- the parts of `parse_words` after its tests
 abbrev said_one_id : List ℕ → List ℕ → Option Line
 said_one_id verb words =
     cond (bytes_eq verb (codes "f")) (option_map (λ name. Flush name) (id_of_word words))
     (cond (bytes_eq verb (codes "c")) (option_map (λ name. Complete name) (id_of_word words)) None)
 
--- behind the tests for the head
+-- after the tests for the head
 abbrev said_no_size : List ℕ → List ℕ → Option Line
 said_no_size verb words = cond (bytes_eq verb (codes "w")) (write_of words) (said_one_id verb words)
 
--- behind the first test
+-- after the first test
 abbrev said_no_data : List ℕ → List ℕ → Option Line
 said_no_data verb words = cond (bytes_eq verb (codes "log")) (option_map (λ n. Log n) (number_of words)) (said_no_size verb words)
 
@@ -294,8 +294,8 @@ said_read verb words s e =
     (chosen _ _ _ _ e)
 
 -- what is heard is said
-pub sentence_read : (line : List ℕ) (s : Line) → parse_line line ≡ Some s → ParsesAs line s
-sentence_read line s e =
+pub parsed_read : (line : List ℕ) (s : Line) → parse_line line ≡ Some s → ParsesAs line s
+parsed_read line s e =
     ⊎_elim
     (λ (h : (bytes_eq line (codes "close") ≡ true) × (Some Close ≡ Some s)).
     let is : Close ≡ s = (let k = h.1 in cc) in rw (← is) (same_bytes line _ h.0))
@@ -325,11 +325,11 @@ write_again id fw cw name first count byte is_id is_first is_count low =
     (bind_at _ _ _ _ (byte_again byte low) refl))))))
 
 -- what is said is heard
-pub sentence_again : (line : List ℕ) (s : Line) → ParsesAs line s → parse_line line ≡ Some s
-sentence_again line (Data n) says = rw says.spelled (ap (option_map (λ k. Data k)) (number_again says.word n says.number))
-sentence_again line (Log n) says = rw says.spelled (ap (option_map (λ k. Log k)) (number_again says.word n says.number))
-sentence_again line (Write name first count byte) says =
+pub parsed_again : (line : List ℕ) (s : Line) → ParsesAs line s → parse_line line ≡ Some s
+parsed_again line (Data n) says = rw says.spelled (ap (option_map (λ k. Data k)) (number_again says.word n says.number))
+parsed_again line (Log n) says = rw says.spelled (ap (option_map (λ k. Log k)) (number_again says.word n says.number))
+parsed_again line (Write name first count byte) says =
     rw says.spelled (write_again says.id_word says.first_word says.count_word name first count byte says.id says.first_number says.count_number says.is_byte)
-sentence_again line (Flush name) says = rw says.spelled (ap (option_map (λ k. Flush k)) (id_again says.word name says.id))
-sentence_again line (Complete name) says = rw says.spelled (ap (option_map (λ k. Complete k)) (id_again says.word name says.id))
-sentence_again line Close says = rw says refl
+parsed_again line (Flush name) says = rw says.spelled (ap (option_map (λ k. Flush k)) (id_again says.word name says.id))
+parsed_again line (Complete name) says = rw says.spelled (ap (option_map (λ k. Complete k)) (id_again says.word name says.id))
+parsed_again line Close says = rw says refl

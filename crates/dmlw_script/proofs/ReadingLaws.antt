@@ -15,10 +15,10 @@ use Rattle.dmlw_script.specs.inside.Drafts.{◌>>=◌, body_step, Body}
 use Rattle.dmlw_script.specs.Grammar.{ParsesAs, AreLinesOf}
 use Rattle.dmlw_script.specs.Lines.{is_ascii_line, is_skipped, unskipped, lines_of}
 use Rattle.dmlw_script.specs.Plans.{lines_of_body, is_disk_size, lines_of_script, IsPlan, Plan}
-use Rattle.dmlw_script.specs.inside.Readers.{and_then, at_line, data_size, finish_step, finished, heard, line_step, log_size, nothing, read_lines, read_text, sentence_step, with_body, with_data, with_log, Progress}
+use Rattle.dmlw_script.specs.inside.Readers.{and_then, at_line, data_size, finish_step, finished, step_if_parsed, line_step, log_size, nothing, read_lines, read_text, parsed_step, with_body, with_data, with_log, Progress}
 use Rattle.dmlw_script.specs.inside.Parsing.{parse_line}
 use Rattle.dmlw_script.proofs.BodyLaws.{bind_at, bind_ok, run_again, run_body, run_grows, IsFine, IsSound, Told}
-use Rattle.dmlw_script.proofs.ParsingLaws.{sentence_again, sentence_read}
+use Rattle.dmlw_script.proofs.ParsingLaws.{parsed_again, parsed_read}
 
 -- ---- what is heard of single lines
 
@@ -58,10 +58,10 @@ log_size_is Close n e = absurd (cc)
 
 -- ---- runs over sentences
 
--- what was read behind the lines that say this
+-- what was read after the lines that say this
 abbrev pub run : Kind → Progress → List Line → Result Progress Refusal
 run kind p [] = Ok p
-run kind p (s ∷ ss) = sentence_step kind p.data_sectors p.log_sectors p s >>= λ q. run kind q ss
+run kind p (s ∷ ss) = parsed_step kind p.data_sectors p.log_sectors p s >>= λ q. run kind q ss
 
 -- both disks' lines were read, and this body
 abbrev pub with_head : ℕ → ℕ → Body → Progress
@@ -78,7 +78,7 @@ body_run_step d l b ss (Ok c) others = others c ∙ same_body (run_body d c ss)
     same_body (Ok x) = refl
     same_body (Err x) = refl
 
--- behind a head a run is one of the body
+-- after a head a run is one of the body
 pub body_run : (d l : ℕ) (b : Body) (ss : List Line) → run kinds.Record (with_head d l b) ss ≡ with_body (with_head d l b) (run_body d b ss)
 body_run d l b [] = refl
 body_run d l b (s ∷ ss) = body_run_step d l b ss (body_step d b s) (λ c. body_run d l c ss)
@@ -113,8 +113,8 @@ sound_plan d l b data_size log_size sound = record {
 }
 
 -- what a body's lines say
-told_sentences : (d l : ℕ) (b : Body) (ss : List Line) → Told no_body b ss → lines_of_script (plan_of d l b) ≡ Data d ∷ Log l ∷ ss
-told_sentences d l b ss as_refusal =
+told_parsed_lines : (d l : ℕ) (b : Body) (ss : List Line) → Told no_body b ss → lines_of_script (plan_of d l b) ≡ Data d ∷ Log l ∷ ss
+told_parsed_lines d l b ss as_refusal =
     let names : b.names ≡ b.names ++ [] = sym (append-nil b.names) in
     let all : lines_of_body b.names 0 b.body ≡ ss = ap (λ ns. lines_of_body ns 0 b.body) names ∙ ap (λ cs. lines_of_body (b.names ++ []) 0 cs) as_refusal.grown_body ∙ as_refusal.says [] in
     ap (λ x. Data d ∷ Log l ∷ x) all
@@ -127,7 +127,7 @@ body_read d l ss plan data_size log_size fine e =
     let q = with_body_ok (with_head d l no_body) p.0 (run_body d no_body ss) (sym (body_run d l no_body ss) ∙ p.1) in
     let g = run_grows d no_body q.0 ss q.1 fine (no_body_sound d) in
     let same : plan_of d l q.0 ≡ plan = (let last = ap (finish_step kinds.Record) q.2 ∙ p.2 in cc) in
-    subst (λ (x : Plan). (Data d ∷ Log l ∷ ss ≡ lines_of_script x) × IsPlan x) same (sym (told_sentences d l q.0 ss g.1), sound_plan d l q.0 data_size log_size g.0)
+    subst (λ (x : Plan). (Data d ∷ Log l ∷ ss ≡ lines_of_script x) × IsPlan x) same (sym (told_parsed_lines d l q.0 ss g.1), sound_plan d l q.0 data_size log_size g.0)
 
 -- the second line of a script is the log disk's
 second_read : (d : ℕ) (s : Line) (ss : List Line) (plan : Plan) (o : Option ℕ) → log_size s ≡ o → is_disk_size d ≡ true → AllByRecursion IsFine ss →
@@ -203,18 +203,18 @@ pub skipped_step : (kind : Kind) (p : Progress) (line : List ℕ) → is_ascii_l
 skipped_step kind p line plain skipped = cond-false _ _ _ (ap not plain) ∙ cond-true _ _ _ skipped
 
 -- another line is heard
-pub said_step : (kind : Kind) (p : Progress) (line : List ℕ) → is_ascii_line line ≡ true → is_skipped line ≡ false → line_step kind p line ≡ heard kind p (parse_line line)
+pub said_step : (kind : Kind) (p : Progress) (line : List ℕ) → is_ascii_line line ≡ true → is_skipped line ≡ false → line_step kind p line ≡ step_if_parsed kind p (parse_line line)
 said_step kind p line plain skipped = cond-false _ _ _ (ap not plain) ∙ cond-false _ _ _ skipped
 
 -- what a line's step that goes on has heard
 pub data LineHeard (kind : Kind) (p q : Progress) (line : List ℕ) : Type 0 where
   nothing_heard : is_ascii_line line ≡ true → is_skipped line ≡ true → p ≡ q → LineHeard kind p q line
-  one_heard : (s : Line) → is_ascii_line line ≡ true → is_skipped line ≡ false → ParsesAs line s → sentence_step kind p.data_sectors p.log_sectors p s ≡ Ok q → LineHeard kind p q line
+  one_heard : (s : Line) → is_ascii_line line ≡ true → is_skipped line ≡ false → ParsesAs line s → parsed_step kind p.data_sectors p.log_sectors p s ≡ Ok q → LineHeard kind p q line
 
 -- what was heard of a line that isn't skipped
-sentence_heard : (kind : Kind) (p q : Progress) (line : List ℕ) (o : Option Line) → is_ascii_line line ≡ true → is_skipped line ≡ false → parse_line line ≡ o → heard kind p o ≡ Ok q → LineHeard kind p q line
-sentence_heard kind p q line None plain skipped is e = absurd (cc)
-sentence_heard kind p q line (Some s) plain skipped is e = one_heard s plain skipped (sentence_read line s is) e
+parsed_heard : (kind : Kind) (p q : Progress) (line : List ℕ) (o : Option Line) → is_ascii_line line ≡ true → is_skipped line ≡ false → parse_line line ≡ o → step_if_parsed kind p o ≡ Ok q → LineHeard kind p q line
+parsed_heard kind p q line None plain skipped is e = absurd (cc)
+parsed_heard kind p q line (Some s) plain skipped is e = one_heard s plain skipped (parsed_read line s is) e
 
 -- what a line that is read has said
 pub line_heard : (kind : Kind) (p q : Progress) (line : List ℕ) → line_step kind p line ≡ Ok q → LineHeard kind p q line
@@ -223,12 +223,12 @@ line_heard kind p q line e =
     (λ (plain : is_ascii_line line ≡ true).
     ⊎_elim
     (λ (skipped : is_skipped line ≡ true). nothing_heard plain skipped (let same = sym (skipped_step kind p line plain skipped) ∙ e in cc))
-    (λ (parse_words : is_skipped line ≡ false). sentence_heard kind p q line (parse_line line) plain parse_words refl (sym (said_step kind p line plain parse_words) ∙ e))
+    (λ (parse_words : is_skipped line ≡ false). parsed_heard kind p q line (parse_line line) plain parse_words refl (sym (said_step kind p line plain parse_words) ∙ e))
     (cases_Bool (is_skipped line)))
     (λ (strange : is_ascii_line line ≡ false). absurd (let bad = sym (plain_step kind p line strange) ∙ e in cc))
     (cases_Bool (is_ascii_line line))
 
--- what was read behind these lines
+-- what was read after these lines
 abbrev pub go : Kind → Progress → List (List ℕ) → Result Progress Refusal
 go kind p [] = Ok p
 go kind p (line ∷ lines) = line_step kind p line >>= λ q. go kind q lines
@@ -236,25 +236,25 @@ go kind p (line ∷ lines) = line_step kind p line >>= λ q. go kind q lines
 -- what lines that are read say, and where that leads
 pub record GoneBy (kind : Kind) (p q : Progress) (lines : List (List ℕ)) : Type 0 where
   pub ss : List Line
-  pub heard : Heard lines ss
+  pub step_if_parsed : Heard lines ss
   pub leads : run kind p ss ≡ Ok q
 
 -- one more line that was read
 gone_on : (kind : Kind) (p q r : Progress) (line : List ℕ) (lines : List (List ℕ)) → LineHeard kind p q line → GoneBy kind q r lines → GoneBy kind p r (line ∷ lines)
 gone_on kind p q r line lines (nothing_heard plain skipped same) g = record {
   ss = g.ss;
-  heard = heard_skipped line lines g.ss plain skipped g.heard;
+  step_if_parsed = heard_skipped line lines g.ss plain skipped g.step_if_parsed;
   leads = ap (λ x. run kind x g.ss) same ∙ g.leads;
 }
 gone_on kind p q r line lines (one_heard s plain skipped says step) g = record {
   ss = s ∷ g.ss;
-  heard = heard_said line lines s g.ss plain skipped says g.heard;
+  step_if_parsed = heard_said line lines s g.ss plain skipped says g.step_if_parsed;
   leads = bind_at _ _ _ _ step g.leads;
 }
 
 -- what lines that are read have said
 pub go_heard : (kind : Kind) (p q : Progress) (lines : List (List ℕ)) → go kind p lines ≡ Ok q → GoneBy kind p q lines
-go_heard kind p q [] e = record { ss = []; heard = record { plain = tt; says = tt }; leads = e }
+go_heard kind p q [] e = record { ss = []; step_if_parsed = record { plain = tt; says = tt }; leads = e }
 go_heard kind p q (line ∷ lines) e =
     let s = bind_ok (line_step kind p line) _ q e in
     gone_on kind p s.0 q line lines (line_heard kind p s.0 line s.1) (go_heard kind s.0 q lines s.2)
@@ -264,8 +264,8 @@ said_go : (kind : Kind) (p q : Progress) (line : List ℕ) (lines : List (List �
     ((r : Progress) (more : List Line) → AllZip ParsesAs (unskipped lines) more → run kind r more ≡ Ok q → go kind r lines ≡ Ok q) → go kind p (line ∷ lines) ≡ Ok q
 said_go kind p q line lines [] plain skipped says e others = absurd says
 said_go kind p q line lines (s ∷ ss) plain skipped says e others =
-    let step = bind_ok (sentence_step kind p.data_sectors p.log_sectors p s) _ q e in
-    let is : line_step kind p line ≡ Ok step.0 = said_step kind p line plain skipped ∙ ap (heard kind p) (sentence_again line s says.0) ∙ step.1 in
+    let step = bind_ok (parsed_step kind p.data_sectors p.log_sectors p s) _ q e in
+    let is : line_step kind p line ≡ Ok step.0 = said_step kind p line plain skipped ∙ ap (step_if_parsed kind p) (parsed_again line s says.0) ∙ step.1 in
     bind_at _ _ _ _ is (others step.0 ss says.1 step.2)
 
 -- lines that say this are read
@@ -307,7 +307,7 @@ lines_read kind p number (line ∷ lines) plan e =
 lines_step : (kind : Kind) (p q : Progress) (number : ℕ) (line : List ℕ) (lines : List (List ℕ)) → line_step kind p line ≡ Ok q → read_lines kind p number (line ∷ lines) ≡ read_lines kind q (number + 1) lines
 lines_step kind p q number line lines e = ap (λ r. and_then (at_line number r) (λ x. read_lines kind x (number + 1) lines)) e
 
--- reading goes on behind lines that lead somewhere
+-- reading goes on after lines that lead somewhere
 pub lines_go : (kind : Kind) (p q : Progress) (number : ℕ) (before_byte rest : List (List ℕ)) → go kind p before_byte ≡ Ok q → read_lines kind p number (before_byte ++ rest) ≡ read_lines kind q (number + length before_byte) rest
 lines_go kind p q number [] rest e = let same : p ≡ q = cc in ap (λ x. read_lines kind x number rest) same ∙ ap (λ n. read_lines kind q n rest) (omega arith)
 lines_go kind p q number (line ∷ before_byte) rest e =
@@ -326,10 +326,10 @@ pub lines_spell : (lines : List (List ℕ)) (number : ℕ) (plan : Plan) → rea
 lines_spell lines number plan e =
     let s = bind_ok (go kinds.Record nothing lines) (finish_step kinds.Record) plan (lines_read kinds.Record nothing number lines plan e) in
     let h = go_heard kinds.Record nothing s.0 lines s.1 in
-    let p = plan_read h.ss plan (all_fine (unskipped lines) h.ss h.heard.says) (bind_at _ _ _ _ h.leads s.2) in
+    let p = plan_read h.ss plan (all_fine (unskipped lines) h.ss h.step_if_parsed.says) (bind_at _ _ _ _ h.leads s.2) in
     record {
-      plain = h.heard.plain;
-      says = subst (λ (x : List Line). AllZip ParsesAs (unskipped lines) x) p.0 h.heard.says;
+      plain = h.step_if_parsed.plain;
+      says = subst (λ (x : List Line). AllZip ParsesAs (unskipped lines) x) p.0 h.step_if_parsed.says;
       script = p.1;
     }
 

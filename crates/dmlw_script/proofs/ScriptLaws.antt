@@ -23,7 +23,7 @@ use Rattle.dmlw_script.proofs.OneFault.{longer}
 
 -- ---- spellings
 
--- scripts of one spelling are one
+-- scripts of one text are one
 pub same_from_spelling : (plan other : Plan) → IsPlan plan → IsPlan other → canonical_text plan ≡ canonical_text other → plan ≡ other
 same_from_spelling plan other is_plan is_other same =
     one_script_of (canonical_text plan) plan other (spelling_spells plan is_plan)
@@ -168,7 +168,7 @@ line_says text plan place number spells e =
       says = parse_words.2;
     }
 
--- as many numbers are told as lines are kept
+-- as many numbers are printed as lines are kept
 length-unskipped_numbers : (number : ℕ) (lines : List (List ℕ)) → length (unskipped_numbers number lines) ≡ length (unskipped lines)
 length-unskipped_numbers number [] = refl
 length-unskipped_numbers number (line ∷ lines) = counted_step (is_skipped line) number line (unskipped_numbers (number + 1) lines) (unskipped lines) (length-unskipped_numbers (number + 1) lines)
@@ -211,7 +211,7 @@ said_kept line (Flush name) says = ap is_skipped says.spelled
 said_kept line (Complete name) says = ap is_skipped says.spelled
 said_kept line Close says = ap is_skipped says
 
--- more lines are kept behind one that isn't skipped
+-- more lines are kept after one that isn't skipped
 kept_more : (before between : List (List ℕ)) (line : List ℕ) → is_skipped line ≡ false → length (unskipped before) < length (unskipped (before ++ line ∷ between))
 kept_more [] between line parse_words =
     let here = ap (λ (t : Bool). length (cond (not t) (line ∷ unskipped between) (unskipped between))) parse_words in
@@ -222,7 +222,7 @@ kept_more (first ∷ before) between line parse_words = more_step (is_skipped fi
     more_step true few many less = less
     more_step false few many less = omega arith
 
--- no line of a command is behind another
+-- no line of a command is after another
 not_later : (lines : List (List ℕ)) (plan : Plan) (place m n : ℕ) → IsLineOf lines plan place m → IsLineOf lines plan place n → n ≤ m
 not_later lines plan place m n a b =
     let here : m ≡ length a.before + 1 = a.number_is in
@@ -250,7 +250,7 @@ one_line lines plan place m n a b =
 
 -- ---- ends
 
--- a command of an orderly body may come behind those before it
+-- a command of a well-formed body may come after those before it
 well_formed_at : (sectors : ℕ) (done before : List Command) (command : Command) (rest : List Command) → IsWellFormed sectors done (before ++ command ∷ rest)
     → CanFollow sectors (done ++ before) command
 well_formed_at sectors done [] command rest well_formed =
@@ -259,13 +259,13 @@ well_formed_at sectors done (first ∷ before) command rest well_formed =
     subst (λ (x : List Command). CanFollow sectors x command) (append_assoc done (first ∷ []) before)
     (well_formed_at sectors (done ++ first ∷ []) before command rest well_formed.1)
 
--- each command of a script may come behind those before it
+-- each command of a script may come after those before it
 pub can_follow : (plan : Plan) (before : List Command) (command : Command) (rest : List Command) → IsPlan plan → plan.commands ≡ before ++ command ∷ rest
     → CanFollow plan.data_sectors before command
 can_follow plan before command rest is split =
     well_formed_at plan.data_sectors [] before command rest (subst (λ (x : List Command). IsWellFormed plan.data_sectors [] x) split is.well_formed)
 
--- a request that a command ends has ended behind it
+-- a request that a command ends has ended after it
 ended_behind : (request : ℕ) (before between : List Command) → is_ended request (before ++ commands.Complete request ∷ between) ≡ true
 ended_behind request [] between = ap (λ (t : Bool). t || is_ended request between) (eq-eqb request request refl)
 ended_behind request (first ∷ before) between =

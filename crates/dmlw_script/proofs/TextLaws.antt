@@ -11,7 +11,7 @@ use Rattle.dmlw_script.specs.inside.Drafts.{◌>>=◌, Body}
 use Rattle.dmlw_script.specs.Grammar.{IsTextOf}
 use Rattle.dmlw_script.specs.Lines.{is_ascii_line, is_skipped, unskipped, lines_of}
 use Rattle.dmlw_script.specs.Plans.{Plan}
-use Rattle.dmlw_script.specs.inside.Readers.{data_size, finished, heard, line_step, log_size, nothing, read_text, sentence_step, with_data, with_log, IsFault, Progress, Reads}
+use Rattle.dmlw_script.specs.inside.Readers.{data_size, finished, step_if_parsed, line_step, log_size, nothing, read_text, parsed_step, with_data, with_log, IsFault, Progress, Reads}
 use Rattle.dmlw_script.specs.Reading.{is_memory, BeginsScript, IsFaultOf, IsReadAs, IsRunFaultOf, RunFaultAfter}
 use Rattle.dmlw_script.specs.inside.Parsing.{parse_line}
 use Rattle.dmlw_script.proofs.BodyLaws.{bind_at, bind_ok}
@@ -32,7 +32,7 @@ memory_is fault line is none memory =
     let f = λ (l : Option ℕ) (r : Refusal). let x : Fault = record { line = l; refusal = r } in x in
     ap (λ l. f l fault.refusal) (is ∙ none) ∙ ap (λ r. f None r) memory
 
--- a text that is spelled so has no fault
+-- a text that has one text has no fault
 fault_only : (text : List ℕ) (plan : Plan) (fault : Fault) (line : Option ℕ) → fault.line ≡ line → IsFault line fault (read_text kinds.Record text) → IsTextOf text plan → fault ≡ is_memory
 fault_only text plan fault None is reads spells = memory_is fault None is refl reads
 fault_only text plan fault (Some number) is reads spells = absurd (let both = sym (spelled_lines (lines_of text) 1 plan spells) ∙ reads in cc)
@@ -63,14 +63,14 @@ ReachedRun (t ∷ []) q = (d : ℕ) × (q ≡ record { data_sectors = Some d; lo
 ReachedRun (t ∷ u ∷ []) q = (d : ℕ) × (l : ℕ) × (q ≡ with_head d l no_body)
 ReachedRun (t ∷ u ∷ v ∷ ss) q = ⊥
 
--- behind the first line
+-- after the first line
 reached_second : (d : ℕ) (t u : Line) (ss : List Line) (q : Progress) (o : Option ℕ) →
     (with_log (record { data_sectors = Some d; log_sectors = None; body = no_body }) o >>= λ p. run kinds.Run p ss) ≡ Ok q → ReachedRun (t ∷ u ∷ ss) q
 reached_second d t u ss q None e = absurd (cc)
 reached_second d t u [] q (Some l) e = (d, l, cc)
 reached_second d t u (v ∷ ss) q (Some l) e = cc
 
--- behind nothing
+-- after nothing
 reached_first : (t : Line) (ss : List Line) (q : Progress) (o : Option ℕ) → (with_data nothing o >>= λ p. run kinds.Run p ss) ≡ Ok q → ReachedRun (t ∷ ss) q
 reached_first t ss q None e = absurd (cc)
 reached_first t [] q (Some d) e = (d, cc)
@@ -96,15 +96,15 @@ both_sizes (t ∷ u ∷ []) q d l there has_data has_log = refl
 both_sizes (t ∷ u ∷ v ∷ ss) q d l there has_data has_log = absurd there
 
 -- what a run's head reads, a recorder's does
-head_sentence : (data_size log_size : Option ℕ) (p q : Progress) (s : Line) → sentence_step kinds.Run data_size log_size p s ≡ Ok q → sentence_step kinds.Record data_size log_size p s ≡ Ok q
-head_sentence None log_size p q s e = e
-head_sentence (Some d) None p q s e = e
-head_sentence (Some d) (Some l) p q s e = absurd (cc)
+head_parsed : (data_size log_size : Option ℕ) (p q : Progress) (s : Line) → parsed_step kinds.Run data_size log_size p s ≡ Ok q → parsed_step kinds.Record data_size log_size p s ≡ Ok q
+head_parsed None log_size p q s e = e
+head_parsed (Some d) None p q s e = e
+head_parsed (Some d) (Some l) p q s e = absurd (cc)
 
 -- what a run's head hears, a recorder's does
-head_heard : (p q : Progress) (o : Option Line) → heard kinds.Run p o ≡ Ok q → heard kinds.Record p o ≡ Ok q
+head_heard : (p q : Progress) (o : Option Line) → step_if_parsed kinds.Run p o ≡ Ok q → step_if_parsed kinds.Record p o ≡ Ok q
 head_heard p q None e = absurd (cc)
-head_heard p q (Some s) e = head_sentence p.data_sectors p.log_sectors p q s e
+head_heard p q (Some s) e = head_parsed p.data_sectors p.log_sectors p q s e
 
 -- a line of a run's head is one of a recorder's
 head_line : (p q : Progress) (line : List ℕ) → line_step kinds.Run p line ≡ Ok q → line_step kinds.Record p line ≡ Ok q
@@ -132,22 +132,22 @@ record RunRefused (before : List (List ℕ)) (line : List ℕ) (refusal : Refusa
   fault : ((length (unskipped before) ≡ 2) × (is_skipped line ≡ false)) ⊎ (BeginsScript (before ++ line ∷ []) → ⊥)
 
 -- why a run's line that says this is refused
-run_sentence : (before : List (List ℕ)) (q : Progress) (line : List ℕ) (s : Line) (refusal : Refusal) (data_size log_size : Option ℕ) → is_skipped line ≡ false → q.data_sectors ≡ data_size → q.log_sectors ≡ log_size →
+run_parsed : (before : List (List ℕ)) (q : Progress) (line : List ℕ) (s : Line) (refusal : Refusal) (data_size log_size : Option ℕ) → is_skipped line ≡ false → q.data_sectors ≡ data_size → q.log_sectors ≡ log_size →
     ((d l : ℕ) → q.data_sectors ≡ Some d → q.log_sectors ≡ Some l → length (unskipped before) ≡ 2) →
-    ((x : Refusal) → sentence_step kinds.Record data_size log_size q s ≡ Err x → BeginsScript (before ++ line ∷ []) → ⊥) →
-    sentence_step kinds.Run data_size log_size q s ≡ Err refusal → RunRefused before line refusal
-run_sentence before q line s refusal None log_size parse_words has_data has_log two ends e = record { bad = sym (with_data_err q _ refusal e).1; fault = inr (ends refusal e) }
-run_sentence before q line s refusal (Some d) None parse_words has_data has_log two ends e = record { bad = sym (with_log_err q _ refusal e).1; fault = inr (ends refusal e) }
-run_sentence before q line s refusal (Some d) (Some l) parse_words has_data has_log two ends e = record { bad = cc; fault = inl (two d l has_data has_log, parse_words) }
+    ((x : Refusal) → parsed_step kinds.Record data_size log_size q s ≡ Err x → BeginsScript (before ++ line ∷ []) → ⊥) →
+    parsed_step kinds.Run data_size log_size q s ≡ Err refusal → RunRefused before line refusal
+run_parsed before q line s refusal None log_size parse_words has_data has_log two ends e = record { bad = sym (with_data_err q _ refusal e).1; fault = inr (ends refusal e) }
+run_parsed before q line s refusal (Some d) None parse_words has_data has_log two ends e = record { bad = sym (with_log_err q _ refusal e).1; fault = inr (ends refusal e) }
+run_parsed before q line s refusal (Some d) (Some l) parse_words has_data has_log two ends e = record { bad = cc; fault = inl (two d l has_data has_log, parse_words) }
 
 -- why a run's line that isn't skipped is refused
 run_heard : (before : List (List ℕ)) (q : Progress) (line : List ℕ) (refusal : Refusal) (o : Option Line) → go kinds.Record nothing before ≡ Ok q → is_ascii_line line ≡ true → is_skipped line ≡ false →
-    parse_line line ≡ o → ((d l : ℕ) → q.data_sectors ≡ Some d → q.log_sectors ≡ Some l → length (unskipped before) ≡ 2) → heard kinds.Run q o ≡ Err refusal → RunRefused before line refusal
+    parse_line line ≡ o → ((d l : ℕ) → q.data_sectors ≡ Some d → q.log_sectors ≡ Some l → length (unskipped before) ≡ 2) → step_if_parsed kinds.Run q o ≡ Err refusal → RunRefused before line refusal
 run_heard before q line refusal None gone plain parse_words is two e =
-    record { bad = cc; fault = inr (refused_ends before q line BadLine gone (said_step kinds.Record q line plain parse_words ∙ ap (heard kinds.Record q) is)) }
+    record { bad = cc; fault = inr (refused_ends before q line BadLine gone (said_step kinds.Record q line plain parse_words ∙ ap (step_if_parsed kinds.Record q) is)) }
 run_heard before q line refusal (Some s) gone plain parse_words is two e =
-    run_sentence before q line s refusal q.data_sectors q.log_sectors parse_words refl refl two
-    (λ x f. refused_ends before q line x gone (said_step kinds.Record q line plain parse_words ∙ ap (heard kinds.Record q) is ∙ f)) e
+    run_parsed before q line s refusal q.data_sectors q.log_sectors parse_words refl refl two
+    (λ x f. refused_ends before q line x gone (said_step kinds.Record q line plain parse_words ∙ ap (step_if_parsed kinds.Record q) is ∙ f)) e
 
 -- why a run's line is refused
 run_refused : (before : List (List ℕ)) (q : Progress) (line : List ℕ) (refusal : Refusal) → go kinds.Record nothing before ≡ Ok q → ((d l : ℕ) → q.data_sectors ≡ Some d → q.log_sectors ≡ Some l → length (unskipped before) ≡ 2) →
@@ -180,7 +180,7 @@ run_line text fault (Some number) is reads =
     let f = faulted kinds.Run nothing 1 (lines_of text) fault reads in
     let g = go_heard kinds.Run nothing f.q f.before f.gone in
     let there = reached_run g.ss f.q g.leads in
-    let many = as_many (unskipped f.before) g.ss g.heard.says in
+    let many = as_many (unskipped f.before) g.ss g.step_if_parsed.says in
     let gone = head_lines nothing f.q f.before f.gone in
     let r = run_behind f.before f.more f.q fault.refusal gone (λ d l has_data has_log. many ∙ both_sizes g.ss f.q d l there has_data has_log) f.ends in
     let place : number ≡ 1 + length f.before = (let both = sym is ∙ f.place in cc) in (

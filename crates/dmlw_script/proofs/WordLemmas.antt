@@ -25,17 +25,17 @@ pub front_by_place : (mark : ℕ) (bytes : List ℕ) → take (position_or_len (
 front_by_place mark [] = refl
 front_by_place mark (b ∷ bytes) = front_step (b == mark) _ b bytes _ (front_by_place mark bytes)
 
--- what stands behind the first such byte, by its place
+-- what stands after the first such byte, by its place
 pub behind_by_place : (mark : ℕ) (bytes : List ℕ) → after_byte mark bytes ≡ cond (nat_lt (position_or_len (λ b. b == mark) bytes) (length bytes)) (Some (drop (position_or_len (λ b. b == mark) bytes + 1) bytes)) None
 behind_by_place mark [] = refl
 behind_by_place mark (b ∷ bytes) = behind_step (b == mark) _ b bytes _ (behind_by_place mark bytes)
 
--- the number that digits write behind those of n, where they are digits and it is below 2 ^ 64
+-- the number that digits write after those of n, where they are digits and it is below 2 ^ 64
 abbrev pub number_behind : ℕ → List ℕ → Option ℕ
 number_behind n [] = Some n
 number_behind n (digit ∷ digits) = option_and_then (λ m. number_behind m digits) (with_digit n digit)
 
--- digits behind a number make it no smaller
+-- digits after a number make it no smaller
 pub number_after_grows : (n : ℕ) (digits : List ℕ) → n ≤ number_after n digits
 number_after_grows n [] = omega arith
 number_after_grows n (digit ∷ digits) = omega (arith, number_after_grows (10 * n + (digit - 48)) digits)

@@ -1,4 +1,4 @@
--- The one spelling of a script.
+-- The one text of a script.
 use Rattle.std.specs.Prelude.{ℕ, List, [], ◌∷◌, ◌++◌, codes, decimal, flat_map}
 use Rattle.dmlw_script.specs.declared.line.Line.{Line}
 use Rattle.dmlw_script.specs.declared.line.Line.TheVariants.{Data, Log, Write, Flush, Complete, Close}
@@ -20,6 +20,6 @@ line_text Close = codes "close"
 abbrev pub ended_line : Line → List ℕ
 ended_line s = line_text s ++ 10 ∷ []
 
--- the one spelling of a script
+-- the one text of a script
 abbrev pub canonical_text : Plan → List ℕ
 canonical_text plan = flat_map ended_line (lines_of_script plan)

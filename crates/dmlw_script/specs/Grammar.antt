@@ -65,7 +65,7 @@ abbrev pub IsTextOf : List ℕ → Plan → Type 0
 IsTextOf text plan = AreLinesOf (lines_of text) plan
 
 -- the line of this number, counted from 1, says what the script's command at this place says, and stands there among
--- the lines that aren't skipped: behind the two of the head and those of the commands before it
+-- the lines that aren't skipped: after the two of the head and those of the commands before it
 pub record IsLineOf (lines : List (List ℕ)) (plan : Plan) (place number : ℕ) : Type 0 where
   pub before : List (List ℕ)
   pub line : List ℕ

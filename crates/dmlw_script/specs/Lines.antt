@@ -34,6 +34,6 @@ command_line text place = slice_get (unskipped_numbers 1 (lines_of text)) (place
 abbrev pub IsUnbroken : List ℕ → Type 0
 IsUnbroken line = list_all (λ byte. not (byte == 10)) line ≡ true
 
--- the text of these lines, with a line feed behind each
+-- the text of these lines, with a line feed after each
 abbrev pub with_line_feeds : List (List ℕ) → List ℕ
 with_line_feeds lines = flat_map (λ line. line ++ 10 ∷ []) lines

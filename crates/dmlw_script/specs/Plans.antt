@@ -6,7 +6,7 @@ use Rattle.dmlw_script.specs.declared.command.Command.{Command}
 use Rattle.dmlw_script.specs.declared.command.Command.TheVariants as commands
 use Rattle.dmlw_script.specs.declared.script_id.ScriptId.{ScriptId}
 use Rattle.dmlw_script.specs.declared.line.Line.{Line}
-use Rattle.dmlw_script.specs.declared.line.Line.TheVariants as sentences
+use Rattle.dmlw_script.specs.declared.line.Line.TheVariants as parsed_lines
 use Rattle.dmlw_script.specs.Ids.{is_id, script_id, same_name}
 
 -- what a script holds: the sizes of the disks, the ids of its requests in the order of their submissions, and the
@@ -48,14 +48,14 @@ is_end_of request _ = false
 abbrev pub is_ended : ℕ → List Command → Bool
 is_ended request body = list_any (is_end_of request) body
 
--- the command may come behind these, for a data disk of so many sectors: a write passes the test of its sectors and
+-- the command may come after these, for a data disk of so many sectors: a write passes the test of its sectors and
 -- writes a byte, and an end is that of a request that was submitted and hasn't ended
 abbrev pub CanFollow : ℕ → List Command → Command → Type 0
 CanFollow sectors before (commands.Write first count byte) = (range_answer first count sectors ≡ Ok tt) × (byte < 256)
 CanFollow sectors before (commands.Complete request) = (request < submissions before) × (is_ended request before ≡ false)
 CanFollow sectors before _ = Unit {0}
 
--- each command may come behind those before it
+-- each command may come after those before it
 abbrev pub IsWellFormed : ℕ → List Command → List Command → Type 0
 IsWellFormed sectors before [] = Unit {0}
 IsWellFormed sectors before (command ∷ body) = CanFollow sectors before command × IsWellFormed sectors (before ++ command ∷ []) body
@@ -83,12 +83,12 @@ HasName requests before commands.Close = Unit {0}
 
 -- what the line of a command says, before which so many requests were submitted
 abbrev pub line_at : List ScriptId → ℕ → Command → Line
-line_at names before (commands.Write first count byte) = sentences.Write (name_at names before) first count byte
-line_at names before commands.Flush = sentences.Flush (name_at names before)
-line_at names before (commands.Complete request) = sentences.Complete (name_at names request)
-line_at names before commands.Close = sentences.Close
+line_at names before (commands.Write first count byte) = parsed_lines.Write (name_at names before) first count byte
+line_at names before commands.Flush = parsed_lines.Flush (name_at names before)
+line_at names before (commands.Complete request) = parsed_lines.Complete (name_at names request)
+line_at names before commands.Close = parsed_lines.Close
 
--- the requests that were submitted behind a command, before which there were so many
+-- the requests that were submitted after a command, before which there were so many
 abbrev pub count_after_command : ℕ → Command → ℕ
 count_after_command before (commands.Write first count byte) = before + 1
 count_after_command before commands.Flush = before + 1
@@ -104,4 +104,4 @@ lines_of_body names before (command ∷ body) =
 -- what the lines of a script say, in their order
 abbrev pub lines_of_script : Plan → List Line
 lines_of_script plan =
-    sentences.Data plan.data_sectors ∷ sentences.Log plan.log_sectors ∷ lines_of_body plan.names 0 plan.commands
+    parsed_lines.Data plan.data_sectors ∷ parsed_lines.Log plan.log_sectors ∷ lines_of_body plan.names 0 plan.commands

@@ -15,13 +15,13 @@ use Rattle.dmlw_script.specs.Lines.{is_ascii_line, is_skipped, unskipped, lines_
 use Rattle.dmlw_script.specs.Ids.{same_name}
 use Rattle.dmlw_script.specs.Plans.{is_disk_size, is_ended, request_of, Plan}
 
--- some lines behind these make a script of them
+-- some lines after these make a script of them
 pub record BeginsScript (lines : List (List ℕ)) : Type 0 where
   pub more : List (List ℕ)
   pub plan : Plan
   pub spells : AreLinesOf (lines ++ more) plan
 
--- what a line says may stand behind so many lines that aren't skipped, as far as its words tell: first the size of the
+-- what a line says may stand after so many lines that aren't skipped, as far as its words say: first the size of the
 -- data disk, then that of the log disk, then the body
 abbrev pub StandsAfter : ℕ → Line → Type 0
 StandsAfter zero (Data sectors) = is_disk_size sectors ≡ true
@@ -43,7 +43,7 @@ StandsAfter (suc (suc n)) (Flush name) = Unit {0}
 StandsAfter (suc (suc n)) (Complete name) = Unit {0}
 StandsAfter (suc (suc n)) Close = Unit {0}
 
--- the line is of the grammar behind these, and says this
+-- the line is of the grammar after these, and says this
 pub record IsLineAfter (before : List (List ℕ)) (line : List ℕ) (s : Line) : Type 0 where
   pub plain : is_ascii_line line ≡ true
   pub says : ParsesAs line s
@@ -61,7 +61,7 @@ id_fits plan (Flush name) = not (list_any (same_name name) plan.names)
 id_fits plan (Complete name) = is_open (request_of name plan.names) plan
 id_fits plan _ = true
 
--- why a line can't stand behind these: it isn't of the grammar there; or else these are a script, and its id doesn't
+-- why a line can't stand after these: it isn't of the grammar there; or else these are a script, and its id doesn't
 -- fit; or else it is a write whose sectors don't pass the test
 pub data IsLineFault (before : List (List ℕ)) (line : List ℕ) : Refusal → Type 0 where
   bad_line : ((s : Line) → IsLineAfter before line s → ⊥) → IsLineFault before line BadLine
@@ -69,12 +69,12 @@ pub data IsLineFault (before : List (List ℕ)) (line : List ℕ) : Refusal → 
   bad_request : (name : ScriptId) (first count byte : ℕ) (plan : Plan) (bad : BadBio) → IsLineAfter before line (Write name first count byte) → AreLinesOf before plan →
       id_fits plan (Write name first count byte) ≡ true → range_answer first count plan.data_sectors ≡ Err bad → IsLineFault before line (bad_bio_refusal bad)
 
--- what is wrong behind lines that begin a script: the text ends inside its head, or no script begins with the next line too
+-- what is wrong after lines that begin a script: the text ends inside its head, or no script begins with the next line too
 abbrev pub FaultAfter : List (List ℕ) → List (List ℕ) → Refusal → Type 0
 FaultAfter before [] refusal = (refusal ≡ BadLine) × ((plan : Plan) → AreLinesOf before plan → ⊥)
 FaultAfter before (line ∷ more) refusal = (BeginsScript (before ++ line ∷ []) → ⊥) × IsLineFault before line refusal
 
--- the first line, counted from 1, at which no continuation is a script, and why; it may be the one behind the last
+-- the first line, counted from 1, at which no continuation is a script, and why; it may be the one after the last
 pub record IsFirstFault (lines : List (List ℕ)) (line : ℕ) (refusal : Refusal) : Type 0 where
   pub before : List (List ℕ)
   pub more : List (List ℕ)
@@ -97,14 +97,14 @@ abbrev pub IsReadAs : Plan → Result Plan Fault → Type 0
 IsReadAs plan (Ok script) = script ≡ plan
 IsReadAs plan (Err fault) = fault ≡ is_memory
 
--- what is wrong with a run's text behind lines of its head: it ends there, or the next line is one of its body, or no
+-- what is wrong with a run's text after lines of its head: it ends there, or the next line is one of its body, or no
 -- script of a recorder begins with the next line too
 abbrev pub RunFaultAfter : List (List ℕ) → List (List ℕ) → Type 0
 RunFaultAfter before [] = Unit {0}
 RunFaultAfter before (line ∷ more) =
     ((length (unskipped before) ≡ 2) × (is_skipped line ≡ false)) ⊎ (BeginsScript (before ++ line ∷ []) → ⊥)
 
--- the first line, counted from 1, at which a run's text isn't a head; it may be the one behind the last
+-- the first line, counted from 1, at which a run's text isn't a head; it may be the one after the last
 pub record IsRunFault (lines : List (List ℕ)) (line : ℕ) : Type 0 where
   pub before : List (List ℕ)
   pub more : List (List ℕ)

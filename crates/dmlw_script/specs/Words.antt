@@ -8,16 +8,16 @@ abbrev pub before_byte : ℕ → List ℕ → List ℕ
 before_byte mark [] = []
 before_byte mark (b ∷ bytes) = if b == mark then [] else b ∷ before_byte mark bytes
 
--- what stands behind the first such byte, where there is one
+-- what stands after the first such byte, where there is one
 abbrev pub after_byte : ℕ → List ℕ → Option (List ℕ)
 after_byte mark [] = None
 after_byte mark (b ∷ bytes) = if b == mark then Some bytes else after_byte mark bytes
 
--- the number that a digit behind n makes, if it is a digit and the number is below 2 ^ 64
+-- the number that a digit after n makes, if it is a digit and the number is below 2 ^ 64
 abbrev pub with_digit : ℕ → ℕ → Option ℕ
 with_digit n digit = if is_ascii_digit digit && nat_lt (10 * n + (digit - 48)) (2 ^ 64) then Some (10 * n + (digit - 48)) else None
 
--- the number that decimal digits write behind those of n
+-- the number that decimal digits write after those of n
 abbrev pub number_after : ℕ → List ℕ → ℕ
 number_after n [] = n
 number_after n (digit ∷ digits) = number_after (10 * n + (digit - 48)) digits

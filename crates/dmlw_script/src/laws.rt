@@ -10,7 +10,7 @@ ghost use Rattle.dmlw_script.specs.Plans.{IsPlan, CanFollow, Plan};
 ghost use Rattle.dmlw_script.specs.Reading.{IsFirstFault};
 ghost use Rattle.dmlw_script.specs.CanonicalText.{canonical_text};
 
-/// Lines make a text by a line feed behind each, which the last may lack unless it is empty.
+/// Lines make a text by a line feed after each, which the last may lack unless it is empty.
 pub fn lines_make_a_text()
     ensures with_line_feeds { (lines : List (List ℕ)) → AllByRecursion IsUnbroken lines → lines_of (with_line_feeds lines) ≡ lines }
     ensures last { (lines : List (List ℕ)) (last : List ℕ) → AllByRecursion IsUnbroken lines → IsUnbroken last → last ≢ [] →
@@ -44,8 +44,8 @@ pub fn skipped_lines_say_nothing()
         AreLinesOf (before ++ line ∷ after) plan → AreLinesOf (before ++ after) plan }
 {}
 
-/// The line that is told for a command is the one that says it, behind the head and the lines of the
-/// commands before it. Each command has one such line, and behind the last command there is none.
+/// The line that is named for a command is the one that says it, after the head and the lines of the
+/// commands before it. Each command has one such line, and after the last command there is none.
 pub fn lines_are_those_of_commands()
     ensures says { (text : List ℕ) (plan : Plan) (place number : ℕ) → IsTextOf text plan →
         command_line text place ≡ Some number → IsLineOf (lines_of text) plan place number }
@@ -57,7 +57,7 @@ pub fn lines_are_those_of_commands()
         length plan.commands ≤ place → command_line text place ≡ None }
 {}
 
-/// Each command of a script may come behind those before it, and no request ends twice.
+/// Each command of a script may come after those before it, and no request ends twice.
 #[tactic(auto, using(crate::proofs::ScriptLaws::can_follow, crate::proofs::ScriptLaws::ends_once))]
 pub fn requests_end_once()
     ensures can_follow { (plan : Plan) (before : List Command) (command : Command) (rest : List Command) →

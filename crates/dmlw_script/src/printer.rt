@@ -1,7 +1,7 @@
 ghost use Rattle.std.specs.Prelude.{◌≡◌, ◌<◌, ◌+◌, ◌^◌, ◌++◌, ◌∷◌, [], decimal, flat_map, length, IfOk, OnOk};
 ghost use Rattle.dmlw_script.specs.Grammar.{IsTextOf};
 ghost use Rattle.dmlw_script.specs.Ids.{letters_of};
-ghost use Rattle.dmlw_script.specs.Plans.{count_after_command, lines_of_body, line_at as the_sentence_at, HasName};
+ghost use Rattle.dmlw_script.specs.Plans.{count_after_command, lines_of_body, line_at as the_parsed_at, HasName};
 ghost use Rattle.dmlw_script.specs.CanonicalText.{ended_line, line_text, canonical_text};
 ghost use Rattle.dmlw_script.specs.Words.{byte_text, hex_digit as the_hex_digit};
 
@@ -11,8 +11,8 @@ use crate::script::Script;
 use crate::script_id::ScriptId;
 use std::alloc::{AllocError, Global};
 
-/// The one spelling of a script: no comments, no empty lines, no leading zeroes, and a line feed
-/// behind each line. Reading it gives the same script.
+/// The one text of a script: no comments, no empty lines, no leading zeroes, and a line feed
+/// after each line. Reading it gives the same script.
 pub fn print_script(alloc: Global, script: &Script) -> Result<Vec<u8>, AllocError>
     ensures spelled { IfOk result (λ text. text.items ≡ canonical_text script.now) }
     // What is printed is a text of this script, and so read as it.
@@ -51,7 +51,7 @@ fn push_body(out: &mut Vec<u8>, script: &Script) -> Result<(), AllocError>
 // What the line of a command says, before which so many requests were submitted.
 fn line_at(names: &[ScriptId], before: usize, command: Command) -> Line
     requires { HasName (length names.now) before command }
-    ensures { result ≡ the_sentence_at names.now before command }
+    ensures { result ≡ the_parsed_at names.now before command }
 {
     match command {
         Command::Write { first, count, byte } => Line::Write {
@@ -168,7 +168,7 @@ fn hex_digit(half: u8) -> u8
     }
 }
 
-// How many requests were submitted behind a command, before which there were so many.
+// How many requests were submitted after a command, before which there were so many.
 fn submitted_after(before: usize, command: Command) -> usize
     requires { before + 1 < 2 ^ 64 }
     ensures { result ≡ count_after_command before command }

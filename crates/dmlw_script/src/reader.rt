@@ -22,7 +22,7 @@ const HEAD_LINES: usize = 2;
 pub enum Kind {
     /// One recorder, whose calls come in the order of the lines.
     Record,
-    /// Several seats. There are no such scripts yet: their texts are refused behind the head.
+    /// Several seats. There are no such scripts yet: their texts are refused after the head.
     Run,
 }
 
@@ -37,7 +37,7 @@ struct Reader {
 
 impl Reader {
     ghost use Rattle.dmlw_script.specs.inside.Drafts.{Follows};
-    ghost use Rattle.dmlw_script.specs.inside.Readers.{body_line, finish_step, line_step, progress_of, sentence_step, Finishes, IsReader};
+    ghost use Rattle.dmlw_script.specs.inside.Readers.{body_line, finish_step, line_step, progress_of, parsed_step, Finishes, IsReader};
     ghost use Rattle.dmlw_script.specs.Plans.{IsPlan};
 
     fn new(alloc: Global, kind: Kind) -> Reader
@@ -67,16 +67,16 @@ impl Reader {
             return Ok(());
         }
         let parsed = parse_line(line).ok_or(Refusal::BadLine)?;
-        self.read_sentence(parsed)
+        self.read_parsed(parsed)
     }
 
     // Reads the next line that isn't skipped.
-    fn read_sentence(&mut self, parsed: Line) -> Result<(), LineError>
+    fn read_parsed(&mut self, parsed: Line) -> Result<(), LineError>
         requires { IsReader self.old }
         ensures reader { OnOk result (IsReader self.new) }
         ensures kind { OnOk result (self.new.kind ≡ self.old.kind) }
         ensures step { Follows result (progress_of self.new)
-            (sentence_step self.old.kind self.old.data_sectors self.old.log_sectors (progress_of self.old) parsed) }
+            (parsed_step self.old.kind self.old.data_sectors self.old.log_sectors (progress_of self.old) parsed) }
     {
         match (self.data_sectors, self.log_sectors) {
             (None, _) => {
@@ -125,21 +125,21 @@ impl Reader {
     }
 }
 
-/// Reads a text, in time linear in its length; nothing is read behind a fault.
+/// Reads a text, in time linear in its length; nothing is read after a fault.
 ///
 /// A line is refused, in this order, as `BadLine` where it isn't of the grammar at its place (also
-/// in a comment, if a byte is zero or not ASCII; and behind the last line, where the head isn't
+/// in a comment, if a byte is zero or not ASCII; and after the last line, where the head isn't
 /// whole), as `BadId` where an id is submitted again or isn't open at its end, and as `NotWhole`,
 /// `TooLong` or `PastEnd` where `bio::check` refuses a write's sectors for the data disk. Want of
 /// memory is `Memory`, and names no line.
 pub fn read_script(alloc: Global, text: &[u8], kind: Kind) -> Result<Script, Fault>
-    // What is read is a recorder's script, and so spelled.
+    // What is read is a recorder's script, and this is a text of it.
     ensures found { IfOk result (λ script. (kind ≡ Kind.Record) × IsTextOf text.now script) }
-    // What is so spelled is read, unless memory runs out.
+    // A text of a script is read, unless memory runs out.
     ensures only { kind ≡ Kind.Record → (plan : Plan) → IsTextOf text.now plan → IsReadAs plan result }
-    // A fault is told with the first line at which no continuation is a script.
+    // A fault is reported with the first line at which no continuation is a script.
     ensures fault { IfErr result (λ fault. kind ≡ Kind.Record → IsFaultOf text.now fault fault.line) }
-    // A run's text is refused behind its head.
+    // A run's text is refused after its head.
     ensures run { IfErr result (λ fault. kind ≡ Kind.Run → IsRunFaultOf text.now fault fault.line) }
 {
     read(alloc, text, kind)
@@ -165,7 +165,7 @@ fn read(alloc: Global, text: &[u8], kind: Kind) -> Result<Script, Fault>
     }
 }
 
-// The next line and the text behind it, if there is a line.
+// The next line and the text after it, if there is a line.
 fn next_line(text: &[u8]) -> Option<(&[u8], &[u8])>
     ensures { MatchOption result (text.now ≡ []) (λ next.
         (lines_of text.now ≡ next.0.now ∷ lines_of next.1.now) × (length next.1.now < length text.now)) }

@@ -12,7 +12,7 @@ pub(crate) const NAME_BYTES: usize = 16;
 /// An id of a script: 1 to 16 of the characters `a` to `z` and `0` to `9`.
 #[derive(Clone, Copy, Debug, PartialEq, Eq, Hash)]
 pub struct ScriptId {
-    // The characters, and zeroes behind them.
+    // The characters, and zeroes after them.
     letters: [u8; NAME_BYTES],
 }
 
@@ -28,7 +28,7 @@ impl ScriptId {
         }
     }
 
-    // The characters, with zeroes behind them.
+    // The characters, with zeroes after them.
     fn padded(word: &[u8]) -> ScriptId
         requires { length word.now ≤ 16 }
         ensures { result ≡ script_id word.now }

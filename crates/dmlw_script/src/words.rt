@@ -4,7 +4,7 @@ ghost use Rattle.dmlw_script.specs.Words.{before_byte, after_byte, half_of, byte
 /// The most digits of a number.
 const NUMBER_DIGITS: usize = 20;
 
-/// The bytes before the first `mark`, and those behind it where it is there.
+/// The bytes before the first `mark`, and those after it where it is there.
 #[tactic(auto, using(crate::proofs::WordLemmas::front_by_place, crate::proofs::WordLemmas::behind_by_place))]
 pub(crate) fn cut(bytes: &[u8], mark: u8) -> (&[u8], Option<&[u8]>)
     ensures before_byte { result.0.now ≡ before_byte mark bytes.now }
@@ -38,7 +38,7 @@ pub(crate) fn number_of(word: &[u8]) -> Option<u64>
     Some(value)
 }
 
-// The number that a digit behind a number makes, if it is a digit and the number is below 2^64.
+// The number that a digit after a number makes, if it is a digit and the number is below 2^64.
 fn with_digit(number: u64, digit: u8) -> Option<u64>
     ensures { result ≡ with_digit number digit }
 {

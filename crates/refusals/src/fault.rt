@@ -5,7 +5,7 @@ use crate::refusal::Refusal;
 use std::error::Error;
 use std::fmt;
 
-/// What a user is told of: a refusal, and for a script the line that is at fault.
+/// What a user reads: a refusal, and for a script the line that is at fault.
 #[derive(Clone, Copy, Debug, PartialEq, Eq)]
 pub struct Fault {
     /// The line that is at fault, counted from 1; none where no line is to blame, as when memory ran out.

@@ -10,7 +10,7 @@ use Rattle.dmlw_script.specs.declared.command.Command.TheVariants as commands
 use Rattle.dmlw_script.specs.declared.draft.Draft.{Draft}
 use Rattle.dmlw_script.specs.declared.script_id.ScriptId.{ScriptId}
 use Rattle.dmlw_script.specs.declared.line.Line.{Line}
-use Rattle.dmlw_script.specs.declared.line.Line.TheVariants as sentences
+use Rattle.dmlw_script.specs.declared.line.Line.TheVariants as parsed_lines
 use Rattle.dmlw_script.specs.declared.line_error.LineError.{LineError}
 use Rattle.dmlw_script.specs.declared.line_error.LineError.TheVariants as line_errors
 use Rattle.dmlw_script.specs.Plans.{is_ended, request_of}
@@ -39,7 +39,7 @@ abbrev pub ◌>>=◌ : {A B : Type 0} → Result A Refusal → (A → Result B R
 (Ok x) >>= f = f x
 (Err refusal) >>= f = Err refusal
 
--- the next command, behind a body
+-- the next command, after a body
 abbrev pub with_command : Body → Command → Body
 with_command b command = record b { body = b.body ++ command ∷ [] }
 
@@ -48,7 +48,7 @@ abbrev pub named_next : Option ℕ → Body → ScriptId → Result Body Refusal
 named_next (Some request) b name = Err BadId
 named_next None b name = Ok (record b { names = b.names ++ name ∷ [] })
 
--- the next request's id, behind a body
+-- the next request's id, after a body
 abbrev pub with_name : Body → ScriptId → Result Body Refusal
 with_name b name = named_next (request_of name b.names) b name
 
@@ -66,19 +66,19 @@ abbrev pub ended_next : Option ℕ → Body → Result Body Refusal
 ended_next None b = Err BadId
 ended_next (Some request) b = if is_ended request b.body then Err BadId else Ok (with_command b (commands.Complete request))
 
--- the body behind one more line, for a data disk of so many sectors
+-- the body after one more line, for a data disk of so many sectors
 abbrev pub body_step : ℕ → Body → Line → Result Body Refusal
-body_step sectors b (sentences.Write name first count byte) = do
+body_step sectors b (parsed_lines.Write name first count byte) = do
   submitted ← with_name b name
   fine ← sectors_answer first count sectors
   Ok (with_command submitted (commands.Write first count byte))
-body_step sectors b (sentences.Flush name) = do
+body_step sectors b (parsed_lines.Flush name) = do
   submitted ← with_name b name
   Ok (with_command submitted commands.Flush)
-body_step sectors b (sentences.Complete name) = ended_next (request_of name b.names) b
-body_step sectors b sentences.Close = Ok (with_command b commands.Close)
-body_step sectors b (sentences.Data n) = Err BadLine
-body_step sectors b (sentences.Log n) = Err BadLine
+body_step sectors b (parsed_lines.Complete name) = ended_next (request_of name b.names) b
+body_step sectors b parsed_lines.Close = Ok (with_command b commands.Close)
+body_step sectors b (parsed_lines.Data n) = Err BadLine
+body_step sectors b (parsed_lines.Log n) = Err BadLine
 
 -- what a call answers that leaves this value, where a step says what it should come to
 abbrev pub Follows : {A : Type 0} → Result (Unit {0}) LineError → A → Result A Refusal → Type 0

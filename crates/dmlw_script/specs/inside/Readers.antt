@@ -50,7 +50,7 @@ abbrev pub with_log : Progress → Option ℕ → Result Progress Refusal
 with_log p None = Err BadLine
 with_log p (Some sectors) = Ok (record p { log_sectors = Some sectors })
 
--- the body behind one more line
+-- the body after one more line
 abbrev pub with_body : Progress → Result Body Refusal → Result Progress Refusal
 with_body p (Err refusal) = Err refusal
 with_body p (Ok body) = Ok (record p { body = body })
@@ -61,22 +61,22 @@ body_line kinds.Run sectors p parsed = Err BadLine
 body_line kinds.Record sectors p parsed = with_body p (body_step sectors p.body parsed)
 
 -- one more line that is none to skip: the first is the data disk's, the second the log disk's
-abbrev pub sentence_step : Kind → Option ℕ → Option ℕ → Progress → Line → Result Progress Refusal
-sentence_step kind None log p parsed = with_data p (data_size parsed)
-sentence_step kind (Some sectors) None p parsed = with_log p (log_size parsed)
-sentence_step kind (Some sectors) (Some log) p parsed = body_line kind sectors p parsed
+abbrev pub parsed_step : Kind → Option ℕ → Option ℕ → Progress → Line → Result Progress Refusal
+parsed_step kind None log p parsed = with_data p (data_size parsed)
+parsed_step kind (Some sectors) None p parsed = with_log p (log_size parsed)
+parsed_step kind (Some sectors) (Some log) p parsed = body_line kind sectors p parsed
 
 -- one more line that isn't skipped, which must say something
-abbrev pub heard : Kind → Progress → Option Line → Result Progress Refusal
-heard kind p None = Err BadLine
-heard kind p (Some parsed) = sentence_step kind p.data_sectors p.log_sectors p parsed
+abbrev pub step_if_parsed : Kind → Progress → Option Line → Result Progress Refusal
+step_if_parsed kind p None = Err BadLine
+step_if_parsed kind p (Some parsed) = parsed_step kind p.data_sectors p.log_sectors p parsed
 
 -- one more line
 abbrev pub line_step : Kind → Progress → List ℕ → Result Progress Refusal
 line_step kind p line =
     if not (is_ascii_line line) then Err BadLine
     else if is_skipped line then Ok p
-    else heard kind p (parse_line line)
+    else step_if_parsed kind p (parse_line line)
 
 -- the text ends here: both disks' lines stand before it, and a run's script isn't whole yet
 abbrev pub finished : Kind → Option ℕ → Option ℕ → Body → Result Plan Refusal
@@ -86,7 +86,7 @@ finished kinds.Record (Some data_sectors) None body = Err BadLine
 finished kinds.Record None log_size body = Err BadLine
 finished kinds.Run data_size log_size body = Err BadLine
 
--- the end of the text, behind what was read
+-- the end of the text, after what was read
 abbrev pub finish_step : Kind → Progress → Result Plan Refusal
 finish_step kind p = finished kind p.data_sectors p.log_sectors p.body
 
@@ -130,7 +130,7 @@ Finishes (Ok plan) step = step ≡ Ok plan
 Finishes (Err (line_errors.Refused refusal)) step = step ≡ Err refusal
 Finishes (Err line_errors.Memory) step = Unit {0}
 
--- the fault that a line's end of reading is told by
+-- the fault that a line's end of reading is shown by
 abbrev pub fault_of : ℕ → LineError → Fault
 fault_of line (line_errors.Refused refusal) = record { line = Some line; refusal = refusal }
 fault_of line line_errors.Memory = record { line = None; refusal = Memory }

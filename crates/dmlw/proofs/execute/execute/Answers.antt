@@ -4,9 +4,9 @@ use Rattle.dmlw.specs.declared.command_line.Task.TheVariants as tasks
 use Rattle.dmlw.specs.CommandLine.{Entered, Enters}
 use Rattle.dmlw.specs.Commands.{EndsUntasked, is_asked_for}
 use Rattle.dmlw.specs.Exits.{status_of}
-use Rattle.dmlw.specs.Lists.{ListsImage, TellsStatus}
+use Rattle.dmlw.specs.Lists.{ListsImage, ShowsStatus}
 use Rattle.dmlw.proofs.Endings.{recording_ends, records_all, refused_ends, showing_ends, unread_ends}
-use Rattle.dmlw.proofs.Listing.{lists_kept, tells_kept}
+use Rattle.dmlw.proofs.Listing.{lists_kept, status_kept}
 use Rattle.dmlw.proofs.PlainWords.{list_complete, list_enters, other_name, read_asks, record_complete, record_enters, same_some, status_complete, status_enters}
 use Rattle.dmlw.proofs.execute.execute.Goals.{in-Record, in-List, in-Status, in-Show}
 use Rattle.dmlw.proofs.execute.execute.Goals as goal
@@ -75,12 +75,12 @@ returns-clause-status g c = λ program log words_are plain.
       | in-Status w ↦
           let asked = read_asks _ (tasks.Status w.in-Status.log) entered w.in-Status.ensures enters complete in
           let status = c.status.ensures ∙ ap status_of (w.exit-is ∙ w.end-exit-in-Status.ensures.exit) in
-          rw (w.files-is, w.out-is) (showing_ends TellsStatus tells_kept (g.F.Files.contents c.args.files.now) _ log _ _ _ _ _ _ _
-          (same_some _ _ asked.1) w.status-told.ensures.shown w.end-exit-in-Status.ensures.kept w.status-told.ensures.unwritten status)
+          rw (w.files-is, w.out-is) (showing_ends ShowsStatus status_kept (g.F.Files.contents c.args.files.now) _ log _ _ _ _ _ _ _
+          (same_some _ _ asked.1) w.status-output.ensures.shown w.end-exit-in-Status.ensures.kept w.status-output.ensures.unwritten status)
       | in-Show w ↦
           let kind = read_asks _ (tasks.Show w.in-Show.text) entered w.in-Show.ensures enters complete in
           let refused = subst (λ (k : ErrorKind). EndsUntasked k w.show-exit.result) kind w.show-exit.ensures.ends in
-          rw (w.files-is, w.out-is) (unread_ends TellsStatus (g.F.Files.contents c.args.files.now log) _ _ _ _ _ refused (c.status.ensures ∙ ap status_of w.exit-is)
+          rw (w.files-is, w.out-is) (unread_ends ShowsStatus (g.F.Files.contents c.args.files.now log) _ _ _ _ _ refused (c.status.ensures ∙ ap status_of w.exit-is)
           (w.show-exit.ensures.silent (ap is_asked_for kind)))
     ]
 
@@ -105,8 +105,8 @@ returns-clause-does g c = elim c.match-read_words.branch [
       let status = c.status.ensures ∙ ap status_of (w.exit-is ∙ w.end-exit-in-Status.ensures.exit) in (
         tasks.Status w.in-Status.log,
         w.in-Status.ensures,
-        rw (w.files-is, w.out-is) (showing_ends TellsStatus tells_kept (g.F.Files.contents c.args.files.now) _ _ _ _ _ _ _ _ _
-            refl w.status-told.ensures.shown w.end-exit-in-Status.ensures.kept w.status-told.ensures.unwritten status),
+        rw (w.files-is, w.out-is) (showing_ends ShowsStatus status_kept (g.F.Files.contents c.args.files.now) _ _ _ _ _ _ _ _ _
+            refl w.status-output.ensures.shown w.end-exit-in-Status.ensures.kept w.status-output.ensures.unwritten status),
       )
   | in-Show w ↦ (
     tasks.Show w.in-Show.text,

@@ -1,7 +1,7 @@
 use Rattle.std.proofs.Common.{ℕ, List, refl, subst}
 use Rattle.dmlw_script.specs.Grammar.{IsTextOf}
 use Rattle.script_runner.specs.CallLaws.{on_error}
-use Rattle.dmlw.proofs.Failing.{fails_for_file, fails_for_output, fails_run, fails_unread, status_told}
+use Rattle.dmlw.proofs.Failing.{fails_for_file, fails_for_output, fails_run, fails_unread, status_printed}
 use Rattle.dmlw.proofs.record.run_file.Goals as goal
 
 pub returns-clause-log : goal.returns-clause-log
@@ -26,7 +26,7 @@ returns-clause-printed g c =
       made = c.in_ok-filled.ensures.made;
       image = c.in_ok-filled.ensures.log.image;
       run = run.1;
-      told = status_told (g.O.Write.contents c.args.out.now) (g.O.Write.contents c.run.new.out) (g.O.Write.contents c.writeln.new.self)
+      output = status_printed (g.O.Write.contents c.args.out.now) (g.O.Write.contents c.run.new.out) (g.O.Write.contents c.writeln.new.self)
           (g.O.Write.contents c.flush.new.self) run.0 c.in_ok-filled.filled.status _ run.2 c.in_ok-writeln.ensures.bytes c.in_ok-flush.ensures.bytes
           c.in_ok-filled.ensures.log.status;
     }

@@ -5,3 +5,4 @@ pub mod Requests
 pub mod Events
 pub mod Lawful
 pub mod EventLaws
+pub mod RequestLaws

@@ -1,3 +1,5 @@
+pub mod Moments
+pub mod Causes
 pub mod Refusals
 pub mod Texts
 pub mod Check

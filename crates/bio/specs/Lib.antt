@@ -1,3 +1,5 @@
+pub mod Moments
+pub mod Causes
 pub mod Refusals
 pub mod Texts
 pub mod Check
@@ -5,4 +7,5 @@ pub mod Requests
 pub mod Events
 pub mod Lawful
 pub mod EventLaws
+pub mod RequestLaws
 pub mod inside

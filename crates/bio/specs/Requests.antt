@@ -42,9 +42,10 @@ abbrev pub covers : Bio → ℕ → Bool
 covers bio sector =
     is_tracked bio && nat_le (first_sector bio) sector && nat_lt sector (first_sector bio + sector_count bio)
 
--- the ranges of two writes or discards meet: where each covers a sector, both put values in one
+-- two writes or discards meet: both put a value in some sector
 abbrev pub overlaps : Bio → Bio → Bool
 overlaps a b =
     is_tracked a && is_tracked b
+    && nat_lt 0 (sector_count a) && nat_lt 0 (sector_count b)
     && nat_lt (first_sector a) (first_sector b + sector_count b)
     && nat_lt (first_sector b) (first_sector a + sector_count a)

@@ -4,7 +4,7 @@
 //! requests is a list of `CoreEvent`s; an `Id` is the place of a request's submission, or of a mark,
 //! in that list. The definitions beside the code (`specs/`) say which sectors a request covers
 //! (`Requests`), where the requests of an event list end (`Events`), and which lists are lawful
-//! (`Lawful`).
+//! (`Lawful`). `laws` says in plain words what they come to.
 #![tactic(auto)]
 
 pub use bytes::Bytes;
@@ -17,6 +17,7 @@ pub use request::{BadBio, Bio, MAX_REQUEST_SECTORS, check};
 mod bytes;
 mod event;
 mod id;
+pub mod laws;
 mod ms;
 mod outcome;
 mod request;

@@ -1,4 +1,5 @@
 ghost use Rattle.std.specs.Prelude.{◌≡◌, ℕ};
+ghost use Rattle.bio.specs.Moments.{later_by};
 
 use std::marker::Model;
 
@@ -27,5 +28,14 @@ impl Ms {
         ensures { result ≡ self }
     {
         self.milliseconds
+    }
+
+    /// The moment that comes so much later, and 2^64 - 1 where that is past the last moment.
+    pub fn later_by(self, delay: Ms) -> Ms
+        ensures { result ≡ later_by self delay }
+    {
+        Ms {
+            milliseconds: self.milliseconds.saturating_add(delay.milliseconds),
+        }
     }
 }

@@ -1,4 +1,4 @@
-use Rattle.std.specs.Prelude.{◌≡◌, ℕ, ◌+◌, ◌-◌, ◌*◌, ◌/◌, ◌<◌, ◌&&◌, nat_le, nat_lt, Option, Some, None, unwrap_or, List, length, take, drop, replicate, ◌⊎◌, if◌then◌else◌}
+use Rattle.std.specs.Prelude.{◌≡◌, ℕ, ◌+◌, ◌-◌, ◌*◌, ◌/◌, ◌<◌, ◌≤◌, ◌&&◌, nat_le, nat_lt, Option, Some, None, unwrap_or, List, length, take, drop, replicate, ◌⊎◌, if◌then◌else◌}
 use Rattle.sectors.specs.Places.{collect}
 
 -- what a device has in each sector of 512 bytes
@@ -21,13 +21,29 @@ HasBytes content first bytes = (sector : ℕ) → sector < length bytes / 512 �
 abbrev pub AgreeBelow : ℕ → Content → Content → Type 0
 AgreeBelow end old new = (sector : ℕ) → sector < end → new sector ≡ old sector
 
+-- the contents are one from the first of these sectors to before the second
+abbrev pub AgreeWithin : ℕ → ℕ → Content → Content → Type 0
+AgreeWithin from to old new = (sector : ℕ) → from ≤ sector → sector < to → new sector ≡ old sector
+
+-- the content from a sector on, its sectors counted from 0
+abbrev pub moved : ℕ → Content → Content
+moved offset content sector = content (offset + sector)
+
 -- each sector of a disk has 512 bytes
-abbrev pub IsWhole : ℕ → Content → Type 0
-IsWhole disk content = (sector : ℕ) → sector < disk → length (content sector) ≡ 512
+abbrev pub HasWholeSectors : ℕ → Content → Type 0
+HasWholeSectors disk content = (sector : ℕ) → sector < disk → length (content sector) ≡ 512
 
 -- the values that a call has for some of the sectors
 abbrev pub Patch : Type 0
 Patch = ℕ → Option (List ℕ)
+
+-- the call has no values for the sectors below this one
+abbrev pub HasNoneBelow : ℕ → Patch → Type 0
+HasNoneBelow end patch = (sector : ℕ) → sector < end → patch sector ≡ None
+
+-- each value of a call has 512 bytes
+abbrev pub HasWholeValues : Patch → Type 0
+HasWholeValues patch = (sector : ℕ) (value : List ℕ) → patch sector ≡ Some value → length value ≡ 512
 
 -- the values for a range of sectors, the first of them counted as 0
 unfoldable pub over : ℕ → ℕ → (ℕ → List ℕ) → Patch

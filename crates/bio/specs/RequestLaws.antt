@@ -1,0 +1,190 @@
+-- What the words of requests and events come to in numbers.
+use Rattle.std.proofs.Common.{◌≡◌, ◌↔◌, ℕ, zero, suc, ◌+◌, ◌/◌, ◌%◌, ◌==◌, ◌<◌, ◌≤◌, ◌≢◌, Bool, true, false, not, ◌&&◌, Option, Some, None, List, [], ◌∷◌, length, get_or, Result, Ok, Err, refl, ap, sym, ◌∙◌, inl, inr, arith}
+use Rattle.std.proofs.lemmas.Bool.{and_parts, le-leb, le-ltb, leb-true, lt-ltb, ltb-true, ltb-false, cases_lt}
+use Rattle.std.specs.Prelude.{◌⊎◌, nat_le, nat_lt, if◌then◌else◌}
+use Rattle.bio.specs.declared.event.CoreEvent.{CoreEvent}
+use Rattle.bio.specs.declared.request.Bio.{Bio}
+use Rattle.bio.specs.declared.request.Bio.TheVariants.{Write, Flush, Discard, Read}
+use Rattle.bio.specs.declared.request.BadBio.{BadBio}
+use Rattle.bio.specs.declared.request.BadBio.TheVariants.{NotWhole, TooLong, PastEnd}
+use Rattle.bio.specs.Check.{check_answer, range_answer}
+use Rattle.bio.specs.EventLaws.{differ-eqb}
+use Rattle.bio.specs.Events.{end_of, is_before, is_below}
+use Rattle.bio.specs.Lawful.{is_text}
+use Rattle.bio.specs.Requests.{covers, first_sector, is_tracked, overlaps, sector_count}
+
+-- the tests of a request that covers a sector
+pub covers-parts : (bio : Bio) (sector : ℕ) → covers bio sector ≡ true
+    → (is_tracked bio ≡ true) × (first_sector bio ≤ sector) × (sector < first_sector bio + sector_count bio)
+covers-parts bio sector h =
+    let outer = and_parts (is_tracked bio && nat_le (first_sector bio) sector) (nat_lt sector (first_sector bio + sector_count bio)) h in
+    let inner = and_parts (is_tracked bio) (nat_le (first_sector bio) sector) outer.0 in
+    (inner.0, leb-true (first_sector bio) sector inner.1, ltb-true sector (first_sector bio + sector_count bio) outer.1)
+
+-- a request that is followed covers the sectors of its range
+pub covers-within : (bio : Bio) (sector : ℕ) → is_tracked bio ≡ true → first_sector bio ≤ sector → sector < first_sector bio + sector_count bio
+    → covers bio sector ≡ true
+covers-within bio sector tracked from to =
+    ap (λ b. b && nat_le (first_sector bio) sector && nat_lt sector (first_sector bio + sector_count bio)) tracked
+    ∙ ap (λ b. b && nat_lt sector (first_sector bio + sector_count bio)) (le-leb (first_sector bio) sector from)
+    ∙ lt-ltb sector (first_sector bio + sector_count bio) to
+
+-- it covers just these
+pub covers-range : (bio : Bio) (sector : ℕ) → is_tracked bio ≡ true
+    → (covers bio sector ≡ true) ↔ ((first_sector bio ≤ sector) × (sector < first_sector bio + sector_count bio))
+covers-range bio sector tracked = (
+  λ h. let parts = covers-parts bio sector h in (parts.1, parts.2),
+  λ both. covers-within bio sector tracked both.0 both.1,
+)
+
+-- the tests of two requests that overlap
+pub record Overlap (a b : Bio) : Type 0 where
+  pub first : is_tracked a ≡ true
+  pub second : is_tracked b ≡ true
+  pub some : 0 < sector_count a
+  pub others : 0 < sector_count b
+  pub below : first_sector a < first_sector b + sector_count b
+  pub above : first_sector b < first_sector a + sector_count a
+
+-- they hold
+pub overlaps-parts : (a b : Bio) → overlaps a b ≡ true → Overlap a b
+overlaps-parts a b h =
+    let both = is_tracked a && is_tracked b in
+    let some = both && nat_lt 0 (sector_count a) in
+    let others = some && nat_lt 0 (sector_count b) in
+    let below = others && nat_lt (first_sector a) (first_sector b + sector_count b) in
+    let h5 = and_parts below (nat_lt (first_sector b) (first_sector a + sector_count a)) h in
+    let h4 = and_parts others (nat_lt (first_sector a) (first_sector b + sector_count b)) h5.0 in
+    let h3 = and_parts some (nat_lt 0 (sector_count b)) h4.0 in
+    let h2 = and_parts both (nat_lt 0 (sector_count a)) h3.0 in
+    let h1 = and_parts (is_tracked a) (is_tracked b) h2.0 in
+    record {
+      first = h1.0;
+      second = h1.1;
+      some = ltb-true 0 (sector_count a) h2.1;
+      others = ltb-true 0 (sector_count b) h3.1;
+      below = ltb-true (first_sector a) (first_sector b + sector_count b) h4.1;
+      above = ltb-true (first_sector b) (first_sector a + sector_count a) h5.1;
+    }
+
+-- tests that hold are all that an overlap wants
+six_hold : (a b c d e f : Bool) → a ≡ true → b ≡ true → c ≡ true → d ≡ true → e ≡ true → f ≡ true → (a && b && c && d && e && f) ≡ true
+six_hold true true true true true true ha hb hc hd he hf = refl
+six_hold a b c d e false ha hb hc hd he hf = cc
+six_hold a b c d false f ha hb hc hd he hf = cc
+six_hold a b c false e f ha hb hc hd he hf = cc
+six_hold a b false d e f ha hb hc hd he hf = cc
+six_hold a false c d e f ha hb hc hd he hf = cc
+six_hold false b c d e f ha hb hc hd he hf = cc
+
+-- the greater of two numbers is one of them
+greater : (m n : ℕ) → (top : ℕ) × (m ≤ top) × (n ≤ top) × ((top ≡ m) ⊎ (top ≡ n))
+greater m n = elim (cases_lt m n) [
+  | inl below ↦ (n, omega arith, omega arith, inr refl)
+  | inr above ↦ (m, omega arith, omega arith, inl refl)
+]
+
+-- two requests overlap just where both cover some sector
+pub overlaps-common : (a b : Bio) → (overlaps a b ≡ true) ↔ ((sector : ℕ) × (covers a sector ≡ true) × (covers b sector ≡ true))
+overlaps-common a b = (
+  λ h.
+      let parts = overlaps-parts a b h in
+      let top = greater (first_sector a) (first_sector b) in
+      let some = parts.some in
+      let others = parts.others in
+      let below = parts.below in
+      let above = parts.above in
+      let within : (top.0 < first_sector a + sector_count a) × (top.0 < first_sector b + sector_count b) =
+      elim top.3 [ inl is ↦ (omega arith, omega arith) | inr is ↦ (omega arith, omega arith) ] in (
+        top.0,
+        covers-within a top.0 parts.first top.1 within.0,
+        covers-within b top.0 parts.second top.2 within.1,
+      ),
+  λ common.
+      let of_a = covers-parts a common.0 common.1 in
+      let of_b = covers-parts b common.0 common.2 in
+      six_hold
+      (is_tracked a)
+      (is_tracked b)
+      (nat_lt 0 (sector_count a))
+      (nat_lt 0 (sector_count b))
+      (nat_lt (first_sector a) (first_sector b + sector_count b))
+      (nat_lt (first_sector b) (first_sector a + sector_count a))
+      of_a.0
+      of_b.0
+      (lt-ltb 0 (sector_count a) (omega arith))
+      (lt-ltb 0 (sector_count b) (omega arith))
+      (lt-ltb (first_sector a) (first_sector b + sector_count b) (omega arith))
+      (lt-ltb (first_sector b) (first_sector a + sector_count a) (omega arith)),
+)
+
+-- a place that was found is below another one just where it is less
+pub is_below-found : (found : Option ℕ) (limit : ℕ) → (is_below found limit ≡ true) ↔ ((place : ℕ) × (found ≡ Some place) × (place < limit))
+is_below-found None limit = (λ h. let none : false ≡ true = h in cc, λ some. let is = some.1 in cc)
+is_below-found (Some place) limit = (
+  λ h. (place, refl, ltb-true place limit h),
+  λ some. let same : place ≡ some.0 = let is = some.1 in cc in let less = some.2 in lt-ltb place limit (omega arith),
+)
+
+-- one request ended before the other was submitted just where it has an end at an earlier place
+pub is_before-end : (events : List CoreEvent) (earlier later : ℕ)
+    → (is_before events earlier later ≡ true) ↔ ((end : ℕ) × (end_of events earlier ≡ Some end) × (end < later))
+is_before-end events earlier later = is_below-found (end_of events earlier) later
+
+-- a byte passes the test of a text just where it isn't zero
+nonzero : (byte : ℕ) → (not (byte == 0) ≡ true) ↔ (byte ≢ 0)
+nonzero zero = (λ h. let none : false ≡ true = h in cc, λ differ. absurd (differ refl))
+nonzero (suc byte) = (λ h e. omega arith, λ differ. ap not (differ-eqb (suc byte) 0 differ))
+
+-- a text has no zero byte
+pub is_text-nonzero : (text : List ℕ) → (is_text text ≡ true) ↔ ((k : ℕ) → k < length text → get_or text k 0 ≢ 0)
+is_text-nonzero [] = (λ h k less. absurd (omega arith), λ each. refl)
+is_text-nonzero (byte ∷ text) = (
+  λ h.
+      let parts = and_parts (not (byte == 0)) (is_text text) h in
+      each_of byte text ((nonzero byte).0 parts.0) ((is_text-nonzero text).0 parts.1),
+  λ each.
+      ap (λ b. b && is_text text) ((nonzero byte).1 (each 0 (omega arith)))
+      ∙ (is_text-nonzero text).1 (λ k less. each (suc k) (omega arith)),
+)
+  where
+    each_of : (byte : ℕ) (text : List ℕ) → byte ≢ 0 → ((k : ℕ) → k < length text → get_or text k 0 ≢ 0)
+        → (k : ℕ) → k < length (byte ∷ text) → get_or (byte ∷ text) k 0 ≢ 0
+    each_of byte text here others zero less = here
+    each_of byte text here others (suc k) less = others k (omega arith)
+
+-- the answer of a range, by its three tests
+range_of_tests : Bool → Bool → Bool → Result (Unit {0}) BadBio
+range_of_tests none long past = if none then Err NotWhole else if long then Err TooLong else if past then Err PastEnd else Ok tt
+
+-- where the answer is Ok, the range isn't past the end
+not_past : (none long past : Bool) → range_of_tests none long past ≡ Ok tt → past ≡ false
+unfolding range_of_tests
+not_past true long past e = cc
+not_past false true past e = cc
+not_past false false true e = cc
+not_past false false false e = refl
+
+-- a range that may be sent to a device may be sent to a larger one
+range_answer-larger : (first count n m : ℕ) → range_answer first count n ≡ Ok tt → n ≤ m → range_answer first count m ≡ Ok tt
+unfolding range_of_tests
+range_answer-larger first count n m passed more =
+    let within = not_past (count == 0) (nat_lt 2048 count) (nat_lt n (first + count)) passed in
+    let reach : first + count ≤ n = ltb-false n (first + count) within in
+    ap (range_of_tests (count == 0) (nat_lt 2048 count)) (le-ltb m (first + count) (omega arith))
+    ∙ sym (ap (range_of_tests (count == 0) (nat_lt 2048 count)) within)
+    ∙ passed
+
+-- and so is a write, whose data are whole sectors for both or for none
+write_answer-larger : (whole : Bool) (first count n m : ℕ) → (if whole then range_answer first count n else Err NotWhole) ≡ Ok tt → n ≤ m
+    → (if whole then range_answer first count m else Err NotWhole) ≡ Ok tt
+write_answer-larger true first count n m passed more = range_answer-larger first count n m passed more
+write_answer-larger false first count n m passed more = passed
+
+-- a request that may be sent to a device may be sent to a larger one
+pub check_answer-larger : (bio : Bio) (n m : ℕ) → check_answer bio n ≡ Ok tt → n ≤ m → check_answer bio m ≡ Ok tt
+check_answer-larger (Write first bytes flush fua meta) n m passed more =
+    write_answer-larger (length bytes % 512 == 0) first (length bytes / 512) n m passed more
+check_answer-larger Flush n m passed more = refl
+check_answer-larger (Discard first count) n m passed more = range_answer-larger first count n m passed more
+check_answer-larger (Read first count) n m passed more = range_answer-larger first count n m passed more

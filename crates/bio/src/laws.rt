@@ -1,0 +1,51 @@
+ghost use Rattle.std.specs.Prelude.{◌≡◌, ◌≢◌, ◌↔◌, ◌+◌, ◌/◌, ◌<◌, ◌≤◌, Bool, EachIndex, IsTrue, List, Ok, Some, false, length, slice_index, ℕ};
+ghost use Rattle.bio.specs.declared.event.CoreEvent.{CoreEvent};
+ghost use Rattle.bio.specs.declared.request.Bio.{Bio};
+ghost use Rattle.bio.specs.declared.request.Bio.TheVariants.{Write, Flush, Discard, Read};
+ghost use Rattle.bio.specs.Check.{check_answer};
+ghost use Rattle.bio.specs.Events.{end_of, is_before};
+ghost use Rattle.bio.specs.Lawful.{is_text};
+ghost use Rattle.bio.specs.Requests.{covers, overlaps};
+
+use crate::MAX_REQUEST_SECTORS;
+
+/// The most sectors of a request: 2,048.
+pub fn limits()
+    ensures { MAX_REQUEST_SECTORS ≡ 2048 }
+{}
+
+/// A write covers the sectors from its first on, as many as its bytes are whole sectors, and a discard as
+/// many as it counts. A read and a flush cover none.
+pub fn sectors_are_covered()
+    ensures write { (first : ℕ) (bytes : List ℕ) (flush fua meta : Bool) (sector : ℕ) →
+        IsTrue (covers (Write first bytes flush fua meta) sector)
+        ↔ ((first ≤ sector) × (sector < first + length bytes / 512)) }
+    ensures discard { (first count sector : ℕ) →
+        IsTrue (covers (Discard first count) sector) ↔ ((first ≤ sector) × (sector < first + count)) }
+    ensures read { (first count sector : ℕ) → covers (Read first count) sector ≡ false }
+    ensures flush { (sector : ℕ) → covers Flush sector ≡ false }
+{}
+
+/// Two requests overlap just where both cover some sector.
+pub fn overlaps_are_common_sectors()
+    ensures { (a b : Bio) → IsTrue (overlaps a b)
+        ↔ ((sector : ℕ) × IsTrue (covers a sector) × IsTrue (covers b sector)) }
+{}
+
+/// A request is before a later one just where it has an end, at a place below the later one's.
+pub fn ends_come_before()
+    ensures { (events : List CoreEvent) (earlier later : ℕ) → IsTrue (is_before events earlier later)
+        ↔ ((end : ℕ) × (end_of events earlier ≡ Some end) × (end < later)) }
+{}
+
+/// A text has no zero byte.
+pub fn texts_have_no_zero()
+    ensures { (text : List ℕ) →
+        IsTrue (is_text text) ↔ EachIndex text (λ k. slice_index text k ≢ 0) }
+{}
+
+/// A request that may be sent to a device may be sent to each larger one.
+pub fn larger_devices_take_more()
+    ensures { (bio : Bio) (sectors more : ℕ) → check_answer bio sectors ≡ Ok tt → sectors ≤ more →
+        check_answer bio more ≡ Ok tt }
+{}

@@ -1,14 +1,15 @@
 -- Event lists of logs that are known, and their completion lists by computation: each entry with the place of its submission.
-use Rattle.std.specs.Prelude.{◌≡◌, ℕ, true, false, List, [], ◌∷◌, replicate, refl, Some}
+use Rattle.std.specs.Prelude.{◌≡◌, ℕ, true, false, List, [], ◌∷◌, map, replicate, Some}
+use Rattle.std.proofs.Common.{refl, ap}
 use Rattle.bio.specs.declared.event.CoreEvent.{CoreEvent}
 use Rattle.bio.specs.declared.event.CoreEvent.TheVariants.{Submit, Complete, Mark, Stop, Close}
 use Rattle.bio.specs.declared.outcome.End.TheVariants.{Full}
 use Rattle.bio.specs.declared.request.Bio.{Bio}
 use Rattle.bio.specs.declared.request.Bio.TheVariants.{Write, Flush, Discard}
 use Rattle.bio.specs.Lawful.{is_lawful}
-use Rattle.log_format.specs.Entries.{entry_of, mark_entry, end_mark}
+use Rattle.log_format.specs.Entries.{entry_of, mark_entry, end_mark, no_flags}
 use Rattle.pending.specs.QueueEvent.{recorded, queue_event}
-use Rattle.pending.specs.CompletionList.{completion_list}
+use Rattle.pending.specs.CompletionList.{dm_log_writes, completion_list}
 
 -- a write of one sector of a byte
 abbrev write : ℕ → ℕ → Bio
@@ -21,15 +22,15 @@ abbrev plain_flush : List CoreEvent
 plain_flush = Submit (write 5 65) ∷ Complete 0 true ∷ Submit Flush ∷ Complete 2 true ∷ Close ∷ []
 
 -- a write that ended before a flush was submitted is queued at the flush's end
-pub plain_flush-list : completion_list recorded plain_flush
-    ≡ (0, entry_of (write 5 65)) ∷ (2, entry_of Flush) ∷ (4, end_mark) ∷ []
+pub plain_flush-list : completion_list (dm_log_writes 512) plain_flush
+    ≡ (0, entry_of 512 (write 5 65)) ∷ (2, entry_of 512 Flush) ∷ (4, end_mark) ∷ []
 plain_flush-list = refl
 
 pub plain_flush-lawful : is_lawful 16 plain_flush ≡ true
 plain_flush-lawful = refl
 
 -- a close alone queues the end mark
-pub close_alone-list : completion_list recorded (Close ∷ []) ≡ (0, end_mark) ∷ []
+pub close_alone-list : completion_list (dm_log_writes 512) (Close ∷ []) ≡ (0, end_mark) ∷ []
 close_alone-list = refl
 
 abbrev splice_order : List CoreEvent
@@ -37,9 +38,9 @@ splice_order =
     Submit (write 10 17) ∷ Submit (write 20 34) ∷ Submit (write 30 51) ∷ Complete 2 true ∷ Complete 1 true ∷ Submit Flush
     ∷ Complete 0 true ∷ Complete 5 true ∷ Close ∷ []
 
--- what ended before the flush's submission goes with it, in the order of the ends; what ended behind it waits for the Close
-pub splice_order-list : completion_list recorded splice_order
-    ≡ (2, entry_of (write 30 51)) ∷ (1, entry_of (write 20 34)) ∷ (5, entry_of Flush) ∷ (0, entry_of (write 10 17)) ∷ (8, end_mark) ∷ []
+-- what ended before the flush's submission goes with it, in the order of the ends; what ended after it waits for the Close
+pub splice_order-list : completion_list (dm_log_writes 512) splice_order
+    ≡ (2, entry_of 512 (write 30 51)) ∷ (1, entry_of 512 (write 20 34)) ∷ (5, entry_of 512 Flush) ∷ (0, entry_of 512 (write 10 17)) ∷ (8, end_mark) ∷ []
 splice_order-list = refl
 
 pub splice_order-lawful : is_lawful 64 splice_order ≡ true
@@ -50,8 +51,8 @@ fua_overtakes =
     Submit (write 5 97) ∷ Complete 0 true ∷ Submit (fua_write 5 98) ∷ Complete 2 true ∷ Submit Flush ∷ Complete 4 true ∷ Close ∷ []
 
 -- a FUA write is queued at its own end, before an earlier plain write
-pub fua_overtakes-list : completion_list recorded fua_overtakes
-    ≡ (2, entry_of (fua_write 5 98)) ∷ (0, entry_of (write 5 97)) ∷ (4, entry_of Flush) ∷ (6, end_mark) ∷ []
+pub fua_overtakes-list : completion_list (dm_log_writes 512) fua_overtakes
+    ≡ (2, entry_of 512 (fua_write 5 98)) ∷ (0, entry_of 512 (write 5 97)) ∷ (4, entry_of 512 Flush) ∷ (6, end_mark) ∷ []
 fua_overtakes-list = refl
 
 abbrev flush_overtakes : List CoreEvent
@@ -59,9 +60,9 @@ flush_overtakes =
     Submit (write 5 97) ∷ Complete 0 true ∷ Submit Flush ∷ Submit Flush ∷ Complete 3 true ∷ Submit (fua_write 9 99) ∷ Complete 5 true
     ∷ Complete 2 true ∷ Close ∷ []
 
--- the write goes with the first flush, which ends behind the second
-pub flush_overtakes-list : completion_list recorded flush_overtakes
-    ≡ (3, entry_of Flush) ∷ (5, entry_of (fua_write 9 99)) ∷ (0, entry_of (write 5 97)) ∷ (2, entry_of Flush) ∷ (8, end_mark) ∷ []
+-- the write goes with the first flush, which ends after the second
+pub flush_overtakes-list : completion_list (dm_log_writes 512) flush_overtakes
+    ≡ (3, entry_of 512 Flush) ∷ (5, entry_of 512 (fua_write 9 99)) ∷ (0, entry_of 512 (write 5 97)) ∷ (2, entry_of 512 Flush) ∷ (8, end_mark) ∷ []
 flush_overtakes-list = refl
 
 pub flush_overtakes-event : queue_event recorded flush_overtakes 0 ≡ Some 7
@@ -72,19 +73,65 @@ discard_zeroes =
     Submit (write 1 127) ∷ Complete 0 true ∷ Submit (Discard 1 1) ∷ Complete 2 true ∷ Submit Flush ∷ Complete 4 true ∷ Close ∷ []
 
 -- a discard waits like a plain write
-pub discard_zeroes-list : completion_list recorded discard_zeroes
-    ≡ (0, entry_of (write 1 127)) ∷ (2, entry_of (Discard 1 1)) ∷ (4, entry_of Flush) ∷ (6, end_mark) ∷ []
+pub discard_zeroes-list : completion_list (dm_log_writes 512) discard_zeroes
+    ≡ (0, entry_of 512 (write 1 127)) ∷ (2, entry_of 512 (Discard 1 1)) ∷ (4, entry_of 512 Flush) ∷ (6, end_mark) ∷ []
 discard_zeroes-list = refl
 
 abbrev marked : List CoreEvent
 marked = Submit (write 5 65) ∷ Complete 0 true ∷ Mark (104 ∷ 101 ∷ 114 ∷ 101 ∷ []) ∷ Close ∷ []
 
 -- a mark waits for nothing
-pub marked-list : completion_list recorded marked
-    ≡ (2, mark_entry 512 (104 ∷ 101 ∷ 114 ∷ 101 ∷ [])) ∷ (0, entry_of (write 5 65)) ∷ (3, end_mark) ∷ []
+pub marked-list : completion_list (dm_log_writes 512) marked
+    ≡ (2, mark_entry 512 (104 ∷ 101 ∷ 114 ∷ 101 ∷ [])) ∷ (0, entry_of 512 (write 5 65)) ∷ (3, end_mark) ∷ []
 marked-list = refl
 
 -- nothing is queued from a Stop on
-pub stopped-list : completion_list recorded (Submit (fua_write 5 65) ∷ Submit Flush ∷ Complete 0 false ∷ Stop Full ∷ Complete 1 true ∷ Close ∷ [])
-    ≡ (0, entry_of (fua_write 5 65)) ∷ []
+pub stopped-list : completion_list (dm_log_writes 512) (Submit (fua_write 5 65) ∷ Submit Flush ∷ Complete 0 false ∷ Stop Full ∷ Complete 1 true ∷ Close ∷ [])
+    ≡ (0, entry_of 512 (fua_write 5 65)) ∷ []
 stopped-list = refl
+
+abbrev large_sectors : List CoreEvent
+large_sectors = Submit (Write 8 (replicate 4096 65) false true false) ∷ Complete 0 true ∷ Submit (Discard 16 24) ∷ Complete 2 true ∷ Close ∷ []
+
+-- in a log with sectors of 4096 bytes eight sectors of 512 bytes are one
+pub large_sectors-list : completion_list (dm_log_writes 4096) large_sectors
+    ≡ (0, record { sector = 1; nr_sectors = 1; flags = record no_flags { fua = true }; body = replicate 4096 65 })
+    ∷ (2, record { sector = 2; nr_sectors = 3; flags = record no_flags { discard = true }; body = [] })
+    ∷ (4, end_mark)
+    ∷ []
+large_sectors-list = refl
+
+-- and this isn't its list in a log with sectors of 512 bytes
+pub large_sectors-differ : completion_list (dm_log_writes 512) large_sectors ≡ completion_list (dm_log_writes 4096) large_sectors → ⊥
+large_sectors-differ same = let sectors = ap (λ items. map (λ item. item.1.sector) items) same in cc
+
+-- two writes that end before one flush
+abbrev ends_in_order : List CoreEvent
+ends_in_order =
+    Submit (write 1 65) ∷ Submit (write 2 66) ∷ Complete 0 true ∷ Complete 1 true ∷ Submit Flush ∷ Complete 4 true ∷ Close ∷ []
+
+abbrev ends_crossed : List CoreEvent
+ends_crossed =
+    Submit (write 1 65) ∷ Submit (write 2 66) ∷ Complete 1 true ∷ Complete 0 true ∷ Submit Flush ∷ Complete 4 true ∷ Close ∷ []
+
+-- the places of a completion list's items
+abbrev places : List CoreEvent → List ℕ
+places events = map (λ item. item.0) (completion_list (dm_log_writes 512) events)
+
+-- which of them ended first makes a difference
+pub crossed-differ : completion_list (dm_log_writes 512) ends_in_order ≡ completion_list (dm_log_writes 512) ends_crossed → ⊥
+crossed-differ same = let order : places ends_in_order ≡ places ends_crossed = ap (map (λ item. item.0)) same in cc
+
+-- without the flush the FUA write overtakes them
+abbrev no_flush : List CoreEvent
+no_flush = Submit (write 1 65) ∷ Complete 0 true ∷ Submit (fua_write 2 66) ∷ Complete 2 true ∷ Close ∷ []
+
+abbrev with_flush : List CoreEvent
+with_flush =
+    Submit (write 1 65) ∷ Complete 0 true ∷ Submit Flush ∷ Complete 2 true ∷ Submit (fua_write 2 66) ∷ Complete 4 true ∷ Close ∷ []
+
+pub no_flush-places : places no_flush ≡ 2 ∷ 0 ∷ 4 ∷ []
+no_flush-places = refl
+
+pub with_flush-places : places with_flush ≡ 0 ∷ 2 ∷ 4 ∷ 6 ∷ []
+with_flush-places = refl

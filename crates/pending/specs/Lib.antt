@@ -6,7 +6,6 @@ pub use Rattle.log_format.specs.Entries
 pub mod QueueEvent
 pub mod CompletionList
 pub mod Results
-pub mod Waiting
 pub mod CoreState
 pub mod Refusals
 pub mod inside

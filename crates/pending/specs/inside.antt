@@ -1,4 +1,5 @@
 pub mod Slots
+pub mod Waiting
 pub mod Steps
 pub mod Represents
 pub mod CoreInvariant

@@ -242,13 +242,13 @@ fn recording_goes_on_after_a_take(rt: HostRuntime) -> Result<(), Fail> {
     core.submit(&write(alloc, 7, 67, false)?)?;
     core.submit(&Bio::Discard { first: 8, count: 1 })?;
     core.submit(&Bio::Flush)?;
-    for (pending_at, want) in [
+    for (ended, want) in [
         (6, [].as_slice()),
         (5, [].as_slice()),
         (7, [7].as_slice()),
         (4, [2, 4].as_slice()),
     ] {
-        end(&mut core, pending_at, true);
+        end(&mut core, ended, true);
         assert_eq!(rt; taken(alloc, &mut core)?.as_slice(), want, "after {ended}");
     }
     assert_eq!(rt; core.close(), Ok(()));

@@ -18,9 +18,8 @@ use Rattle.dmlw_script.specs.declared.command.Command.{Command}
 use Rattle.dmlw_script.specs.declared.command.Command.TheVariants.{Write, Flush, Complete, Close}
 use Rattle.dmlw_script.specs.Plans.{IsWellFormed, IsPlan, CanFollow, Plan, is_disk_size, is_submission}
 use Rattle.bio.specs.Check.{range_answer}
-use Rattle.pending.specs.CompletionList.{Item, completion_list}
+use Rattle.pending.specs.CompletionList.{Item, dm_log_writes, completion_list}
 use Rattle.pending.specs.CoreState.{CoreState, added_to, closed_by, items_of, records}
-use Rattle.pending.specs.QueueEvent.{recorded}
 use Rattle.script_runner.specs.declared.fill.Filled.{Filled}
 use Rattle.script_runner.specs.declared.recording.Recording.{Recording}
 use Rattle.script_runner.specs.declared.recording.Request.{Request}
@@ -243,10 +242,10 @@ closes_here front rest =
     or_true false = refl
 
 -- the core has been closed: it has the script's entries to give
-pub closed : (script front : List Command) (core new : CoreState) (requests : List Request)
+pub closed : (script front : List Command) (core new : CoreState) (requests : List Request) → core.sector_bytes ≡ 512
     → IsRecording script front core requests → GoesOn script front Close → new ≡ closed_by core
     → entries_left new ≡ entries_of script
-closed script front core new requests is goes news =
+closed script front core new requests size is goes news =
     let unclosed : has_no_close core.events ≡ true =
     (and_parts (has_no_stop core.events) (has_no_close core.events) is.going).1 in
     let state : new ≡ added_to core events.Close =
@@ -260,16 +259,18 @@ closed script front core new requests is goes news =
     let closes : has_close script ≡ true = ap has_close goes.1 ∙ closes_here front goes.0 in
     let untaken : new.taken ≡ 0 = ap (λ (s : CoreState). s.taken) state ∙ is.untaken in
     let unstopped : new.stopped ≡ false = ap (λ (s : CoreState). s.stopped) state ∙ is.unstopped in
+    let sector_bytes : new.sector_bytes ≡ 512 = ap (λ (s : CoreState). s.sector_bytes) state ∙ size in
     ap (λ (b : Bool). if b then [] else drop new.taken (map (λ (i : Item). i.1) (items_of new))) unstopped
     ∙ ap (λ (n : ℕ). drop n (map (λ (i : Item). i.1) (items_of new))) untaken
-    ∙ ap (λ (es : List CoreEvent). map (λ (i : Item). i.1) (completion_list recorded es)) same
-    ∙ ap (λ (b : Bool). if b then map (λ (i : Item). i.1) (completion_list recorded (events_of script)) else []) (sym closes)
+    ∙ ap (λ (n : ℕ). map (λ (i : Item). i.1) (completion_list (dm_log_writes n) new.events)) sector_bytes
+    ∙ ap (λ (es : List CoreEvent). map (λ (i : Item). i.1) (completion_list (dm_log_writes 512) es)) same
+    ∙ ap (λ (b : Bool). if b then map (λ (i : Item). i.1) (completion_list (dm_log_writes 512) (events_of script)) else []) (sym closes)
 
 -- a script that was run and isn't closed has no entries
 pub ended : (script : List Command) (core : CoreState) (requests : List Request) → IsRecording script script core requests
     → entries_of script ≡ []
 ended script core requests is =
-    ap (λ (b : Bool). if b then map (λ (i : Item). i.1) (completion_list recorded (events_of script)) else []) is.unclosed
+    ap (λ (b : Bool). if b then map (λ (i : Item). i.1) (completion_list (dm_log_writes 512) (events_of script)) else []) is.unclosed
 
 -- the log is made of a script that isn't closed
 pub made_open : (sectors : ℕ) (script : List Command) (core : CoreState) (requests : List Request) → IsRecording script script core requests

@@ -9,8 +9,7 @@ use Rattle.dmlw_script.specs.declared.command.Command.{Command}
 use Rattle.dmlw_script.specs.declared.command.Command.TheVariants.{Write, Flush, Complete, Close}
 use Rattle.dmlw_script.specs.Plans.{is_ended, is_submission, submissions}
 use Rattle.log_format.specs.declared.entry.Entry.{Entry}
-use Rattle.pending.specs.CompletionList.{completion_list}
-use Rattle.pending.specs.QueueEvent.{recorded}
+use Rattle.pending.specs.CompletionList.{dm_log_writes, completion_list}
 
 -- a write passes the test of its sectors, for the largest disk
 abbrev pub IsWithin : Command → Type 0
@@ -63,9 +62,9 @@ event_of ids Close = events.Close
 abbrev pub events_of : List Command → List CoreEvent
 events_of body = map (event_of (ids_of body)) (until_close body)
 
--- the entries of a script's log: those of the completion list of its events, and none where it isn't closed
+-- the entries of a script's log, whose sectors have 512 bytes: those of the completion list of its events, and none where it isn't closed
 abbrev pub entries_of : List Command → List Entry
-entries_of body = if has_close body then map (λ item. item.1) (completion_list recorded (events_of body)) else []
+entries_of body = if has_close body then map (λ item. item.1) (completion_list (dm_log_writes 512) (events_of body)) else []
 
 -- a request that these commands submit, before any of those that failed, hasn't ended by them
 abbrev pub HasOpen : List ℕ → List Command → Type 0

@@ -110,6 +110,7 @@ struct Recording {
     // The log, once recording is closed.
     filled: Option<Filled>,
     ghost lawful: { IsTrue (is_lawful 1048576 core.events) },
+    ghost size: { core.sector_bytes ≡ 512 },
     ghost least: { 1 ≤ log_sectors },
     ghost most: { log_sectors ≤ 1048576 },
 }

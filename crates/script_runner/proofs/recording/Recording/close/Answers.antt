@@ -19,7 +19,7 @@ returns-in_ok-fill_log-clause-stands c = λ script front goes run follows traces
     let self = c.args.self.now in
     let none : is_none self.filled ≡ true = search rules in
     let recording = unfilled script front self.log_sectors self.is_short self.core self.requests.items self.filled run none c.if-self.false in
-    let entries = closed script front self.core c.close.new.self self.requests.items recording goes c.in_ok-close.ensures.ok in
+    let entries = closed script front self.core c.close.new.self self.requests.items c.args.self.now.size recording goes c.in_ok-close.ensures.ok in
     let at : IsAtClose script front self.core self.requests.items self.is_short self.filled =
     record { goes = goes; follows = follows; traces = traces; numbered = numbered; unfilled = none } in
     record {
@@ -72,7 +72,7 @@ returns-in_err-fill_log-clause-faults c = λ script front goes run follows trace
     let at : IsAtClose script front self.core self.requests.items self.is_short self.filled =
     record { goes = goes; follows = follows; traces = traces; numbered = numbered; unfilled = none } in
     let recording = unfilled script front self.log_sectors self.is_short self.core self.requests.items self.filled run none c.if-self.false in
-    let entries = closed script front self.core c.close.new.self self.requests.items recording goes c.in_ok-close.ensures.ok in
+    let entries = closed script front self.core c.close.new.self self.requests.items c.args.self.now.size recording goes c.in_ok-close.ensures.ok in
     let quiet = close_taken script front self.core self.requests.items self.is_short self.filled at
     (λ open_one. cc (c.in_ok-close.ensures.busy.1 open_one)) in
     let end = c.in_err-fill_log.field-0.0 in

@@ -1,4 +1,4 @@
-ghost use Rattle.std.specs.Prelude.{◌≡◌, ◌++◌, ◌∷◌, ◌<◌, ◌≤◌, [], IfErr, IfOk, IsOk, IsTrue, List, None, OnOk, Option, Some, false, is_none, length, slice_get, true, ℕ};
+ghost use Rattle.std.specs.Prelude.{◌≡◌, ◌++◌, ◌∷◌, ◌<◌, ◌≤◌, [], IfErr, IfOk, IsOk, IsTrue, List, None, OnOk, Option, Some, false, is_none, length, slice_get, true, ℕ, ◌*◌, replicate};
 ghost use Rattle.std.specs.Io.KnownBytes.{Appends};
 ghost use Rattle.std.specs.IoError.{error_kind};
 ghost use Rattle.std.specs.List.{AllByRecursion};
@@ -193,12 +193,12 @@ impl Recording {
             OnOk result (Traces (front ++ Command.Write first count byte ∷ []) self.new) }
         ensures log { self.new.log_sectors ≡ self.old.log_sectors }
     {
-        let Ok(bytes) = vec![in self.alloc; byte; usize::from(count) * SECTOR] else {
+        let Ok(bytes) = sectors_of(self.alloc, count, byte) else {
             return self.fail(names, out);
         };
         let write = Bio::Write {
             first: u64::from(first),
-            bytes: Bytes::from_vec(bytes),
+            bytes,
             flush: false,
             fua: false,
             meta: false,
@@ -366,6 +366,14 @@ impl Recording {
             None => empty_log(alloc, log_sectors),
         }
     }
+}
+
+// So many sectors of a byte, which lie in memory once however many hold them.
+fn sectors_of(alloc: Global, count: u16, byte: u8) -> Result<Bytes, AllocError>
+    ensures { IfOk result (λ bytes. bytes ≡ replicate (count * 512) byte) }
+{
+    let bytes = vec![in alloc; byte; usize::from(count) * SECTOR]?;
+    Bytes::from_vec(bytes).into_shared()
 }
 
 // What became of the request of this number, if it was submitted.

@@ -40,7 +40,7 @@ where_not_ok (Err e) fails holds = holds
 
 -- what the core follows
 
--- a request that hasn't ended behind one more command hadn't ended before it
+-- a request that hasn't ended after one more command hadn't ended before it
 unended : (number : ℕ) (front : List Command) (command : Command) → is_ended number (front ++ command ∷ []) ≡ false
     → (is_ended number front ≡ false) × (is_end_of number command ≡ false)
 unended number front command none =
@@ -328,10 +328,10 @@ ended_here front core new requests is_short filled request id has here news =
     differs a b unlike same = grind (arith, nat_tests, unlike, same)
 
 -- a core whose log was filled
-pub filled_behind : (front : List Command) (closed_core new : CoreState) (requests : List Request) (is_short : Bool) (made : Option Filled)
+pub filled_after : (front : List Command) (closed_core new : CoreState) (requests : List Request) (is_short : Bool) (made : Option Filled)
     → IsFollowing front closed_core.events requests is_short made → new.events ≡ closed_core.events
     → IsFollowing front new.events requests is_short made
-filled_behind front closed_core new requests is_short made has same =
+filled_after front closed_core new requests is_short made has same =
     subst (λ (es : List CoreEvent). IsFollowing front es requests is_short made) (sym same) has
 
 -- a core that was closed records no submission

@@ -45,23 +45,23 @@ submitted_append place (Complete request ∷ front) rest =
 submitted_append place (Close ∷ front) rest =
     submitted_append (place + 1) front rest ∙ ap (λ (n : ℕ). submitted_from (place + 1) front ++ submitted_from n rest) (omega arith)
 
--- the ids of commands and of those behind them
-ids_behind : (front rest : List Command) → ids_of (front ++ rest) ≡ ids_of front ++ submitted_from (length front) rest
-ids_behind front rest =
+-- the ids of commands and of those after them
+ids_after : (front rest : List Command) → ids_of (front ++ rest) ≡ ids_of front ++ submitted_from (length front) rest
+ids_after front rest =
     submitted_append 0 front rest
     ∙ ap (λ (n : ℕ). ids_of front ++ submitted_from n rest) (let same : 0 + length front ≡ length front = omega arith in same)
 
--- the ids behind a command that submits a request
+-- the ids after a command that submits a request
 ids_submitted : (front : List Command) (command : Command) → is_submission command ≡ true
     → ids_of (front ++ command ∷ []) ≡ ids_of front ++ length front ∷ []
 ids_submitted front command submits =
-    ids_behind front (command ∷ [])
+    ids_after front (command ∷ [])
     ∙ ap (λ (b : Bool). ids_of front ++ (if b then length front ∷ [] else [])) submits
 
--- the ids behind another command
+-- the ids after another command
 ids_kept : (front : List Command) (command : Command) → is_submission command ≡ false → ids_of (front ++ command ∷ []) ≡ ids_of front
 ids_kept front command submits =
-    ids_behind front (command ∷ [])
+    ids_after front (command ∷ [])
     ∙ ap (λ (b : Bool). ids_of front ++ (if b then length front ∷ [] else [])) submits
     ∙ append-nil (ids_of front)
 
@@ -69,11 +69,11 @@ ids_kept front command submits =
 id_stays : (front rest : List Command) (request id : ℕ) → slice_get (ids_of front) request ≡ Some id
     → slice_index (ids_of (front ++ rest)) request ≡ id
 id_stays front rest request id here =
-    let behind = submitted_from (length front) rest in
-    let still : slice_get (ids_of front ++ behind) request ≡ Some id =
-    slice_get-append_front (ids_of front) behind request (slice_get_within (ids_of front) request id here) ∙ here in
-    ap (λ (ids : List ℕ). slice_index ids request) (ids_behind front rest)
-    ∙ get_or_from_slice_get (ids_of front ++ behind) request id 0 still
+    let later = submitted_from (length front) rest in
+    let still : slice_get (ids_of front ++ later) request ≡ Some id =
+    slice_get-append_front (ids_of front) later request (slice_get_within (ids_of front) request id here) ∙ here in
+    ap (λ (ids : List ℕ). slice_index ids request) (ids_after front rest)
+    ∙ get_or_from_slice_get (ids_of front ++ later) request id 0 still
 
 -- what a submission records
 
@@ -204,7 +204,7 @@ told script front sectors is_short core requests (Some log) request other run he
 told script front sectors is_short core requests None request other run here differs = λ unshort.
     absurd (all_tracked (ids_of front) requests request other (run unshort).ids here differs)
 
--- the commands up to the first Close, where it stands behind these
+-- the commands up to the first Close, where it stands after these
 until_here : (front rest : List Command) → has_close front ≡ false → until_close (front ++ Close ∷ rest) ≡ front ++ Close ∷ []
 until_here [] rest none = refl
 until_here (command ∷ front) rest none =
@@ -212,7 +212,7 @@ until_here (command ∷ front) rest none =
     ap (λ (b : Bool). command ∷ (if b then [] else until_close (front ++ Close ∷ rest))) parts.0
     ∙ ap (λ (body : List Command). command ∷ body) (until_here front rest parts.1)
 
--- the commands before the first Close, where it stands behind these
+-- the commands before the first Close, where it stands after these
 before_here : (front rest : List Command) → has_close front ≡ false → before_close (front ++ Close ∷ rest) ≡ front
 before_here [] rest none = refl
 before_here (command ∷ front) rest none =

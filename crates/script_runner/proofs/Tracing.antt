@@ -298,7 +298,7 @@ traced_submitted front command core new requests after filled bio answer request
           (λ none same. short none passes))
     ])
 
--- before there is a log, a request that isn't recorded comes behind one that found no memory
+-- before there is a log, a request that isn't recorded comes after one that found no memory
 pub passes_short : (script front : List Command) (sectors : ℕ) (is_short : Bool) (core : CoreState) (requests : List Request)
     (filled : Option Filled) (bio : Bio) → HasRun script front sectors is_short core requests filled
     → IsFollowing front core.events requests is_short filled → is_none filled ≡ true → records core bio ≡ false

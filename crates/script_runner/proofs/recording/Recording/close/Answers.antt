@@ -8,7 +8,7 @@ use Rattle.script_runner.specs.inside.Recordings.{failed_from}
 use Rattle.script_runner.specs.RunFaults.{no_memory}
 use Rattle.script_runner.specs.CallLaws.{on_error}
 use Rattle.script_runner.proofs.Closing.{IsAtClose, close_refused, close_taken, closed_quietly, fill_ended, logging_ended, none_failed, unfilled_unless}
-use Rattle.script_runner.proofs.Following.{closing, filled_behind}
+use Rattle.script_runner.proofs.Following.{closing, filled_after}
 use Rattle.script_runner.proofs.Running.{closed, unfilled}
 use Rattle.script_runner.proofs.Telling.{told_closed, told_first_close}
 use Rattle.script_runner.proofs.Tracing.{traced_close, traced_filled}
@@ -84,7 +84,7 @@ returns-in_err-fill_log-clause-faults c = λ script front goes run follows trace
 
 pub returns-in_ok-fill_log-clause-follows : goal.returns-in_ok-fill_log-clause-follows
 returns-in_ok-fill_log-clause-follows c = λ front has.
-    filled_behind (front ++ Close ∷ []) c.close.new.self c.fill_log.new.core c.args.self.now.requests.items c.args.self.now.is_short _
+    filled_after (front ++ Close ∷ []) c.close.new.self c.fill_log.new.core c.args.self.now.requests.items c.args.self.now.is_short _
     (closing front c.args.self.now.core c.close.new.self c.args.self.now.requests.items c.args.self.now.is_short
     c.args.self.now.filled _ has c.in_ok-close.ensures.ok refl) c.in_ok-fill_log.ensures.events
 

@@ -1,9 +1,10 @@
-use Rattle.std.proofs.Common.{◌≡◌, ◌∙◌, ℕ, zero, suc, ◌+◌, ◌<◌, ◌≤◌, Bool, true, false, ◌||◌, Option, Some, None, is_none, option_map, List, [], ◌∷◌, ◌++◌, length, drop, map, take, slice_index, slice_index_or, add-one, ap, arith, sym, refl, subst, if◌then◌else◌, Result, Ok, Err, OnOk}
+use Rattle.std.proofs.Common.{◌≡◌, ◌∙◌, ℕ, zero, suc, ◌+◌, ◌<◌, ◌≤◌, Bool, true, false, not, ◌&&◌, ◌||◌, Option, Some, None, is_none, option_map, List, [], ◌∷◌, ◌++◌, length, drop, map, take, slice_index, slice_index_or, add-one, ap, arith, sym, refl, subst, if◌then◌else◌, Result, Ok, Err, OnOk}
 use Rattle.std.specs.List.{list_any, slice_get}
 use Rattle.std.proofs.Math.Seq.{take-suc}
 use Rattle.std.proofs.lemmas.List.{append-nil, length-map, map-append, take_all}
 use Rattle.std.proofs.lemmas.List.Folds.{list_any-append}
 use Rattle.std.proofs.lemmas.Option.{get_or_from_slice_get, slice_get-get_or, slice_get-map, slice_get_within}
+use Rattle.std.proofs.Math.Bool.{or-true}
 use Rattle.std.proofs.lemmas.Bool.{and_parts, or_parts}
 use Rattle.bio.specs.declared.event.CoreEvent.{CoreEvent}
 use Rattle.bio.specs.declared.event.CoreEvent.TheVariants as events
@@ -19,6 +20,7 @@ use Rattle.dmlw_script.specs.declared.command.Command.TheVariants.{Write, Flush,
 use Rattle.dmlw_script.specs.Plans.{IsWellFormed, IsPlan, CanFollow, Plan, is_disk_size, is_submission}
 use Rattle.bio.specs.Check.{range_answer}
 use Rattle.pending.specs.CompletionList.{Item, dm_log_writes, completion_list}
+use Rattle.pending.specs.GrowthLaws.{none-grown}
 use Rattle.pending.specs.CoreState.{CoreState, added_to, closed_by, items_of, records}
 use Rattle.script_runner.specs.declared.fill.Filled.{Filled}
 use Rattle.script_runner.specs.declared.recording.Recording.{Recording}
@@ -98,9 +100,7 @@ submits_tracked ids Close bio same = absurd (cc same)
 still_none : (test : Option CoreEvent → Bool) (es : List CoreEvent) (event : CoreEvent)
     → is_none (first_place test es) ≡ true → test (Some event) ≡ false → is_none (first_place test (es ++ event ∷ [])) ≡ true
 still_none test es event none fails =
-    ap is_none (first_place-snoc test es event
-    ∙ ap (λ (found : Option ℕ). or_here found (test (Some event)) (length es)) (is_none-none (first_place test es) none)
-    ∙ ap (λ (here : Bool). or_here None here (length es)) fails)
+    none-grown test es event ∙ ap (λ (b : Bool). b && not (test (Some event))) none ∙ ap not fails
 
 -- a recording goes on with an event that doesn't end it
 still_recording : (es : List CoreEvent) (event : CoreEvent) → is_recording es ≡ true
@@ -235,11 +235,7 @@ before_first script front goes none = ap before_close goes.1 ∙ before_here fro
 -- a script with a Close is closed
 pub closes_here : (front rest : List Command) → has_close (front ++ Close ∷ rest) ≡ true
 closes_here front rest =
-    list_any-append ends front (Close ∷ rest) ∙ or_true (list_any ends front)
-  where
-    or_true : (a : Bool) → (a || true) ≡ true
-    or_true true = refl
-    or_true false = refl
+    list_any-append ends front (Close ∷ rest) ∙ or-true (list_any ends front)
 
 -- the core has been closed: it has the script's entries to give
 pub closed : (script front : List Command) (core new : CoreState) (requests : List Request) → core.sector_bytes ≡ 512

@@ -1,4 +1,5 @@
 use Rattle.std.proofs.Common.{[], ◌∷◌, ◌++◌, ◌≡◌, ◌∙◌, Err, List, ap, is_none, refl, rules, subst, sym, true}
+use Rattle.std.proofs.lemmas.Bool.{true_from_ne_false}
 use Rattle.bio.specs.declared.outcome.End.TheVariants.{Memory}
 use Rattle.dmlw_script.specs.declared.command.Command.TheVariants.{Close}
 use Rattle.log_format.specs.declared.entry.Entry.{Entry}
@@ -7,7 +8,7 @@ use Rattle.script_runner.specs.Recorded.{ids_of}
 use Rattle.script_runner.specs.inside.Recordings.{failed_from}
 use Rattle.script_runner.specs.RunFaults.{no_memory}
 use Rattle.script_runner.specs.CallLaws.{on_error}
-use Rattle.script_runner.proofs.Closing.{IsAtClose, close_refused, close_taken, closed_quietly, fill_ended, logging_ended, none_failed, unfilled_unless}
+use Rattle.script_runner.proofs.Closing.{IsAtClose, close_refused, close_taken, closed_quietly, fill_ended, logging_ended, none_failed}
 use Rattle.script_runner.proofs.Following.{closing, filled_after}
 use Rattle.script_runner.proofs.Running.{closed, unfilled}
 use Rattle.script_runner.proofs.Telling.{told_closed, told_first_close}
@@ -52,7 +53,7 @@ returns-in_err-close-clause-faults c = λ script front goes run follows traces n
       follows = follows;
       traces = traces;
       numbered = numbered;
-      unfilled = unfilled_unless self.filled (λ there. cc (c.in_err-close.ensures.again (follows.closed there)));
+      unfilled = true_from_ne_false (is_none self.filled) (λ there. cc (c.in_err-close.ensures.again (follows.closed there)));
     })
     (λ same. c.in_err-close.ensures.busy.0 (ap Err same)) (λ one_open. cc (c.in_err-close.ensures.busy.1 one_open)) is)
 

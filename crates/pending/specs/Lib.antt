@@ -7,5 +7,6 @@ pub mod QueueEvent
 pub mod CompletionList
 pub mod Results
 pub mod CoreState
+pub mod GrowthLaws
 pub mod Refusals
 pub mod inside

@@ -9,6 +9,7 @@ use Rattle.dmlw_script.specs.Plans.{submissions}
 use Rattle.dmlw_script.specs.declared.command.Command.{Command}
 use Rattle.dmlw_script.specs.declared.command.Command.TheVariants.{Close}
 use Rattle.log_format.specs.declared.entry.Entry.{Entry}
+use Rattle.std.proofs.lemmas.Bool.{true_from_ne_false}
 use Rattle.pending.specs.CoreState.{CoreState}
 use Rattle.pending.specs.declared.recording.CloseError.{CloseError}
 use Rattle.pending.specs.declared.recording.CloseError.TheVariants as close_errors
@@ -36,18 +37,6 @@ pub record IsAtClose (script front : List Command) (core : CoreState) (requests 
   pub numbered : length requests ≡ submissions front
   pub unfilled : is_none filled ≡ true
 
--- a core of which no request is found open is quiet
-quiet_unless : (events_now : List CoreEvent) → (none_open events_now ≡ false → ⊥) → none_open events_now ≡ true
-quiet_unless events_now closed = elim (bool_cases (none_open events_now)) [
-  | inl none_open_now ↦ none_open_now
-  | inr one_open ↦ absurd (closed one_open)
-]
-
--- there is no log unless there is one
-pub unfilled_unless : (filled : Option Filled) → (is_none filled ≡ false → ⊥) → is_none filled ≡ true
-unfilled_unless None there = refl
-unfilled_unless (Some log) there = absurd (there refl)
-
 -- where memory was never short, no request failed
 pub none_failed : (requests : List Request) (is_short : Bool) → ((number : ℕ) → slice_get requests number ≡ Some Failed → is_short ≡ true)
     → is_short ≡ false → failed_from 0 requests ≡ []
@@ -69,7 +58,7 @@ close_refused script front sectors core requests is_short filled close_errors.Bu
       cause = busy (has_open front core.events requests filled at.traces at.numbered (opened refl));
     })
 close_refused script front sectors core requests is_short filled close_errors.Memory stop at opened opens is =
-    let quiet = quiet_unless core.events (λ one_open. cc (opens one_open)) in
+    let quiet = true_from_ne_false (none_open core.events) (λ one_open. cc (opens one_open)) in
     subst (StopsAtClose sectors script front (failed_from 0 requests)) (sym is) (record {
       first = at.follows.unclosed at.unfilled;
       cause = unclosed (none_is_open front core.events requests is_short filled at.follows at.traces at.unfilled at.numbered quiet);
@@ -80,7 +69,7 @@ pub close_taken : (script front : List Command) (core : CoreState) (requests : L
     → IsAtClose script front core requests is_short filled → (none_open core.events ≡ false → ⊥)
     → ClosesQuietly (failed_from 0 requests) script
 close_taken script front core requests is_short filled at taken closes opened =
-    none_is_open front core.events requests is_short filled at.follows at.traces at.unfilled at.numbered (quiet_unless core.events taken)
+    none_is_open front core.events requests is_short filled at.follows at.traces at.unfilled at.numbered (true_from_ne_false (none_open core.events) taken)
     (subst (HasOpen (failed_from 0 requests)) (before_first script front at.goes (at.follows.unclosed at.unfilled)) opened)
 
 -- the same where memory was never short

@@ -1,6 +1,7 @@
-use Rattle.std.proofs.Common.{◌≡◌, ◌∙◌, ℕ, ◌<◌, ◌==◌, Bool, true, false, ◌||◌, ◌&&◌, ◌⊎◌, Option, Some, None, is_none, inl, inr, List, [], ◌∷◌, ◌++◌, length, nat_lt, ap, arith, sym, refl, subst, if◌then◌else◌, Result, Ok, Err, IfErr, OnErr}
+use Rattle.std.proofs.Common.{◌≡◌, ◌∙◌, ℕ, ◌<◌, ◌==◌, Bool, true, false, not, ◌||◌, ◌&&◌, ◌⊎◌, Option, Some, None, is_none, inl, inr, List, [], ◌∷◌, ◌++◌, length, nat_lt, ap, arith, sym, refl, subst, if◌then◌else◌, Result, Ok, Err, IfErr, OnErr}
 use Rattle.std.specs.List.{slice_get}
-use Rattle.std.proofs.lemmas.Bool.{cases_lt, and_parts, or_parts}
+use Rattle.std.proofs.lemmas.Bool.{cases_lt, and_parts, or_parts, eqb-false}
+use Rattle.std.proofs.Math.Bool.{and-false}
 use Rattle.std.proofs.lemmas.Bool.Decides.{nat_tests}
 use Rattle.std.proofs.lemmas.List.Folds.{list_any-append}
 use Rattle.std.proofs.lemmas.Option.{slice_get_within}
@@ -17,6 +18,7 @@ use Rattle.bio.specs.Requests.{is_tracked}
 use Rattle.dmlw_script.specs.Plans.{is_end_of, is_ended, is_submission}
 use Rattle.dmlw_script.specs.declared.command.Command.{Command}
 use Rattle.dmlw_script.specs.declared.command.Command.TheVariants.{Write, Flush, Complete, Close}
+use Rattle.pending.specs.GrowthLaws.{none-grown, open-grown, open-submitted}
 use Rattle.pending.specs.CoreState.{CoreState, added_to, closed_by, records, stopped_by}
 use Rattle.pending.specs.declared.recording.Submitted.{Submitted}
 use Rattle.pending.specs.declared.recording.Submitted.TheVariants as submits
@@ -40,7 +42,7 @@ where_not_ok (Err e) fails holds = holds
 
 -- what the core follows
 
--- a request that hasn't ended behind one more command hadn't ended before it
+-- a request that hasn't ended after one more command hadn't ended before it
 unended : (number : ℕ) (front : List Command) (command : Command) → is_ended number (front ++ command ∷ []) ≡ false
     → (is_ended number front ≡ false) × (is_end_of number command ≡ false)
 unended number front command none =
@@ -52,56 +54,18 @@ unended number front command none =
 longer : {A : Type 0} (xs : List A) (x : A) (place : ℕ) → place < length xs → place < length (xs ++ x ∷ [])
 longer xs x place less = let more = length-snoc xs x in omega (arith, less, more)
 
--- no event is found where none was, and none is here
-nothing_here : (b : Bool) (place : ℕ) → or_here None (b && false) place ≡ None
-nothing_here true place = refl
-nothing_here false place = refl
-
 -- an open request stays open with one more event that isn't its end
 still_open : (es : List CoreEvent) (event : CoreEvent) (id : ℕ) → is_open_at es id ≡ true → ends_at id (Some event) ≡ false
     → is_open_at (es ++ event ∷ []) id ≡ true
 still_open es event id opened other =
-    let there = is_open_at-open es id opened in
-    open-is_open_at (es ++ event ∷ []) id (record {
-      bio = there.bio;
-      submitted = slice_get-append_front es (event ∷ []) id there.within ∙ there.submitted;
-      tracked = there.tracked;
-      within = longer es event id there.within;
-      endless = first_place_after-snoc (ends_at id) es event id
-          ∙ ap (λ (found : Option ℕ). or_here found (nat_lt id (length es) && ends_at id (Some event)) (length es)) there.endless
-          ∙ ap (λ (b : Bool). or_here None (nat_lt id (length es) && b) (length es)) other
-          ∙ nothing_here (nat_lt id (length es)) (length es);
-    })
-
--- a number that is less isn't greater
-not_above : (a b : ℕ) → a < b → nat_lt b a ≡ false
-not_above a b less = grind (arith, nat_tests, less)
-
--- a request that was just submitted is open
-just_open : (es : List CoreEvent) (bio : Bio) → is_tracked bio ≡ true → is_open_at (es ++ events.Submit bio ∷ []) (length es) ≡ true
-just_open es bio tracked =
-    let before : end_of es (length es) ≡ None =
-    none_first_below (λ k. nat_lt (length es) k && ends_at (length es) (slice_get es k)) (length es)
-    (λ k less. ap (λ (b : Bool). b && ends_at (length es) (slice_get es k)) (not_above k (length es) less)) in
-    open-is_open_at (es ++ events.Submit bio ∷ []) (length es) (record {
-      bio = bio;
-      submitted = slice_get-append_here es (events.Submit bio) [];
-      tracked = tracked;
-      within = let more = length-snoc es (events.Submit bio) in omega (arith, more);
-      endless = first_place_after-snoc (ends_at (length es)) es (events.Submit bio) (length es)
-          ∙ ap (λ (found : Option ℕ). or_here found (nat_lt (length es) (length es) && false) (length es)) before
-          ∙ nothing_here (nat_lt (length es) (length es)) (length es);
-    })
+    open-grown es event id (is_open_at-open es id opened).within
+    ∙ ap (λ (b : Bool). b && not (ends_at id (Some event))) opened
+    ∙ ap not other
 
 -- what was found is found in one more event too
 still_some : (test : Option CoreEvent → Bool) (es : List CoreEvent) (event : CoreEvent) → is_none (first_place test es) ≡ false
     → is_none (first_place test (es ++ event ∷ [])) ≡ false
-still_some test es event found =
-    ap is_none (first_place-snoc test es event) ∙ kept (first_place test es) (test (Some event)) found
-  where
-    kept : (o : Option ℕ) (here : Bool) → is_none o ≡ false → is_none (or_here o here (length es)) ≡ false
-    kept None here some = absurd (cc some)
-    kept (Some place) here some = refl
+still_some test es event found = none-grown test es event ∙ ap (λ (b : Bool). b && not (test (Some event))) found
 
 -- the core goes on with an event that ends no request
 grown : (front : List Command) (es : List CoreEvent) (event : CoreEvent) (requests : List Request) (is_short : Bool) (filled : Option Filled)
@@ -171,12 +135,8 @@ closing front core new requests is_short filled made has news there =
         × (has_no_close (if b then added_to core events.Close else core).events ≡ false)
     by_case true none = (
       grown front core.events events.Close requests is_short filled has (λ id. refl),
-      ap is_none (first_place-snoc is_close core.events events.Close) ∙ now_some (first_place is_close core.events),
+      none-grown is_close core.events events.Close ∙ and-false (has_no_close core.events),
     )
-      where
-        now_some : (o : Option ℕ) → is_none (or_here o true (length core.events)) ≡ false
-        now_some None = refl
-        now_some (Some place) = refl
     by_case false some = (has, some)
 
 -- a request of a list with one more is one of the list, or the one
@@ -300,7 +260,7 @@ followed front command core new requests after is_short filled bio answer reques
     fresh_here es submission known follows below = record {
       within = let more_events = length-snoc es (events.Submit submission) in omega (arith, more_events);
       fresh = λ number found. let less = below number found in omega (arith, less);
-      going = just_open es submission follows;
+      going = open-submitted es submission follows;
     }
 
 -- a request has ended
@@ -316,22 +276,19 @@ ended_here front core new requests is_short filled request id has here news =
       going = λ number other found goes.
           let parts = unended number front (Complete request) goes in
           still_open core.events (events.Complete id true) other (has.going number other found parts.0)
-          (differ-eqb id other (λ same. differs request number parts.1
+          (differ-eqb id other (λ same. eqb-false request number parts.1
           (has.single request number id here (found ∙ ap (λ (i : ℕ). Some (Tracked i)) (sym same)))));
       short = has.short;
       failing = has.failing;
       closed = λ made. still_some is_close core.events (events.Complete id true) (has.closed made);
       unclosed = λ none. still_unclosed front (Complete request) refl (has.unclosed none);
     })
-  where
-    differs : (a b : ℕ) → a == b ≡ false → a ≡ b → ⊥
-    differs a b unlike same = grind (arith, nat_tests, unlike, same)
 
 -- a core whose log was filled
-pub filled_behind : (front : List Command) (closed_core new : CoreState) (requests : List Request) (is_short : Bool) (made : Option Filled)
+pub filled_after : (front : List Command) (closed_core new : CoreState) (requests : List Request) (is_short : Bool) (made : Option Filled)
     → IsFollowing front closed_core.events requests is_short made → new.events ≡ closed_core.events
     → IsFollowing front new.events requests is_short made
-filled_behind front closed_core new requests is_short made has same =
+filled_after front closed_core new requests is_short made has same =
     subst (λ (es : List CoreEvent). IsFollowing front es requests is_short made) (sym same) has
 
 -- a core that was closed records no submission

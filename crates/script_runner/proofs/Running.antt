@@ -1,9 +1,10 @@
-use Rattle.std.proofs.Common.{◌≡◌, ◌∙◌, ℕ, zero, suc, ◌+◌, ◌<◌, ◌≤◌, Bool, true, false, ◌||◌, Option, Some, None, is_none, option_map, List, [], ◌∷◌, ◌++◌, length, drop, map, take, slice_index, slice_index_or, add-one, ap, arith, sym, refl, subst, if◌then◌else◌, Result, Ok, Err, OnOk}
+use Rattle.std.proofs.Common.{◌≡◌, ◌∙◌, ℕ, zero, suc, ◌+◌, ◌<◌, ◌≤◌, Bool, true, false, not, ◌&&◌, ◌||◌, Option, Some, None, is_none, option_map, List, [], ◌∷◌, ◌++◌, length, drop, map, take, slice_index, slice_index_or, add-one, ap, arith, sym, refl, subst, if◌then◌else◌, Result, Ok, Err, OnOk}
 use Rattle.std.specs.List.{list_any, slice_get}
 use Rattle.std.proofs.Math.Seq.{take-suc}
 use Rattle.std.proofs.lemmas.List.{append-nil, length-map, map-append, take_all}
 use Rattle.std.proofs.lemmas.List.Folds.{list_any-append}
 use Rattle.std.proofs.lemmas.Option.{get_or_from_slice_get, slice_get-get_or, slice_get-map, slice_get_within}
+use Rattle.std.proofs.Math.Bool.{or-true}
 use Rattle.std.proofs.lemmas.Bool.{and_parts, or_parts}
 use Rattle.bio.specs.declared.event.CoreEvent.{CoreEvent}
 use Rattle.bio.specs.declared.event.CoreEvent.TheVariants as events
@@ -19,6 +20,7 @@ use Rattle.dmlw_script.specs.declared.command.Command.TheVariants.{Write, Flush,
 use Rattle.dmlw_script.specs.Plans.{IsWellFormed, IsPlan, CanFollow, Plan, is_disk_size, is_submission}
 use Rattle.bio.specs.Check.{range_answer}
 use Rattle.pending.specs.CompletionList.{Item, dm_log_writes, completion_list}
+use Rattle.pending.specs.GrowthLaws.{none-grown}
 use Rattle.pending.specs.CoreState.{CoreState, added_to, closed_by, items_of, records}
 use Rattle.script_runner.specs.declared.fill.Filled.{Filled}
 use Rattle.script_runner.specs.declared.recording.Recording.{Recording}
@@ -45,23 +47,23 @@ submitted_append place (Complete request ∷ front) rest =
 submitted_append place (Close ∷ front) rest =
     submitted_append (place + 1) front rest ∙ ap (λ (n : ℕ). submitted_from (place + 1) front ++ submitted_from n rest) (omega arith)
 
--- the ids of commands and of those behind them
-ids_behind : (front rest : List Command) → ids_of (front ++ rest) ≡ ids_of front ++ submitted_from (length front) rest
-ids_behind front rest =
+-- the ids of commands and of those after them
+ids_after : (front rest : List Command) → ids_of (front ++ rest) ≡ ids_of front ++ submitted_from (length front) rest
+ids_after front rest =
     submitted_append 0 front rest
     ∙ ap (λ (n : ℕ). ids_of front ++ submitted_from n rest) (let same : 0 + length front ≡ length front = omega arith in same)
 
--- the ids behind a command that submits a request
+-- the ids after a command that submits a request
 ids_submitted : (front : List Command) (command : Command) → is_submission command ≡ true
     → ids_of (front ++ command ∷ []) ≡ ids_of front ++ length front ∷ []
 ids_submitted front command submits =
-    ids_behind front (command ∷ [])
+    ids_after front (command ∷ [])
     ∙ ap (λ (b : Bool). ids_of front ++ (if b then length front ∷ [] else [])) submits
 
--- the ids behind another command
+-- the ids after another command
 ids_kept : (front : List Command) (command : Command) → is_submission command ≡ false → ids_of (front ++ command ∷ []) ≡ ids_of front
 ids_kept front command submits =
-    ids_behind front (command ∷ [])
+    ids_after front (command ∷ [])
     ∙ ap (λ (b : Bool). ids_of front ++ (if b then length front ∷ [] else [])) submits
     ∙ append-nil (ids_of front)
 
@@ -69,11 +71,11 @@ ids_kept front command submits =
 id_stays : (front rest : List Command) (request id : ℕ) → slice_get (ids_of front) request ≡ Some id
     → slice_index (ids_of (front ++ rest)) request ≡ id
 id_stays front rest request id here =
-    let behind = submitted_from (length front) rest in
-    let still : slice_get (ids_of front ++ behind) request ≡ Some id =
-    slice_get-append_front (ids_of front) behind request (slice_get_within (ids_of front) request id here) ∙ here in
-    ap (λ (ids : List ℕ). slice_index ids request) (ids_behind front rest)
-    ∙ get_or_from_slice_get (ids_of front ++ behind) request id 0 still
+    let later = submitted_from (length front) rest in
+    let still : slice_get (ids_of front ++ later) request ≡ Some id =
+    slice_get-append_front (ids_of front) later request (slice_get_within (ids_of front) request id here) ∙ here in
+    ap (λ (ids : List ℕ). slice_index ids request) (ids_after front rest)
+    ∙ get_or_from_slice_get (ids_of front ++ later) request id 0 still
 
 -- what a submission records
 
@@ -98,9 +100,7 @@ submits_tracked ids Close bio same = absurd (cc same)
 still_none : (test : Option CoreEvent → Bool) (es : List CoreEvent) (event : CoreEvent)
     → is_none (first_place test es) ≡ true → test (Some event) ≡ false → is_none (first_place test (es ++ event ∷ [])) ≡ true
 still_none test es event none fails =
-    ap is_none (first_place-snoc test es event
-    ∙ ap (λ (found : Option ℕ). or_here found (test (Some event)) (length es)) (is_none-none (first_place test es) none)
-    ∙ ap (λ (here : Bool). or_here None here (length es)) fails)
+    none-grown test es event ∙ ap (λ (b : Bool). b && not (test (Some event))) none ∙ ap not fails
 
 -- a recording goes on with an event that doesn't end it
 still_recording : (es : List CoreEvent) (event : CoreEvent) → is_recording es ≡ true
@@ -204,7 +204,7 @@ told script front sectors is_short core requests (Some log) request other run he
 told script front sectors is_short core requests None request other run here differs = λ unshort.
     absurd (all_tracked (ids_of front) requests request other (run unshort).ids here differs)
 
--- the commands up to the first Close, where it stands behind these
+-- the commands up to the first Close, where it stands after these
 until_here : (front rest : List Command) → has_close front ≡ false → until_close (front ++ Close ∷ rest) ≡ front ++ Close ∷ []
 until_here [] rest none = refl
 until_here (command ∷ front) rest none =
@@ -212,7 +212,7 @@ until_here (command ∷ front) rest none =
     ap (λ (b : Bool). command ∷ (if b then [] else until_close (front ++ Close ∷ rest))) parts.0
     ∙ ap (λ (body : List Command). command ∷ body) (until_here front rest parts.1)
 
--- the commands before the first Close, where it stands behind these
+-- the commands before the first Close, where it stands after these
 before_here : (front rest : List Command) → has_close front ≡ false → before_close (front ++ Close ∷ rest) ≡ front
 before_here [] rest none = refl
 before_here (command ∷ front) rest none =
@@ -235,11 +235,7 @@ before_first script front goes none = ap before_close goes.1 ∙ before_here fro
 -- a script with a Close is closed
 pub closes_here : (front rest : List Command) → has_close (front ++ Close ∷ rest) ≡ true
 closes_here front rest =
-    list_any-append ends front (Close ∷ rest) ∙ or_true (list_any ends front)
-  where
-    or_true : (a : Bool) → (a || true) ≡ true
-    or_true true = refl
-    or_true false = refl
+    list_any-append ends front (Close ∷ rest) ∙ or-true (list_any ends front)
 
 -- the core has been closed: it has the script's entries to give
 pub closed : (script front : List Command) (core new : CoreState) (requests : List Request) → core.sector_bytes ≡ 512

@@ -28,7 +28,7 @@ use Rattle.script_runner.proofs.Telling.{all_failed, count_of, each_failed, subm
 
 -- the next command
 
--- the law that each command of a script may come behind those before it
+-- the law that each command of a script may come after those before it
 abbrev pub IsOrderlyScript : Plan → Type 0
 IsOrderlyScript plan =
     (before : List Command) (command : Command) (rest : List Command) → plan.commands ≡ before ++ command ∷ rest
@@ -99,7 +99,7 @@ each_submitted names front before after recording has =
     (each_failed (λ request. request < submissions front) 0 requests
     (λ at found. let within = slice_get_within requests at Failed found in omega (arith, within, numbered)))
 
--- logging ended, behind what the commands before the first Close have told
+-- logging ended, after what the commands before the first Close have told
 pub logging_told : (plan : Plan) (front : List Command) (end : End) (before after : Option (List ℕ)) (recording : Recording)
     → before_close plan.commands ≡ front → HasTold plan.names front before after recording
     → IsLoggingEnd (failed_from 0 recording.requests.items) plan.log_sectors plan.commands end → EndsLogging plan end before after
@@ -129,7 +129,7 @@ ends_whole text plan front command (LoggingEnded end) before after now recording
     (logging_told plan front end before after recording first has
     (subst (λ (n : ℕ). IsLoggingEnd (failed_from 0 recording.requests.items) n plan.commands end) same stops.cause)))
 
--- a run ended for want of memory behind the last command of a script that isn't closed
+-- a run ended as memory ran out, after the last command of a script that isn't closed
 pub ends_open : (text : List ℕ) (plan : Plan) (before after : Option (List ℕ)) (recording : Recording)
     → HasTold plan.names plan.commands before after recording → Follows plan.commands recording → is_none recording.filled ≡ true
     → EndsRun text plan before after (LoggingEnded Memory)

@@ -39,26 +39,26 @@ count_of command = cond (is_submission command) 1 0
 pub submissions_cons : (command : Command) (body : List Command) → submissions (command ∷ body) ≡ count_of command + submissions body
 submissions_cons command body = sum_by-append count_of (command ∷ []) body ∙ ap (λ (n : ℕ). n + submissions body) (omega arith)
 
--- one more command behind others
+-- one more command after others
 submissions_push : (front : List Command) (command : Command) → submissions (front ++ command ∷ []) ≡ submissions front + count_of command
 submissions_push front command = sum_by-append count_of front (command ∷ []) ∙ ap (λ (n : ℕ). submissions front + n) (omega arith)
 
 -- a command adds the requests that it submits
-behind_is : (before : ℕ) (command : Command) → count_after_command before command ≡ before + count_of command
-behind_is before (Write first count byte) = refl
-behind_is before Flush = refl
-behind_is before (Complete request) = omega arith
-behind_is before Close = omega arith
+after_is : (before : ℕ) (command : Command) → count_after_command before command ≡ before + count_of command
+after_is before (Write first count byte) = refl
+after_is before Flush = refl
+after_is before (Complete request) = omega arith
+after_is before Close = omega arith
 
 -- what is printed
 
--- the text of commands and of those behind them
+-- the text of commands and of those after them
 body_append : (names : List ScriptId) (failed : List ℕ) (before : ℕ) (front rest : List Command)
     → body_text names failed before (front ++ rest) ≡ body_text names failed before front ++ body_text names failed (before + submissions front) rest
 body_append names failed before [] rest = ap (λ (n : ℕ). body_text names failed n rest) (omega arith)
 body_append names failed before (command ∷ front) rest =
     let count : count_after_command before command + submissions front ≡ before + submissions (command ∷ front) =
-    ap (λ (n : ℕ). n + submissions front) (behind_is before command) ∙ omega arith
+    ap (λ (n : ℕ). n + submissions front) (after_is before command) ∙ omega arith
     ∙ ap (λ (n : ℕ). before + n) (sym (submissions_cons command front)) in
     ap (λ (text : List ℕ). command_text names failed before command ++ text)
     (body_append names failed (count_after_command before command) front rest
@@ -145,7 +145,7 @@ told_on names front before after now old new command has numbered late more = re
       (appends_twice before after now _ _ (has.told failed step.0) step.1);
 }
 
--- commands behind the Close change neither it nor what was submitted before it
+-- commands after the Close change neither it nor what was submitted before it
 closed_stays : (front : List Command) (command : Command) → has_close front ≡ true
     → (has_close (front ++ command ∷ []) ≡ true) × (until_close (front ++ command ∷ []) ≡ until_close front)
 closed_stays [] command closes = absurd (cc closes)
@@ -178,8 +178,8 @@ written_on : (front : List Command) (command : Command) (number : ℕ) → IsWri
 written_on front command number is = record {
   before = is.before;
   write = is.write;
-  behind = is.behind ++ command ∷ [];
-  here = ap (λ (body : List Command). body ++ command ∷ []) is.here ∙ append_assoc is.before (is.write ∷ is.behind) (command ∷ []);
+  rest = is.rest ++ command ∷ [];
+  here = ap (λ (body : List Command). body ++ command ∷ []) is.here ∙ append_assoc is.before (is.write ∷ is.rest) (command ∷ []);
   writes = is.writes;
   number = is.number;
 }
@@ -226,7 +226,7 @@ late_on front command requests request (Some log) numbered wrote late = (
           record {
             before = front;
             write = command;
-            behind = [];
+            rest = [];
             here = refl;
             writes = wrote refl is.1;
             number = sym numbered ∙ sym is.0;

@@ -1,11 +1,12 @@
 use Rattle.std.proofs.Common.{◌≡◌, ◌∙◌, ℕ, zero, suc, ◌<◌, ◌==◌, Bool, true, false, not, ◌||◌, ◌&&◌, ◌⊎◌, Option, Some, None, is_none, inl, inr, List, [], ◌∷◌, ◌++◌, length, nat_lt, ap, arith, sym, refl, subst, if◌then◌else◌}
 use Rattle.std.specs.List.{AllByRecursion, slice_get}
-use Rattle.std.proofs.lemmas.Bool.{and_parts, cases_lt}
+use Rattle.std.proofs.lemmas.Bool.{and_parts, cases_lt, eqb-false, eqb-true, not-true}
+use Rattle.std.proofs.Math.Bool.{and-false, and-true, or-false}
 use Rattle.std.proofs.lemmas.Bool.Decides.{nat_tests}
 use Rattle.std.proofs.lemmas.List.Elements.{All-from_recursion, recursion_from_All}
 use Rattle.std.proofs.lemmas.List.Folds.{list_any-append}
 use Rattle.std.proofs.lemmas.Option.{slice_get_cases, slice_get_within}
-use Rattle.bio.specs.Lawful.{has_no_close, is_recording, none_open}
+use Rattle.bio.specs.Lawful.{has_no_close, has_no_stop, is_recording, none_open}
 use Rattle.bio.specs.declared.event.CoreEvent.{CoreEvent}
 use Rattle.bio.specs.declared.event.CoreEvent.TheVariants as events
 use Rattle.bio.specs.declared.outcome.End.{End}
@@ -18,6 +19,7 @@ use Rattle.sectors.specs.PlaceLaws.{all_below-each, bool_cases, length-snoc, sli
 use Rattle.dmlw_script.specs.Plans.{is_end_of, is_ended, is_submission, submissions}
 use Rattle.dmlw_script.specs.declared.command.Command.{Command}
 use Rattle.dmlw_script.specs.declared.command.Command.TheVariants.{Write, Flush, Complete, Close}
+use Rattle.pending.specs.GrowthLaws.{none-grown, open-grown}
 use Rattle.pending.specs.CoreState.{CoreState, added_to, closed_by, records, stopped_by}
 use Rattle.pending.specs.declared.recording.Submitted.{Submitted}
 use Rattle.pending.specs.declared.recording.Submitted.TheVariants as submits
@@ -33,12 +35,6 @@ use Rattle.script_runner.proofs.Telling.{all_failed, each_failed}
 
 -- events
 
--- a search that found nothing found it nowhere
-or_here_none : (found : Option ℕ) (here : Bool) (place : ℕ) → or_here found here place ≡ None → (found ≡ None) × (here ≡ false)
-or_here_none None true place none = absurd (cc none)
-or_here_none None false place none = (refl, refl)
-or_here_none (Some at) here place none = absurd (cc none)
-
 -- what is open with one more event was open before it, which isn't its end; or the event submits it
 open_was : (es : List CoreEvent) (event : CoreEvent) (id : ℕ) → is_open_at (es ++ event ∷ []) id ≡ true
     → ((is_open_at es id ≡ true) × (ends_at id (Some event) ≡ false)) ⊎ ((id ≡ length es) × ((bio : Bio) × (event ≡ events.Submit bio)))
@@ -46,18 +42,8 @@ open_was es event id opened =
     let there = is_open_at-open (es ++ event ∷ []) id opened in
     elim (cases_lt id (length es)) [
       | inl less ↦
-          let parts = or_here_none (end_of es id) (nat_lt id (length es) && ends_at id (Some event)) (length es)
-          (sym (first_place_after-snoc (ends_at id) es event id) ∙ there.endless) in
-          inl (
-            open-is_open_at es id (record {
-              bio = there.bio;
-              submitted = sym (slice_get-append_front es (event ∷ []) id less) ∙ there.submitted;
-              tracked = there.tracked;
-              within = less;
-              endless = parts.0;
-            }),
-            second (nat_lt id (length es)) (ends_at id (Some event)) (below id (length es) less) parts.1,
-          )
+          let parts = and_parts (is_open_at es id) (not (ends_at id (Some event))) (sym (open-grown es event id less) ∙ opened) in
+          inl (parts.0, not-true (ends_at id (Some event)) parts.1)
       | inr past ↦
           let within = there.within in
           let more = length-snoc es event in
@@ -66,54 +52,34 @@ open_was es event id opened =
           sym (slice_get-append_here es event []) ∙ ap (slice_get (es ++ event ∷ [])) (sym same) ∙ there.submitted in
           inr (same, (there.bio, cc is))
     ]
-  where
-    second : (a b : Bool) → a ≡ true → (a && b) ≡ false → b ≡ false
-    second true b holds both = both
-    second false b holds both = absurd (cc holds)
-
-    below : (a b : ℕ) → a < b → nat_lt a b ≡ true
-    below a b less = grind (arith, nat_tests, less)
 
 -- a recording that has ended doesn't go on with one more event
 still_ended : (es : List CoreEvent) (event : CoreEvent) → is_recording es ≡ false → is_recording (es ++ event ∷ []) ≡ false
 still_ended es event over =
-    rw (first_place-snoc is_stop es event, first_place-snoc is_close es event)
-    (kept (first_place is_stop es) (first_place is_close es) (is_stop (Some event)) (is_close (Some event)) over)
+    rw (none-grown is_stop es event, none-grown is_close es event)
+    (kept (has_no_stop es) (has_no_close es) (not (is_stop (Some event))) (not (is_close (Some event))) over)
   where
-    kept : (stop close : Option ℕ) (stops closes : Bool) → (is_none stop && is_none close) ≡ false
-        → (is_none (or_here stop stops (length es)) && is_none (or_here close closes (length es))) ≡ false
-    kept None None stops closes over = absurd (cc over)
-    kept None (Some at) true closes over = refl
-    kept None (Some at) false closes over = refl
-    kept (Some at) close stops closes over = refl
+    kept : (a b c d : Bool) → (a && b) ≡ false → ((a && c) && (b && d)) ≡ false
+    kept true true c d over = absurd (cc over)
+    kept true false c d over = and-false c
+    kept false b c d over = refl
 
 -- a recording ends at a Stop
 stopped_ended : (es : List CoreEvent) (cause : End) → is_recording (es ++ events.Stop cause ∷ []) ≡ false
 stopped_ended es cause =
-    rw (first_place-snoc is_stop es (events.Stop cause)) (now (first_place is_stop es) (has_no_close (es ++ events.Stop cause ∷ [])))
-  where
-    now : (stop : Option ℕ) (b : Bool) → (is_none (or_here stop true (length es)) && b) ≡ false
-    now None b = refl
-    now (Some at) b = refl
+    ap (λ (b : Bool). b && has_no_close (es ++ events.Stop cause ∷ [])) (none-grown is_stop es (events.Stop cause) ∙ and-false (has_no_stop es))
 
 -- where not all fail a test one passes it
 one_below : (test : ℕ → Bool) (n : ℕ) → all_below (λ k. not (test k)) n ≡ false → (k : ℕ) × (test k ≡ true)
 one_below test zero some = absurd (cc some)
 one_below test (suc n) some = elim (bool_cases (test n)) [
   | inl here ↦ (n, here)
-  | inr other ↦ one_below test n (last (all_below (λ k. not (test k)) n) (test n) other some)
+  | inr other ↦ 
+      let before = all_below (λ k. not (test k)) n in
+      one_below test n (sym (ap (λ (b : Bool). before && not b) other ∙ and-true before) ∙ some)
 ]
-  where
-    last : (a b : Bool) → b ≡ false → (a && not b) ≡ false → a ≡ false
-    last true true other some = absurd (cc other)
-    last true false other some = absurd (cc some)
-    last false b other some = refl
 
 -- ends
-
--- numbers that are tested to be equal are
-equal : (a b : ℕ) → a == b ≡ true → a ≡ b
-equal a b same = grind (arith, nat_tests, same)
 
 -- a command that submits a request ends none
 ends_none : (number : ℕ) (command : Command) → is_submission command ≡ true → is_end_of number command ≡ false
@@ -130,11 +96,9 @@ ended_push number front command = list_any-append (is_end_of number) front (comm
 -- a command that doesn't end a request leaves it as it was
 ended_kept : (number : ℕ) (front : List Command) (command : Command) → is_end_of number command ≡ false
     → is_ended number (front ++ command ∷ []) ≡ is_ended number front
-ended_kept number front command other = ended_push number front command ∙ kept (is_ended number front) (is_end_of number command) other
-  where
-    kept : (a b : Bool) → b ≡ false → (a || (b || false)) ≡ a
-    kept true b other = refl
-    kept false b other = rw other refl
+ended_kept number front command other = ended_push number front command 
+    ∙ ap (λ (b : Bool). is_ended number front || (b || false)) other
+    ∙ or-false (is_ended number front)
 
 -- what the core traces
 
@@ -298,7 +262,7 @@ traced_submitted front command core new requests after filled bio answer request
           (λ none same. short none passes))
     ])
 
--- before there is a log, a request that isn't recorded comes behind one that found no memory
+-- before there is a log, a request that isn't recorded comes after one that found no memory
 pub passes_short : (script front : List Command) (sectors : ℕ) (is_short : Bool) (core : CoreState) (requests : List Request)
     (filled : Option Filled) (bio : Bio) → HasRun script front sectors is_short core requests filled
     → IsFollowing front core.events requests is_short filled → is_none filled ≡ true → records core bio ≡ false
@@ -328,7 +292,7 @@ traced_end front es now requests filled request found has here opens over = reco
   early = has.early;
   halted = λ other failed. over (has.halted other failed);
   ended = λ number done. elim (bool_cases (request == number)) [
-    | inl same ↦ subst (λ (n : ℕ). n < length requests) (equal request number same) (slice_get_within requests request found here)
+    | inl same ↦ subst (λ (n : ℕ). n < length requests) (eqb-true request number same) (slice_get_within requests request found here)
     | inr other ↦ has.ended number (sym (ended_kept number front (Complete request) other) ∙ done)
   ];
   passed = has.passed;
@@ -337,7 +301,7 @@ traced_end front es now requests filled request found has here opens over = reco
     differs : (number id : ℕ) → slice_get requests number ≡ Some (Tracked id) → (found ≡ Tracked id → ⊥) → request == number ≡ false
     differs number id there other = elim (bool_cases (request == number)) [
       | inl same ↦
-          let is : Some found ≡ Some (Tracked id) = sym here ∙ ap (slice_get requests) (equal request number same) ∙ there in
+          let is : Some found ≡ Some (Tracked id) = sym here ∙ ap (slice_get requests) (eqb-true request number same) ∙ there in
           absurd (other (cc is))
       | inr unlike ↦ unlike
     ]
@@ -350,13 +314,10 @@ traced_ended front core new requests filled request id has here news =
     subst (λ (state : CoreState). IsTracing (front ++ Complete request ∷ []) state.events requests filled) (sym news)
     (traced_end front core.events (core.events ++ events.Complete id true ∷ []) requests filled request (Tracked id) has here
     (λ other opened. elim (open_was core.events (events.Complete id true) other opened) [
-      | inl old ↦ (old.0, λ same. unlike id other old.1 (cc same))
+      | inl old ↦ (old.0, λ same. eqb-false id other old.1 (cc same))
       | inr new_one ↦ absurd (cc new_one.1.1)
     ])
     (still_ended core.events (events.Complete id true)))
-  where
-    unlike : (a b : ℕ) → a == b ≡ false → a ≡ b → ⊥
-    unlike a b differs same = grind (arith, nat_tests, differs, same)
 
 -- a request has ended that the core didn't follow
 pub traced_told : (front : List Command) (es : List CoreEvent) (requests : List Request) (filled : Option Filled) (request : ℕ) (found : Request)
@@ -371,7 +332,7 @@ traced_told front es requests filled request found has here other =
 at_one : (P : ℕ → Type 0) (numbers : List ℕ) (number : ℕ) → AllByRecursion P numbers → is_one_of numbers number ≡ true → P number
 at_one P [] number all one = absurd (cc one)
 at_one P (other ∷ numbers) number all one = elim (bool_cases (other == number)) [
-  | inl same ↦ subst P (equal other number same) all.0
+  | inl same ↦ subst P (eqb-true other number same) all.0
   | inr unlike ↦ at_one P numbers number all.1 (ap (λ (b : Bool). b || is_one_of numbers number) (sym unlike) ∙ one)
 ]
 

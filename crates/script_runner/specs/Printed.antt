@@ -46,17 +46,17 @@ printed names failed commands = body_text names failed 0 commands
 pub record IsWritten (commands : List Command) (request : ℕ) : Type 0 where
   pub before : List Command
   pub write : Command
-  pub behind : List Command
-  pub here : commands ≡ before ++ write ∷ behind
+  pub rest : List Command
+  pub here : commands ≡ before ++ write ∷ rest
   pub writes : is_write write ≡ true
   pub number : submissions before ≡ request
 
--- the request is a write that is submitted behind the first command that ends the recording
+-- the request is a write that is submitted after the first command that ends the recording
 abbrev pub IsLate : List Command → ℕ → Type 0
 IsLate commands request = (submissions (until_close commands) ≤ request) × IsWritten commands request
 
--- The text is what a script prints whose log is made. The requests that failed, for want of memory, are writes that are
--- submitted behind the end of the recording: before it want of memory ends the run, and a flush behind it wants none.
+-- The text is what a script prints whose log is made. The requests that failed, as memory ran out, are writes that are
+-- submitted after the end of the recording: before it the run ends where memory runs out, and a flush after it takes none.
 pub record IsPrinted (names : List ScriptId) (commands : List Command) (text : List ℕ) : Type 0 where
   pub failed : List ℕ
   pub late : All (IsLate commands) failed

@@ -18,42 +18,42 @@ use Rattle.script_runner.specs.Image.{fits}
 use Rattle.script_runner.specs.Printed.{printed}
 use Rattle.script_runner.specs.Recorded.{ClosesQuietly, HasOpen, before_close, entries_of, has_close}
 
--- Why the Close behind these commands is refused, where these requests failed: a request is open, or else there is no
+-- Why the Close after these commands is refused, where these requests failed: a request is open, or else there is no
 -- memory for it.
 pub data IsCloseRefusal (failed : List ℕ) (front : List Command) : Refusal → Type 0 where
   busy : HasOpen failed front → IsCloseRefusal failed front refusals.Busy
   unclosed : (HasOpen failed front → ⊥) → IsCloseRefusal failed front refusals.Memory
 
--- Why the logging of a script ends, on a log of so many sectors, where these requests failed: for want of memory, or since
+-- Why the logging of a script ends, on a log of so many sectors, where these requests failed: memory ran out, or
 -- its entries don't fit, where none failed. It ends where no request is open.
 pub data IsLoggingEnd (failed : List ℕ) (log_sectors : ℕ) (script : List Command) : End → Type 0 where
   no_memory : ClosesQuietly failed script → IsLoggingEnd failed log_sectors script ends.Memory
   full : failed ≡ [] → ClosesQuietly failed script → fits log_sectors (entries_of script) ≡ false
       → IsLoggingEnd failed log_sectors script ends.Full
 
--- a run stops for want of memory, or since an output can't be written
+-- a run stops as memory runs out, or since an output can't be written
 abbrev pub StopsForFile : StepError → Type 0
 StopsForFile (AtLine refusal) = ⊥
 StopsForFile (Whole fault) = IsFileError fault
 
--- why a run of a script stops at the Close behind these commands, where these requests failed
+-- why a run of a script stops at the Close after these commands, where these requests failed
 abbrev pub IsCloseStop : ℕ → List Command → List Command → List ℕ → StepError → Type 0
 IsCloseStop log_sectors script front failed (AtLine refusal) = IsCloseRefusal failed front refusal
 IsCloseStop log_sectors script front failed (Whole (LoggingEnded end)) = IsLoggingEnd failed log_sectors script end
 IsCloseStop log_sectors script front failed (Whole (Refused fault)) = ⊥
 
--- a run of a script stops at its first Close, behind these commands
+-- a run of a script stops at its first Close, after these commands
 pub record StopsAtClose (log_sectors : ℕ) (script front : List Command) (failed : List ℕ) (stop : StepError) : Type 0 where
   pub first : has_close front ≡ false
   pub cause : IsCloseStop log_sectors script front failed stop
 
--- a run of a script stops at this command behind these
+-- a run of a script stops at this command after these
 abbrev pub StopsAt : ℕ → List Command → List Command → List ℕ → Command → StepError → Type 0
 StopsAt log_sectors script front failed command stop =
     StopsForFile stop ⊎ ((command ≡ Close) × StopsAtClose log_sectors script front failed stop)
 
 -- A script's first Close is refused, and known bytes grew by what the commands before it print. These requests failed,
--- for want of memory; each was submitted before.
+-- as memory ran out; each was submitted before.
 pub record RefusesClose (text : List ℕ) (script : Plan) (line : Option ℕ) (refusal : Refusal) (before after : Option (List ℕ)) : Type 0 where
   pub place : ℕ
   pub failed : List ℕ
@@ -65,7 +65,7 @@ pub record RefusesClose (text : List ℕ) (script : Plan) (line : Option ℕ) (r
   pub cause : IsCloseRefusal failed (take place script.commands) refusal
 
 -- The logging of a script ends, and known bytes grew by what the commands before its first Close print, which are all
--- where it has none. These requests failed, for want of memory; each was submitted before.
+-- where it has none. These requests failed, as memory ran out; each was submitted before.
 pub record EndsLogging (script : Plan) (end : End) (before after : Option (List ℕ)) : Type 0 where
   pub failed : List ℕ
   pub submitted : All (λ request. request < submissions (before_close script.commands)) failed

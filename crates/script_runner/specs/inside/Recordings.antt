@@ -47,7 +47,7 @@ HasRun script front log_sectors is_short core requests None = is_short ≡ false
 abbrev pub Stands : List Command → List Command → Recording → Type 0
 Stands script front r = HasRun script front r.log_sectors r.is_short r.core r.requests.items r.filled
 
--- the script goes on with this command behind these
+-- the script goes on with this command after these
 abbrev pub GoesOn : List Command → List Command → Command → Type 0
 GoesOn script front command = (rest : List Command) × (script ≡ front ++ command ∷ rest)
 
@@ -60,7 +60,7 @@ is_failed _ = false
 abbrev pub IsFailing : List ℕ → List Request → Type 0
 IsFailing failed requests = (number : ℕ) (request : Request) → slice_get requests number ≡ Some request → is_one_of failed number ≡ is_failed request
 
--- where there is a log, the recording has ended, and no request but a write behind its end found no memory
+-- where there is a log, the recording has ended, and no request but a write after its end found no memory
 abbrev pub FailsLate : List Command → List Request → Option Filled → Type 0
 FailsLate front requests None = Unit {0}
 FailsLate front requests (Some log) =
@@ -92,7 +92,7 @@ Follows front r = IsFollowing front r.core.events r.requests.items r.is_short r.
 
 -- What always stands of the requests that the core has open: each is one of these that hasn't ended. A request that
 -- found no memory ended the recording, so those that are followed came before it; only requests that were submitted
--- have ended; and one that isn't recorded, before there is a log, came behind one that found no memory.
+-- have ended; and one that isn't recorded, before there is a log, came after one that found no memory.
 pub record IsTracing (front : List Command) (events : List CoreEvent) (requests : List Request) (filled : Option Filled) : Type 0 where
   pub known : (id : ℕ) → is_open_at events id ≡ true
       → (number : ℕ) × (slice_get requests number ≡ Some (Tracked id)) × (is_ended number front ≡ false)

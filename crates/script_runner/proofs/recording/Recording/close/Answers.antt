@@ -1,4 +1,5 @@
 use Rattle.std.proofs.Common.{[], ◌∷◌, ◌++◌, ◌≡◌, ◌∙◌, Err, List, ap, is_none, refl, rules, subst, sym, true}
+use Rattle.std.proofs.lemmas.Bool.{true_from_ne_false}
 use Rattle.bio.specs.declared.outcome.End.TheVariants.{Memory}
 use Rattle.dmlw_script.specs.declared.command.Command.TheVariants.{Close}
 use Rattle.log_format.specs.declared.entry.Entry.{Entry}
@@ -7,8 +8,8 @@ use Rattle.script_runner.specs.Recorded.{ids_of}
 use Rattle.script_runner.specs.inside.Recordings.{failed_from}
 use Rattle.script_runner.specs.RunFaults.{no_memory}
 use Rattle.script_runner.specs.CallLaws.{on_error}
-use Rattle.script_runner.proofs.Closing.{IsAtClose, close_refused, close_taken, closed_quietly, fill_ended, logging_ended, none_failed, unfilled_unless}
-use Rattle.script_runner.proofs.Following.{closing, filled_behind}
+use Rattle.script_runner.proofs.Closing.{IsAtClose, close_refused, close_taken, closed_quietly, fill_ended, logging_ended, none_failed}
+use Rattle.script_runner.proofs.Following.{closing, filled_after}
 use Rattle.script_runner.proofs.Running.{closed, unfilled}
 use Rattle.script_runner.proofs.Telling.{told_closed, told_first_close}
 use Rattle.script_runner.proofs.Tracing.{traced_close, traced_filled}
@@ -52,7 +53,7 @@ returns-in_err-close-clause-faults c = λ script front goes run follows traces n
       follows = follows;
       traces = traces;
       numbered = numbered;
-      unfilled = unfilled_unless self.filled (λ there. cc (c.in_err-close.ensures.again (follows.closed there)));
+      unfilled = true_from_ne_false (is_none self.filled) (λ there. cc (c.in_err-close.ensures.again (follows.closed there)));
     })
     (λ same. c.in_err-close.ensures.busy.0 (ap Err same)) (λ one_open. cc (c.in_err-close.ensures.busy.1 one_open)) is)
 
@@ -84,7 +85,7 @@ returns-in_err-fill_log-clause-faults c = λ script front goes run follows trace
 
 pub returns-in_ok-fill_log-clause-follows : goal.returns-in_ok-fill_log-clause-follows
 returns-in_ok-fill_log-clause-follows c = λ front has.
-    filled_behind (front ++ Close ∷ []) c.close.new.self c.fill_log.new.core c.args.self.now.requests.items c.args.self.now.is_short _
+    filled_after (front ++ Close ∷ []) c.close.new.self c.fill_log.new.core c.args.self.now.requests.items c.args.self.now.is_short _
     (closing front c.args.self.now.core c.close.new.self c.args.self.now.requests.items c.args.self.now.is_short
     c.args.self.now.filled _ has c.in_ok-close.ensures.ok refl) c.in_ok-fill_log.ensures.events
 

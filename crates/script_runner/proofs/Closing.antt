@@ -20,7 +20,7 @@ use Rattle.script_runner.specs.declared.recording.Request.TheVariants.{Failed}
 use Rattle.script_runner.specs.declared.recording.StepError.{StepError}
 use Rattle.script_runner.specs.declared.recording.StepError.TheVariants.{AtLine, Whole}
 use Rattle.script_runner.specs.declared.error.RunError.TheVariants.{LoggingEnded}
-use Rattle.script_runner.specs.Image.{fits}
+use Rattle.log_format.specs.Placing.{fits}
 use Rattle.script_runner.specs.Recorded.{ClosesQuietly, HasOpen, entries_of}
 use Rattle.script_runner.specs.inside.Recordings.{GoesOn, IsFollowing, IsTracing, failed_from}
 use Rattle.script_runner.specs.RunFaults.{IsLoggingEnd, StopsAtClose, busy, full, no_memory, unclosed}

@@ -26,7 +26,8 @@ use Rattle.script_runner.specs.declared.fill.Filled.{Filled}
 use Rattle.script_runner.specs.declared.recording.Recording.{Recording}
 use Rattle.script_runner.specs.declared.recording.Request.{Request}
 use Rattle.script_runner.specs.declared.recording.Request.TheVariants.{Tracked}
-use Rattle.script_runner.specs.Image.{MakesLog, entries_left, fits}
+use Rattle.script_runner.specs.Image.{MakesLog, entries_left}
+use Rattle.log_format.specs.Placing.{fits}
 use Rattle.script_runner.specs.Recorded.{IsWithin, before_close, entries_of, event_of, events_of, has_close, ids_of, submitted_from, until_close, is_close as ends}
 use Rattle.script_runner.specs.inside.Recordings.{GoesOn, HasRun, IsRecording, Stands}
 
@@ -195,13 +196,13 @@ completed script front sectors is_short core new requests None request id run go
     (news ∙ ap (λ (place : ℕ). added_to core (events.Complete place true)) (sym found)) refl refl refl
     (recording.ids ∙ ap (map Tracked) (sym (ids_kept front (Complete request) refl)))
 
--- a request was told that wasn't recorded
-pub told : (script front : List Command) (sectors : ℕ) (is_short : Bool) (core : CoreState) (requests : List Request)
+-- a request was printed that wasn't recorded
+pub output : (script front : List Command) (sectors : ℕ) (is_short : Bool) (core : CoreState) (requests : List Request)
     (filled : Option Filled) (request : ℕ) (other : Request) → HasRun script front sectors is_short core requests filled
     → slice_get requests request ≡ Some other → ((id : ℕ) → other ≡ Tracked id → ⊥)
     → HasRun script (front ++ Complete request ∷ []) sectors is_short core requests filled
-told script front sectors is_short core requests (Some log) request other run here differs = run
-told script front sectors is_short core requests None request other run here differs = λ unshort.
+output script front sectors is_short core requests (Some log) request other run here differs = run
+output script front sectors is_short core requests None request other run here differs = λ unshort.
     absurd (all_tracked (ids_of front) requests request other (run unshort).ids here differs)
 
 -- the commands up to the first Close, where it stands after these
@@ -306,7 +307,7 @@ comes_within sectors before Flush less comes = tt
 comes_within sectors before (Complete request) less comes = tt
 comes_within sectors before Close less comes = tt
 
--- each command of an orderly script may be run
+-- each command of a well-formed script may be run
 each_within : (sectors : ℕ) (before body : List Command) (place : ℕ) (command : Command) → sectors ≤ 1048576
     → IsWellFormed sectors before body → slice_get body place ≡ Some command → IsWithin command
 each_within sectors before [] place command less well_formed here = absurd (cc here)

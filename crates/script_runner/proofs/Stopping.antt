@@ -20,7 +20,7 @@ use Rattle.script_runner.specs.declared.recording.Recording.{Recording}
 use Rattle.script_runner.specs.declared.recording.Request.TheVariants.{Failed}
 use Rattle.script_runner.specs.declared.recording.StepError.TheVariants.{AtLine, Whole}
 use Rattle.script_runner.specs.Printed.{printed}
-use Rattle.script_runner.specs.inside.Recordings.{Follows, GoesOn, HasTold, failed_from}
+use Rattle.script_runner.specs.inside.Recordings.{Follows, GoesOn, HasPrinted, failed_from}
 use Rattle.script_runner.specs.Recorded.{before_close}
 use Rattle.script_runner.specs.RunFaults.{EndsLogging, EndsRun, IsLoggingEnd, StopsAt, StopsQuietly, close, file, logging, no_memory}
 use Rattle.script_runner.proofs.Running.{before_all, before_first}
@@ -90,7 +90,7 @@ items_follow plan items place recording same follows past =
 
 -- each request that failed was submitted
 each_submitted : (names : List ScriptId) (front : List Command) (before after : Option (List ℕ)) (recording : Recording)
-    → HasTold names front before after recording
+    → HasPrinted names front before after recording
     → All (λ request. request < submissions front) (failed_from 0 recording.requests.items)
 each_submitted names front before after recording has =
     let requests = recording.requests.items in
@@ -99,26 +99,26 @@ each_submitted names front before after recording has =
     (each_failed (λ request. request < submissions front) 0 requests
     (λ at found. let within = slice_get_within requests at Failed found in omega (arith, within, numbered)))
 
--- logging ended, after what the commands before the first Close have told
-pub logging_told : (plan : Plan) (front : List Command) (end : End) (before after : Option (List ℕ)) (recording : Recording)
-    → before_close plan.commands ≡ front → HasTold plan.names front before after recording
+-- logging ended, after what the commands before the first Close have printed
+pub logging_printed : (plan : Plan) (front : List Command) (end : End) (before after : Option (List ℕ)) (recording : Recording)
+    → before_close plan.commands ≡ front → HasPrinted plan.names front before after recording
     → IsLoggingEnd (failed_from 0 recording.requests.items) plan.log_sectors plan.commands end → EndsLogging plan end before after
-logging_told plan front end before after recording first has ends =
+logging_printed plan front end before after recording first has ends =
     let requests = recording.requests.items in
     let failed = failed_from 0 requests in
     record {
       failed = failed;
       submitted = subst (λ (body : List Command). All (λ request. request < submissions body) failed) (sym first)
           (each_submitted plan.names front before after recording has);
-      told = subst (λ (body : List Command). Appends before after (printed plan.names failed body)) (sym first)
-          (has.told failed (all_failed requests));
+      output = subst (λ (body : List Command). Appends before after (printed plan.names failed body)) (sym first)
+          (has.output failed (all_failed requests));
       cause = ends;
     }
 
 -- a run ended by a fault for which no line is named
 pub ends_whole : (text : List ℕ) (plan : Plan) (front : List Command) (command : Command) (fault : RunError)
     (before after now : Option (List ℕ)) (recording : Recording) → recording.log_sectors ≡ plan.log_sectors
-    → GoesOn plan.commands front command → HasTold plan.names front before after recording → StopsQuietly after now (Whole fault)
+    → GoesOn plan.commands front command → HasPrinted plan.names front before after recording → StopsQuietly after now (Whole fault)
     → StopsAt recording.log_sectors plan.commands front (failed_from 0 recording.requests.items) command (Whole fault) → EndsRun text plan before now fault
 ends_whole text plan front command fault before after now recording same goes has quiet (inl stops) = file fault stops
 ends_whole text plan front command (Refused found) before after now recording same goes has quiet (inr (closes, stops)) =
@@ -126,22 +126,22 @@ ends_whole text plan front command (Refused found) before after now recording sa
 ends_whole text plan front command (LoggingEnded end) before after now recording same goes has quiet (inr (closes, stops)) =
     let first = before_first plan.commands front (subst (GoesOn plan.commands front) closes goes) stops.first in
     logging end (subst (EndsLogging plan end before) (sym quiet)
-    (logging_told plan front end before after recording first has
+    (logging_printed plan front end before after recording first has
     (subst (λ (n : ℕ). IsLoggingEnd (failed_from 0 recording.requests.items) n plan.commands end) same stops.cause)))
 
 -- a run ended as memory ran out, after the last command of a script that isn't closed
 pub ends_open : (text : List ℕ) (plan : Plan) (before after : Option (List ℕ)) (recording : Recording)
-    → HasTold plan.names plan.commands before after recording → Follows plan.commands recording → is_none recording.filled ≡ true
+    → HasPrinted plan.names plan.commands before after recording → Follows plan.commands recording → is_none recording.filled ≡ true
     → EndsRun text plan before after (LoggingEnded Memory)
 ends_open text plan before after recording has follows none =
     let unclosed_script = follows.unclosed none in
-    logging Memory (logging_told plan plan.commands Memory before after recording (before_all plan.commands unclosed_script) has
+    logging Memory (logging_printed plan plan.commands Memory before after recording (before_all plan.commands unclosed_script) has
     (no_memory (λ closes opened. absurd (cc (closes, unclosed_script)))))
 
 -- a run ended at a Close that was refused
 pub ends_at_line : (text : List ℕ) (plan : Plan) (place : ℕ) (command : Command) (refusal : Refusal) (line : Option ℕ)
     (before after now : Option (List ℕ)) (recording : Recording) → ComesNext plan place command
-    → HasTold plan.names (take place plan.commands) before after recording → now ≡ after → line ≡ command_line text place
+    → HasPrinted plan.names (take place plan.commands) before after recording → now ≡ after → line ≡ command_line text place
     → StopsAt recording.log_sectors plan.commands (take place plan.commands) (failed_from 0 recording.requests.items) command (AtLine refusal)
     → EndsRun text plan before now (Refused (record { line = line; refusal = refusal }))
 ends_at_line text plan place command refusal line before after now recording next has quiet here (inl stops) = absurd stops
@@ -156,7 +156,7 @@ ends_at_line text plan place command refusal line before after now recording nex
       first = stops.first;
       here = here;
       submitted = each_submitted plan.names front before after recording has;
-      told = subst (λ (bytes : Option (List ℕ)). Appends before bytes (printed plan.names failed front)) (sym quiet)
-          (has.told failed (all_failed requests));
+      output = subst (λ (bytes : Option (List ℕ)). Appends before bytes (printed plan.names failed front)) (sym quiet)
+          (has.output failed (all_failed requests));
       cause = stops.cause;
     })

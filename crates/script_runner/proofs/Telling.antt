@@ -27,7 +27,7 @@ use Rattle.script_runner.specs.Printed.{IsLate, IsWritten, Prints, body_text, co
 use Rattle.script_runner.specs.Recorded.{has_close, is_write, until_close, is_close as ends}
 use Rattle.script_runner.specs.CallLaws.{appends_twice}
 use Rattle.script_runner.proofs.Running.{all_tracked, closes_here, one_more}
-use Rattle.script_runner.specs.inside.Recordings.{FailsLate, HasTold, IsFailing, failed_from, is_failed, request_of}
+use Rattle.script_runner.specs.inside.Recordings.{FailsLate, HasPrinted, IsFailing, failed_from, is_failed, request_of}
 
 -- what is submitted
 
@@ -114,35 +114,35 @@ letters_encoded name is =
 line_of : (word other : List ℕ) → word ++ 32 ∷ (other ++ 10 ∷ []) ≡ word ++ codes " " ++ other ++ codes "\n"
 line_of word other = sym (append_assoc (word ++ codes " ") other (codes "\n") ∙ append_assoc word (codes " ") (other ++ codes "\n"))
 
--- what became of a request was told
-pub outcome_told : (names : List ScriptId) (number : ℕ) (name : ScriptId) (outcome : List ℕ) (before after : Option (List ℕ))
+-- what became of a request was printed
+pub outcome_printed : (names : List ScriptId) (number : ℕ) (name : ScriptId) (outcome : List ℕ) (before after : Option (List ℕ))
     → AllByRecursion IsName names → number < length names → name ≡ name_at names number
     → Appends before after (encode_utf8_all (letters_of name) ++ 32 ∷ (outcome ++ 10 ∷ []))
     → Appends before after (outcome_line (name_at names number) outcome)
-outcome_told names number name outcome before after ids here same told =
+outcome_printed names number name outcome before after ids here same output =
     let is : IsName (name_at names number) = All-get_or IsName names number (script_id []) here (All-from_recursion IsName names ids) in
     subst (Appends before after)
     (ap (λ (n : ScriptId). encode_utf8_all (letters_of n) ++ 32 ∷ (outcome ++ 10 ∷ [])) same
     ∙ ap (λ (letters : List ℕ). letters ++ 32 ∷ (outcome ++ 10 ∷ [])) (letters_encoded (name_at names number) is)
-    ∙ line_of (letters_of (name_at names number)) outcome) told
+    ∙ line_of (letters_of (name_at names number)) outcome) output
 
--- what is told by a command
+-- what is shown by a command
 
 -- one more command was run, which printed its text
-told_on : (names : List ScriptId) (front : List Command) (before after now : Option (List ℕ)) (old new : Recording) (command : Command)
-    → HasTold names front before after old → length new.requests.items ≡ submissions (front ++ command ∷ [])
+printed_on : (names : List ScriptId) (front : List Command) (before after now : Option (List ℕ)) (old new : Recording) (command : Command)
+    → HasPrinted names front before after old → length new.requests.items ≡ submissions (front ++ command ∷ [])
     → FailsLate (front ++ command ∷ []) new.requests.items new.filled
     → ((failed : List ℕ) → IsFailing failed new.requests.items
     → IsFailing failed old.requests.items × Appends after now (command_text names failed (submissions front) command))
-    → HasTold names (front ++ command ∷ []) before now new
-told_on names front before after now old new command has numbered late more = record {
+    → HasPrinted names (front ++ command ∷ []) before now new
+printed_on names front before after now old new command has numbered late more = record {
   ids = has.ids;
   numbered = numbered;
   late = late;
-  told = λ failed failing.
+  output = λ failed failing.
       let step = more failed failing in
       subst (Appends before now) (sym (printed_push names failed front command))
-      (appends_twice before after now _ _ (has.told failed step.0) step.1);
+      (appends_twice before after now _ _ (has.output failed step.0) step.1);
 }
 
 -- commands after the Close change neither it nor what was submitted before it
@@ -250,15 +250,15 @@ submission_prints names failed before Flush submits = refl
 submission_prints names failed before (Complete request) submits = absurd (cc submits)
 submission_prints names failed before Close submits = absurd (cc submits)
 
--- a request was submitted, and told of where it failed
-told_submission : (names : List ScriptId) (front : List Command) (before after now : Option (List ℕ)) (old new : Recording)
-    (command : Command) (request : Request) → is_submission command ≡ true → HasTold names front before after old
+-- a request was submitted, and printed of where it failed
+printed_submission : (names : List ScriptId) (front : List Command) (before after now : Option (List ℕ)) (old new : Recording)
+    (command : Command) (request : Request) → is_submission command ≡ true → HasPrinted names front before after old
     → new.requests.items ≡ old.requests.items ++ request ∷ [] → new.filled ≡ old.filled
     → (is_none old.filled ≡ false → request ≡ Failed → is_write command ≡ true)
     → Appends after now (if is_failed request then outcome_line (name_at names (length old.requests.items)) (codes "failed") else [])
-    → HasTold names (front ++ command ∷ []) before now new
-told_submission names front before after now old new command request submits has pushed same wrote told =
-    told_on names front before after now old new command has
+    → HasPrinted names (front ++ command ∷ []) before now new
+printed_submission names front before after now old new command request submits has pushed same wrote output =
+    printed_on names front before after now old new command has
     (ap length pushed ∙ length-append old.requests.items (request ∷ []) ∙ ap (λ (n : ℕ). n + 1) has.numbered
     ∙ ap (λ (b : Bool). submissions front + cond b 1 0) (sym submits) ∙ sym (submissions_push front command))
     (subst (FailsLate (front ++ command ∷ []) new.requests.items) (sym same)
@@ -273,37 +273,37 @@ told_submission names front before after now old new command request submits has
       subst (Appends after now)
           (ap (λ (b : Bool). if b then outcome_line (name_at names (length old.requests.items)) (codes "failed") else []) (sym here)
           ∙ ap (submission_text names failed) has.numbered
-          ∙ sym (submission_prints names failed (submissions front) command submits)) told,
+          ∙ sym (submission_prints names failed (submissions front) command submits)) output,
     ))
 
--- a request failed, and that was told
-pub told_failed : (names : List ScriptId) (front : List Command) (before after now : Option (List ℕ)) (old new : Recording)
+-- a request failed, and that was printed
+pub printed_failed : (names : List ScriptId) (front : List Command) (before after now : Option (List ℕ)) (old new : Recording)
     (command : Command) → is_submission command ≡ true → (is_none old.filled ≡ false → is_write command ≡ true)
-    → HasTold names front before after old → new.requests.items ≡ old.requests.items ++ Failed ∷ [] → new.filled ≡ old.filled
+    → HasPrinted names front before after old → new.requests.items ≡ old.requests.items ++ Failed ∷ [] → new.filled ≡ old.filled
     → (number : ℕ) → number ≡ length old.requests.items → Appends after now (outcome_line (name_at names number) (codes "failed"))
-    → HasTold names (front ++ command ∷ []) before now new
-told_failed names front before after now old new command submits wrote has pushed same number counts told =
-    told_submission names front before after now old new command Failed submits has pushed same (λ made _. wrote made)
-    (subst (λ (n : ℕ). Appends after now (outcome_line (name_at names n) (codes "failed"))) counts told)
+    → HasPrinted names (front ++ command ∷ []) before now new
+printed_failed names front before after now old new command submits wrote has pushed same number counts output =
+    printed_submission names front before after now old new command Failed submits has pushed same (λ made _. wrote made)
+    (subst (λ (n : ℕ). Appends after now (outcome_line (name_at names n) (codes "failed"))) counts output)
 
 -- a request was submitted that didn't fail
-pub told_submitted : (names : List ScriptId) (front : List Command) (before after now : Option (List ℕ)) (old new : Recording)
-    (command : Command) (request : Request) → is_submission command ≡ true → HasTold names front before after old
+pub printed_submitted : (names : List ScriptId) (front : List Command) (before after now : Option (List ℕ)) (old new : Recording)
+    (command : Command) (request : Request) → is_submission command ≡ true → HasPrinted names front before after old
     → new.requests.items ≡ old.requests.items ++ request ∷ [] → new.filled ≡ old.filled → is_failed request ≡ false → now ≡ after
-    → HasTold names (front ++ command ∷ []) before now new
-told_submitted names front before after now old new command request submits has pushed same fine quiet =
-    told_submission names front before after now old new command request submits has pushed same (λ _ failed. cc (failed, fine))
+    → HasPrinted names (front ++ command ∷ []) before now new
+printed_submitted names front before after now old new command request submits has pushed same fine quiet =
+    printed_submission names front before after now old new command request submits has pushed same (λ _ failed. cc (failed, fine))
     (subst (λ (b : Bool). Appends after now (if b then outcome_line (name_at names (length old.requests.items)) (codes "failed") else [])) (sym fine)
     (subst (λ (bytes : Option (List ℕ)). Appends after bytes []) (sym quiet) (appends_none after)))
 
 -- a request was ended, which printed this
-told_end : (names : List ScriptId) (front : List Command) (before after now : Option (List ℕ)) (old new : Recording)
-    (request : ℕ) (found : Request) → HasTold names front before after old → slice_get old.requests.items request ≡ Some found
+printed_end : (names : List ScriptId) (front : List Command) (before after now : Option (List ℕ)) (old new : Recording)
+    (request : ℕ) (found : Request) → HasPrinted names front before after old → slice_get old.requests.items request ≡ Some found
     → new.requests.items ≡ old.requests.items → new.filled ≡ old.filled
     → Appends after now (if is_failed found then [] else outcome_line (name_at names request) (codes "ok"))
-    → HasTold names (front ++ Complete request ∷ []) before now new
-told_end names front before after now old new request found has here kept same told =
-    told_on names front before after now old new (Complete request) has
+    → HasPrinted names (front ++ Complete request ∷ []) before now new
+printed_end names front before after now old new request found has here kept same output =
+    printed_on names front before after now old new (Complete request) has
     (ap length kept ∙ has.numbered ∙ (let same : submissions front ≡ submissions front + 0 = omega arith in same)
     ∙ sym (submissions_push front (Complete request)))
     (subst (FailsLate (front ++ Complete request ∷ []) new.requests.items) (sym same)
@@ -313,55 +313,55 @@ told_end names front before after now old new request found has here kept same t
     let also : IsFailing failed old.requests.items = subst (IsFailing failed) kept failing in (
       also,
       subst (λ (b : Bool). Appends after now (if b then [] else outcome_line (name_at names request) (codes "ok")))
-          (sym (also request found here)) told,
+          (sym (also request found here)) output,
     ))
 
 -- a request has ended that didn't fail
-pub told_ended : (names : List ScriptId) (front : List Command) (before after now : Option (List ℕ)) (old new : Recording)
-    (request : ℕ) (found : Request) → HasTold names front before after old → slice_get old.requests.items request ≡ Some found
+pub printed_ended : (names : List ScriptId) (front : List Command) (before after now : Option (List ℕ)) (old new : Recording)
+    (request : ℕ) (found : Request) → HasPrinted names front before after old → slice_get old.requests.items request ≡ Some found
     → new.requests.items ≡ old.requests.items → new.filled ≡ old.filled → is_failed found ≡ false
     → Appends after now (outcome_line (name_at names request) (codes "ok"))
-    → HasTold names (front ++ Complete request ∷ []) before now new
-told_ended names front before after now old new request found has here kept same fine told =
-    told_end names front before after now old new request found has here kept same
-    (subst (λ (b : Bool). Appends after now (if b then [] else outcome_line (name_at names request) (codes "ok"))) (sym fine) told)
+    → HasPrinted names (front ++ Complete request ∷ []) before now new
+printed_ended names front before after now old new request found has here kept same fine output =
+    printed_end names front before after now old new request found has here kept same
+    (subst (λ (b : Bool). Appends after now (if b then [] else outcome_line (name_at names request) (codes "ok"))) (sym fine) output)
 
 -- a request has ended that failed
-pub told_nothing : (names : List ScriptId) (front : List Command) (before after now : Option (List ℕ)) (old new : Recording)
-    (request : ℕ) → HasTold names front before after old → slice_get old.requests.items request ≡ Some Failed
+pub printed_nothing : (names : List ScriptId) (front : List Command) (before after now : Option (List ℕ)) (old new : Recording)
+    (request : ℕ) → HasPrinted names front before after old → slice_get old.requests.items request ≡ Some Failed
     → new.requests.items ≡ old.requests.items → new.filled ≡ old.filled → now ≡ after
-    → HasTold names (front ++ Complete request ∷ []) before now new
-told_nothing names front before after now old new request has here kept same quiet =
-    told_end names front before after now old new request Failed has here kept same
+    → HasPrinted names (front ++ Complete request ∷ []) before now new
+printed_nothing names front before after now old new request has here kept same quiet =
+    printed_end names front before after now old new request Failed has here kept same
     (subst (λ (bytes : Option (List ℕ)). Appends after bytes []) (sym quiet) (appends_none after))
 
 -- the recording was closed, and requests fail late
-told_close : (names : List ScriptId) (front : List Command) (before after : Option (List ℕ)) (old new : Recording)
-    → HasTold names front before after old → new.requests.items ≡ old.requests.items
+printed_close : (names : List ScriptId) (front : List Command) (before after : Option (List ℕ)) (old new : Recording)
+    → HasPrinted names front before after old → new.requests.items ≡ old.requests.items
     → FailsLate (front ++ Close ∷ []) new.requests.items new.filled
-    → HasTold names (front ++ Close ∷ []) before after new
-told_close names front before after old new has kept late =
-    told_on names front before after after old new Close has
+    → HasPrinted names (front ++ Close ∷ []) before after new
+printed_close names front before after old new has kept late =
+    printed_on names front before after after old new Close has
     (ap length kept ∙ has.numbered ∙ (let same : submissions front ≡ submissions front + 0 = omega arith in same)
     ∙ sym (submissions_push front Close)) late
     (λ failed failing. (subst (IsFailing failed) kept failing, appends_none after))
 
 -- the recording was closed before
-pub told_closed : (names : List ScriptId) (front : List Command) (before after : Option (List ℕ)) (old new : Recording)
-    → HasTold names front before after old → new.requests.items ≡ old.requests.items → new.filled ≡ old.filled
-    → HasTold names (front ++ Close ∷ []) before after new
-told_closed names front before after old new has kept same =
-    told_close names front before after old new has kept
+pub printed_closed : (names : List ScriptId) (front : List Command) (before after : Option (List ℕ)) (old new : Recording)
+    → HasPrinted names front before after old → new.requests.items ≡ old.requests.items → new.filled ≡ old.filled
+    → HasPrinted names (front ++ Close ∷ []) before after new
+printed_closed names front before after old new has kept same =
+    printed_close names front before after old new has kept
     (subst (FailsLate (front ++ Close ∷ []) new.requests.items) (sym same)
     (subst (λ (requests : List Request). FailsLate (front ++ Close ∷ []) requests old.filled) (sym kept)
     (late_kept front Close old.requests.items old.filled has.late)))
 
 -- the recording is closed, with no request that failed
-pub told_first_close : (names : List ScriptId) (front : List Command) (before after : Option (List ℕ)) (old new : Recording)
-    (log : Filled) (ids : List ℕ) → HasTold names front before after old → new.requests.items ≡ old.requests.items
-    → new.filled ≡ Some log → old.requests.items ≡ map Tracked ids → HasTold names (front ++ Close ∷ []) before after new
-told_first_close names front before after old new log ids has kept made tracked =
-    told_close names front before after old new has kept
+pub printed_first_close : (names : List ScriptId) (front : List Command) (before after : Option (List ℕ)) (old new : Recording)
+    (log : Filled) (ids : List ℕ) → HasPrinted names front before after old → new.requests.items ≡ old.requests.items
+    → new.filled ≡ Some log → old.requests.items ≡ map Tracked ids → HasPrinted names (front ++ Close ∷ []) before after new
+printed_first_close names front before after old new log ids has kept made tracked =
+    printed_close names front before after old new has kept
     (subst (FailsLate (front ++ Close ∷ []) new.requests.items) (sym made) (
       closes_here front [],
       λ number here. absurd (all_tracked ids new.requests.items number Failed (kept ∙ tracked) here (λ id same. cc same)),
@@ -430,9 +430,9 @@ pub all_failed : (requests : List Request) → IsFailing (failed_from 0 requests
 all_failed requests number request here =
     ap (is_one_of (failed_from 0 requests)) (omega arith) ∙ failed_at 0 number requests request here
 
--- a script was run to its end: where the requests that failed did so late, what was told is what it prints
+-- a script was run to its end: where the requests that failed did so late, what was printed is what it prints
 printed_all : (names : List ScriptId) (script : List Command) (before after : Option (List ℕ)) (recording : Recording)
-    → HasTold names script before after recording
+    → HasPrinted names script before after recording
     → ((number : ℕ) → slice_get recording.requests.items number ≡ Some Failed → IsLate script number)
     → Prints names script before after
 printed_all names script before after recording has late =
@@ -441,40 +441,40 @@ printed_all names script before after recording has late =
     (λ place here. subst (IsLate script) (omega arith) (late place here)) in (
       printed names failed script,
       record { failed = failed; late = All-from_recursion (IsLate script) failed each; lines = refl },
-      has.told failed (all_failed recording.requests.items),
+      has.output failed (all_failed recording.requests.items),
     )
 
 -- a script was run whose log is made
 pub printed_filled : (names : List ScriptId) (script : List Command) (before after : Option (List ℕ)) (recording : Recording) (log : Filled)
-    → HasTold names script before after recording → recording.filled ≡ Some log → Prints names script before after
+    → HasPrinted names script before after recording → recording.filled ≡ Some log → Prints names script before after
 printed_filled names script before after recording log has made =
     let late : FailsLate script recording.requests.items (Some log) = subst (FailsLate script recording.requests.items) made has.late in
     printed_all names script before after recording has late.1
 
 -- a script was run that wasn't closed
 pub printed_open : (names : List ScriptId) (script : List Command) (before after : Option (List ℕ)) (recording : Recording) (ids : List ℕ)
-    → HasTold names script before after recording → recording.requests.items ≡ map Tracked ids → Prints names script before after
+    → HasPrinted names script before after recording → recording.requests.items ≡ map Tracked ids → Prints names script before after
 printed_open names script before after recording ids has tracked =
     printed_all names script before after recording has
     (λ number here. absurd (all_tracked ids recording.requests.items number Failed tracked here (λ id same. cc same)))
 
 -- one more command of a script was run, of its list of commands
-pub item_told : (plan : Plan) (items : List Command) (names : List ScriptId) (place : ℕ) (other : Command) (before after now : Option (List ℕ)) (old new : Recording)
-    → items ≡ plan.commands → names ≡ plan.names → HasTold plan.names (take place plan.commands) before after old → place < length items
-    → (HasTold names (take place plan.commands) before after old
-    → HasTold names (take place plan.commands ++ slice_index_or items place other ∷ []) before now new)
-    → HasTold plan.names (take (place + 1) plan.commands) before now new
-item_told plan items names place other before after now old new same script_id has here step =
-    one_more (λ (body : List Command). HasTold plan.names body before now new) plan items place other same here
-    (subst (λ (ns : List ScriptId). HasTold ns (take place plan.commands ++ slice_index_or items place other ∷ []) before now new) script_id
-    (step (subst (λ (ns : List ScriptId). HasTold ns (take place plan.commands) before after old) (sym script_id) has)))
+pub item_printed : (plan : Plan) (items : List Command) (names : List ScriptId) (place : ℕ) (other : Command) (before after now : Option (List ℕ)) (old new : Recording)
+    → items ≡ plan.commands → names ≡ plan.names → HasPrinted plan.names (take place plan.commands) before after old → place < length items
+    → (HasPrinted names (take place plan.commands) before after old
+    → HasPrinted names (take place plan.commands ++ slice_index_or items place other ∷ []) before now new)
+    → HasPrinted plan.names (take (place + 1) plan.commands) before now new
+item_printed plan items names place other before after now old new same script_id has here step =
+    one_more (λ (body : List Command). HasPrinted plan.names body before now new) plan items place other same here
+    (subst (λ (ns : List ScriptId). HasPrinted ns (take place plan.commands ++ slice_index_or items place other ∷ []) before now new) script_id
+    (step (subst (λ (ns : List ScriptId). HasPrinted ns (take place plan.commands) before after old) (sym script_id) has)))
 
 -- a script's commands were run to the end of their list
-pub items_told : (plan : Plan) (items : List Command) (place : ℕ) (before after : Option (List ℕ)) (recording : Recording)
-    → items ≡ plan.commands → HasTold plan.names (take place plan.commands) before after recording → length items ≤ place
-    → HasTold plan.names plan.commands before after recording
-items_told plan items place before after recording same has past =
-    subst (λ (body : List Command). HasTold plan.names body before after recording) (take_all place plan.commands (rw (← same) past)) has
+pub items_printed : (plan : Plan) (items : List Command) (place : ℕ) (before after : Option (List ℕ)) (recording : Recording)
+    → items ≡ plan.commands → HasPrinted plan.names (take place plan.commands) before after recording → length items ≤ place
+    → HasPrinted plan.names plan.commands before after recording
+items_printed plan items place before after recording same has past =
+    subst (λ (body : List Command). HasPrinted plan.names body before after recording) (take_all place plan.commands (rw (← same) past)) has
 
 -- a request that was submitted didn't fail
 pub submitted_fine : (answer : Submitted) → is_failed (request_of answer) ≡ false

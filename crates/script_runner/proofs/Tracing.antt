@@ -74,7 +74,7 @@ one_below : (test : ℕ → Bool) (n : ℕ) → all_below (λ k. not (test k)) n
 one_below test zero some = absurd (cc some)
 one_below test (suc n) some = elim (bool_cases (test n)) [
   | inl here ↦ (n, here)
-  | inr other ↦ 
+  | inr other ↦
       let before = all_below (λ k. not (test k)) n in
       one_below test n (sym (ap (λ (b : Bool). before && not b) other ∙ and-true before) ∙ some)
 ]
@@ -96,7 +96,7 @@ ended_push number front command = list_any-append (is_end_of number) front (comm
 -- a command that doesn't end a request leaves it as it was
 ended_kept : (number : ℕ) (front : List Command) (command : Command) → is_end_of number command ≡ false
     → is_ended number (front ++ command ∷ []) ≡ is_ended number front
-ended_kept number front command other = ended_push number front command 
+ended_kept number front command other = ended_push number front command
     ∙ ap (λ (b : Bool). is_ended number front || (b || false)) other
     ∙ or-false (is_ended number front)
 
@@ -320,10 +320,10 @@ traced_ended front core new requests filled request id has here news =
     (still_ended core.events (events.Complete id true)))
 
 -- a request has ended that the core didn't follow
-pub traced_told : (front : List Command) (es : List CoreEvent) (requests : List Request) (filled : Option Filled) (request : ℕ) (found : Request)
+pub traced_printed : (front : List Command) (es : List CoreEvent) (requests : List Request) (filled : Option Filled) (request : ℕ) (found : Request)
     → IsTracing front es requests filled → slice_get requests request ≡ Some found → ((id : ℕ) → found ≡ Tracked id → ⊥)
     → IsTracing (front ++ Complete request ∷ []) es requests filled
-traced_told front es requests filled request found has here other =
+traced_printed front es requests filled request found has here other =
     traced_end front es es requests filled request found has here (λ id opened. (opened, other id)) (λ over. over)
 
 -- which requests are open

@@ -9,7 +9,7 @@ use Rattle.dmlw_script.specs.Ids.{letters_of}
 use Rattle.dmlw_script.specs.Plans.{count_after_command, name_at, submissions}
 use Rattle.script_runner.specs.Recorded.{is_write, until_close}
 
--- the line that tells what became of the request of this name
+-- the line that says what became of the request of this name
 abbrev pub outcome_line : ScriptId → List ℕ → List ℕ
 outcome_line name outcome = letters_of name ++ codes " " ++ outcome ++ codes "\n"
 

@@ -14,7 +14,7 @@ use Rattle.script_runner.specs.declared.error.RunError.TheVariants.{Refused, Log
 use Rattle.script_runner.specs.declared.recording.StepError.{StepError}
 use Rattle.script_runner.specs.declared.recording.StepError.TheVariants.{AtLine, Whole}
 use Rattle.script_runner.specs.Errors.{IsFileError}
-use Rattle.script_runner.specs.Image.{fits}
+use Rattle.log_format.specs.Placing.{fits}
 use Rattle.script_runner.specs.Printed.{printed}
 use Rattle.script_runner.specs.Recorded.{ClosesQuietly, HasOpen, before_close, entries_of, has_close}
 
@@ -61,7 +61,7 @@ pub record RefusesClose (text : List ℕ) (script : Plan) (line : Option ℕ) (r
   pub first : has_close (take place script.commands) ≡ false
   pub here : line ≡ command_line text place
   pub submitted : All (λ request. request < submissions (take place script.commands)) failed
-  pub told : Appends before after (printed script.names failed (take place script.commands))
+  pub output : Appends before after (printed script.names failed (take place script.commands))
   pub cause : IsCloseRefusal failed (take place script.commands) refusal
 
 -- The logging of a script ends, and known bytes grew by what the commands before its first Close print, which are all
@@ -69,7 +69,7 @@ pub record RefusesClose (text : List ℕ) (script : Plan) (line : Option ℕ) (r
 pub record EndsLogging (script : Plan) (end : End) (before after : Option (List ℕ)) : Type 0 where
   pub failed : List ℕ
   pub submitted : All (λ request. request < submissions (before_close script.commands)) failed
-  pub told : Appends before after (printed script.names failed (before_close script.commands))
+  pub output : Appends before after (printed script.names failed (before_close script.commands))
   pub cause : IsLoggingEnd failed script.log_sectors script.commands end
 
 -- A fault that ends the run of a script that was read from this text: an output can't be written or there is no memory,

@@ -1,5 +1,5 @@
 //! Runs a script of `dmlw record`: each request goes through the recorder's core and ends, the log is
-//! filled with what the core gives, and a line tells what became of each request.
+//! filled with what the core gives, and a line says what became of each request.
 //!
 //! `run` runs a script that was read. Where it succeeds, the log is that of the completion list of
 //! the script's events (`specs/Recorded` says which these are, `specs/Image` which bytes a log has) and

@@ -116,12 +116,12 @@ struct Recording {
 }
 
 impl Recording {
-    ghost use Rattle.script_runner.specs.inside.Recordings.{Follows, GoesOn, HasTold, Stands, Traces, failed_from};
+    ghost use Rattle.script_runner.specs.inside.Recordings.{Follows, GoesOn, HasPrinted, Stands, Traces, failed_from};
 
     // No line of the script was run.
     fn new(alloc: Global, script: &Script) -> Result<Recording, AllocError>
         ensures stands { IfOk result (Stands script.now.commands []) }
-        ensures told { (bytes : Option (List ℕ)) → IfOk result (HasTold script.now.names [] bytes bytes) }
+        ensures output { (bytes : Option (List ℕ)) → IfOk result (HasPrinted script.now.names [] bytes bytes) }
         ensures log { IfOk result (λ r. r.log_sectors ≡ script.now.log_sectors) }
         ensures follows { IfOk result (Follows []) }
         ensures traces { IfOk result (Traces []) }
@@ -147,10 +147,10 @@ impl Recording {
         ensures stands { (script front : List Command) (command : Command) →
             event_of (ids_of script) command ≡ Submit bio.now → Stands script front self.old →
             OnOk result (Stands script (front ++ command ∷ []) self.new) }
-        ensures told { (front : List Command) (command : Command) (before : Option (List ℕ)) →
+        ensures output { (front : List Command) (command : Command) (before : Option (List ℕ)) →
             is_submission command ≡ true → Follows front self.old →
-            HasTold names.now front before (O.contents out.old) self.old →
-            OnOk result (HasTold names.now (front ++ command ∷ []) before
+            HasPrinted names.now front before (O.contents out.old) self.old →
+            OnOk result (HasPrinted names.now (front ++ command ∷ []) before
             (O.contents out.new) self.new) }
         ensures refused { IfErr result (StopsQuietly (O.contents out.old) (O.contents out.new)) }
         ensures faults { length self.old.requests.items < length names.now → IfErr result StopsForFile }
@@ -180,9 +180,9 @@ impl Recording {
         requires { range_answer first count 1048576 ≡ Ok tt }
         ensures stands { (script front : List Command) → Stands script front self.old →
             OnOk result (Stands script (front ++ Command.Write first count byte ∷ []) self.new) }
-        ensures told { (front : List Command) (before : Option (List ℕ)) → Follows front self.old →
-            HasTold names.now front before (O.contents out.old) self.old →
-            OnOk result (HasTold names.now (front ++ Command.Write first count byte ∷ []) before
+        ensures output { (front : List Command) (before : Option (List ℕ)) → Follows front self.old →
+            HasPrinted names.now front before (O.contents out.old) self.old →
+            OnOk result (HasPrinted names.now (front ++ Command.Write first count byte ∷ []) before
             (O.contents out.new) self.new) }
         ensures refused { IfErr result (StopsQuietly (O.contents out.old) (O.contents out.new)) }
         ensures faults { length self.old.requests.items < length names.now → IfErr result StopsForFile }
@@ -210,11 +210,11 @@ impl Recording {
     fn fail<O: Write>(&mut self, names: &[ScriptId], out: &mut O) -> Result<(), StepError>
         ensures short { OnOk result (self.new.is_short ≡ true) }
         ensures filled { OnOk result (self.new.filled ≡ self.old.filled) }
-        ensures told { (front : List Command) (command : Command) (before : Option (List ℕ)) →
+        ensures output { (front : List Command) (command : Command) (before : Option (List ℕ)) →
             is_submission command ≡ true →
             (is_none self.old.filled ≡ false → is_write command ≡ true) →
-            HasTold names.now front before (O.contents out.old) self.old →
-            OnOk result (HasTold names.now (front ++ command ∷ []) before
+            HasPrinted names.now front before (O.contents out.old) self.old →
+            OnOk result (HasPrinted names.now (front ++ command ∷ []) before
             (O.contents out.new) self.new) }
         ensures refused { IfErr result (StopsQuietly (O.contents out.old) (O.contents out.new)) }
         ensures faults { length self.old.requests.items < length names.now → IfErr result StopsForFile }
@@ -226,7 +226,7 @@ impl Recording {
     {
         self.core.stop(End::Memory);
         self.is_short = true;
-        tell(names, self.requests.len(), "failed", out)?;
+        print_outcome(names, self.requests.len(), "failed", out)?;
         self.requests.push(Request::Failed)?;
         Ok(())
     }
@@ -241,9 +241,9 @@ impl Recording {
         ensures stands { (script front : List Command) →
             GoesOn script front (Command.Complete request) → Stands script front self.old →
             OnOk result (Stands script (front ++ Command.Complete request ∷ []) self.new) }
-        ensures told { (front : List Command) (before : Option (List ℕ)) →
-            HasTold names.now front before (O.contents out.old) self.old →
-            OnOk result (HasTold names.now (front ++ Command.Complete request ∷ []) before
+        ensures output { (front : List Command) (before : Option (List ℕ)) →
+            HasPrinted names.now front before (O.contents out.old) self.old →
+            OnOk result (HasPrinted names.now (front ++ Command.Complete request ∷ []) before
             (O.contents out.new) self.new) }
         ensures refused { IfErr result (StopsQuietly (O.contents out.old) (O.contents out.new)) }
         ensures faults { (front : List Command) → Follows front self.old → is_ended request front ≡ false →
@@ -261,10 +261,10 @@ impl Recording {
         match found {
             Request::Tracked(id) if self.core.is_open(id) => {
                 self.core.complete(id, true);
-                tell(names, request, "ok", out)
+                print_outcome(names, request, "ok", out)
             }
             Request::Tracked(_) => Err(StepError::AtLine(Refusal::BadId)),
-            Request::Passed => tell(names, request, "ok", out),
+            Request::Passed => print_outcome(names, request, "ok", out),
             Request::Failed => Ok(()),
         }
     }
@@ -275,9 +275,9 @@ impl Recording {
             GoesOn script front Command.Close → Stands script front self.old → Follows front self.old →
             Traces front self.old → length self.old.requests.items ≡ submissions front →
             OnOk result (Stands script (front ++ Command.Close ∷ []) self.new) }
-        ensures told { (names : List ScriptId) (script front : List Command) (before after : Option (List ℕ)) →
-            Stands script front self.old → HasTold names front before after self.old →
-            OnOk result (HasTold names (front ++ Command.Close ∷ []) before after self.new) }
+        ensures output { (names : List ScriptId) (script front : List Command) (before after : Option (List ℕ)) →
+            Stands script front self.old → HasPrinted names front before after self.old →
+            OnOk result (HasPrinted names (front ++ Command.Close ∷ []) before after self.new) }
         ensures refused { (bytes : Option (List ℕ)) → IfErr result (StopsQuietly bytes bytes) }
         ensures faults { (script front : List Command) →
             GoesOn script front Command.Close → Stands script front self.old → Follows front self.old →
@@ -312,10 +312,10 @@ impl Recording {
             GoesOn script front command → Stands script front self.old → Follows front self.old →
             Traces front self.old → length self.old.requests.items ≡ submissions front →
             OnOk result (Stands script (front ++ command ∷ []) self.new) }
-        ensures told { (script front : List Command) (before : Option (List ℕ)) →
+        ensures output { (script front : List Command) (before : Option (List ℕ)) →
             Stands script front self.old → Follows front self.old →
-            HasTold names.now front before (O.contents out.old) self.old →
-            OnOk result (HasTold names.now (front ++ command ∷ []) before
+            HasPrinted names.now front before (O.contents out.old) self.old →
+            OnOk result (HasPrinted names.now (front ++ command ∷ []) before
             (O.contents out.new) self.new) }
         ensures refused { IfErr result (StopsQuietly (O.contents out.old) (O.contents out.new)) }
         ensures faults { (script front : List Command) (sectors : ℕ) →
@@ -346,7 +346,7 @@ impl Recording {
         ensures log { (script : List Command) → Stands script script self →
             IfOk result (HasEntries self.log_sectors (entries_of script)) }
         ensures printed { (names : List ScriptId) (script : List Command) (before after : Option (List ℕ)) →
-            Stands script script self → HasTold names script before after self →
+            Stands script script self → HasPrinted names script before after self →
             OnOk result (Prints names script before after) }
         ensures made { (script : List Command) → Stands script script self →
             OnOk result (MakesLog self.log_sectors script) }
@@ -383,14 +383,14 @@ fn request_at(requests: &[Request], number: usize) -> Option<Request>
     requests.get(number).copied()
 }
 
-// Tells what became of a request.
-fn tell<O: Write>(
+// Says what became of a request.
+fn print_outcome<O: Write>(
     names: &[ScriptId],
     request: usize,
     outcome: &str,
     out: &mut O,
 ) -> Result<(), StepError>
-    ensures told { AllByRecursion IsName names.now →
+    ensures output { AllByRecursion IsName names.now →
         OnOk result (Appends (O.contents out.old) (O.contents out.new)
         (outcome_line (name_at names.now request) outcome.now)) }
     ensures refused { IfErr result (StopsQuietly (O.contents out.old) (O.contents out.new)) }

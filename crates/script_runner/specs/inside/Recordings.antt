@@ -67,11 +67,11 @@ FailsLate front requests (Some log) =
     (has_close front ≡ true) × ((number : ℕ) → slice_get requests number ≡ Some Failed → IsLate front number)
 
 -- these commands of a script were run, and known bytes grew by what they print
-pub record HasTold (names : List ScriptId) (front : List Command) (before after : Option (List ℕ)) (recording : Recording) : Type 0 where
+pub record HasPrinted (names : List ScriptId) (front : List Command) (before after : Option (List ℕ)) (recording : Recording) : Type 0 where
   pub ids : AllByRecursion IsName names
   pub numbered : length recording.requests.items ≡ submissions front
   pub late : FailsLate front recording.requests.items recording.filled
-  pub told : (failed : List ℕ) → IsFailing failed recording.requests.items → Appends before after (printed names failed front)
+  pub output : (failed : List ℕ) → IsFailing failed recording.requests.items → Appends before after (printed names failed front)
 
 -- What always stands of the core's events and of the requests while these commands are run: a request that is recorded
 -- has an id of its own, of one of the events, and is open until it is ended; memory was short exactly where a request

@@ -76,7 +76,7 @@ returns-clause-status g c = λ program log words_are plain.
           let asked = read_asks _ (tasks.Status w.in-Status.log) entered w.in-Status.ensures enters complete in
           let status = c.status.ensures ∙ ap status_of (w.exit-is ∙ w.end-exit-in-Status.ensures.exit) in
           rw (w.files-is, w.out-is) (showing_ends ShowsStatus status_kept (g.F.Files.contents c.args.files.now) _ log _ _ _ _ _ _ _
-          (same_some _ _ asked.1) w.status-output.ensures.shown w.end-exit-in-Status.ensures.kept w.status-output.ensures.unwritten status)
+          (same_some _ _ asked.1) w.status-done.ensures.shown w.end-exit-in-Status.ensures.kept w.status-done.ensures.unwritten status)
       | in-Show w ↦
           let kind = read_asks _ (tasks.Show w.in-Show.text) entered w.in-Show.ensures enters complete in
           let refused = subst (λ (k : ErrorKind). EndsUntasked k w.show-exit.result) kind w.show-exit.ensures.ends in
@@ -106,7 +106,7 @@ returns-clause-does g c = elim c.match-read_words.branch [
         tasks.Status w.in-Status.log,
         w.in-Status.ensures,
         rw (w.files-is, w.out-is) (showing_ends ShowsStatus status_kept (g.F.Files.contents c.args.files.now) _ _ _ _ _ _ _ _ _
-            refl w.status-output.ensures.shown w.end-exit-in-Status.ensures.kept w.status-output.ensures.unwritten status),
+            refl w.status-done.ensures.shown w.end-exit-in-Status.ensures.kept w.status-done.ensures.unwritten status),
       )
   | in-Show w ↦ (
     tasks.Show w.in-Show.text,

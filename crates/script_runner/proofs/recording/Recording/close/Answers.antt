@@ -3,7 +3,8 @@ use Rattle.std.proofs.lemmas.Bool.{true_from_ne_false}
 use Rattle.bio.specs.declared.outcome.End.TheVariants.{Memory}
 use Rattle.dmlw_script.specs.declared.command.Command.TheVariants.{Close}
 use Rattle.log_format.specs.declared.entry.Entry.{Entry}
-use Rattle.script_runner.specs.Image.{HasEntries, fits}
+use Rattle.script_runner.specs.Image.{HasEntries}
+use Rattle.log_format.specs.Placing.{fits}
 use Rattle.script_runner.specs.Recorded.{ids_of}
 use Rattle.script_runner.specs.inside.Recordings.{failed_from}
 use Rattle.script_runner.specs.RunFaults.{no_memory}
@@ -11,7 +12,7 @@ use Rattle.script_runner.specs.CallLaws.{on_error}
 use Rattle.script_runner.proofs.Closing.{IsAtClose, close_refused, close_taken, closed_quietly, fill_ended, logging_ended, none_failed}
 use Rattle.script_runner.proofs.Following.{closing, filled_after}
 use Rattle.script_runner.proofs.Running.{closed, unfilled}
-use Rattle.script_runner.proofs.Telling.{told_closed, told_first_close}
+use Rattle.script_runner.proofs.Telling.{printed_closed, printed_first_close}
 use Rattle.script_runner.proofs.Tracing.{traced_close, traced_filled}
 use Rattle.script_runner.proofs.recording.Recording.close.Goals as goal
 
@@ -32,16 +33,16 @@ returns-in_ok-fill_log-clause-stands c = λ script front goes run follows traces
       };
     }
 
-pub returns-in_ok-fill_log-clause-told : goal.returns-in_ok-fill_log-clause-told
-returns-in_ok-fill_log-clause-told c = λ names script front before after run has.
+pub returns-in_ok-fill_log-clause-output : goal.returns-in_ok-fill_log-clause-output
+returns-in_ok-fill_log-clause-output c = λ names script front before after run has.
     let none : is_none c.args.self.now.filled ≡ true = search rules in
     let recording = unfilled script front c.args.self.now.log_sectors c.args.self.now.is_short c.args.self.now.core
     c.args.self.now.requests.items c.args.self.now.filled run none c.if-self.false in
-    told_first_close names front before after c.args.self.now _ _ (ids_of front) has refl refl recording.ids
+    printed_first_close names front before after c.args.self.now _ _ (ids_of front) has refl refl recording.ids
 
-pub returns-else-is_none-clause-told : goal.returns-else-is_none-clause-told
-returns-else-is_none-clause-told c = λ names script front before after run has.
-    told_closed names front before after c.args.self.now _ has refl refl
+pub returns-else-is_none-clause-output : goal.returns-else-is_none-clause-output
+returns-else-is_none-clause-output c = λ names script front before after run has.
+    printed_closed names front before after c.args.self.now _ has refl refl
 
 pub returns-in_err-close-clause-faults : goal.returns-in_err-close-clause-faults
 returns-in_err-close-clause-faults c = λ script front goes run follows traces numbered.

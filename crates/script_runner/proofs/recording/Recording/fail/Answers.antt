@@ -1,14 +1,14 @@
 use Rattle.std.proofs.Common.{refl, rules}
 use Rattle.bio.specs.declared.outcome.End.TheVariants.{Memory}
 use Rattle.script_runner.proofs.Following.{short}
-use Rattle.script_runner.proofs.Telling.{told_failed}
+use Rattle.script_runner.proofs.Telling.{printed_failed}
 use Rattle.script_runner.proofs.Tracing.{traced_short}
 use Rattle.script_runner.proofs.recording.Recording.fail.Goals as goal
 
-pub returns-clause-told : goal.returns-clause-told
-returns-clause-told g c = λ front command before submits wrote has.
-    told_failed c.args.names.now front before _ _ c.args.self.now _ command submits wrote has c.in_ok-push.ensures.items refl c.len.result (search rules)
-    (c.in_ok-tell.ensures.told has.ids)
+pub returns-clause-output : goal.returns-clause-output
+returns-clause-output g c = λ front command before submits wrote has.
+    printed_failed c.args.names.now front before _ _ c.args.self.now _ command submits wrote has c.in_ok-push.ensures.items refl c.len.result (search rules)
+    (c.in_ok-print_outcome.ensures.output has.ids)
 
 pub returns-clause-follows : goal.returns-clause-follows
 returns-clause-follows g c = λ front command other has.

@@ -4,9 +4,9 @@ use Rattle.script_runner.specs.inside.Recordings.{GoesOn}
 use Rattle.script_runner.proofs.Following.{where_error}
 use Rattle.script_runner.proofs.recording.Recording.step.Goals as goal
 
-pub returns-in-Close-clause-told : goal.returns-in-Close-clause-told
-returns-in-Close-clause-told g c = λ script front before run follows has.
-    rw c.in-Close.is (c.close.ensures.told c.args.names.now script front before _ run has)
+pub returns-in-Close-clause-output : goal.returns-in-Close-clause-output
+returns-in-Close-clause-output g c = λ script front before run follows has.
+    rw c.in-Close.is (c.close.ensures.output c.args.names.now script front before _ run has)
 
 pub returns-in-Close-clause-refused : goal.returns-in-Close-clause-refused
 returns-in-Close-clause-refused g c = c.close.ensures.refused (g.O.Write.contents c.args.out.now)

@@ -1,8 +1,7 @@
-use Rattle.std.proofs.Common.{◌≡◌, ◌∙◌, ℕ, zero, suc, ◌<◌, ◌==◌, Bool, true, false, not, ◌||◌, ◌&&◌, ◌⊎◌, Option, Some, None, is_none, inl, inr, List, [], ◌∷◌, ◌++◌, length, nat_lt, ap, arith, sym, refl, subst, if◌then◌else◌}
+use Rattle.std.proofs.Common.{◌≡◌, ◌∙◌, ℕ, zero, suc, ◌<◌, ◌==◌, Bool, true, false, not, ◌||◌, ◌&&◌, ◌⊎◌, Option, Some, None, is_none, inl, inr, List, [], ◌∷◌, ◌++◌, length, ap, arith, sym, refl, subst, if◌then◌else◌}
 use Rattle.std.specs.List.{AllByRecursion, slice_get}
 use Rattle.std.proofs.lemmas.Bool.{and_parts, cases_lt, eqb-false, eqb-true, not-true}
 use Rattle.std.proofs.Math.Bool.{and-false, and-true, or-false}
-use Rattle.std.proofs.lemmas.Bool.Decides.{nat_tests}
 use Rattle.std.proofs.lemmas.List.Elements.{All-from_recursion, recursion_from_All}
 use Rattle.std.proofs.lemmas.List.Folds.{list_any-append}
 use Rattle.std.proofs.lemmas.Option.{slice_get_cases, slice_get_within}
@@ -11,10 +10,10 @@ use Rattle.bio.specs.declared.event.CoreEvent.{CoreEvent}
 use Rattle.bio.specs.declared.event.CoreEvent.TheVariants as events
 use Rattle.bio.specs.declared.outcome.End.{End}
 use Rattle.bio.specs.declared.request.Bio.{Bio}
-use Rattle.bio.specs.Events.{end_of, first_place, is_close, is_open_at, is_stop, is_end_of as ends_at}
-use Rattle.bio.specs.EventLaws.{first_place-snoc, first_place_after-snoc, is_open_at-open, open-is_open_at}
+use Rattle.bio.specs.Events.{is_close, is_open_at, is_stop, is_end_of as ends_at}
+use Rattle.bio.specs.EventLaws.{is_open_at-open}
 use Rattle.bio.specs.Requests.{is_tracked}
-use Rattle.sectors.specs.Places.{all_below, or_here}
+use Rattle.sectors.specs.Places.{all_below}
 use Rattle.sectors.specs.PlaceLaws.{all_below-each, bool_cases, length-snoc, slice_get-append_front, slice_get-append_here}
 use Rattle.dmlw_script.specs.Plans.{is_end_of, is_ended, is_submission, submissions}
 use Rattle.dmlw_script.specs.declared.command.Command.{Command}
@@ -74,7 +73,7 @@ one_below : (test : ℕ → Bool) (n : ℕ) → all_below (λ k. not (test k)) n
 one_below test zero some = absurd (cc some)
 one_below test (suc n) some = elim (bool_cases (test n)) [
   | inl here ↦ (n, here)
-  | inr other ↦ 
+  | inr other ↦
       let before = all_below (λ k. not (test k)) n in
       one_below test n (sym (ap (λ (b : Bool). before && not b) other ∙ and-true before) ∙ some)
 ]
@@ -96,7 +95,7 @@ ended_push number front command = list_any-append (is_end_of number) front (comm
 -- a command that doesn't end a request leaves it as it was
 ended_kept : (number : ℕ) (front : List Command) (command : Command) → is_end_of number command ≡ false
     → is_ended number (front ++ command ∷ []) ≡ is_ended number front
-ended_kept number front command other = ended_push number front command 
+ended_kept number front command other = ended_push number front command
     ∙ ap (λ (b : Bool). is_ended number front || (b || false)) other
     ∙ or-false (is_ended number front)
 

@@ -122,7 +122,7 @@ places events = map (λ item. item.0) (completion_list (dm_log_writes 512) event
 pub crossed-differ : completion_list (dm_log_writes 512) ends_in_order ≡ completion_list (dm_log_writes 512) ends_crossed → ⊥
 crossed-differ same = let order : places ends_in_order ≡ places ends_crossed = ap (map (λ item. item.0)) same in cc
 
--- without the flush the FUA write overtakes them
+-- a FUA write overtakes a plain one that ended before it, unless a flush ended between them
 abbrev no_flush : List CoreEvent
 no_flush = Submit (write 1 65) ∷ Complete 0 true ∷ Submit (fua_write 2 66) ∷ Complete 2 true ∷ Close ∷ []
 

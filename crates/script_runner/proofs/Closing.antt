@@ -1,10 +1,8 @@
-use Rattle.std.proofs.Common.{◌≡◌, ◌∙◌, ℕ, Bool, true, false, Option, Some, None, is_none, inl, inr, List, [], ◌∷◌, length, ap, sym, refl, subst}
+use Rattle.std.proofs.Common.{◌≡◌, ◌∙◌, ℕ, Bool, true, false, Option, Some, is_none, List, [], ◌∷◌, length, ap, sym, refl, subst}
 use Rattle.std.specs.List.{AllByRecursion, slice_get}
 use Rattle.bio.specs.Lawful.{none_open}
-use Rattle.bio.specs.declared.event.CoreEvent.{CoreEvent}
 use Rattle.bio.specs.declared.outcome.End.{End}
 use Rattle.bio.specs.declared.outcome.End.TheVariants as ends
-use Rattle.sectors.specs.PlaceLaws.{bool_cases}
 use Rattle.dmlw_script.specs.Plans.{submissions}
 use Rattle.dmlw_script.specs.declared.command.Command.{Command}
 use Rattle.dmlw_script.specs.declared.command.Command.TheVariants.{Close}

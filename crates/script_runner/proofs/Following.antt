@@ -1,8 +1,7 @@
-use Rattle.std.proofs.Common.{◌≡◌, ◌∙◌, ℕ, ◌<◌, ◌==◌, Bool, true, false, not, ◌||◌, ◌&&◌, ◌⊎◌, Option, Some, None, is_none, inl, inr, List, [], ◌∷◌, ◌++◌, length, nat_lt, ap, arith, sym, refl, subst, if◌then◌else◌, Result, Ok, Err, IfErr, OnErr}
+use Rattle.std.proofs.Common.{◌≡◌, ◌∙◌, ℕ, ◌<◌, Bool, true, false, not, ◌||◌, ◌&&◌, ◌⊎◌, Option, Some, is_none, inl, inr, List, [], ◌∷◌, ◌++◌, length, ap, arith, sym, refl, subst, if◌then◌else◌, Result, Ok, Err, IfErr, OnErr}
 use Rattle.std.specs.List.{slice_get}
 use Rattle.std.proofs.lemmas.Bool.{cases_lt, and_parts, or_parts, eqb-false}
 use Rattle.std.proofs.Math.Bool.{and-false}
-use Rattle.std.proofs.lemmas.Bool.Decides.{nat_tests}
 use Rattle.std.proofs.lemmas.List.Folds.{list_any-append}
 use Rattle.std.proofs.lemmas.Option.{slice_get_within}
 use Rattle.bio.specs.Lawful.{has_no_close, has_no_stop, is_recording}
@@ -10,10 +9,9 @@ use Rattle.bio.specs.declared.event.CoreEvent.{CoreEvent}
 use Rattle.bio.specs.declared.event.CoreEvent.TheVariants as events
 use Rattle.bio.specs.declared.outcome.End.{End}
 use Rattle.bio.specs.declared.request.Bio.{Bio}
-use Rattle.bio.specs.Events.{end_of, first_place, is_close, is_open_at, is_stop, is_end_of as ends_at}
-use Rattle.bio.specs.EventLaws.{differ-eqb, first_place-snoc, first_place_after-snoc, is_open_at-open, open-is_open_at}
-use Rattle.sectors.specs.Places.{or_here}
-use Rattle.sectors.specs.PlaceLaws.{bool_cases, length-snoc, none_first_below, slice_get-append_front, slice_get-append_here}
+use Rattle.bio.specs.Events.{first_place, is_close, is_open_at, is_end_of as ends_at}
+use Rattle.bio.specs.EventLaws.{differ-eqb, is_open_at-open}
+use Rattle.sectors.specs.PlaceLaws.{bool_cases, length-snoc, slice_get-append_front, slice_get-append_here}
 use Rattle.bio.specs.Requests.{is_tracked}
 use Rattle.dmlw_script.specs.Plans.{is_end_of, is_ended, is_submission}
 use Rattle.dmlw_script.specs.declared.command.Command.{Command}

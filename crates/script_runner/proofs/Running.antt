@@ -9,11 +9,9 @@ use Rattle.std.proofs.lemmas.Bool.{and_parts, or_parts}
 use Rattle.bio.specs.declared.event.CoreEvent.{CoreEvent}
 use Rattle.bio.specs.declared.event.CoreEvent.TheVariants as events
 use Rattle.bio.specs.declared.request.Bio.{Bio}
-use Rattle.bio.specs.EventLaws.{first_place-snoc, is_none-none}
 use Rattle.sectors.specs.PlaceLaws.{slice_get-append_front}
 use Rattle.bio.specs.Events.{first_place, is_close, is_stop}
 use Rattle.bio.specs.Lawful.{has_no_close, has_no_stop, is_recording}
-use Rattle.sectors.specs.Places.{or_here}
 use Rattle.bio.specs.Requests.{is_tracked}
 use Rattle.dmlw_script.specs.declared.command.Command.{Command}
 use Rattle.dmlw_script.specs.declared.command.Command.TheVariants.{Write, Flush, Complete, Close}

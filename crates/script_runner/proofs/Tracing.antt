@@ -1,8 +1,7 @@
-use Rattle.std.proofs.Common.{◌≡◌, ◌∙◌, ℕ, zero, suc, ◌<◌, ◌==◌, Bool, true, false, not, ◌||◌, ◌&&◌, ◌⊎◌, Option, Some, None, is_none, inl, inr, List, [], ◌∷◌, ◌++◌, length, nat_lt, ap, arith, sym, refl, subst, if◌then◌else◌}
+use Rattle.std.proofs.Common.{◌≡◌, ◌∙◌, ℕ, zero, suc, ◌<◌, ◌==◌, Bool, true, false, not, ◌||◌, ◌&&◌, ◌⊎◌, Option, Some, None, is_none, inl, inr, List, [], ◌∷◌, ◌++◌, length, ap, arith, sym, refl, subst, if◌then◌else◌}
 use Rattle.std.specs.List.{AllByRecursion, slice_get}
 use Rattle.std.proofs.lemmas.Bool.{and_parts, cases_lt, eqb-false, eqb-true, not-true}
 use Rattle.std.proofs.Math.Bool.{and-false, and-true, or-false}
-use Rattle.std.proofs.lemmas.Bool.Decides.{nat_tests}
 use Rattle.std.proofs.lemmas.List.Elements.{All-from_recursion, recursion_from_All}
 use Rattle.std.proofs.lemmas.List.Folds.{list_any-append}
 use Rattle.std.proofs.lemmas.Option.{slice_get_cases, slice_get_within}
@@ -11,10 +10,10 @@ use Rattle.bio.specs.declared.event.CoreEvent.{CoreEvent}
 use Rattle.bio.specs.declared.event.CoreEvent.TheVariants as events
 use Rattle.bio.specs.declared.outcome.End.{End}
 use Rattle.bio.specs.declared.request.Bio.{Bio}
-use Rattle.bio.specs.Events.{end_of, first_place, is_close, is_open_at, is_stop, is_end_of as ends_at}
-use Rattle.bio.specs.EventLaws.{first_place-snoc, first_place_after-snoc, is_open_at-open, open-is_open_at}
+use Rattle.bio.specs.Events.{is_close, is_open_at, is_stop, is_end_of as ends_at}
+use Rattle.bio.specs.EventLaws.{is_open_at-open}
 use Rattle.bio.specs.Requests.{is_tracked}
-use Rattle.sectors.specs.Places.{all_below, or_here}
+use Rattle.sectors.specs.Places.{all_below}
 use Rattle.sectors.specs.PlaceLaws.{all_below-each, bool_cases, length-snoc, slice_get-append_front, slice_get-append_here}
 use Rattle.dmlw_script.specs.Plans.{is_end_of, is_ended, is_submission, submissions}
 use Rattle.dmlw_script.specs.declared.command.Command.{Command}

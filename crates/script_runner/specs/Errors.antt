@@ -4,7 +4,6 @@ use Rattle.std.specs.declared.io.ErrorKind.{ErrorKind}
 use Rattle.std.specs.declared.io.ErrorKind.TheVariants as kinds
 use Rattle.refusals.specs.declared.refusal.Refusal.{Refusal}
 use Rattle.refusals.specs.declared.refusal.Refusal.TheVariants as refusals
-use Rattle.refusals.specs.declared.fault.Fault.{Fault}
 use Rattle.refusals.specs.Texts.{fault_text, refusal_text, without_line}
 use Rattle.bio.specs.Refusals.{end_refusal}
 use Rattle.script_runner.specs.declared.error.RunError.{RunError}

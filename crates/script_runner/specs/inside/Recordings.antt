@@ -3,7 +3,7 @@ use Rattle.std.specs.Prelude.{◌≡◌, ◌<◌, ℕ, ◌+◌, is_none, if◌th
 use Rattle.std.specs.Io.KnownBytes.{Appends}
 use Rattle.std.specs.List.{AllByRecursion}
 use Rattle.bio.specs.declared.event.CoreEvent.{CoreEvent}
-use Rattle.bio.specs.Events.{first_place, is_close, is_open_at}
+use Rattle.bio.specs.Events.{is_open_at}
 use Rattle.bio.specs.Lawful.{has_no_close, is_recording}
 use Rattle.dmlw_script.specs.declared.command.Command.{Command}
 use Rattle.dmlw_script.specs.declared.script_id.ScriptId.{ScriptId}

@@ -7,18 +7,18 @@ use Rattle.bio.specs.declared.outcome.DevError.TheVariants as device_errors
 use Rattle.bio.specs.declared.request.BadBio.{BadBio}
 use Rattle.bio.specs.declared.request.BadBio.TheVariants as bad_bios
 
--- the refusal that a cause of an end is told by
+-- the refusal that a cause of an end is shown by
 abbrev pub end_refusal : End → Refusal
 end_refusal ends.Full = refusals.Full
 end_refusal ends.Device = refusals.Device
 end_refusal ends.Memory = refusals.EndMemory
 
--- the refusal that a device's error is told by
+-- the refusal that a device's error is shown by
 abbrev pub device_refusal : DevError → Refusal
 device_refusal device_errors.Io = refusals.Io
 device_refusal device_errors.Memory = refusals.Memory
 
--- the refusal that a bad request is told by
+-- the refusal that a bad request is shown by
 abbrev pub bad_bio_refusal : BadBio → Refusal
 bad_bio_refusal bad_bios.NotWhole = refusals.NotWhole
 bad_bio_refusal bad_bios.TooLong = refusals.TooLong

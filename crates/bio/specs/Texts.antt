@@ -4,11 +4,11 @@ use Rattle.std.specs.Fmt.{decimal}
 use Rattle.bio.specs.declared.outcome.End.{End}
 use Rattle.bio.specs.declared.outcome.Status.{Status}
 
--- the word that tells that logging has ended, whatever the cause
+-- the word that says that logging has ended, whatever the cause
 abbrev pub end_text : Option End → List ℕ
 end_text None = []
 end_text (Some end) = codes " logging_disabled"
 
--- a status is told by the entries and the highest sector, and whether logging has ended
+-- a status is shown by the entries and the highest sector, and whether logging has ended
 abbrev pub status_text : Status → List ℕ
 status_text status = decimal status.entries ++ codes " " ++ decimal status.sector ++ end_text status.end

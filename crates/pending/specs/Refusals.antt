@@ -3,7 +3,7 @@ use Rattle.refusals.specs.declared.refusal.Refusal.TheVariants as refusals
 use Rattle.pending.specs.declared.recording.CloseError.{CloseError}
 use Rattle.pending.specs.declared.recording.CloseError.TheVariants as close_errors
 
--- the refusal that a close is told by
+-- the refusal that a close is shown by
 abbrev pub close_refusal : CloseError → Refusal
 close_refusal close_errors.Busy = refusals.Busy
 close_refusal close_errors.Memory = refusals.Memory

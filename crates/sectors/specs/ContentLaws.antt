@@ -27,7 +27,7 @@ over-before first count value sector h =
       | inr other ↦ other
     ]
 
--- a sector behind the range has none
+-- a sector after the range has none
 pub over-after : (first count : ℕ) (value : ℕ → List ℕ) (sector : ℕ) → first + count ≤ sector → over first count value sector ≡ None
 unfolding over
 over-after first count value sector h =

@@ -154,13 +154,17 @@ pub failed : (script front : List Command) (sectors : ℕ) (core new : CoreState
 failed script front sectors core new requests after is_short (Some log) command run = run
 failed script front sectors core new requests after is_short None command run = λ unshort. absurd (cc unshort)
 
+-- of requests that were all tracked each is that of its id
+tracked_from : (ids : List ℕ) (requests : List Request) (request : ℕ) (found : Request) → requests ≡ map Tracked ids
+    → slice_get requests request ≡ Some found → option_map Tracked (slice_get ids request) ≡ Some found
+tracked_from ids requests request found are here =
+    sym (slice_get-map Tracked ids request) ∙ ap (λ (reqs : List Request). slice_get reqs request) (sym are) ∙ here
+
 -- the ids of requests that were all tracked
 tracked_at : (ids : List ℕ) (requests : List Request) (request id : ℕ) → requests ≡ map Tracked ids
     → slice_get requests request ≡ Some (Tracked id) → slice_get ids request ≡ Some id
 tracked_at ids requests request id are here =
-    let mapped : option_map Tracked (slice_get ids request) ≡ Some (Tracked id) =
-    sym (slice_get-map Tracked ids request) ∙ ap (λ (reqs : List Request). slice_get reqs request) (sym are) ∙ here in
-    unmapped (slice_get ids request) mapped
+    unmapped (slice_get ids request) (tracked_from ids requests request (Tracked id) are here)
   where
     unmapped : (found : Option ℕ) → option_map Tracked found ≡ Some (Tracked id) → found ≡ Some id
     unmapped None same = cc same
@@ -170,9 +174,7 @@ tracked_at ids requests request id are here =
 pub all_tracked : (ids : List ℕ) (requests : List Request) (request : ℕ) (other : Request) → requests ≡ map Tracked ids
     → slice_get requests request ≡ Some other → ((id : ℕ) → other ≡ Tracked id → ⊥) → ⊥
 all_tracked ids requests request other are here differs =
-    let mapped : option_map Tracked (slice_get ids request) ≡ Some other =
-    sym (slice_get-map Tracked ids request) ∙ ap (λ (reqs : List Request). slice_get reqs request) (sym are) ∙ here in
-    unmapped (slice_get ids request) mapped
+    unmapped (slice_get ids request) (tracked_from ids requests request other are here)
   where
     unmapped : (found : Option ℕ) → option_map Tracked found ≡ Some other → ⊥
     unmapped None same = cc same

@@ -62,7 +62,8 @@ event_of ids Close = events.Close
 abbrev pub events_of : List Command → List CoreEvent
 events_of body = map (event_of (ids_of body)) (until_close body)
 
--- the entries of a script's log, whose sectors have 512 bytes: those of the completion list of its events, and none where it isn't closed
+-- the entries of a script's log, whose sectors have 512 bytes: those of the completion list of its events, and none where
+-- it isn't closed
 abbrev pub entries_of : List Command → List Entry
 entries_of body = if has_close body then map (λ item. item.1) (completion_list (dm_log_writes 512) (events_of body)) else []
 

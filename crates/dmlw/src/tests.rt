@@ -82,7 +82,7 @@ struct Ran {
 }
 
 impl Ran {
-    // The status, and what was printed and told.
+    // The status, and what was printed.
     fn is(&self, status: u8, out: &str, err: &str) -> bool {
         self.status == status
             && self.out.as_slice() == out.as_bytes()
@@ -233,7 +233,7 @@ fn answers_scripts(rt: HostRuntime) {
             "",
             "dmlw: line 4: 24 Busy\n",
         ),
-        // Lines behind a close.
+        // Lines after a close.
         (
             "data 16\nlog 32\nclose\nw a 5 1 41\nc a\nclose\nf b\n",
             0,
@@ -390,21 +390,21 @@ fn refuses_unreadable_words(rt: HostRuntime) {
     assert_eq!(rt; refuse(error, &mut err), 2);
     let error = io::Error::from(io::ErrorKind::OutOfMemory);
     assert_eq!(rt; refuse(error, &mut err), 1);
-    let output = "error: a word of the command line isn't UTF-8 text\ndmlw: 2 Memory\n";
-    assert!(rt; err.as_slice() == output.as_bytes());
+    let shown = "error: a word of the command line isn't UTF-8 text\ndmlw: 2 Memory\n";
+    assert!(rt; err.as_slice() == shown.as_bytes());
 }
 
-// Where an allocation is refused (`rt try --test --fail-alloc N`) that is what is told, in place of an
+// Where an allocation is refused (`rt try --test --fail-alloc N`) that is what is shown, in place of an
 // answer.
 #[test]
-fn tells_want_of_memory(rt: HostRuntime) {
+fn shows_want_of_memory(rt: HostRuntime) {
     let ran = record(rt.alloc(), FIRST.as_bytes());
     let is_whole = ran.is(0, "a ok\nb ok\n3 4\n", "") && ran.log.is_some();
-    let is_told = match ran.err.as_slice() {
+    let is_shown = match ran.err.as_slice() {
         b"dmlw: 2 Memory\n" => ran.status == 1,
         b"dmlw: 20 Memory\n" => ran.status == 3,
         [] => ran.status != 0,
         _ => false,
     };
-    assert!(rt; is_whole || (is_told && ran.log.is_none()), "{ran:?}");
+    assert!(rt; is_whole || (is_shown && ran.log.is_none()), "{ran:?}");
 }

@@ -1,6 +1,7 @@
 use super::*;
 use refusals::Refusal;
 use std::alloc::{AllocError, Global};
+use std::process::Abort;
 use std::test::Fail;
 
 // What reading a text answers: the printed script, or the fault.
@@ -16,144 +17,307 @@ fn answer(alloc: Global, text: &[u8], kind: Kind) -> Result<String, AllocError> 
 
 #[test]
 fn first_run(rt: HostRuntime) -> Result<(), Fail> {
+    let alloc = rt.alloc();
     let text = b"# a run\ndata 16\n\nlog 32\nw a 5 1 41\nc a\nf b\nc b\n#\nclose\n";
-    let script = read_script(rt.alloc(), text, Kind::Record)?;
-    assert_eq!(rt; script.data_sectors(), 16);
-    assert_eq!(rt; script.log_sectors(), 32);
-    let names = script.names();
-    assert_eq!(rt; names.len(), 2);
-    assert_eq!(rt; names[0].letters(), b"a".as_slice());
-    assert_eq!(rt; names[1].letters(), b"b".as_slice());
-    assert_eq!(rt; names[1].to_string(rt.alloc())?.as_str(), "b");
-    let commands = [
-        Command::Write {
-            first: 5,
-            count: 1,
-            byte: 0x41,
-        },
-        Command::Complete { request: 0 },
-        Command::Flush,
-        Command::Complete { request: 1 },
-        Command::Close,
-    ];
-    assert_eq!(rt; script.commands(), commands.as_slice());
-    assert_eq!(rt; line_of(text, 0), Some(5));
-    assert_eq!(rt; line_of(text, 4), Some(10));
-    assert_eq!(rt; line_of(text, 5), None);
+    let script = read_script(alloc, text, Kind::Record)?;
+    let mut names = String::new(alloc);
+    for name in script.names() {
+        names.push_str(format!(in alloc; " {name}{}", name.letters().len())?.as_str())?;
+    }
+    let shown = format!(in alloc;
+        "{} {}{names} {} {:?} {:?}",
+        script.data_sectors(),
+        script.log_sectors(),
+        script.commands().len(),
+        line_of(text, 4),
+        line_of(text, 5)
+    )?;
+    assert_eq!(rt; shown.as_str(), "16 32 a1 b1 5 Some(10) None");
     Ok(())
 }
 
-// Texts, and what reading them answers: the spelling of the script that they are, or the fault.
-const TEXTS: [(&str, &str); 58] = [
-    // The head.
-    ("", "line 1: 30 BadLine"),
-    ("\n# nothing\n", "line 3: 30 BadLine"),
-    ("data 16", "line 2: 30 BadLine"),
-    ("data 16\n", "line 2: 30 BadLine"),
-    ("data 16\nlog 32", "data 16\nlog 32\n"),
-    ("log 32\ndata 16\n", "line 1: 30 BadLine"),
-    ("data 16\ndata 16\nlog 32\n", "line 2: 30 BadLine"),
-    ("data 16\nf a\nlog 32\n", "line 2: 30 BadLine"),
-    ("data 16\nlog 32\nlog 32\n", "line 3: 30 BadLine"),
-    ("data 16\nlog 32\n\ndata 16\n", "line 4: 30 BadLine"),
-    ("data 0\nlog 32\n", "line 1: 30 BadLine"),
-    ("data 1048577\nlog 32\n", "line 1: 30 BadLine"),
-    ("data 1048576\nlog 1048576\n", "data 1048576\nlog 1048576\n"),
-    ("data 1\nlog 1048577\n", "line 2: 30 BadLine"),
-    ("data 1\nlog 0\n", "line 2: 30 BadLine"),
-    ("data 1\nlog 1 \n", "line 2: 30 BadLine"),
-    ("data\nlog 1\n", "line 1: 30 BadLine"),
-    // What a line may hold.
-    ("data 16\r\nlog 32\r\n", "line 1: 30 BadLine"),
-    ("data\t16\nlog 32\n", "line 1: 30 BadLine"),
-    ("#\tok\r\ndata 16\nlog 32\n", "data 16\nlog 32\n"),
-    ("# \u{e9}\ndata 16\nlog 32\n", "line 1: 30 BadLine"),
-    ("data 16\n#\0\nlog 32\n", "line 2: 30 BadLine"),
-    (" # no comment\ndata 16\nlog 32\n", "line 1: 30 BadLine"),
-    ("data 16\nlog 32\n \n", "line 3: 30 BadLine"),
-    // The lines of the body.
-    (
-        "data 16\nlog 32\nw a 5 1 41\nf b\nc b\nc a\nclose\nclose\nf c",
-        "data 16\nlog 32\nw a 5 1 41\nf b\nc b\nc a\nclose\nclose\nf c\n",
-    ),
-    ("data 16\nlog 32\nw a 5 1\n", "line 3: 30 BadLine"),
-    ("data 16\nlog 32\nw a 5 1 41 fua\n", "line 3: 30 BadLine"),
-    ("data 16\nlog 32\nw  a 5 1 41\n", "line 3: 30 BadLine"),
-    ("data 16\nlog 32\nw a 5 1 41 \n", "line 3: 30 BadLine"),
-    ("data 16\nlog 32\nw a 5 1 4A\n", "line 3: 30 BadLine"),
-    ("data 16\nlog 32\nw a 5 1 4\n", "line 3: 30 BadLine"),
-    ("data 16\nlog 32\nw a 5 1 041\n", "line 3: 30 BadLine"),
-    ("data 16\nlog 32\nw a 5 1 4g\n", "line 3: 30 BadLine"),
-    (
-        "data 16\nlog 32\nw a 05 0001 ff\n",
-        "data 16\nlog 32\nw a 5 1 ff\n",
-    ),
-    ("data 16\nlog 32\nw a 5x 1 41\n", "line 3: 30 BadLine"),
-    ("data 16\nlog 32\nw a  1 41\n", "line 3: 30 BadLine"),
-    ("data 16\nlog 32\nf\n", "line 3: 30 BadLine"),
-    ("data 16\nlog 32\nf \n", "line 3: 30 BadLine"),
-    ("data 16\nlog 32\nf a b\n", "line 3: 30 BadLine"),
-    ("data 16\nlog 32\nf A\n", "line 3: 30 BadLine"),
-    ("data 16\nlog 32\nf a_b\n", "line 3: 30 BadLine"),
-    (
-        "data 16\nlog 32\nf 0123456789abcdez\n",
-        "data 16\nlog 32\nf 0123456789abcdez\n",
-    ),
-    (
-        "data 16\nlog 32\nf 0123456789abcdefg\n",
-        "line 3: 30 BadLine",
-    ),
-    ("data 16\nlog 32\nclose now\n", "line 3: 30 BadLine"),
-    ("data 16\nlog 32\nturn\n", "line 3: 30 BadLine"),
-    // Ids.
-    ("data 16\nlog 32\nf a\nc a\nf a\n", "line 5: 31 BadId"),
-    ("data 16\nlog 32\nf a\nw a 99 0 00\n", "line 4: 31 BadId"),
-    ("data 16\nlog 32\nf a\nc a\nc a\n", "line 5: 31 BadId"),
-    ("data 16\nlog 32\nf ab\nc a\n", "line 4: 31 BadId"),
-    // Requests.
-    ("data 16\nlog 32\nw a 0 00 00\n", "line 3: 5 NotWhole"),
-    ("data 16\nlog 32\nw a 0 2049 00\n", "line 3: 4 TooLong"),
-    ("data 16\nlog 32\nw a 0 17 00\n", "line 3: 3 PastEnd"),
-    ("data 16\nlog 32\n#\n\nw a 15 2 00\n", "line 5: 3 PastEnd"),
-    (
-        "data 16\nlog 32\nw a 18446744073709551615 1 00\n",
-        "line 3: 3 PastEnd",
-    ),
-    (
-        "data 16\nlog 32\nw a 18446744073709551616 1 00\n",
-        "line 3: 30 BadLine",
-    ),
-    (
-        "data 16\nlog 32\nw a 18446744073709551621 1 00\n",
-        "line 3: 30 BadLine",
-    ),
-    (
-        "data 16\nlog 32\nw a 00000000000000000015 1 00\n",
-        "data 16\nlog 32\nw a 15 1 00\n",
-    ),
-    (
-        "data 16\nlog 32\nw a 000000000000000000015 1 00\n",
-        "line 3: 30 BadLine",
-    ),
-];
+// Texts, and what reading them answers: the spelling of the script that they are, or the fault. Each
+// begins after a line feed and a `~`, the first alone at once, and its answer after a `=`.
+const TEXTS: &str = "=line 1: 30 BadLine
+~
+# nothing
+=line 3: 30 BadLine
+~data 16=line 2: 30 BadLine
+~data 16
+=line 2: 30 BadLine
+~data 16
+log 32=data 16
+log 32
+
+~log 32
+data 16
+=line 1: 30 BadLine
+~data 16
+data 16
+log 32
+=line 2: 30 BadLine
+~data 16
+f a
+log 32
+=line 2: 30 BadLine
+~data 16
+log 32
+log 32
+=line 3: 30 BadLine
+~data 16
+log 32
+
+data 16
+=line 4: 30 BadLine
+~data 0
+log 32
+=line 1: 30 BadLine
+~data 1048577
+log 32
+=line 1: 30 BadLine
+~data 1048576
+log 1048576
+=data 1048576
+log 1048576
+
+~data 1
+log 1048577
+=line 2: 30 BadLine
+~data 1
+log 0
+=line 2: 30 BadLine
+~data 1
+log 1\x20
+=line 2: 30 BadLine
+~data
+log 1
+=line 1: 30 BadLine
+~data 16\r
+log 32\r
+=line 1: 30 BadLine
+~data\t16
+log 32
+=line 1: 30 BadLine
+~#\tok\r
+data 16
+log 32
+=data 16
+log 32
+
+~# \u{e9}
+data 16
+log 32
+=line 1: 30 BadLine
+~data 16
+#\0
+log 32
+=line 2: 30 BadLine
+~ # no comment
+data 16
+log 32
+=line 1: 30 BadLine
+~data 16
+log 32
+\x20
+=line 3: 30 BadLine
+~data 16
+log 32
+w a 5 1 41
+f b
+c b
+c a
+close
+close
+f c=data 16
+log 32
+w a 5 1 41
+f b
+c b
+c a
+close
+close
+f c
+
+~data 16
+log 32
+w a 5 1
+=line 3: 30 BadLine
+~data 16
+log 32
+w a 5 1 41 fua
+=line 3: 30 BadLine
+~data 16
+log 32
+w  a 5 1 41
+=line 3: 30 BadLine
+~data 16
+log 32
+w a 5 1 41\x20
+=line 3: 30 BadLine
+~data 16
+log 32
+w a 5 1 4A
+=line 3: 30 BadLine
+~data 16
+log 32
+w a 5 1 4
+=line 3: 30 BadLine
+~data 16
+log 32
+w a 5 1 041
+=line 3: 30 BadLine
+~data 16
+log 32
+w a 5 1 4g
+=line 3: 30 BadLine
+~data 16
+log 32
+w a 05 0001 ff
+=data 16
+log 32
+w a 5 1 ff
+
+~data 16
+log 32
+w a 5x 1 41
+=line 3: 30 BadLine
+~data 16
+log 32
+w a  1 41
+=line 3: 30 BadLine
+~data 16
+log 32
+f
+=line 3: 30 BadLine
+~data 16
+log 32
+f\x20
+=line 3: 30 BadLine
+~data 16
+log 32
+f a b
+=line 3: 30 BadLine
+~data 16
+log 32
+f A
+=line 3: 30 BadLine
+~data 16
+log 32
+f a_b
+=line 3: 30 BadLine
+~data 16
+log 32
+f 0123456789abcdez
+=data 16
+log 32
+f 0123456789abcdez
+
+~data 16
+log 32
+f 0123456789abcdefg
+=line 3: 30 BadLine
+~data 16
+log 32
+close now
+=line 3: 30 BadLine
+~data 16
+log 32
+turn
+=line 3: 30 BadLine
+~data 16
+log 32
+f a
+c a
+f a
+=line 5: 31 BadId
+~data 16
+log 32
+f a
+w a 99 0 00
+=line 4: 31 BadId
+~data 16
+log 32
+f a
+c a
+c a
+=line 5: 31 BadId
+~data 16
+log 32
+f ab
+c a
+=line 4: 31 BadId
+~data 16
+log 32
+w a 0 00 00
+=line 3: 5 NotWhole
+~data 16
+log 32
+w a 0 2049 00
+=line 3: 4 TooLong
+~data 16
+log 32
+w a 0 17 00
+=line 3: 3 PastEnd
+~data 16
+log 32
+#
+
+w a 15 2 00
+=line 5: 3 PastEnd
+~data 16
+log 32
+w a 18446744073709551615 1 00
+=line 3: 3 PastEnd
+~data 16
+log 32
+w a 18446744073709551616 1 00
+=line 3: 30 BadLine
+~data 16
+log 32
+w a 18446744073709551621 1 00
+=line 3: 30 BadLine
+~data 16
+log 32
+w a 00000000000000000015 1 00
+=data 16
+log 32
+w a 15 1 00
+
+~data 16
+log 32
+w a 000000000000000000015 1 00
+=line 3: 30 BadLine";
+
+// The same, where a run is read.
+const RUN_TEXTS: &str = "=line 1: 30 BadLine
+~data 16
+log 32
+=line 3: 30 BadLine
+~data 16
+#
+log 32
+
+# here
+f a
+=line 6: 30 BadLine";
+
+// Each text is answered so.
+fn assert_texts(rt: &impl Abort, alloc: Global, texts: &str, kind: Kind) -> Result<(), Fail> {
+    for row in texts.split("\n~") {
+        let mut parts = row.split("=");
+        let (text, want) = (
+            parts.next().unwrap_or_default(),
+            parts.next().unwrap_or_default(),
+        );
+        let found = answer(alloc, text.as_bytes(), kind)?;
+        assert_eq!(rt; found.as_str(), want, "{row}");
+    }
+    Ok(())
+}
 
 #[test]
 fn texts(rt: HostRuntime) -> Result<(), Fail> {
-    for (text, want) in TEXTS {
-        let found = answer(rt.alloc(), text.as_bytes(), Kind::Record)?;
-        assert_eq!(rt; found.as_str(), want, "at {text:?}");
-        if !want.starts_with("line") {
-            let again = answer(rt.alloc(), want.as_bytes(), Kind::Record)?;
-            assert_eq!(rt; again.as_str(), want, "printed of {text:?}");
-        }
-    }
-    for (text, want) in [
-        ("", "line 1: 30 BadLine"),
-        ("data 16\nlog 32\n", "line 3: 30 BadLine"),
-        ("data 16\n#\nlog 32\n\n# here\nf a\n", "line 6: 30 BadLine"),
-    ] {
-        let found = answer(rt.alloc(), text.as_bytes(), Kind::Run)?;
-        assert_eq!(rt; found.as_str(), want, "at {text:?}");
-    }
-    Ok(())
+    let alloc = rt.alloc();
+    assert_texts(&rt, alloc, TEXTS, Kind::Record)?;
+    assert_texts(&rt, alloc, RUN_TEXTS, Kind::Run)
 }

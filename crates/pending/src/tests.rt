@@ -200,23 +200,14 @@ fn a_later_flush_overtakes(rt: HostRuntime) -> Result<(), Fail> {
 fn each_kind_is_tracked(rt: HostRuntime) -> Result<(), Fail> {
     let alloc = rt.alloc();
     let mut core = Core::new(alloc)?;
-    for (flush, fua, meta) in [
-        (false, false, false),
-        (true, false, false),
-        (false, true, false),
-        (false, false, true),
-        (true, true, false),
-        (true, false, true),
-        (false, true, true),
-        (true, true, true),
-    ] {
+    for kind in 0..8 {
         for length in [512, 2 * 512, 2048 * 512] {
             let bio = Bio::Write {
                 first: 0,
                 bytes: Bytes::from_vec(vec![in alloc; 65; length]?),
-                flush,
-                fua,
-                meta,
+                flush: kind % 2 == 1,
+                fua: kind / 2 % 2 == 1,
+                meta: kind / 4 == 1,
             };
             let place = core.events().len() as u64;
             assert_eq!(rt; place_of(core.submit(&bio)?), place, "{length} bytes");
@@ -242,22 +233,21 @@ fn recording_goes_on_after_a_take(rt: HostRuntime) -> Result<(), Fail> {
     core.submit(&write(alloc, 7, 67, false)?)?;
     core.submit(&Bio::Discard { first: 8, count: 1 })?;
     core.submit(&Bio::Flush)?;
-    for (ended, want) in [
-        (6, [].as_slice()),
-        (5, [].as_slice()),
-        (7, [7].as_slice()),
-        (4, [2, 4].as_slice()),
-    ] {
+    let mut shown = String::new(alloc);
+    for ended in [6, 5, 7, 4] {
         end(&mut core, ended, true);
-        assert_eq!(rt; taken(alloc, &mut core)?.as_slice(), want, "after {ended}");
+        let places = taken(alloc, &mut core)?;
+        shown.push_str(format!(in alloc; "{ended}: {places:?} ")?.as_str())?;
     }
-    assert_eq!(rt; core.close(), Ok(()));
-    assert_eq!(rt; taken(alloc, &mut core)?.as_slice(), [6, 5, 12].as_slice());
+    core.close()?;
+    let places = taken(alloc, &mut core)?;
+    shown.push_str(format!(in alloc; "{places:?}")?.as_str())?;
+    assert_eq!(rt; shown.as_str(), "6: [] 5: [] 7: [7] 4: [2, 4] [6, 5, 12]");
     Ok(())
 }
 
 #[test]
-fn close_errors_are_told(rt: HostRuntime) -> Result<(), Fail> {
+fn close_errors_are_shown(rt: HostRuntime) -> Result<(), Fail> {
     for (error, want) in [
         (CloseError::Busy, "a request is open"),
         (CloseError::Memory, "no memory"),

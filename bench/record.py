@@ -32,7 +32,7 @@ def script(size, flush_every):
 
 def main():
     program = build()
-    print("script     requests   seconds  ratio   peak MiB = image + data twice + rest   rest a request")
+    print("script     requests   seconds  ratio   peak MiB = image + data + rest   rest a request")
     for flush_every in (0, 10, 1):
         kind = {0: "writes", 10: "a flush every 10", 1: "flushes alone"}[flush_every]
         print(f"{kind}:")
@@ -40,14 +40,14 @@ def main():
         for size in (MIB, 2 * MIB, 4 * MIB):
             text, requests, data, log = script(size, flush_every)
             seconds, peak = min(run(program, ["record", "script", "log"], {"script": text}) for _ in range(3))
-            rest = peak - log * 512 - 2 * data
+            rest = peak - log * 512 - data
             ratio = f"{seconds / before:5.2f}" if before else "     "
             before = seconds
-            bound = log * 512 + 300 * requests + 3 * len(text)
+            bound = log * 512 + data + 300 * requests + 3 * len(text)
             print(
                 f"{len(text) / MIB:4.1f} MiB {requests:9d} {seconds:9.2f} {ratio} {peak / MIB:10.1f} = {log * 512 / MIB:.1f}"
-                f" + {2 * data / MIB:.1f} + {rest / MIB:.1f}   {(rest - 3 * len(text)) / requests:6.0f} bytes beside 3 scripts"
-                f"   (image + 300 a request + 3 scripts: {bound / MIB:.1f})"
+                f" + {data / MIB:.1f} + {rest / MIB:.1f}   {(rest - 3 * len(text)) / requests:6.0f} bytes beside 3 scripts"
+                f"   (image + data + 300 a request + 3 scripts: {bound / MIB:.1f})"
             )
 
 

@@ -1,5 +1,5 @@
 -- The law of a device, as records of its view before a call (v) and after it (w).
-use Rattle.std.specs.Prelude.{◌≡◌, ◌⊎◌, ℕ, ◌<◌, ◌≤◌, Bool, IsTrue, Result, Ok, Err}
+use Rattle.std.specs.Prelude.{◌≡◌, ◌⊎◌, ℕ, ◌<◌, ◌≤◌, Bool, IsTrue, Result, Ok, Err, List, Some}
 use Rattle.bio.specs.declared.outcome.DevError.{DevError}
 use Rattle.bio.specs.declared.outcome.DevError.TheVariants.{Io}
 use Rattle.sectors.specs.Content.{Content, Patch, Patched, put}
@@ -12,6 +12,11 @@ AfterPatch patch before left = (old : Content) × before old × Patched patch ol
 -- one of these contents, with all of the call's values
 abbrev pub AfterWhole : Patch → (Content → Type 0) → Content → Type 0
 AfterWhole patch before left = (old : Content) × before old × ((sector : ℕ) → left sector ≡ put patch old sector)
+
+-- old content with a call's values in some of its sectors: each sector is as it was, or has the call's value
+abbrev pub IsTorn : Patch → (Content → Type 0) → Content → Type 0
+IsTorn patch before left = (old : Content) × before old
+    × ((sector : ℕ) → (left sector ≡ old sector) ⊎ (patch sector ≡ Some (left sector)))
 
 -- What a call does at most, whatever it answers: it puts its values in some of their sectors.
 pub record Goes (patch : Patch) (v w : View) : Type 0 where

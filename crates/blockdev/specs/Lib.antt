@@ -1,3 +1,5 @@
 pub mod View
 pub mod Calls
 pub mod Law
+pub mod Joins
+pub mod Durable

@@ -2,7 +2,7 @@
 use Rattle.std.proofs.Common.{◌≡◌, ℕ, suc, zero, ◌<◌, ◌≤◌, ◌^◌, Bool, true, false, IsTrue, Option, None, Some, List, [], ◌∷◌, ◌++◌, length, refl, ap, subst, sym, ◌∙◌, inl, inr, arith, lit<}
 use Rattle.std.proofs.lemmas.Bool.{cases_lt, le-ltb, lt-ltb}
 use Rattle.std.proofs.lemmas.List.Elements.{Contains-append_cases, Contains-append_left, Contains-append_right}
-use Rattle.std.specs.Prelude.{◌⊎◌, nat_lt, unwrap_or, Contains, MatchBool}
+use Rattle.std.specs.Prelude.{◌⊎◌, nat_lt, slice_index_or, unwrap_or, Contains, MatchBool}
 use Rattle.sectors.specs.Content.{Content, HasWholeSectors, HasWholeValues, Patch, Patched, nothing, put}
 use Rattle.sectors.specs.ContentLaws.{patched-same, patched-whole, whole-patched}
 use Rattle.blockdev.specs.Law.{AfterPatch, AfterWhole, Goes, Lands, Stays, Syncs}
@@ -16,7 +16,7 @@ contains_one x = (0, omega arith, refl)
 pub one_contains : {X : Type 0} (x y : X) → Contains (x ∷ []) y → y ≡ x
 one_contains x y has = at has.0 has.1 has.2
   where
-    at : (k : ℕ) → k < 1 → Rattle.std.specs.Prelude.slice_index_or (x ∷ []) k y ≡ y → y ≡ x
+    at : (k : ℕ) → k < 1 → slice_index_or (x ∷ []) k y ≡ y → y ≡ x
     at zero h e = sym e
     at (suc k) h e = absurd (omega arith)
 

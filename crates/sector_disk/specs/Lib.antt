@@ -1,2 +1,3 @@
 pub mod Candidates
 pub mod CandidateLaws
+pub mod PickLaws

@@ -1,3 +1,4 @@
 pub mod Candidates
 pub mod CandidateLaws
 pub mod PickLaws
+pub mod inside

@@ -33,11 +33,11 @@ fn written(bytes: &[u8], first: u64, sector: u64) -> Option<&[u8]>
     ensures { MatchOption result (writes first bytes.now sector ≡ None)
         (λ part. writes first bytes.now sector ≡ Some part.now) }
 {
-    let place = sector.checked_sub(first)?;
-    if place >= (bytes.len() / SECTOR) as u64 {
+    let count = (bytes.len() / SECTOR) as u64;
+    if sector < first || sector - first >= count {
         return None;
     }
-    let from = place as usize * SECTOR;
+    let from = (sector - first) as usize * SECTOR;
     Some(&bytes[from..from + SECTOR])
 }
 

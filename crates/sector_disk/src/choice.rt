@@ -1,4 +1,4 @@
-ghost use Rattle.std.specs.Prelude.{◌≡◌, ◌-◌, ◌%◌, ◌<◌, ◌≤◌, length, true, ℕ};
+ghost use Rattle.std.specs.Prelude.{◌≡◌, ◌-◌, ◌%◌, ◌<◌, ◌≤◌, length, slice_get, true, unwrap_or, ℕ};
 ghost use Rattle.sector_disk.specs.Candidates.{Cache};
 ghost use Rattle.sector_disk.specs.inside.Chosen.{AreChosen};
 ghost use Rattle.sector_disk.specs.inside.Storage.{ArePlaced, is_chain, walk};
@@ -32,6 +32,13 @@ fn walk_back(calls: &[Call], sector: usize, newest: usize, steps: usize) -> usiz
     place
 }
 
+// The pick at a place, and 0 where there is none.
+fn pick_at(picks: &[u64], place: usize) -> u64
+    ensures { result ≡ unwrap_or (slice_get picks.now place) 0 }
+{
+    picks.get(place).copied().unwrap_or(0)
+}
+
 /// Finds for each sector the place of the candidate that the picks give it.
 pub fn choose(calls: &[Call], synced: usize, newest: &[usize], picks: &[u64], chosen: &mut Vec<usize>)
     requires { length chosen.old.items ≡ length newest.now }
@@ -42,7 +49,7 @@ pub fn choose(calls: &[Call], synced: usize, newest: &[usize], picks: &[u64], ch
     let mut unsynced = 0;
     for (sector, place) in newest.iter().enumerate() {
         let count = count_candidates(calls, synced, sector, *place);
-        let pick = picks.get(unsynced).copied().unwrap_or(0) % count as u64;
+        let pick = pick_at(picks, unsynced) % count as u64;
         chosen[sector] = walk_back(calls, sector, *place, count - 1 - pick as usize);
         if count > 1 {
             unsynced += 1;

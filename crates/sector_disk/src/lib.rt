@@ -5,5 +5,8 @@
 //! leaves just what its picks name (`specs/Candidates`).
 #![tactic(auto)]
 
+pub use disk::SectorDisk;
+
 mod call;
 mod choice;
+mod disk;

@@ -1,4 +1,5 @@
 pub mod Candidates
 pub mod CandidateLaws
 pub mod PickLaws
+pub mod Shown
 pub mod inside

@@ -1,10 +1,13 @@
-ghost use Rattle.std.specs.Prelude.{◌≡◌, ◌%◌, ◌+◌, ◌/◌, ◌≤◌, MatchOption, None, Some, length, slice_get, ℕ};
+ghost use Rattle.std.specs.Prelude.{◌∷◌, ◌++◌, ◌≡◌, ◌%◌, ◌+◌, ◌/◌, ◌≤◌, IfOk, MatchOption, None, OnErr, OnOk, Some, [], drop, length, slice_get, take, ℕ};
+ghost use Rattle.sector_disk.specs.inside.Added.{IsFilled, count_of};
 ghost use Rattle.sector_disk.specs.inside.Storage.{before_at, content_at, is_open, value_at, value_in};
 ghost use Rattle.sectors.specs.Content.{gather, writes};
 
 use sectors::SECTOR_BYTES;
+use std::alloc::{AllocError, Global};
 
-const SECTOR: usize = SECTOR_BYTES as usize;
+/// A sector's size in bytes.
+pub const SECTOR: usize = SECTOR_BYTES as usize;
 
 /// What a call puts in its sectors.
 #[derive(Debug, Drop)]
@@ -13,6 +16,18 @@ pub enum Change {
     Write(Vec<u8>),
     /// Zeroes, in so many sectors.
     Discard(u64),
+}
+
+impl Change {
+    /// How many sectors it puts a value in.
+    pub fn sectors(&self) -> u64
+        ensures { result ≡ count_of self.now }
+    {
+        match self {
+            Change::Write(bytes) => (bytes.len() / SECTOR) as u64,
+            Change::Discard(count) => *count,
+        }
+    }
 }
 
 /// A write or a discard that a disk keeps.
@@ -82,6 +97,38 @@ pub fn read_places(calls: &[Call], places: &[usize], first: usize, buffer: &mut 
             &mut buffer[from..from + SECTOR],
         );
     }
+}
+
+/// The places of a range of sectors. Want of memory is an error.
+pub fn copy_places(alloc: Global, places: &[usize], first: usize, count: usize) -> Result<Vec<usize>, AllocError>
+    requires { first + count ≤ length places.now }
+    ensures { IfOk result (λ copy. copy.items ≡ take count (drop first places.now)) }
+{
+    places[first..first + count].to_vec(alloc)
+}
+
+// Gives a range of sectors one place.
+fn fill_places(places: &mut Vec<usize>, first: usize, count: usize, place: usize)
+    requires { first + count ≤ length places.old.items }
+    ensures { IsFilled first count place places.old.items places.new.items }
+{
+    places[first..first + count].fill(place);
+}
+
+/// Adds a call, which is then the newest of its sectors. Where there is no memory, nothing is changed.
+pub fn add_call(calls: &mut Vec<Call>, newest: &mut Vec<usize>, call: Call, count: usize) -> Result<(), AllocError>
+    requires { call.first + count ≤ length newest.old.items }
+    ensures calls { OnOk result (calls.new.items ≡ calls.old.items ++ call ∷ []) }
+    ensures newest { OnOk result
+        (IsFilled call.first count (length calls.old.items) newest.old.items newest.new.items) }
+    ensures err { OnErr result
+        ((calls.new.items ≡ calls.old.items) × (newest.new.items ≡ newest.old.items)) }
+{
+    let place = calls.len();
+    let first = call.first as usize;
+    calls.push(call)?;
+    fill_places(newest, first, count, place);
+    Ok(())
 }
 
 /// Whether the call at a place isn't durable: it came after the last flush, and without FUA.

@@ -1,3 +1,4 @@
 pub mod Chains
 pub mod Reading
 pub mod Choosing
+pub mod Keeping

@@ -1,4 +1,4 @@
-use Rattle.std.specs.Prelude.{◌≡◌, ℕ, ◌/◌, Bool, Result, Ok, Err, List, [], ◌∷◌, length, slice_get}
+use Rattle.std.specs.Prelude.{◌≡◌, ℕ, ◌/◌, false, Result, Ok, Err, List, [], ◌∷◌, length}
 use Rattle.bio.specs.declared.outcome.DevError.{DevError}
 use Rattle.bio.specs.declared.outcome.DevError.TheVariants.{Io, Memory}
 use Rattle.blockdev.specs.Calls as calls
@@ -26,10 +26,10 @@ abbrev pub shown_of : SectorDisk → View
 shown_of disk = view_of disk.sectors (start_of disk) (steps_of disk)
 
 -- the disk has this past now, and its size and its start as before
-pub record HasPast (old new : SectorDisk) (past : List Step) : Type 0 where
+pub record HasPast (old new : SectorDisk) (steps : List Step) : Type 0 where
   pub sectors : new.sectors ≡ old.sectors
   pub start : start_of new ≡ start_of old
-  pub past : steps_of new ≡ past
+  pub past : steps_of new ≡ steps
 
 -- the past after a flush: a second one after another is none
 abbrev pub flushed_after : List Step → List Step

@@ -282,14 +282,18 @@ kept-put sectors calls newest filled base begun synced flushed call kept after b
         ]
 
 -- the same, for calls that are these
-pub kept_added : (sectors : ℕ) (calls all : List Call) (newest filled base : List ℕ) (begun synced : ℕ) (flushed : Bool) (call : Call)
+pub kept_added : (sectors : ℕ) (calls all : List Call) (newest filled base : List ℕ) (begun synced count : ℕ) (flushed : Bool) (call : Call)
     → all ≡ calls ++ call ∷ [] → IsKept sectors calls newest base begun synced flushed → call.after_flush ≡ flushed
-    → call.before.items ≡ take (count_of call.change) (drop call.first newest)
-    → IsFilled call.first (count_of call.change) (length calls) newest filled
+    → count ≡ count_of call.change → call.before.items ≡ take count (drop call.first newest)
+    → IsFilled call.first count (length calls) newest filled
     → IsKept sectors all filled base begun synced false
-kept_added sectors calls all newest filled base begun synced flushed call added kept after before fills =
+kept_added sectors calls all newest filled base begun synced count flushed call added kept after counted before fills =
     let Kept : List Call → Type 0 = λ cs. IsKept sectors cs filled base begun synced false in
-    subst Kept (sym added) (kept-put sectors calls newest filled base begun synced flushed call kept after before fills)
+    let Filled : ℕ → Type 0 = λ n. IsFilled call.first n (length calls) newest filled in
+    subst Kept (sym added) (
+      kept-put sectors calls newest filled base begun synced flushed call kept after
+      (before ∙ ap (λ (n : ℕ). take n (drop call.first newest)) counted) (subst Filled counted fills)
+    )
 
 pub past_added : (calls all : List Call) (call : Call) (begun : ℕ) → all ≡ calls ++ call ∷ [] → begun ≤ length calls
     → past_of all begun false ≡ Puts (values_of call) call.fua ∷ past_of calls begun call.after_flush

@@ -2,4 +2,5 @@ pub mod Candidates
 pub mod CandidateLaws
 pub mod PickLaws
 pub mod Shown
+pub mod ShownLaws
 pub mod inside

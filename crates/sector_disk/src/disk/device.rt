@@ -3,6 +3,7 @@ ghost use Rattle.sector_disk.specs.Candidates.{Flushes, Puts};
 ghost use Rattle.sector_disk.specs.Shown.{Does, HasPast, flushed_after, shown_of, steps_of};
 ghost use Rattle.sector_disk.specs.inside.Added.{count_of};
 ghost use Rattle.sector_disk.specs.inside.Storage.{change_values};
+ghost use Rattle.sector_disk.specs.ShownLaws.{disk_lawful};
 
 use crate::call::{Call, Change, add_call, copy_places, read_places};
 use crate::disk::SectorDisk;
@@ -31,4 +32,46 @@ impl SectorDisk {
         self.flushed = false;
         Ok(())
     }
+}
+
+impl BlockDev for SectorDisk {
+    ghost shown = { shown_of };
+
+    ghost does = { Does };
+
+    fn sectors(&self) -> u64 {
+        self.sectors
+    }
+
+    fn read(&mut self, now: Ms, first: u64, buffer: &mut [u8]) -> Result<Ms, DevError> {
+        read_places(&self.calls, &self.newest, first as usize, buffer);
+        Ok(now)
+    }
+
+    fn write(&mut self, now: Ms, first: u64, bytes: &[u8], fua: bool) -> Result<Ms, DevError> {
+        let change = Change::Write(bytes.to_vec(self.alloc)?);
+        self.put(first, change, fua)?;
+        Ok(now)
+    }
+
+    fn discard(&mut self, now: Ms, first: u64, count: u64) -> Result<Ms, DevError> {
+        self.put(first, Change::Discard(count), false)?;
+        Ok(now)
+    }
+
+    fn flush(&mut self, now: Ms) -> Result<Ms, DevError> {
+        self.synced = self.calls.len();
+        self.flushed = true;
+        Ok(now)
+    }
+
+    fn faults(&self) -> u64 {
+        0
+    }
+
+    fn lies(&self) -> u64 {
+        0
+    }
+
+    ghost lawful = { disk_lawful };
 }

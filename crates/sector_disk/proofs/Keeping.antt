@@ -348,6 +348,13 @@ kept_flushed sectors calls newest base begun synced flushed kept = record {
         same true = refl
         same false = refl
 
+-- the same, for a count of the calls
+pub kept_synced : (sectors : ℕ) (calls : List Call) (newest base : List ℕ) (begun synced count : ℕ) (flushed : Bool)
+    → IsKept sectors calls newest base begun synced flushed → count ≡ length calls → IsKept sectors calls newest base begun count true
+kept_synced sectors calls newest base begun synced count flushed kept is =
+    let Kept : ℕ → Type 0 = λ n. IsKept sectors calls newest base begun n true in
+    subst Kept (sym is) (kept_flushed sectors calls newest base begun synced flushed kept)
+
 -- after a crash, when the past begins anew with these places
 pub kept_begun : (sectors : ℕ) (calls : List Call) (places : List ℕ) → 0 < sectors → sectors ≤ 1048576 → length places ≡ sectors
     → AreWithin calls places → IsKept sectors calls places places (length calls) (length calls) false

@@ -40,11 +40,11 @@ flushed-whole false past whole = whole
 -- and each that its past put
 steps-whole : (calls : List Call) (begun n : ℕ) → HasWholeSteps (steps_of calls begun n)
 steps-whole calls begun zero = tt
-steps-whole calls begun (suc n) = at (slice_get calls (begun + n))
+steps-whole calls begun (suc n) = at (slice_get calls (begun + n)) (steps-whole calls begun n)
   where
-    at : (o : Option Call) → HasWholeSteps (step_after o (steps_of calls begun n))
-    at None = steps-whole calls begun n
-    at (Some call) = (values-whole call, flushed-whole call.after_flush (steps_of calls begun n) (steps-whole calls begun n))
+    at : (o : Option Call) → HasWholeSteps (steps_of calls begun n) → HasWholeSteps (step_after o (steps_of calls begun n))
+    at None earlier = earlier
+    at (Some call) earlier = (values-whole call, flushed-whole call.after_flush (steps_of calls begun n) earlier)
 
 -- the disk is lawful
 pub disk_lawful : (disk : SectorDisk) → IsLawful (shown_of disk)

@@ -3,3 +3,4 @@ pub mod Reading
 pub mod Choosing
 pub mod Keeping
 pub mod Moved
+pub mod Beginning

@@ -5,6 +5,8 @@ use crate::call::Call;
 use std::alloc::Global;
 
 mod device;
+mod image;
+mod power;
 
 /// A disk in memory, of 1 to 1,048,576 sectors of 512 bytes, with a cache that `crash` loses.
 ///

@@ -1,10 +1,10 @@
 -- How a disk's past begins: when it is made, and at a crash.
-use Rattle.std.proofs.Common.{◌≡◌, ℕ, suc, zero, ◌+◌, ◌-◌, ◌/◌, ◌<◌, ◌≤◌, false, Some, None, List, [], ◌∷◌, length, replicate, refl, ap, subst, sym, ◌∙◌, inl, inr, arith}
+use Rattle.std.proofs.Common.{◌≡◌, ℕ, suc, zero, ◌+◌, ◌-◌, ◌/◌, ◌<◌, ◌≤◌, false, Some, None, List, [], ◌∷◌, ◌++◌, length, replicate, refl, ap, subst, sym, ◌∙◌, inl, inr, arith}
 use Rattle.std.proofs.Math.ListN.{get_or}
 use Rattle.std.proofs.lemmas.Bool.{cases_lt}
 use Rattle.std.proofs.lemmas.List.{get_or-replicate, length-replicate}
 use Rattle.std.proofs.lemmas.Option.{slice_get_past, unwrap_or-slice_get}
-use Rattle.std.specs.Prelude.{Option, Result, Ok, Err, IfOk, unwrap_or}
+use Rattle.std.specs.Prelude.{Option, unwrap_or}
 use Rattle.sectors.specs.Content.{Content, discards, put, sector_of, writes}
 use Rattle.sectors.specs.ContentLaws.{put-writes}
 use Rattle.blockdev.specs.View.{View}
@@ -18,11 +18,6 @@ use Rattle.sector_disk.specs.inside.Chosen.{AreChosen}
 use Rattle.sector_disk.specs.inside.Storage.{ArePlaced, AreWithin, IsKept, content_at, past_of, place_of, value_at, values_of}
 use Rattle.sector_disk.proofs.Keeping.{kept_begun, past_begun}
 use Rattle.sector_disk.proofs.Reading.{discarded}
-
--- what holds of one value holds of another where it follows
-pub if_ok : {A E : Type 0} (r : Result A E) (P Q : A → Type 0) → ((x : A) → P x → Q x) → IfOk r P → IfOk r Q
-if_ok (Ok x) P Q follows holds = follows x holds
-if_ok (Err e) P Q follows holds = tt
 
 -- a past that begins with a content begins with an equal one
 pub begins_same : (n : ℕ) (c d : Content) (v : View) → ((s : ℕ) → s < n → c s ≡ d s) → Begins n c v → Begins n d v
@@ -50,12 +45,12 @@ first_place n sector = elim (cases_lt sector n) [
 ]
 
 -- a disk that is one call begins with its values over zeroes
-pub begins_made : (sectors n m : ℕ) (calls : List Call) (base : List ℕ) (call : Call) → calls ≡ call ∷ [] → base ≡ replicate m 0 → sectors ≡ n
+pub begins_made : (sectors n m : ℕ) (calls none : List Call) (base : List ℕ) (call : Call) → calls ≡ none ++ call ∷ [] → none ≡ [] → base ≡ replicate m 0 → sectors ≡ n
     → Begins n (put (values_of call) (λ _. replicate 512 0)) (view_of sectors (content_at calls base) (past_of calls 1 false))
-begins_made sectors n m calls base call one zeroes same =
+begins_made sectors n m calls none base call one empty zeroes same =
     let Made : List Call → Type 0 = λ cs. Begins n (put (values_of call) (λ _. replicate 512 0)) (view_of sectors (content_at cs base) (past_of cs 1 false)) in
     let Sized : ℕ → Type 0 = λ size. Begins n (put (values_of call) (λ _. replicate 512 0)) (view_of size (content_at (call ∷ []) base) []) in
-    subst Made (sym one) (subst Sized (sym same) (begins_fresh n (content_at (call ∷ []) base) (put (values_of call) (λ _. replicate 512 0)) (λ s h.
+    subst Made (sym (one ∙ ap (λ (cs : List Call). cs ++ call ∷ []) empty)) (subst Sized (sym same) (begins_fresh n (content_at (call ∷ []) base) (put (values_of call) (λ _. replicate 512 0)) (λ s h.
       let place : place_of base s ≡ 0 = ap (λ (xs : List ℕ). place_of xs s) zeroes ∙ first_place m s in
       ap (λ (p : ℕ). value_at (call ∷ []) p s) place)))
 

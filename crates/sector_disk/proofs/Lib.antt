@@ -4,3 +4,4 @@ pub mod Choosing
 pub mod Keeping
 pub mod Moved
 pub mod Beginning
+pub mod Lawful

@@ -10,3 +10,6 @@ pub use disk::SectorDisk;
 mod call;
 mod choice;
 mod disk;
+pub mod laws;
+#[cfg(test)]
+mod tests;

@@ -49,13 +49,13 @@ def base(program):
     return measure(program, ["--version"], {}).peak
 
 
-def measure(program, words, files):
-    """Measures some runs of a program in a folder with these files."""
+def measure(program, words, files, runs=RUNS):
+    """Measures so many runs of a program in a folder with these files."""
     with tempfile.TemporaryDirectory() as folder:
         for name, data in files.items():
             with open(f"{folder}/{name}", "wb") as it:
                 it.write(data)
-        return Measured([run([program, *words], folder) for _ in range(RUNS)])
+        return Measured([run([program, *words], folder) for _ in range(runs)])
 
 
 def run(words, folder):

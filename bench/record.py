@@ -4,13 +4,18 @@ the same kind, the ratio to the plain Rust program of bench/peer.rs, and the pea
 Python 3, and for the peer a rustc.
 
 usage: bench/record.py            (builds the program where needed, by ./dmlw)
+       bench/record.py --sizes    (the memory of a request alone, at 21 sizes of each kind of script)
 """
 
+import sys
 import tempfile
 
 from measure import MIB, base, build, build_peer, measure
 
 SECTOR = 512
+
+# The kinds of small scripts, and how many of their requests come to a flush.
+KINDS = {"writes of a sector": 0, "a flush every 10": 10, "flushes alone": 1}
 
 
 class Script:
@@ -48,15 +53,30 @@ def large(writes):
     return Script(lines, writes, 2048 * writes)
 
 
+def sizes(program, always):
+    """The most bytes that a request takes, over scripts of 0.25 to 4 MiB: a list that grows has more room than it needs
+    just after it has grown."""
+    for kind, flush_every in KINDS.items():
+        each = []
+        for step in range(4, 65, 3):
+            script = small(step * MIB // 16, flush_every)
+            each.append(bytes_of_request(script, measure(program, ["record", "script", "log"], {"script": script.text}, 1), always))
+        print(f"{kind}: {min(each):.0f} to {max(each):.0f} bytes a request at {len(each)} sizes")
+
+
+def bytes_of_request(script, measured, always):
+    """What a request takes beside the image, the data, three scripts and what any run holds."""
+    return (measured.peak - always - script.image - script.data - 3 * len(script.text)) / script.requests
+
+
 def main():
     program = build()
     always = base(program)
+    if sys.argv[1:] == ["--sizes"]:
+        return sizes(program, always)
     print(f"any run holds {always / MIB:.1f} MiB")
     print("script                         requests  CPU s  ratio  times the peer   peak MiB = image + data + rest   rest a request")
-    sizes = (MIB, 2 * MIB, 4 * MIB)
-    kinds = [("writes of a sector", [small(size, 0) for size in sizes])]
-    kinds += [("a flush every 10", [small(size, 10) for size in sizes])]
-    kinds += [("flushes alone", [small(size, 1) for size in sizes])]
+    kinds = [(kind, [small(size, flush_every) for size in (MIB, 2 * MIB, 4 * MIB)]) for kind, flush_every in KINDS.items()]
     kinds += [("writes of 1 MiB", [large(writes) for writes in (255, 511)])]
     with tempfile.TemporaryDirectory() as folder:
         peer = build_peer(folder)
@@ -69,7 +89,7 @@ def main():
                 ratio = f"{ours.seconds / before:5.2f}" if before else "     "
                 before = ours.seconds
                 rest = ours.peak - script.image - script.data
-                each = (rest - always - 3 * len(script.text)) / script.requests
+                each = bytes_of_request(script, ours, always)
                 print(
                     f"{kind:19}{len(script.text) / MIB:6.2f} MiB {script.requests:9d} {ours.seconds:6.2f}  {ratio}  {ours.beside(theirs)}"
                     f"         {ours.peak / MIB:10.1f} = {script.image / MIB:.1f} + {script.data / MIB:.1f} + {rest / MIB:.1f}"

@@ -56,7 +56,6 @@ fn digit(byte: u8) -> u64
 
 fn write(disk: &mut SectorDisk, sector: u8, value: u8, fua: bool) -> Result<Ms, DevError>
     requires { (shown_of disk.old).size ≡ 8 }
-    ensures { (shown_of disk.new).size ≡ 8 }
 {
     let bytes = [value.saturating_sub(48); 512];
     disk.write(Ms::new(5), digit(sector), &bytes, fua)
@@ -64,31 +63,22 @@ fn write(disk: &mut SectorDisk, sector: u8, value: u8, fua: bool) -> Result<Ms, 
 
 fn discard(disk: &mut SectorDisk, sector: u8, count: u8) -> Result<Ms, DevError>
     requires { (shown_of disk.old).size ≡ 8 }
-    ensures { (shown_of disk.new).size ≡ 8 }
 {
     let first = digit(sector);
     let count = digit(count).clamp(1, 8 - first);
     disk.discard(Ms::new(5), first, count)
 }
 
-// Whether each sector has the digit of its place in all its bytes.
-fn check(rt: &impl Abort, disk: &mut SectorDisk, want: &[u8], line: &str)
-    requires { (shown_of disk.old).size ≡ 8 }
-    ensures { (shown_of disk.new).size ≡ 8 }
-{
-    for sector in 0..8 {
-        let mut buffer = [9; 512];
-        assert_eq!(rt; disk.read(Ms::new(7), sector, &mut buffer), Ok(Ms::new(7)), "{line}");
-        let digit = want.get(sector as usize).copied().unwrap_or(0);
-        let wanted = digit.saturating_sub(48);
-        assert!(rt; buffer.iter().all(|byte| *byte == wanted), "sector {sector} after {line}");
-    }
+fn check_sector(rt: &impl Abort, disk: &mut SectorDisk, sector: u64, want: u8, line: &str) {
+    assert!(rt; sector < disk.sectors(), "{line}");
+    let mut buffer = [9; 512];
+    let end = disk.read(Ms::new(7), sector, &mut buffer);
+    assert_eq!(rt; end, Ok(Ms::new(7)), "{line}");
+    let wanted = want.saturating_sub(48);
+    assert!(rt; buffer.iter().all(|byte| *byte == wanted), "sector {sector} after {line}");
 }
 
-fn crash(alloc: Global, disk: &mut SectorDisk, digits: &[u8]) -> Result<(), Fail>
-    requires { (shown_of disk.old).size ≡ 8 }
-    ensures { (shown_of disk.new).size ≡ 8 }
-{
+fn crash(alloc: Global, disk: &mut SectorDisk, digits: &[u8]) -> Result<(), Fail> {
     let mut picks = Vec::new(alloc);
     for byte in digits {
         picks.push(digit(*byte))?;
@@ -103,22 +93,24 @@ fn step(
     disk: &mut SectorDisk,
     word: &[u8],
     line: &str,
-) -> Result<(), Fail>
-    requires { (shown_of disk.old).size ≡ 8 }
-    ensures { (shown_of disk.new).size ≡ 8 }
-{
+) -> Result<(), Fail> {
+    assert_eq!(rt; disk.sectors(), 8);
     let end = match word {
         [b'w', sector, value] => write(disk, *sector, *value, false),
         [b'F', sector, value] => write(disk, *sector, *value, true),
         [b'd', sector, count] => discard(disk, *sector, *count),
         [b'f'] => disk.flush(Ms::new(5)),
+        [b'c', picks @ ..] => {
+            crash(alloc, disk, picks)?;
+            Ok(Ms::new(5))
+        }
         _ => Ok(Ms::new(5)),
     };
     assert_eq!(rt; end, Ok(Ms::new(5)), "{line}");
-    match word {
-        [b'c', picks @ ..] => crash(alloc, disk, picks)?,
-        [b'=', want @ ..] => check(rt, disk, want, line),
-        _ => {}
+    if let [b'=', want @ ..] = word {
+        for (sector, byte) in want.iter().enumerate() {
+            check_sector(rt, disk, sector as u64, *byte, line);
+        }
     }
     Ok(())
 }

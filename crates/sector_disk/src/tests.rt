@@ -2,10 +2,10 @@ ghost use Rattle.std.specs.Prelude.{◌≡◌, ◌<◌, length};
 ghost use Rattle.sector_disk.specs.Shown.{shown_of};
 
 use super::*;
-use failing::Failing;
-use lying::Lying;
 use bio::{DevError, Ms};
 use blockdev::BlockDev;
+use failing::Failing;
+use lying::Lying;
 use std::alloc::Global;
 use std::process::Abort;
 use std::test::Fail;
@@ -80,7 +80,10 @@ fn check_sector(rt: &impl Abort, disk: &mut SectorDisk, sector: u64, want: u8, l
     let end = disk.read(Ms::new(7), sector, &mut buffer);
     assert_eq!(rt; end, Ok(Ms::new(7)), "{line}");
     let wanted = want.saturating_sub(48);
-    assert!(rt; buffer.iter().all(|byte| *byte == wanted), "sector {sector} after {line}");
+    assert!(rt;
+        buffer.iter().all(|byte| *byte == wanted),
+        "sector {sector} after {line}"
+    );
 }
 
 fn crash(alloc: Global, disk: &mut SectorDisk, digits: &[u8]) -> Result<(), Fail> {
@@ -144,14 +147,26 @@ fn disks_of_each_size_are_kept(rt: HostRuntime) -> Result<(), Fail> {
         let zeroes = vec![in alloc; 0; length]?;
         let mut disk = SectorDisk::from_bytes(alloc, image.clone()?)?;
         assert_eq!(rt; disk.sectors(), sectors);
-        assert!(rt; disk.bytes()?.as_slice() == image.as_slice(), "the image of {sectors}");
+        assert!(rt;
+            disk.bytes()?.as_slice() == image.as_slice(),
+            "the image of {sectors}"
+        );
         disk.discard(Ms::new(0), 0, sectors)?;
-        assert!(rt; disk.bytes()?.as_slice() == zeroes.as_slice(), "{sectors} discarded");
+        assert!(rt;
+            disk.bytes()?.as_slice() == zeroes.as_slice(),
+            "{sectors} discarded"
+        );
         let mut new = SectorDisk::new(alloc, sectors)?;
-        assert!(rt; new.bytes()?.as_slice() == zeroes.as_slice(), "{sectors} of zeroes");
+        assert!(rt;
+            new.bytes()?.as_slice() == zeroes.as_slice(),
+            "{sectors} of zeroes"
+        );
         new.write(Ms::new(0), 0, &image, true)?;
         new.crash(&[]);
-        assert!(rt; new.bytes()?.as_slice() == image.as_slice(), "{sectors} written");
+        assert!(rt;
+            new.bytes()?.as_slice() == image.as_slice(),
+            "{sectors} written"
+        );
     }
     let large = SectorDisk::new(alloc, 1_048_576)?;
     assert_eq!(rt; large.sectors(), 1_048_576);

@@ -1,6 +1,5 @@
 ghost use Rattle.blockdev.specs.Counted.{counted, lawful_counted};
 
-
 use bio::{DevError, Ms};
 use blockdev::BlockDev;
 

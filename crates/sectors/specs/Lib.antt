@@ -3,3 +3,5 @@ pub mod Content
 pub mod PlaceLaws
 pub mod ContentLaws
 pub mod SectorLaws
+pub mod Parts
+pub mod PartLaws

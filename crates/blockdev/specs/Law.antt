@@ -1,0 +1,62 @@
+-- The law of a device, as records of its view before a call (v) and after it (w).
+use Rattle.std.specs.Prelude.{◌≡◌, ◌⊎◌, ℕ, ◌<◌, ◌≤◌, Bool, IsTrue, Result, Ok, Err, List, Some}
+use Rattle.bio.specs.declared.outcome.DevError.{DevError}
+use Rattle.bio.specs.declared.outcome.DevError.TheVariants.{Io}
+use Rattle.sectors.specs.Content.{Content, Patch, Patched, put}
+use Rattle.blockdev.specs.View.{View, last_count}
+
+-- one of these contents, with the call's values in some of their sectors, none or all included
+abbrev pub AfterPatch : Patch → (Content → Type 0) → Content → Type 0
+AfterPatch patch before left = (old : Content) × before old × Patched patch old left
+
+-- one of these contents, with all of the call's values
+abbrev pub AfterWhole : Patch → (Content → Type 0) → Content → Type 0
+AfterWhole patch before left = (old : Content) × before old × ((sector : ℕ) → left sector ≡ put patch old sector)
+
+-- old content with a call's values in some of its sectors: each sector is as it was, or has the call's value
+abbrev pub IsTorn : Patch → (Content → Type 0) → Content → Type 0
+IsTorn patch before left = (old : Content) × before old
+    × ((sector : ℕ) → (left sector ≡ old sector) ⊎ (patch sector ≡ Some (left sector)))
+
+-- What a call does at most, whatever it answers: it puts its values in some of their sectors.
+pub record Goes (patch : Patch) (v w : View) : Type 0 where
+  -- the device keeps its size
+  pub size : w.size ≡ v.size
+  -- the content is the old one, patched
+  pub content : Patched patch v.content w.content
+  -- what a crash may leave after the call is something that one could leave before it, patched
+  pub crash : (left : Content) → w.crash left → AfterPatch patch v.crash left
+  -- the clock doesn't go back
+  pub moment : v.moment ≤ w.moment
+  -- during the call too, a crash leaves something that one could leave before it, patched
+  pub gains : (moment : ℕ) (left : Content) → moment ≤ v.moment → w.since moment left →
+      v.since moment left ⊎ AfterPatch patch v.crash left
+  -- what may have been left stays so
+  pub keeps : (moment : ℕ) (left : Content) → moment ≤ v.moment → v.since moment left → w.since moment left
+  -- the counts don't fall
+  pub faults : v.faults ≤ w.faults
+  pub lies : v.lies ≤ w.lies
+
+-- What a write or a discard does that ends well, without a new lie: it puts all of its values.
+pub record Lands (patch : Patch) (fua : Bool) (v w : View) : Type 0 where
+  pub content : (sector : ℕ) → w.content sector ≡ put patch v.content sector
+  -- with FUA, in whatever a crash may leave too
+  pub durable : IsTrue fua → (left : Content) → w.crash left → AfterWhole patch v.crash left
+
+-- What a flush does that ends well, without a new lie: a crash then leaves the content.
+pub record Syncs (w : View) : Type 0 where
+  pub only : (left : Content) → w.crash left → (sector : ℕ) → left sector ≡ w.content sector
+
+-- What a read does to what a crash may leave: nothing.
+pub record Stays (v w : View) : Type 0 where
+  pub crash : (left : Content) → v.crash left → w.crash left
+
+-- The call told no new lie: the count of lies stayed, and isn't at its end.
+pub record NoLie (v w : View) : Type 0 where
+  pub same : w.lies ≡ v.lies
+  pub counted : w.lies < last_count
+
+-- An answer has its cause: 'Io' comes only where the device failed, and an end isn't before the call.
+pub record HasCause (now : ℕ) (v w : View) (result : Result ℕ DevError) : Type 0 where
+  pub failed : result ≡ Err Io → (v.faults < w.faults) ⊎ (w.faults ≡ last_count)
+  pub ends : (end : ℕ) → result ≡ Ok end → now ≤ end

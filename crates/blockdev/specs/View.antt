@@ -1,0 +1,37 @@
+use Rattle.std.specs.Prelude.{ℕ, ◌-◌, ◌<◌, ◌≤◌, ◌^◌}
+use Rattle.sectors.specs.Content.{Content, HasWholeSectors}
+
+-- What contracts see of a device. Moments are those of a clock of the device's own, which contracts alone see.
+pub record View : Type 1 where
+  -- its number of sectors
+  pub size : ℕ
+  -- what a read finds
+  pub content : Content
+  -- what a crash now may leave
+  pub crash : Content → Type 0
+  -- the reading of its clock
+  pub moment : ℕ
+  -- what a crash at some moment from that reading on may have left, between two calls or during one
+  pub since : ℕ → Content → Type 0
+  -- how often it failed, and how often it told a success of what it hadn't done; both stop at 2^64 - 1
+  pub faults : ℕ
+  pub lies : ℕ
+
+-- the highest that a count of faults or lies gets
+abbrev pub last_count : ℕ
+last_count = 2 ^ 64 - 1
+
+-- what always holds of a device
+pub record IsLawful (v : View) : Type 0 where
+  pub some_sectors : 0 < v.size
+  pub few_sectors : v.size ≤ 1048576
+  -- a crash may leave the content
+  pub current : v.crash v.content
+  -- what a crash now may leave, one since an earlier moment may have left
+  pub nested : (moment : ℕ) (left : Content) → moment ≤ v.moment → v.crash left → v.since moment left
+  -- and since now there was no other
+  pub only_now : (left : Content) → v.since v.moment left → v.crash left
+  -- whatever was left has whole sectors
+  pub whole : (moment : ℕ) (left : Content) → moment ≤ v.moment → v.since moment left → HasWholeSectors v.size left
+  pub faults : v.faults < 2 ^ 64
+  pub lies : v.lies < 2 ^ 64

@@ -1,0 +1,92 @@
+ghost use Rattle.std.specs.Prelude.{◌≡◌, ◌/◌, Bool, List, OnOk, Result, false, length, ℕ};
+ghost use Rattle.bio.specs.declared.outcome.DevError.{DevError};
+ghost use Rattle.blockdev.specs.Calls.{Call, Discards, Flushes, IsByteRange, IsRange, Reads, Writes};
+ghost use Rattle.blockdev.specs.Law.{Goes, HasCause, Lands, NoLie, Stays, Syncs};
+ghost use Rattle.blockdev.specs.View.{IsLawful, View};
+ghost use Rattle.sectors.specs.Content.{discards, gather, nothing, writes};
+
+use bio::{DevError, Ms};
+
+/// A device of 1 to 1,048,576 sectors of 512 bytes, with a cache that a crash may lose.
+///
+/// A call begins at the moment `now`, and an Ok answers the moment of its end. A range that is read,
+/// written or discarded is at least one whole sector, all within the device: that is the caller's condition.
+/// What a flush and FUA promise is what Linux's Documentation/block/writeback_cache_control.rst asks of a device.
+pub trait BlockDev {
+    /// What contracts see of the device.
+    ghost shown: { Self → View };
+
+    /// Whether the device, before a call and after it, can have done this call at this moment with this answer.
+    ghost does: { Self → Call → ℕ → Result ℕ DevError → Self → Type 0 };
+
+    /// The number of sectors, which never changes.
+    fn sectors(&self) -> u64
+        ensures { result ≡ (shown self.now).size };
+
+    /// Reads whole sectors from `first` on. After an Ok the buffer has their bytes, and after an error any bytes.
+    fn read(&mut self, now: Ms, first: u64, buffer: &mut [u8]) -> Result<Ms, DevError>
+        requires { IsByteRange (shown self.old).size first (length buffer.old) }
+
+        // The sectors' bytes are read.
+        ensures bytes { OnOk result
+            (buffer.new ≡ gather (shown self.old).content first (length buffer.old / 512)) }
+
+        // Neither the content nor what a crash may leave is changed.
+        ensures goes { Goes nothing (shown self.old) (shown self.new) }
+        ensures stays { Stays (shown self.old) (shown self.new) }
+
+        ensures cause { HasCause now (shown self.old) (shown self.new) result }
+        ensures does { does self.old (Reads first buffer.old buffer.new) now result self.new };
+
+    /// Writes whole sectors from `first` on. With `fua` they are durable at an Ok. After an error each of
+    /// these sectors holds its old value or its new one.
+    fn write(&mut self, now: Ms, first: u64, bytes: &[u8], fua: bool) -> Result<Ms, DevError>
+        requires { IsByteRange (shown self.old).size first (length bytes.now) }
+
+        // Whatever it answers, some of the sectors have their new value, and the others what they had.
+        ensures goes { Goes (writes first bytes.now) (shown self.old) (shown self.new) }
+
+        // After an Ok, all of them have it.
+        ensures lands { OnOk result (NoLie (shown self.old) (shown self.new) →
+            Lands (writes first bytes.now) fua (shown self.old) (shown self.new)) }
+
+        ensures cause { HasCause now (shown self.old) (shown self.new) result }
+        ensures does { does self.old (Writes first bytes.now fua) now result self.new };
+
+    /// Makes `count` sectors from `first` on zeroes, cached as a plain write is. After an error each of these
+    /// sectors holds its old value or zeroes.
+    fn discard(&mut self, now: Ms, first: u64, count: u64) -> Result<Ms, DevError>
+        requires { IsRange (shown self.old).size first count }
+
+        // Whatever it answers, some of the sectors are zeroes, and the others what they were.
+        ensures goes { Goes (discards first count) (shown self.old) (shown self.new) }
+
+        // After an Ok, all of them are.
+        ensures lands { OnOk result (NoLie (shown self.old) (shown self.new) →
+            Lands (discards first count) false (shown self.old) (shown self.new)) }
+
+        ensures cause { HasCause now (shown self.old) (shown self.new) result }
+        ensures does { does self.old (Discards first count) now result self.new };
+
+    /// Makes durable what was written: after an Ok a crash leaves the content.
+    fn flush(&mut self, now: Ms) -> Result<Ms, DevError>
+        // Whatever it answers, the content stays, and a crash may leave nothing new.
+        ensures goes { Goes nothing (shown self.old) (shown self.new) }
+
+        // After an Ok, a crash leaves the content.
+        ensures syncs { OnOk result (NoLie (shown self.old) (shown self.new) → Syncs (shown self.new)) }
+
+        ensures cause { HasCause now (shown self.old) (shown self.new) result }
+        ensures does { does self.old Flushes now result self.new };
+
+    /// How often the device, or one beneath it, failed; it stops at 2^64 - 1.
+    fn faults(&self) -> u64
+        ensures { result ≡ (shown self.now).faults };
+
+    /// How often the device, or one beneath it, told a success of what it hadn't done; it stops at 2^64 - 1.
+    fn lies(&self) -> u64
+        ensures { result ≡ (shown self.now).lies };
+
+    /// What always holds of a device.
+    ghost lawful: { (device : Self) → IsLawful (shown device) };
+}

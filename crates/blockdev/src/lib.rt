@@ -1,0 +1,10 @@
+//! The law of a block device: what a call does to its content, and to what a crash may leave.
+//!
+//! `BlockDev` is the trait of all devices. Contracts see a device as a `View` (`specs/View`); what a call may
+//! do to it is said by the records of `specs/Law`. `laws` says in plain words what they come to.
+#![tactic(auto)]
+
+pub use device::BlockDev;
+
+mod device;
+pub mod laws;

@@ -1,0 +1,97 @@
+-- A sector's calls, from its newest back to the durable one.
+use Rattle.std.proofs.Common.{◌≡◌, ℕ, suc, zero, ◌+◌, ◌-◌, ◌<◌, ◌≤◌, ◌&&◌, Bool, true, false, Some, List, [], ◌∷◌, ◌++◌, length, refl, ap, sym, ◌∙◌, inl, inr, arith, length-append}
+use Rattle.std.proofs.lemmas.Bool.{and_parts, ltb-true}
+use Rattle.std.specs.Prelude.{not, nat_lt, slice_get, unwrap_or, Option}
+use Rattle.sectors.specs.PlaceLaws.{bool_cases, last_or_below, length-snoc, slice_get-append_front, slice_get-append_here}
+use Rattle.sector_disk.specs.declared.call.Call.{Call}
+use Rattle.sector_disk.specs.inside.Storage.{IsPlaced, back, before_at, is_chain, is_open, value_at, walk}
+
+-- the parts of a chain of several
+chain_parts : (calls : List Call) (synced s n place : ℕ) → is_chain calls synced s (suc (suc n)) place ≡ true
+    → (nat_lt place (length calls) ≡ true) × (is_open calls synced place ≡ true) × (is_chain calls synced s (suc n) (before_at calls place s) ≡ true)
+chain_parts calls synced s n place e =
+    let first = and_parts (nat_lt place (length calls)) (is_open calls synced place && is_chain calls synced s (suc n) (before_at calls place s)) e in
+    let rest = and_parts (is_open calls synced place) (is_chain calls synced s (suc n) (before_at calls place s)) first.1 in
+    (first.0, rest.0, rest.1)
+
+-- a chain begins within the calls
+pub chain-within : (calls : List Call) (synced s n place : ℕ) → is_chain calls synced s n place ≡ true → place < length calls
+chain-within calls synced s zero place e = let never : ⊥ = cc in absurd never
+chain-within calls synced s (suc zero) place e =
+    ltb-true place (length calls) (and_parts (nat_lt place (length calls)) (not (is_open calls synced place)) e).0
+chain-within calls synced s (suc (suc n)) place e = ltb-true place (length calls) (chain_parts calls synced s n place e).0
+
+-- an open call isn't the last of a chain
+pub chain-open : (calls : List Call) (synced s n place : ℕ) → is_chain calls synced s n place ≡ true → is_open calls synced place ≡ true
+    → (1 < n) × (is_chain calls synced s (n - 1) (before_at calls place s) ≡ true)
+chain-open calls synced s zero place e open_there = let never : ⊥ = cc in absurd never
+chain-open calls synced s (suc zero) place e open_there =
+    let closed = (and_parts (nat_lt place (length calls)) (not (is_open calls synced place)) e).1 in
+    let never : ⊥ = let turned = ap not open_there in cc in
+    absurd never
+chain-open calls synced s (suc (suc n)) place e open_there =
+    let parts = chain_parts calls synced s n place e in
+    let less : suc (suc n) - 1 ≡ suc n = omega arith in
+    (omega arith, ap (λ (m : ℕ). is_chain calls synced s m (before_at calls place s)) less ∙ parts.2)
+
+-- a durable one is
+pub chain-closed : (calls : List Call) (synced s n place : ℕ) → is_chain calls synced s n place ≡ true → is_open calls synced place ≡ false → n ≡ 1
+chain-closed calls synced s zero place e closed = let never : ⊥ = cc in absurd never
+chain-closed calls synced s (suc zero) place e closed = refl
+chain-closed calls synced s (suc (suc n)) place e closed =
+    let parts = chain_parts calls synced s n place e in
+    let there = parts.1 in
+    let never : ⊥ = cc in
+    absurd never
+
+-- each call of a chain is within the calls
+pub walk-within : (calls : List Call) (synced s n place k : ℕ) → is_chain calls synced s n place ≡ true → k < n → walk calls s k place < length calls
+walk-within calls synced s n place zero e h = chain-within calls synced s n place e
+walk-within calls synced s zero place (suc k) e h = absurd (omega arith)
+walk-within calls synced s (suc zero) place (suc k) e h = absurd (omega arith)
+walk-within calls synced s (suc (suc n)) place (suc k) e h =
+    walk-within calls synced s (suc n) (before_at calls place s) k (chain_parts calls synced s n place e).2 (omega arith)
+
+-- so many values are that many
+pub length-back : (calls : List Call) (s n place : ℕ) → length (back calls s n place) ≡ n
+length-back calls s zero place = refl
+length-back calls s (suc n) place =
+    length-snoc (back calls s n (before_at calls place s)) (value_at calls place s) ∙ ap (λ (m : ℕ). suc m) (length-back calls s n (before_at calls place s))
+
+-- each of them is the value of the call that is so many back
+pub back-at : (calls : List Call) (s n place j : ℕ) → j < n
+    → slice_get (back calls s n place) j ≡ Some (value_at calls (walk calls s (n - 1 - j) place) s)
+back-at calls s zero place j h = absurd (omega arith)
+back-at calls s (suc n) place j h = elim (last_or_below j n h) [
+  | inl last ↦
+      let old = back calls s n (before_at calls place s) in
+      let value = value_at calls place s in
+      let here : j ≡ length old = last ∙ sym (length-back calls s n (before_at calls place s)) in
+      let none : 0 ≡ suc n - 1 - j = omega arith in
+      ap (slice_get (old ++ value ∷ [])) here ∙ slice_get-append_here old value []
+      ∙ ap (λ (k : ℕ). Some (value_at calls (walk calls s k place) s)) none
+  | inr below ↦
+      let old = back calls s n (before_at calls place s) in
+      let value = value_at calls place s in
+      let size = length-back calls s n (before_at calls place s) in
+      let more : suc (n - 1 - j) ≡ suc n - 1 - j = omega arith in
+      slice_get-append_front old (value ∷ []) j (omega arith)
+      ∙ back-at calls s n (before_at calls place s) j below
+      ∙ ap (λ (k : ℕ). Some (value_at calls (walk calls s k place) s)) more
+]
+
+-- a candidate of a sector is the value of the call that is so many back
+pub candidate-value : (calls : List Call) (synced s place : ℕ) (now : List ℕ) (may : List (List ℕ)) (j : ℕ)
+    → IsPlaced calls synced s place now may → j < length may
+    → value_at calls (walk calls s (length may - 1 - j) place) s ≡ unwrap_or (slice_get may j) []
+candidate-value calls synced s place now may j placed h =
+    let there = back-at calls s (length may) place j h in
+    let same = ap (λ (values : List (List ℕ)). slice_get values j) placed.values in
+    ap (λ (o : Option (List ℕ)). unwrap_or o []) (sym there ∙ same)
+
+-- which is within the calls
+pub candidate-within : (calls : List Call) (synced s place : ℕ) (now : List ℕ) (may : List (List ℕ)) (j : ℕ)
+    → IsPlaced calls synced s place now may → j < length may
+    → walk calls s (length may - 1 - j) place < length calls
+candidate-within calls synced s place now may j placed h =
+    walk-within calls synced s (length may) place (length may - 1 - j) placed.chain (omega arith)

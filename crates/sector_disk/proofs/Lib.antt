@@ -1,0 +1,8 @@
+pub mod Chains
+pub mod Reading
+pub mod Choosing
+pub mod Keeping
+pub mod Moved
+pub mod Beginning
+pub mod Lawful
+pub mod Examples

@@ -1,0 +1,13 @@
+use Rattle.std.proofs.Common.{◌≡◌, ◌≤◌, ◌<◌, length}
+use Rattle.sector_disk.specs.Candidates.{Cache, unsynced_below}
+use Rattle.sector_disk.specs.inside.Chosen.{AreChosen}
+use Rattle.sector_disk.specs.inside.Storage.{ArePlaced}
+use Rattle.sector_disk.proofs.choice.choose.Given as goal
+
+abbrev pub invariant-loop-sector : goal.invariant-loop-sector
+invariant-loop-sector l = record {
+  length_kept : length l.chosen.items ≡ length l.newest;
+  few : l.unsynced ≤ l.sector;
+  chosen : (cache : Cache) → ArePlaced l.calls l.synced l.newest cache
+      → (l.unsynced ≡ unsynced_below cache l.sector) × AreChosen l.calls cache l.picks l.sector l.chosen.items;
+}

@@ -1,0 +1,7 @@
+pub mod Candidates
+pub mod CandidateLaws
+pub mod PickLaws
+pub mod Shown
+pub mod Sizes
+pub mod ShownLaws
+pub mod inside

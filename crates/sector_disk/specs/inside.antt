@@ -1,0 +1,3 @@
+pub mod Storage
+pub mod Chosen
+pub mod Added

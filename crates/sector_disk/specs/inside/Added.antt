@@ -1,0 +1,15 @@
+use Rattle.std.specs.Prelude.{◌≡◌, ◌⊎◌, ℕ, ◌+◌, ◌/◌, ◌<◌, ◌≤◌, List, length}
+use Rattle.sector_disk.specs.declared.call.Change.{Change}
+use Rattle.sector_disk.specs.declared.call.Change.TheVariants.{Write, Discard}
+use Rattle.sector_disk.specs.inside.Storage.{place_of}
+
+-- how many sectors a change is of
+abbrev pub count_of : Change → ℕ
+count_of (Write bytes) = length bytes.items / 512
+count_of (Discard count) = count
+
+-- the sectors of a range have this place now, and the others the place that they had
+pub record IsFilled (first count place : ℕ) (old new : List ℕ) : Type 0 where
+  pub size : length new ≡ length old
+  pub within : (sector : ℕ) → first ≤ sector → sector < first + count → place_of new sector ≡ place
+  pub outside : (sector : ℕ) → (sector < first) ⊎ (first + count ≤ sector) → place_of new sector ≡ place_of old sector

@@ -1,0 +1,118 @@
+-- How a disk stores its past: its calls in order, and for each sector the place of the newest call that put a value there.
+use Rattle.std.specs.Prelude.{◌≡◌, ℕ, suc, zero, ◌+◌, ◌-◌, ◌<◌, ◌≤◌, ◌&&◌, not, nat_le, nat_lt, Bool, true, false, Option, None, Some, unwrap_or, List, [], ◌∷◌, ◌++◌, length, replicate, slice_get}
+use Rattle.sectors.specs.Content.{Content, Patch, discards, writes}
+use Rattle.sector_disk.specs.declared.call.Call.{Call}
+use Rattle.sector_disk.specs.declared.call.Change.{Change}
+use Rattle.sector_disk.specs.declared.call.Change.TheVariants.{Write, Discard}
+use Rattle.sector_disk.specs.Candidates.{Cache, Flushes, Puts, Step, cache_after}
+
+-- the values that a change from this sector on puts
+abbrev pub change_values : ℕ → Change → Patch
+change_values first (Write bytes) = writes first bytes.items
+change_values first (Discard count) = discards first count
+
+-- the values that a call puts
+abbrev pub values_of : Call → Patch
+values_of call = change_values call.first call.change
+
+-- a sector's value by a call; zeroes where it has none
+abbrev pub value_in : Option Call → Content
+value_in None sector = replicate 512 0
+value_in (Some call) sector = unwrap_or (values_of call sector) (replicate 512 0)
+
+-- a sector's value by the call at a place
+abbrev pub value_at : List Call → ℕ → Content
+value_at calls place = value_in (slice_get calls place)
+
+-- the place of the call that put a sector's value before a call did
+abbrev pub before_in : Option Call → ℕ → ℕ
+before_in None sector = 0
+before_in (Some call) sector = unwrap_or (slice_get call.before.items (sector - call.first)) 0
+
+abbrev pub before_at : List Call → ℕ → ℕ → ℕ
+before_at calls place = before_in (slice_get calls place)
+
+-- the call was done without FUA
+abbrev pub is_plain : Option Call → Bool
+is_plain None = false
+is_plain (Some call) = not call.fua
+
+-- the call's values aren't durable: it came after the last flush, and without FUA
+abbrev pub is_open : List Call → ℕ → ℕ → Bool
+is_open calls synced place = nat_le synced place && is_plain (slice_get calls place)
+
+-- a flush, where there was one
+abbrev pub flushed_if : Bool → List Step → List Step
+flushed_if true past = Flushes ∷ past
+flushed_if false past = past
+
+-- the step of a call, after the flush before it where there was one
+abbrev pub step_after : Option Call → List Step → List Step
+step_after None past = past
+step_after (Some call) past = Puts (values_of call) call.fua ∷ flushed_if call.after_flush past
+
+-- the steps of so many calls from a place on, the newest first
+abbrev pub steps_of : List Call → ℕ → ℕ → List Step
+steps_of calls begun zero = []
+steps_of calls begun (suc n) = step_after (slice_get calls (begun + n)) (steps_of calls begun n)
+
+-- the past of a disk since it began at a place
+abbrev pub past_of : List Call → ℕ → Bool → List Step
+past_of calls begun flushed = flushed_if flushed (steps_of calls begun (length calls - begun))
+
+-- a sector's place
+abbrev pub place_of : List ℕ → ℕ → ℕ
+place_of places sector = unwrap_or (slice_get places sector) 0
+
+-- the content of which each sector has the value of the call at its place
+abbrev pub content_at : List Call → List ℕ → Content
+content_at calls places sector = value_at calls (place_of places sector) sector
+
+-- what a disk knows of its sectors
+abbrev pub cache_of : List Call → List ℕ → ℕ → Bool → Cache
+cache_of calls base begun flushed = cache_after (content_at calls base) (past_of calls begun flushed)
+
+-- the place that is so many calls back from a place
+abbrev pub walk : List Call → ℕ → ℕ → ℕ → ℕ
+walk calls sector zero place = place
+walk calls sector (suc n) place = walk calls sector n (before_at calls place sector)
+
+-- the last so many values of a sector up to a place, in order
+abbrev pub back : List Call → ℕ → ℕ → ℕ → List (List ℕ)
+back calls sector zero place = []
+back calls sector (suc n) place = back calls sector n (before_at calls place sector) ++ value_at calls place sector ∷ []
+
+-- so many calls back from a place stands the durable value, and all after it are open
+abbrev pub is_chain : List Call → ℕ → ℕ → ℕ → ℕ → Bool
+is_chain calls synced sector zero place = false
+is_chain calls synced sector (suc zero) place = nat_lt place (length calls) && not (is_open calls synced place)
+is_chain calls synced sector (suc (suc n)) place =
+    nat_lt place (length calls) && (is_open calls synced place && is_chain calls synced sector (suc n) (before_at calls place sector))
+
+-- a sector with this value and these candidates has its newest call at this place
+pub record IsPlaced (calls : List Call) (synced sector place : ℕ) (now : List ℕ) (may : List (List ℕ)) : Type 0 where
+  pub value : value_at calls place sector ≡ now
+  pub values : back calls sector (length may) place ≡ may
+  pub chain : is_chain calls synced sector (length may) place ≡ true
+  pub few : length may ≤ length calls
+
+-- each sector of a disk has its newest call at its place
+pub record ArePlaced (calls : List Call) (synced : ℕ) (newest : List ℕ) (cache : Cache) : Type 0 where
+  pub each : (sector : ℕ) → sector < length newest
+      → IsPlaced calls synced sector (place_of newest sector) (cache.now sector) (cache.may sector)
+
+-- each place is one of a call
+pub record AreWithin (calls : List Call) (places : List ℕ) : Type 0 where
+  pub each : (sector : ℕ) → place_of places sector < length calls
+
+-- what always holds of a disk's fields
+pub record IsKept (sectors : ℕ) (calls : List Call) (newest base : List ℕ) (begun synced : ℕ) (flushed : Bool) : Type 0 where
+  pub some : 0 < sectors
+  pub few : sectors ≤ 1048576
+  pub newest_length : length newest ≡ sectors
+  pub base_length : length base ≡ sectors
+  pub begun_within : begun ≤ length calls
+  pub synced_within : synced ≤ length calls
+  pub synced_now : flushed ≡ true → synced ≡ length calls
+  pub base_within : AreWithin calls base
+  pub placed : ArePlaced calls synced newest (cache_of calls base begun flushed)

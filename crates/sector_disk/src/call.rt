@@ -1,0 +1,160 @@
+ghost use Rattle.std.specs.Prelude.{◌∷◌, ◌++◌, ◌≡◌, ◌%◌, ◌+◌, ◌/◌, ◌≤◌, IfOk, MatchOption, None, OnErr, OnOk, Some, [], drop, length, slice_get, take, ℕ};
+ghost use Rattle.sector_disk.specs.inside.Added.{IsFilled, count_of};
+ghost use Rattle.sector_disk.specs.inside.Storage.{before_at, content_at, is_open, value_at, value_in};
+ghost use Rattle.sectors.specs.Content.{gather, writes};
+
+use sectors::SECTOR_BYTES;
+use std::alloc::{AllocError, Global};
+
+/// A sector's size in bytes.
+pub const SECTOR: usize = SECTOR_BYTES as usize;
+
+/// What a call puts in its sectors.
+#[derive(Debug, Drop)]
+pub enum Change {
+    /// These bytes, as many whole sectors as they are.
+    Write(Vec<u8>),
+    /// Zeroes, in so many sectors.
+    Discard(u64),
+}
+
+impl Change {
+    /// How many sectors it puts a value in.
+    pub fn sectors(&self) -> u64
+        ensures { result ≡ count_of self.now }
+    {
+        match self {
+            Change::Write(bytes) => (bytes.len() / SECTOR) as u64,
+            Change::Discard(count) => *count,
+        }
+    }
+}
+
+/// A write or a discard that a disk keeps.
+#[derive(Debug, Drop)]
+pub struct Call {
+    /// Its first sector.
+    pub first: u64,
+    pub change: Change,
+    pub fua: bool,
+    /// Whether a flush came between the call before it and this one.
+    pub after_flush: bool,
+    /// For each of its sectors, the place of the call that put the value before.
+    pub before: Vec<usize>,
+}
+
+// The bytes that a write has for a sector.
+fn written(bytes: &[u8], first: u64, sector: u64) -> Option<&[u8]>
+    ensures { MatchOption result (writes first bytes.now sector ≡ None)
+        (λ part. writes first bytes.now sector ≡ Some part.now) }
+{
+    let count = (bytes.len() / SECTOR) as u64;
+    if sector < first || sector - first >= count {
+        return None;
+    }
+    let from = (sector - first) as usize * SECTOR;
+    Some(&bytes[from..from + SECTOR])
+}
+
+// Reads a sector as a call left it: zeroes where the call wrote nothing there.
+fn read_call(call: &Call, sector: u64, buffer: &mut [u8])
+    requires { length buffer.old ≡ 512 }
+    ensures { buffer.new ≡ value_in (Some call.now) sector }
+{
+    match &call.change {
+        Change::Write(bytes) => match written(bytes, call.first, sector) {
+            Some(part) => buffer.copy_from_slice(part),
+            None => buffer.fill(0),
+        },
+        Change::Discard(_) => buffer.fill(0),
+    }
+}
+
+// Reads a sector as the call at a place left it.
+fn read_place(calls: &[Call], place: usize, sector: u64, buffer: &mut [u8])
+    requires { length buffer.old ≡ 512 }
+    ensures { buffer.new ≡ value_at calls.now place sector }
+{
+    match calls.get(place) {
+        Some(call) => read_call(call, sector, buffer),
+        None => buffer.fill(0),
+    }
+}
+
+/// Reads whole sectors, each as the call at its place left it.
+pub fn read_places(calls: &[Call], places: &[usize], first: usize, buffer: &mut [u8])
+    requires whole { length buffer.old % 512 ≡ 0 }
+    requires within { first + length buffer.old / 512 ≤ length places.now }
+    ensures { buffer.new ≡ gather (content_at calls.now places.now) first (length buffer.old / 512) }
+{
+    for index in 0..buffer.len() / SECTOR {
+        let sector = first + index;
+        let from = index * SECTOR;
+        read_place(
+            calls,
+            places[sector],
+            sector as u64,
+            &mut buffer[from..from + SECTOR],
+        );
+    }
+}
+
+/// The places of a range of sectors. Want of memory is an error.
+pub fn copy_places(
+    alloc: Global,
+    places: &[usize],
+    first: usize,
+    count: usize,
+) -> Result<Vec<usize>, AllocError>
+    requires { first + count ≤ length places.now }
+    ensures { IfOk result (λ copy. copy.items ≡ take count (drop first places.now)) }
+{
+    places[first..first + count].to_vec(alloc)
+}
+
+// Gives a range of sectors one place.
+fn fill_places(places: &mut Vec<usize>, first: usize, count: usize, place: usize)
+    requires { first + count ≤ length places.old.items }
+    ensures { IsFilled first count place places.old.items places.new.items }
+{
+    places[first..first + count].fill(place);
+}
+
+/// Adds a call, which is then the newest of its sectors. Where there is no memory, nothing is changed.
+pub fn add_call(
+    calls: &mut Vec<Call>,
+    newest: &mut Vec<usize>,
+    call: Call,
+    count: usize,
+) -> Result<(), AllocError>
+    requires { call.first + count ≤ length newest.old.items }
+    ensures calls { OnOk result (calls.new.items ≡ calls.old.items ++ call ∷ []) }
+    ensures newest { OnOk result
+        (IsFilled call.first count (length calls.old.items) newest.old.items newest.new.items) }
+    ensures err { OnErr result
+        ((calls.new.items ≡ calls.old.items) × (newest.new.items ≡ newest.old.items)) }
+{
+    let place = calls.len();
+    let first = call.first as usize;
+    calls.push(call)?;
+    fill_places(newest, first, count, place);
+    Ok(())
+}
+
+/// Whether the call at a place isn't durable: it came after the last flush, and without FUA.
+pub fn is_open(calls: &[Call], synced: usize, place: usize) -> bool
+    ensures { result ≡ is_open calls.now synced place }
+{
+    synced <= place && calls.get(place).is_some_and(|call| !call.fua)
+}
+
+/// The place of the call that put a sector's value before the call at this place did.
+pub fn before(calls: &[Call], place: usize, sector: usize) -> usize
+    ensures { result ≡ before_at calls.now place sector }
+{
+    let Some(call) = calls.get(place) else {
+        return 0;
+    };
+    let index = (sector as u64).saturating_sub(call.first);
+    call.before.get(index as usize).copied().unwrap_or(0)
+}

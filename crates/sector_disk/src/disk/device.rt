@@ -1,0 +1,77 @@
+ghost use Rattle.std.specs.Prelude.{◌≡◌, ◌+◌, ◌/◌, ◌∷◌, ◌≤◌, ◌<◌, ◌%◌, OnErr, OnOk, false, length};
+ghost use Rattle.sector_disk.specs.Candidates.{Flushes, Puts};
+ghost use Rattle.sector_disk.specs.Shown.{Does, HasPast, flushed_after, shown_of, steps_of};
+ghost use Rattle.sector_disk.specs.inside.Added.{count_of};
+ghost use Rattle.sector_disk.specs.inside.Storage.{change_values};
+ghost use Rattle.sector_disk.specs.ShownLaws.{disk_lawful};
+
+use crate::call::{Call, Change, add_call, copy_places, read_places};
+use crate::disk::SectorDisk;
+use bio::{DevError, Ms};
+use blockdev::BlockDev;
+use std::alloc::AllocError;
+
+impl SectorDisk {
+    // Does a write or a discard, and keeps it. Where there is no memory, nothing is changed.
+    fn put(&mut self, first: u64, change: Change, fua: bool) -> Result<(), AllocError>
+        requires { first + count_of change ≤ self.old.sectors }
+        ensures ok { OnOk result
+            (HasPast self.old self.new (Puts (change_values first change) fua ∷ steps_of self.old)) }
+        ensures err { OnErr result (HasPast self.old self.new (steps_of self.old)) }
+    {
+        let count = change.sectors() as usize;
+        let before = copy_places(self.alloc, &self.newest, first as usize, count)?;
+        let call = Call {
+            first,
+            change,
+            fua,
+            after_flush: self.flushed,
+            before,
+        };
+        add_call(&mut self.calls, &mut self.newest, call, count)?;
+        self.flushed = false;
+        Ok(())
+    }
+}
+
+impl BlockDev for SectorDisk {
+    ghost shown = { shown_of };
+
+    ghost does = { Does };
+
+    fn sectors(&self) -> u64 {
+        self.sectors
+    }
+
+    fn read(&mut self, now: Ms, first: u64, buffer: &mut [u8]) -> Result<Ms, DevError> {
+        read_places(&self.calls, &self.newest, first as usize, buffer);
+        Ok(now)
+    }
+
+    fn write(&mut self, now: Ms, first: u64, bytes: &[u8], fua: bool) -> Result<Ms, DevError> {
+        let change = Change::Write(bytes.to_vec(self.alloc)?);
+        self.put(first, change, fua)?;
+        Ok(now)
+    }
+
+    fn discard(&mut self, now: Ms, first: u64, count: u64) -> Result<Ms, DevError> {
+        self.put(first, Change::Discard(count), false)?;
+        Ok(now)
+    }
+
+    fn flush(&mut self, now: Ms) -> Result<Ms, DevError> {
+        self.synced = self.calls.len();
+        self.flushed = true;
+        Ok(now)
+    }
+
+    fn faults(&self) -> u64 {
+        0
+    }
+
+    fn lies(&self) -> u64 {
+        0
+    }
+
+    ghost lawful = { disk_lawful };
+}

@@ -1,0 +1,77 @@
+ghost use Rattle.std.specs.Prelude.{◌≡◌, ◌*◌, ◌/◌, IfOk, length, replicate};
+ghost use Rattle.sector_disk.specs.Shown.{shown_of};
+ghost use Rattle.sector_disk.specs.Sizes.{Begins, IsDiskSize, IsImageSize};
+ghost use Rattle.sector_disk.specs.inside.Added.{count_of};
+ghost use Rattle.sector_disk.specs.inside.Storage.{change_values, content_at};
+ghost use Rattle.sectors.specs.Content.{gather, put, sector_of};
+
+use crate::call::{Call, Change, SECTOR, read_places};
+use crate::disk::SectorDisk;
+use std::alloc::{AllocError, Global};
+
+// A disk that is one change, which covers it from its first sector on.
+fn make(alloc: Global, change: Change) -> Result<SectorDisk, AllocError>
+    requires { IsDiskSize (count_of change) }
+    ensures { IfOk result (λ disk.
+        Begins (count_of change) (put (change_values 0 change) (λ _. replicate 512 0)) (shown_of disk)) }
+{
+    let sectors = change.sectors();
+    let newest = vec![in alloc; 0; sectors as usize]?;
+    let base = vec![in alloc; 0; sectors as usize]?;
+    let mut calls = Vec::new(alloc);
+    calls.push(Call {
+        first: 0,
+        change,
+        fua: false,
+        after_flush: false,
+        before: Vec::new(alloc),
+    })?;
+    Ok(SectorDisk {
+        alloc,
+        sectors,
+        calls,
+        newest,
+        base,
+        begun: 1,
+        synced: 1,
+        flushed: false,
+    })
+}
+
+// Reads all the sectors of a disk.
+fn read_all(calls: &[Call], places: &[usize], image: &mut Vec<u8>)
+    requires { length image.old.items ≡ 512 * length places.now }
+    ensures { image.new.items ≡ gather (content_at calls.now places.now) 0 (length places.now) }
+{
+    read_places(calls, places, 0, image);
+}
+
+impl SectorDisk {
+    /// A disk of so many sectors of zeroes, 1 to 1,048,576. Want of memory is an error.
+    pub fn new(alloc: Global, sectors: u64) -> Result<SectorDisk, AllocError>
+        requires { IsDiskSize sectors }
+        ensures { IfOk result (λ disk. Begins sectors (λ _. replicate 512 0) (shown_of disk)) }
+    {
+        make(alloc, Change::Discard(sectors))
+    }
+
+    /// The disk that an image is: its bytes are whole sectors, 1 to 1,048,576. They are taken as they are, with
+    /// no copy. Want of memory is an error.
+    pub fn from_bytes(alloc: Global, bytes: Vec<u8>) -> Result<SectorDisk, AllocError>
+        requires { IsImageSize (length bytes.items) }
+        ensures { IfOk result (λ disk.
+            Begins (length bytes.items / 512) (sector_of bytes.items) (shown_of disk)) }
+    {
+        make(alloc, Change::Write(bytes))
+    }
+
+    /// The image of the disk: the bytes of all its sectors. Want of memory is an error.
+    pub fn bytes(&self) -> Result<Vec<u8>, AllocError>
+        ensures { IfOk result (λ image.
+            image.items ≡ gather (shown_of self.now).content 0 (shown_of self.now).size) }
+    {
+        let mut image = vec![in self.alloc; 0; self.sectors as usize * SECTOR]?;
+        read_all(&self.calls, &self.newest, &mut image);
+        Ok(image)
+    }
+}

@@ -1,0 +1,215 @@
+ghost use Rattle.std.specs.Prelude.{◌≡◌, ◌<◌, length};
+ghost use Rattle.sector_disk.specs.Shown.{shown_of};
+
+use super::*;
+use bio::{DevError, Ms};
+use blockdev::BlockDev;
+use failing::Failing;
+use lying::Lying;
+use std::alloc::Global;
+use std::process::Abort;
+use std::test::Fail;
+
+mod failing;
+mod lying;
+
+// Crashes of a disk of 8 sectors of zeroes, a line each. `w31` writes 1s to sector 3, `F31` does with FUA, `d32`
+// discards 2 sectors from sector 3 on, `f` flushes, `c12` crashes with the picks 1 and 2, and `=` says what each
+// sector then holds.
+const CRASHES: &str = "w31 w32 c1 =00010000
+w31 w32 c2 =00020000
+w31 w32 c =00000000
+w31 w32 c3 =00000000
+w31 w32 c4 =00010000
+w31 w32 w33 c3 =00030000
+w31 w32 w33 c1 =00010000
+w31 w32 w33 c6 =00020000
+w35 w35 c2 =00050000
+w35 w35 c3 =00000000
+w35 w35 w36 c3 =00060000
+w31 F32 w33 c =00020000
+w31 F32 w33 c1 =00030000
+w31 F32 w33 c2 =00020000
+w31 F32 w54 c1 =00020400
+w31 d31 w33 c1 =00010000
+w31 d31 w33 c2 =00000000
+w31 d31 w33 c3 =00030000
+w31 f w32 c =00010000
+w31 f w32 c1 =00020000
+w31 w52 f c11 =00010200
+w21 w52 c01 =00000200
+w21 w52 c10 =00100000
+w21 w52 c11 =00100200
+w21 w52 c1 =00100000
+w52 w21 c10 =00100000
+w31 w32 c1 w34 c =00010000
+w31 w32 c1 w34 c1 =00040000
+w31 w32 =00020000 c =00000000
+w31 c c1 =00000000
+w01 w12 w23 f d03 c101 =02000000
+w01 f d01 =00000000 c =10000000
+w31 F52 c =00000200
+f f w31 f f c =00010000
+d31 F34 c =00040000
+F31 d31 =00000000 c =00010000";
+
+fn digit(byte: u8) -> u64
+    ensures { result < 8 }
+{
+    (byte as u64).saturating_sub(48) % 8
+}
+
+fn write(disk: &mut SectorDisk, sector: u8, value: u8, fua: bool) -> Result<Ms, DevError>
+    requires { (shown_of disk.old).size ≡ 8 }
+{
+    let bytes = [value.saturating_sub(48); 512];
+    disk.write(Ms::new(5), digit(sector), &bytes, fua)
+}
+
+fn discard(disk: &mut SectorDisk, sector: u8, count: u8) -> Result<Ms, DevError>
+    requires { (shown_of disk.old).size ≡ 8 }
+{
+    let first = digit(sector);
+    let count = digit(count).clamp(1, 8 - first);
+    disk.discard(Ms::new(5), first, count)
+}
+
+fn check_sector(rt: &impl Abort, disk: &mut SectorDisk, sector: u64, want: u8, line: &str) {
+    assert!(rt; sector < disk.sectors(), "{line}");
+    let mut buffer = [9; 512];
+    let end = disk.read(Ms::new(7), sector, &mut buffer);
+    assert_eq!(rt; end, Ok(Ms::new(7)), "{line}");
+    let wanted = want.saturating_sub(48);
+    assert!(rt;
+        buffer.iter().all(|byte| *byte == wanted),
+        "sector {sector} after {line}"
+    );
+}
+
+fn crash(alloc: Global, disk: &mut SectorDisk, digits: &[u8]) -> Result<(), Fail> {
+    let mut picks = Vec::new(alloc);
+    for byte in digits {
+        picks.push(digit(*byte))?;
+    }
+    disk.crash(&picks);
+    Ok(())
+}
+
+fn step(
+    rt: &impl Abort,
+    alloc: Global,
+    disk: &mut SectorDisk,
+    word: &[u8],
+    line: &str,
+) -> Result<(), Fail> {
+    assert_eq!(rt; disk.sectors(), 8);
+    let end = match word {
+        [b'w', sector, value] => write(disk, *sector, *value, false),
+        [b'F', sector, value] => write(disk, *sector, *value, true),
+        [b'd', sector, count] => discard(disk, *sector, *count),
+        [b'f'] => disk.flush(Ms::new(5)),
+        [b'c', picks @ ..] => {
+            crash(alloc, disk, picks)?;
+            Ok(Ms::new(5))
+        }
+        _ => Ok(Ms::new(5)),
+    };
+    assert_eq!(rt; end, Ok(Ms::new(5)), "{line}");
+    if let [b'=', want @ ..] = word {
+        for (sector, byte) in want.iter().enumerate() {
+            check_sector(rt, disk, sector as u64, *byte, line);
+        }
+    }
+    Ok(())
+}
+
+// What each crash leaves was worked out by hand.
+#[test]
+fn crashes_leave_what_the_picks_name(rt: HostRuntime) -> Result<(), Fail> {
+    for line in CRASHES.lines() {
+        let mut disk = SectorDisk::new(rt.alloc(), 8)?;
+        for word in line.split(' ') {
+            step(&rt, rt.alloc(), &mut disk, word.as_bytes(), line)?;
+        }
+        assert_eq!(rt; (disk.faults(), disk.lies()), (0, 0));
+    }
+    Ok(())
+}
+
+// Images of each size are made, written, discarded and given back.
+#[test]
+fn disks_of_each_size_are_kept(rt: HostRuntime) -> Result<(), Fail> {
+    let alloc = rt.alloc();
+    for sectors in [1, 8, 2048] {
+        assert!(rt; 0 < sectors && sectors <= 2048);
+        let length = sectors as usize * 512;
+        let image = vec![in alloc; 65; length]?;
+        let zeroes = vec![in alloc; 0; length]?;
+        let mut disk = SectorDisk::from_bytes(alloc, image.clone()?)?;
+        assert_eq!(rt; disk.sectors(), sectors);
+        assert!(rt;
+            disk.bytes()?.as_slice() == image.as_slice(),
+            "the image of {sectors}"
+        );
+        disk.discard(Ms::new(0), 0, sectors)?;
+        assert!(rt;
+            disk.bytes()?.as_slice() == zeroes.as_slice(),
+            "{sectors} discarded"
+        );
+        let mut new = SectorDisk::new(alloc, sectors)?;
+        assert!(rt;
+            new.bytes()?.as_slice() == zeroes.as_slice(),
+            "{sectors} of zeroes"
+        );
+        new.write(Ms::new(0), 0, &image, true)?;
+        new.crash(&[]);
+        assert!(rt;
+            new.bytes()?.as_slice() == image.as_slice(),
+            "{sectors} written"
+        );
+    }
+    let large = SectorDisk::new(alloc, 1_048_576)?;
+    assert_eq!(rt; large.sectors(), 1_048_576);
+    Ok(())
+}
+
+// The laws of all devices are laws of the disk.
+#[test]
+fn the_device_laws_hold() {
+    blockdev::laws::flushed_writes_outlive_crashes::<SectorDisk>();
+    blockdev::laws::fua_writes_outlive_crashes::<SectorDisk>();
+    blockdev::laws::durable_sectors_stay::<SectorDisk>();
+    blockdev::laws::calls_tear_their_own_sectors::<SectorDisk>();
+    blockdev::laws::calls_tear_their_own_sectors_at_any_moment::<SectorDisk>();
+    blockdev::laws::crashes_leave_whole_sectors::<SectorDisk>();
+    blockdev::laws::devices_keep_their_size::<SectorDisk>();
+}
+
+// The law has other members than the disk: a device that lies, and one that fails.
+#[test]
+fn devices_lie_and_fail(rt: HostRuntime) -> Result<(), Fail> {
+    let now = Ms::new(3);
+    let mut lying = Lying {
+        lower: SectorDisk::new(rt.alloc(), 1)?,
+        lies: 0,
+    };
+    assert_eq!(rt; lying.sectors(), 1);
+    assert_eq!(rt; lying.write(now, 0, &[1; 512], true), Ok(now));
+    assert_eq!(rt; lying.flush(now), Ok(now));
+    assert_eq!(rt; (lying.faults(), lying.lies()), (0, 2));
+    check_sector(&rt, &mut lying.lower, 0, b'0', "a write that was lost");
+    let mut failing = Failing {
+        lower: SectorDisk::new(rt.alloc(), 1)?,
+        left: 1,
+        faults: 0,
+    };
+    assert_eq!(rt; failing.sectors(), 1);
+    assert_eq!(rt; failing.write(now, 0, &[1; 512], false), Ok(now));
+    assert_eq!(rt; failing.write(now, 0, &[2; 512], false), Err(DevError::Io));
+    assert_eq!(rt; failing.flush(now), Err(DevError::Io));
+    assert_eq!(rt; (failing.faults(), failing.lies()), (2, 0));
+    check_sector(&rt, &mut failing.lower, 0, b'1', "a write that failed");
+    failing.lower.crash(&[]);
+    check_sector(&rt, &mut failing.lower, 0, b'0', "a flush that failed");
+    Ok(())
+}

@@ -2,27 +2,21 @@
 //!
 //! `dmlw record SCRIPT LOG` runs a script of writes, flushes and their ends, and writes the log of the
 //! whole run, byte for byte. `dmlw list LOG` prints a log's entries up to the first fault, `dmlw status
-//! LOG` how far the log has come. `execute` does one command over files and writers of any kind; its
+//! LOG` how far the log has come. `execute` does one command line over files and writers of any kind; its
 //! contract says of each command what it has printed and which file it has asked to be written, in
-//! the words of `specs/Commands`. `record` runs a script by `script_runner`, and asks for its log to be
-//! written (`specs/Records`); `list` and `status` print what is read of an image (`specs/Lists`). `main`
-//! calls `execute` over the system's files and streams, of which no clause knows what they hold.
+//! the words of `specs/Commands`. The commands themselves stand in `dmlw_commands`; `command_line` reads the
+//! words, `laws` says which plain words are which command. `main` calls `execute` over the system's files
+//! and streams, of which no clause knows what they hold.
 #![tactic(auto)]
 
 mod command_line;
 mod execute;
-mod exit;
-mod files;
-mod host_files;
-mod image;
-mod list;
-mod record;
-mod status;
+mod laws;
 #[cfg(test)]
 mod tests;
 
+use dmlw_commands::HostFiles;
 use execute::{execute, refuse};
-use host_files::HostFiles;
 use std::io::{BufWriter, Write};
 use std::process::ExitCode;
 use std::rt::{Env, Files};

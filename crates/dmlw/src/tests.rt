@@ -1,7 +1,7 @@
 ghost use Rattle.std.specs.Prelude.{None};
 
 use crate::execute::{execute, refuse};
-use crate::files::{FileError, Files};
+use dmlw_commands::{FileError, Files};
 use std::alloc::{AllocError, Global};
 use std::io;
 use std::io::Write;

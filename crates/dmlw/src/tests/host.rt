@@ -1,6 +1,5 @@
 // The system's files.
-use crate::files::{FileError, Files};
-use crate::host_files::HostFiles;
+use dmlw_commands::{FileError, Files, HostFiles};
 use std::fs;
 use std::test::Fail;
 

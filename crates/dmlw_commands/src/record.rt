@@ -1,0 +1,74 @@
+ghost use Rattle.std.specs.Prelude.{◌≡◌, IfErr, IfOk, OnOk};
+ghost use Rattle.dmlw_commands.specs.Endings.{EndsRecording};
+ghost use Rattle.dmlw_commands.specs.Records.{FailsRecording, IsScriptLog, IsPrintedLog, PrintsLog, WritesLog};
+
+use crate::ending::end;
+use crate::exit::Exit;
+use crate::files::Files;
+use dmlw_script::{Kind, read_script};
+use script_runner::{Filled, RunError, run};
+use std::alloc::Global;
+use std::io::Write;
+
+/// The most bytes of a script.
+pub const MAX_SCRIPT_BYTES: u64 = 4_194_304;
+
+/// Does `record SCRIPT LOG`: records the requests of a script in a new log, and answers how it ended.
+/// `script` and `log` are names of files. What there is to print goes to `out` before the log is
+/// written; a fault is reported to `err`.
+pub fn record<F: Files, O: Write, E: Write>(
+    alloc: Global,
+    script: &str,
+    log: &str,
+    files: &mut F,
+    out: &mut O,
+    err: &mut E,
+) -> Exit
+    ensures { EndsRecording (F.contents files.old script.now) log.now (F.writes files.old) (F.writes files.new)
+        (O.contents out.old) (O.contents out.new) result }
+{
+    let recorded = record_script(alloc, script, log, files, out);
+    end(recorded, out, err)
+}
+
+// Runs the script in a file, and writes its log.
+fn record_script<F: Files, O: Write>(
+    alloc: Global,
+    script: &str,
+    log: &str,
+    files: &mut F,
+    out: &mut O,
+) -> Result<(), RunError>
+    ensures log { WritesLog (F.contents files.old script.now) log.now (F.writes files.old) (F.writes files.new) result }
+    ensures printed { OnOk result (PrintsLog (F.contents files.old script.now) log.now
+        (F.writes files.old) (F.writes files.new) (O.contents out.old) (O.contents out.new)) }
+    ensures faults { IfErr result
+        (FailsRecording (F.contents files.old script.now) (O.contents out.old) (O.contents out.new)) }
+{
+    let filled = run_file(alloc, script, files, out)?;
+    files.write(log, &filled.image)?;
+    Ok(())
+}
+
+// Runs the script in a file, and prints what happens and how far its log has come.
+fn run_file<F: Files, O: Write>(
+    alloc: Global,
+    script: &str,
+    files: &mut F,
+    out: &mut O,
+) -> Result<Filled, RunError>
+    ensures log { IfOk result (λ filled. IsScriptLog (F.contents files.old script.now) filled.image.items) }
+    ensures printed { IfOk result (λ filled. IsPrintedLog (F.contents files.old script.now) filled.image.items
+        (O.contents out.old) (O.contents out.new)) }
+    ensures faults { IfErr result
+        (FailsRecording (F.contents files.old script.now) (O.contents out.old) (O.contents out.new)) }
+    ensures unwritten { F.writes files.new ≡ F.writes files.old }
+{
+    let text = files.read(alloc, script, MAX_SCRIPT_BYTES)?;
+    let script = read_script(alloc, &text, Kind::Record)?;
+    let filled = run(alloc, &text, &script, out)?;
+    let status = filled.status;
+    writeln!(out, "{status}")?;
+    out.flush()?;
+    Ok(filled)
+}

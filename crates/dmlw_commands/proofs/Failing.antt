@@ -1,9 +1,9 @@
 -- How the recording of the script in a file ends.
-use Rattle.std.proofs.Common.{◌≡◌, ℕ, ◌++◌, List, None, Option, Some, ap, inl, inr, refl, subst, sym}
-use Rattle.std.specs.Io.KnownBytes.{Appends, Keeps}
+use Rattle.std.proofs.Common.{◌≡◌, ◌∙◌, ℕ, ◌++◌, Err, IfErr, IfOk, List, None, Ok, Option, Result, Some, ap, inl, inr, refl, subst, sym}
+use Rattle.std.specs.Io.KnownBytes.{Appends}
 use Rattle.std.specs.declared.io.ErrorKind.{ErrorKind}
 use Rattle.std.specs.declared.io.ErrorKind.TheVariants as kinds
-use Rattle.script_runner.specs.CallLaws.{appends_kept, appends_twice, keeps_same}
+use Rattle.script_runner.specs.CallLaws.{appends_twice, keeps_same}
 use Rattle.bio.specs.declared.outcome.Status.{Status}
 use Rattle.refusals.specs.declared.fault.Fault.{Fault}
 use Rattle.dmlw_script.specs.Grammar.{IsTextOf}
@@ -11,13 +11,14 @@ use Rattle.dmlw_script.specs.Plans.{Plan}
 use Rattle.dmlw_script.specs.Reading.{IsFaultOf, is_memory}
 use Rattle.script_runner.specs.declared.error.RunError.{RunError}
 use Rattle.script_runner.specs.declared.error.RunError.TheVariants.{Refused}
+use Rattle.script_runner.specs.declared.fill.Filled.{Filled}
 use Rattle.script_runner.specs.Errors.{IsFileError, io_refusal, refused_by}
 use Rattle.script_runner.specs.RunFaults.{EndsRun}
 use Rattle.dmlw_commands.specs.declared.files.FileError.{FileError}
 use Rattle.dmlw_commands.specs.declared.files.FileError.TheVariants as errors
 use Rattle.dmlw_commands.specs.FileErrors.{file_refusal}
 use Rattle.dmlw_commands.specs.Files.{MatchesContents}
-use Rattle.dmlw_commands.specs.Records.{FailsRecording, file, run as run_fails, status_line, text as unread}
+use Rattle.dmlw_commands.specs.Records.{FailsRecording, IsPrintedLog, IsScriptLog, file, run as run_fails, status_line, text as unread}
 
 -- a file's error is printed as such
 file_told : (error : FileError) → IsFileError (refused_by (file_refusal error))
@@ -55,19 +56,66 @@ fails_unread contents before bytes text error fault is same wrong only output =
         let memory = only plan (subst (λ (all : List ℕ). IsTextOf all plan) (sym same) spells) in
         absurd (cc (ap (λ (e : Fault). e.line) memory, here))) first (keeps_same before)
 
+-- recording ended by an error of the output's
+pub fails_to_tell : (contents before after : Option (List ℕ)) (told fault : RunError) → IsFileError told → fault ≡ told
+    → FailsRecording contents before after fault
+fails_to_tell contents before after told fault is same = file fault (subst IsFileError (sym same) is)
+
 -- recording ended by a fault of the script's run
-pub fails_run : (contents before after : Option (List ℕ)) (bytes text other : List ℕ) (plan : Plan) (fault again : RunError) → MatchesContents contents bytes
-    → text ≡ bytes → other ≡ bytes → IsTextOf text plan → EndsRun other plan before after fault → again ≡ fault
-    → FailsRecording contents before after again
-fails_run contents before after bytes text other plan fault again is same also spells ends kept =
-    subst (FailsRecording contents before after) (sym kept)
-    (run_fails bytes plan fault is (subst (λ (all : List ℕ). IsTextOf all plan) same spells)
-    (subst (λ (all : List ℕ). EndsRun all plan before after fault) also ends))
+pub fails_run : (before after : Option (List ℕ)) (text : List ℕ) (plan : Plan) (fault again : RunError) → IsTextOf text plan
+    → EndsRun text plan before after fault → again ≡ fault → FailsRecording (Some text) before after again
+fails_run before after text plan fault again spells ends same =
+    subst (FailsRecording (Some text) before after) (sym same) (run_fails text plan fault refl spells ends)
+
+-- what failed of a text that is a file's failed of the file
+pub fails_of_file : (contents before after : Option (List ℕ)) (text : List ℕ) (fault : RunError) → MatchesContents contents text
+    → FailsRecording (Some text) before after fault → FailsRecording contents before after fault
+fails_of_file contents before after text fault is (file f by) = file f by
+fails_of_file contents before after text fault is (unread bytes line refusal same none first kept) =
+    unread bytes line refusal (subst (MatchesContents contents) (sym same) is) none first kept
+fails_of_file contents before after text fault is (run_fails bytes plan f same spells ends) =
+    run_fails bytes plan f (subst (MatchesContents contents) (sym same) is) spells ends
 
 -- what a script prints was printed, and then the status of its log
-pub status_printed : (before ran output now : Option (List ℕ)) (lines : List ℕ) (status other : Status) → Appends before ran lines
-    → Appends ran output (status_line status) → Keeps output now → status ≡ other → Appends before now (lines ++ status_line other)
-status_printed before ran output now lines status other first second keeps are =
-    let both : Appends before output (lines ++ status_line status) = appends_twice before ran output lines (status_line status) first second in
-    appends_kept before output now (lines ++ status_line other)
-    (subst (λ (more : Status). Appends before output (lines ++ status_line more)) are both) keeps
+pub status_printed : (before ran now : Option (List ℕ)) (lines : List ℕ) (status other : Status) → Appends before ran lines
+    → Appends ran now (status_line status) → status ≡ other → Appends before now (lines ++ status_line other)
+status_printed before ran now lines status other first second are =
+    subst (λ (more : Status). Appends before now (lines ++ status_line more)) are
+    (appends_twice before ran now lines (status_line status) first second)
+
+-- the log of a text that is a file's is the log of the file's script
+pub log_of_text : (contents : Option (List ℕ)) (items text : List ℕ) (r : Result Filled RunError) → MatchesContents contents items → text ≡ items
+    → IfOk r (λ filled. IsScriptLog (Some text) filled.image.items) → IfOk r (λ filled. IsScriptLog contents filled.image.items)
+log_of_text contents items text (Ok filled) is same log = record {
+  text = log.text;
+  script = log.script;
+  read = subst (MatchesContents contents) (sym same ∙ sym log.read) is;
+  spelled = log.spelled;
+  made = log.made;
+  image = log.image;
+}
+log_of_text contents items text (Err fault) is same log = log
+
+-- what was printed of a text that is a file's was printed of the file's script
+pub printed_of_text : (contents : Option (List ℕ)) (items text : List ℕ) (before after : Option (List ℕ)) (r : Result Filled RunError)
+    → MatchesContents contents items → text ≡ items → IfOk r (λ filled. IsPrintedLog (Some text) filled.image.items before after)
+    → IfOk r (λ filled. IsPrintedLog contents filled.image.items before after)
+printed_of_text contents items text before after (Ok filled) is same log = record {
+  text = log.text;
+  script = log.script;
+  lines = log.lines;
+  read = subst (MatchesContents contents) (sym same ∙ sym log.read) is;
+  spelled = log.spelled;
+  made = log.made;
+  image = log.image;
+  run = log.run;
+  output = log.output;
+}
+printed_of_text contents items text before after (Err fault) is same log = log
+
+-- what failed of a text that is a file's failed of the file's script
+pub fails_of_text : (contents : Option (List ℕ)) (items text : List ℕ) (before after : Option (List ℕ)) (r : Result Filled RunError)
+    → MatchesContents contents items → text ≡ items → IfErr r (FailsRecording (Some text) before after) → IfErr r (FailsRecording contents before after)
+fails_of_text contents items text before after (Ok filled) is same fails = fails
+fails_of_text contents items text before after (Err fault) is same fails =
+    fails_of_file contents before after text fault (subst (MatchesContents contents) (sym same) is) fails

@@ -1,11 +1,15 @@
-ghost use Rattle.std.specs.Prelude.{◌≡◌, IfErr, IfOk, OnOk};
+ghost use Rattle.std.specs.Prelude.{◌≡◌, IfErr, IfOk, OnOk, Some};
+ghost use Rattle.std.specs.Io.KnownBytes.{Appends};
+ghost use Rattle.script_runner.specs.Errors.{IsFileError};
+ghost use Rattle.dmlw_script.specs.Grammar.{IsTextOf};
 ghost use Rattle.dmlw_commands.specs.Endings.{EndsRecording};
-ghost use Rattle.dmlw_commands.specs.Records.{FailsRecording, IsScriptLog, IsPrintedLog, PrintsLog, WritesLog};
+ghost use Rattle.dmlw_commands.specs.Records.{FailsRecording, IsScriptLog, IsPrintedLog, PrintsLog, WritesLog, status_line};
 
 use crate::ending::end;
 use crate::exit::Exit;
 use crate::files::Files;
-use dmlw_script::{Kind, read_script};
+use bio::Status;
+use dmlw_script::{Kind, Script, read_script};
 use script_runner::{Filled, RunError, run};
 use std::alloc::Global;
 use std::io::Write;
@@ -65,10 +69,44 @@ fn run_file<F: Files, O: Write>(
     ensures unwritten { F.writes files.new ≡ F.writes files.old }
 {
     let text = files.read(alloc, script, MAX_SCRIPT_BYTES)?;
-    let script = read_script(alloc, &text, Kind::Record)?;
-    let filled = run(alloc, &text, &script, out)?;
-    let status = filled.status;
+    run_text(alloc, &text, out)
+}
+
+// Runs the script that a text spells, and prints what happens and how far its log has come.
+fn run_text<O: Write>(alloc: Global, text: &[u8], out: &mut O) -> Result<Filled, RunError>
+    ensures log { IfOk result (λ filled. IsScriptLog (Some text.now) filled.image.items) }
+    ensures printed { IfOk result (λ filled. IsPrintedLog (Some text.now) filled.image.items
+        (O.contents out.old) (O.contents out.new)) }
+    ensures faults { IfErr result (FailsRecording (Some text.now) (O.contents out.old) (O.contents out.new)) }
+{
+    let script = read_script(alloc, text, Kind::Record)?;
+    run_script(alloc, text, &script, out)
+}
+
+// Runs a script, which was read from `text`, and prints what happens and how far its log has come.
+fn run_script<O: Write>(
+    alloc: Global,
+    text: &[u8],
+    script: &Script,
+    out: &mut O,
+) -> Result<Filled, RunError>
+    requires { IsTextOf text.now script.now }
+    ensures log { IfOk result (λ filled. IsScriptLog (Some text.now) filled.image.items) }
+    ensures printed { IfOk result (λ filled. IsPrintedLog (Some text.now) filled.image.items
+        (O.contents out.old) (O.contents out.new)) }
+    ensures faults { IfErr result (FailsRecording (Some text.now) (O.contents out.old) (O.contents out.new)) }
+{
+    let filled = run(alloc, text, script, out)?;
+    print_status(filled.status, out)?;
+    Ok(filled)
+}
+
+// Prints how far a log has come.
+fn print_status<O: Write>(status: Status, out: &mut O) -> Result<(), RunError>
+    ensures printed { OnOk result (Appends (O.contents out.old) (O.contents out.new) (status_line status)) }
+    ensures faults { IfErr result IsFileError }
+{
     writeln!(out, "{status}")?;
     out.flush()?;
-    Ok(filled)
+    Ok(())
 }

@@ -1,5 +1,5 @@
 -- How every task ends.
-use Rattle.std.proofs.Common.{◌≡◌, ◌≤◌, ℕ, List, Option, Result, Ok, Err, arith, inl, inr, subst, sym}
+use Rattle.std.proofs.Common.{◌≡◌, ◌≤◌, ◌∙◌, ℕ, ap, refl, List, Option, Result, Ok, Err, arith, inl, inr, subst, sym}
 use Rattle.bio.specs.declared.outcome.End.{End}
 use Rattle.script_runner.specs.declared.error.RunError.{RunError}
 use Rattle.script_runner.specs.declared.error.RunError.TheVariants as faults
@@ -30,10 +30,10 @@ ends_silently writes_old writes_new exit same = record { known = at_most exit; o
     at_most LoggingEnded = omega arith
 
 -- a refused recording has asked for no file or for one
-refused_recording : (contents : Option (List ℕ)) (log : List ℕ) (writes_old writes_new : Option (List Write)) (fault : RunError)
-    → WritesLog contents log writes_old writes_new (Err fault) → EndsCommand writes_old writes_new 1
-refused_recording contents log writes_old writes_new fault (inl same) = ends_silently writes_old writes_new Refused same
-refused_recording contents log writes_old writes_new fault (inr (file, asked)) = record {
+refused_recording : (contents : Option (List ℕ)) (log : List ℕ) (writes_old writes_new : Option (List Write)) (old new : Option (List ℕ))
+    (fault : RunError) → WritesLog contents log writes_old writes_new old new (Err fault) → EndsCommand writes_old writes_new 1
+refused_recording contents log writes_old writes_new old new fault (inl same) = ends_silently writes_old writes_new Refused same
+refused_recording contents log writes_old writes_new old new fault (inr (file, asked)) = record {
   known = omega arith;
   once = inr (log, asked.0, asked.2);
   unwritten = λ two. absurd (omega arith);
@@ -49,7 +49,7 @@ ends_recorded contents log writes_old writes_new old new (Ok u) asked = record {
   unwritten = λ two. absurd (omega arith);
 }
 ends_recorded contents log writes_old writes_new old new (Err (faults.Refused fault)) (writes, fails) =
-    refused_recording contents log writes_old writes_new (faults.Refused fault) writes
+    refused_recording contents log writes_old writes_new old new (faults.Refused fault) writes
 ends_recorded contents log writes_old writes_new old new (Err (faults.LoggingEnded end)) (inl same, fails) =
     ends_silently writes_old writes_new LoggingEnded same
 ends_recorded contents log writes_old writes_new old new (Err (faults.LoggingEnded end)) (inr (file, asked), fails) = absurd (not_file end file)
@@ -70,3 +70,16 @@ pub ends_with : (task : Task) (contents : List ℕ → Option (List ℕ)) (write
     → EndsCommand writes_old writes_new status
 ends_with task contents writes_old writes_new old new exit status ends is =
     subst (EndsCommand writes_old writes_new) (sym is) (ends_task task contents writes_old writes_new old new exit ends)
+
+-- a status of 1 and more isn't that of a done command
+pub not_done : (exit : Exit) (status : ℕ) → status ≡ status_of exit → 1 ≤ status → exit ≡ Done → ⊥
+not_done exit status is least done =
+    let zero : status ≡ 0 = is ∙ ap status_of done in
+    absurd (omega arith)
+
+-- a status of 0 is that of a done command
+pub is_done : (exit : Exit) (status : ℕ) → status ≡ status_of exit → status ≡ 0 → exit ≡ Done
+is_done Done status is zero = refl
+is_done Refused status is zero = absurd (omega arith)
+is_done Usage status is zero = absurd (omega arith)
+is_done LoggingEnded status is zero = absurd (omega arith)

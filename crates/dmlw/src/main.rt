@@ -15,7 +15,7 @@ mod laws;
 #[cfg(test)]
 mod tests;
 
-use dmlw_commands::HostFiles;
+use dmlw_commands::{HostFiles, Output};
 use execute::{execute, refuse};
 use std::io::{BufWriter, Write};
 use std::process::ExitCode;
@@ -26,15 +26,15 @@ fn main(rt: HostRuntime) -> ExitCode {
     let mut err = rt.stderr();
     let status = match run(&rt, &mut err) {
         Ok(status) => status,
-        Err(error) => refuse(error, &mut err),
+        Err(error) => refuse(rt.alloc(), error, &mut err),
     };
     ExitCode::from(status)
 }
 
-// Does the process's command line. An error comes only from before a command is begun.
+// Does the process's command line; where nobody reads the output on, the rest of it is dropped. An error comes only from before a command is begun.
 fn run<R: Files + Env + Print + AllocGlobal, E: Write>(rt: &R, err: &mut E) -> io::Result<u8> {
     let words: Vec<String> = env::args(rt)?.collect(rt.alloc())?;
     let mut files = HostFiles::new(rt);
-    let mut out = BufWriter::new(rt.alloc(), io::writer(rt))?;
+    let mut out = BufWriter::new(rt.alloc(), Output::new(io::writer(rt)))?;
     Ok(execute(rt.alloc(), &words, &mut files, &mut out, err))
 }

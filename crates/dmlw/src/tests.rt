@@ -17,16 +17,14 @@ struct FakeFiles<'a> {
     // How many bytes it takes to hold the file that is read.
     length: u64,
     log: Option<Vec<u8>>,
-    alloc: Global,
 }
 
 impl<'a> FakeFiles<'a> {
-    fn new(alloc: Global, bytes: &'a [u8]) -> FakeFiles<'a> {
+    fn new(bytes: &'a [u8]) -> FakeFiles<'a> {
         FakeFiles {
             bytes,
             length: bytes.len() as u64,
             log: None,
-            alloc,
         }
     }
 }
@@ -44,13 +42,17 @@ impl Files for FakeFiles<'_> {
         Vec::from_slice(alloc, self.bytes).map_err(|_| FileError::Memory)
     }
 
-    fn write(&mut self, name: &str, bytes: &[u8]) -> Result<(), FileError> {
+    fn write(&mut self, alloc: Global, name: &str, bytes: &[u8]) -> Result<(), FileError> {
         if name != "log" {
             return Err(FileError::Unusable);
         }
-        let bytes = Vec::from_slice(self.alloc, bytes).map_err(|_| FileError::Memory)?;
+        let bytes = Vec::from_slice(alloc, bytes).map_err(|_| FileError::Memory)?;
         self.log = Some(bytes);
         Ok(())
+    }
+
+    fn is_same(&self, first: &str, second: &str) -> bool {
+        first == second
     }
 }
 
@@ -91,7 +93,7 @@ impl Ran {
 }
 
 fn run(alloc: Global, words: &[&str], bytes: &[u8]) -> Ran {
-    let mut files = FakeFiles::new(alloc, bytes);
+    let mut files = FakeFiles::new(bytes);
     let mut out = Vec::new(alloc);
     let mut err = Vec::new(alloc);
     let status = execute(alloc, words, &mut files, &mut out, &mut err);
@@ -271,7 +273,7 @@ fn refuses_files(rt: HostRuntime) -> Result<(), Fail> {
 fn refuses_a_full_output(rt: HostRuntime) -> Result<(), Fail> {
     let alloc = rt.alloc();
     for room in 0..14 {
-        let mut files = FakeFiles::new(alloc, FIRST.as_bytes());
+        let mut files = FakeFiles::new(FIRST.as_bytes());
         let mut err = Vec::new(alloc);
         let words = ["dmlw", "record", "script", "log"];
         let status = execute(alloc, &words, &mut files, &mut Narrow { room }, &mut err);
@@ -387,9 +389,9 @@ fn takes_names_after_two_hyphens(rt: HostRuntime) {
 fn refuses_unreadable_words(rt: HostRuntime) {
     let mut err = Vec::new(rt.alloc());
     let error = io::Error::from(io::ErrorKind::InvalidData);
-    assert_eq!(rt; refuse(error, &mut err), 2);
+    assert_eq!(rt; refuse(rt.alloc(), error, &mut err), 2);
     let error = io::Error::from(io::ErrorKind::OutOfMemory);
-    assert_eq!(rt; refuse(error, &mut err), 1);
+    assert_eq!(rt; refuse(rt.alloc(), error, &mut err), 1);
     let shown = "error: a word of the command line isn't UTF-8 text\ndmlw: 2 Memory\n";
     assert!(rt; err.as_slice() == shown.as_bytes());
 }

@@ -1,4 +1,4 @@
-use Rattle.std.proofs.Common.{◌≡◌, ◌∙◌, ℕ, List, Option, Result, Ok, Err, OnOk, IfErr, ap, inl, inr, refl, subst, sym}
+use Rattle.std.proofs.Common.{◌≡◌, ◌∙◌, ℕ, List, Option, Result, Ok, Err, IfErr, ap, inl, inr, refl, subst, sym}
 use Rattle.std.specs.Io.KnownBytes.{Keeps}
 use Rattle.dmlw_commands.specs.declared.exit.Exit.{Exit}
 use Rattle.script_runner.specs.declared.error.RunError.{RunError}
@@ -42,11 +42,10 @@ failure_kept contents old middle new fault (unread bytes line refusal read none 
 failure_kept contents old middle new fault (ran bytes script f read spells ends) kept =
     ran bytes script f read spells (run_kept bytes script old middle new f ends kept)
 
--- what recording has printed is kept
-records_kept : (contents : Option (List ℕ)) (log : List ℕ) (writes_old writes_new : Option (List Write)) (old middle new : Option (List ℕ))
-    (done : Result (Unit {0}) RunError) → Records contents log writes_old writes_new old middle done → Keeps middle new
-    → Records contents log writes_old writes_new old new done
-records_kept contents log writes_old writes_new old middle new (Ok u) (bytes, output, writes) kept = (
+-- what was printed before a log was asked for is kept
+prints_kept : (contents : Option (List ℕ)) (log : List ℕ) (writes_old writes_new : Option (List Write)) (old middle new : Option (List ℕ))
+    → PrintsLog contents log writes_old writes_new old middle → Keeps middle new → PrintsLog contents log writes_old writes_new old new
+prints_kept contents log writes_old writes_new old middle new (bytes, output, writes) kept = (
   bytes,
   record {
     text = output.text;
@@ -61,16 +60,24 @@ records_kept contents log writes_old writes_new old middle new (Ok u) (bytes, ou
   },
   writes,
 )
-records_kept contents log writes_old writes_new old middle new (Err fault) (writes, fails) kept =
-    (writes, failure_kept contents old middle new fault fails kept)
+
+-- what recording has printed is kept
+records_kept : (contents : Option (List ℕ)) (log : List ℕ) (writes_old writes_new : Option (List Write)) (old middle new : Option (List ℕ))
+    (done : Result (Unit {0}) RunError) → Records contents log writes_old writes_new old middle done → Keeps middle new
+    → Records contents log writes_old writes_new old new done
+records_kept contents log writes_old writes_new old middle new (Ok u) prints kept =
+    prints_kept contents log writes_old writes_new old middle new prints kept
+records_kept contents log writes_old writes_new old middle new (Err fault) (inl same, fails) kept =
+    (inl same, failure_kept contents old middle new fault fails kept)
+records_kept contents log writes_old writes_new old middle new (Err fault) (inr (is, prints), fails) kept =
+    (inr (is, prints_kept contents log writes_old writes_new old middle new prints kept), failure_kept contents old middle new fault fails kept)
 
 -- what recording comes to, by the clauses of the call
 pub records_all : (contents : Option (List ℕ)) (log : List ℕ) (writes_old writes_new : Option (List Write)) (old new : Option (List ℕ))
-    (done : Result (Unit {0}) RunError) → WritesLog contents log writes_old writes_new done
-    → OnOk done (PrintsLog contents log writes_old writes_new old new)
+    (done : Result (Unit {0}) RunError) → WritesLog contents log writes_old writes_new old new done
     → IfErr done (FailsRecording contents old new) → Records contents log writes_old writes_new old new done
-records_all contents log writes_old writes_new old new (Ok u) writes output fails = output
-records_all contents log writes_old writes_new old new (Err fault) writes output fails = (writes, fails)
+records_all contents log writes_old writes_new old new (Ok u) writes fails = writes
+records_all contents log writes_old writes_new old new (Err fault) writes fails = (writes, fails)
 
 -- how a recording ends
 pub recording_ends : (contents : Option (List ℕ)) (log : List ℕ) (writes_old writes_new : Option (List Write)) (old middle new : Option (List ℕ))

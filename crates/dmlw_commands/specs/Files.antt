@@ -1,4 +1,4 @@
-use Rattle.std.specs.Prelude.{◌≡◌, ℕ, List, [], ◌∷◌, ◌++◌, Option, Some, None, option_map}
+use Rattle.std.specs.Prelude.{◌≡◌, ◌≤◌, ℕ, length, List, [], ◌∷◌, ◌++◌, Option, Some, None, option_map}
 
 -- a write that was asked for: the file's name, and the bytes that it is to hold
 pub record Write : Type 0 where
@@ -13,3 +13,12 @@ one_more writes name bytes = option_map (λ before. before ++ record { name = na
 abbrev pub MatchesContents : Option (List ℕ) → List ℕ → Type 0
 MatchesContents None bytes = Unit {0}
 MatchesContents (Some known) bytes = bytes ≡ known
+
+-- what a file holds is known, and isn't longer than a limit
+abbrev pub IsWithin : ℕ → Option (List ℕ) → Type 0
+IsWithin limit None = ⊥
+IsWithin limit (Some known) = length known ≤ limit
+
+-- each file holds what it held
+abbrev pub KeepsFiles : (List ℕ → Option (List ℕ)) → (List ℕ → Option (List ℕ)) → Type 0
+KeepsFiles old new = (name : List ℕ) → new name ≡ old name

@@ -27,16 +27,6 @@ pub record IsScriptLog (contents : Option (List ℕ)) (bytes : List ℕ) : Type 
   pub made : MakesLog script.log_sectors script.commands
   pub image : bytes ≡ log_image script.log_sectors (entries_of script.commands)
 
--- one more write was asked for: of the file of this name, which is to hold the log of that script
-abbrev pub AsksLog : Option (List ℕ) → List ℕ → Option (List Write) → Option (List Write) → Type 0
-AsksLog contents name old new = (bytes : List ℕ) × IsScriptLog contents bytes × (new ≡ one_more old name bytes)
-
--- Where recording a script succeeds it has asked for its log to be written, and for no other file. Where it fails it
--- has asked for no file, or for the log, which couldn't be written.
-abbrev pub WritesLog : Option (List ℕ) → List ℕ → Option (List Write) → Option (List Write) → Result (Unit {0}) RunError → Type 0
-WritesLog contents name old new r =
-    MatchResult r (λ _. AsksLog contents name old new) (λ fault. (new ≡ old) ⊎ (IsFileError fault × AsksLog contents name old new))
-
 -- the line that says how far a log has come
 abbrev pub status_line : Status → List ℕ
 status_line status = status_text status ++ codes "\n"
@@ -59,6 +49,14 @@ abbrev pub PrintsLog : Option (List ℕ) → List ℕ → Option (List Write) �
 PrintsLog contents name old new before after =
     (bytes : List ℕ) × IsPrintedLog contents bytes before after × (new ≡ one_more old name bytes)
 
+-- Where recording a script succeeds it has printed what happened, and asked for its log to be written, and for no other
+-- file. Where it fails it has asked for no file; or for the log, which couldn't be written, after all that was printed.
+abbrev pub WritesLog : Option (List ℕ) → List ℕ → Option (List Write) → Option (List Write) → Option (List ℕ) → Option (List ℕ)
+    → Result (Unit {0}) RunError → Type 0
+WritesLog contents name old new before after r =
+    MatchResult r (λ _. PrintsLog contents name old new before after)
+    (λ fault. (new ≡ old) ⊎ (IsFileError fault × PrintsLog contents name old new before after))
+
 -- the text is no script's
 abbrev pub IsNoScript : List ℕ → Type 0
 IsNoScript text = (script : Plan) → IsTextOf text script → ⊥
@@ -78,4 +76,4 @@ pub data FailsRecording (contents : Option (List ℕ)) (before after : Option (L
 abbrev pub Records : Option (List ℕ) → List ℕ → Option (List Write) → Option (List Write) → Option (List ℕ) → Option (List ℕ) → Result (Unit {0}) RunError → Type 0
 Records contents name writes_old writes_new old new (Ok done) = PrintsLog contents name writes_old writes_new old new
 Records contents name writes_old writes_new old new (Err fault) =
-    WritesLog contents name writes_old writes_new (Err fault) × FailsRecording contents old new fault
+    WritesLog contents name writes_old writes_new old new (Err fault) × FailsRecording contents old new fault

@@ -1,7 +1,7 @@
-ghost use Rattle.std.specs.Prelude.{◌≡◌, ◌≤◌, IfOk, List, Option, vec_len, ℕ};
+ghost use Rattle.std.specs.Prelude.{◌≡◌, ◌≤◌, IfErr, IfOk, List, OnErr, OnOk, Option, true, vec_len, ℕ};
 ghost use Rattle.std.specs.IoError.{error_kind};
 ghost use Rattle.script_runner.specs.Errors.{refused_by};
-ghost use Rattle.dmlw_commands.specs.Files.{MatchesContents, Write, one_more};
+ghost use Rattle.dmlw_commands.specs.Files.{IsWithin, KeepsFiles, MatchesContents, Write, one_more};
 ghost use Rattle.dmlw_commands.specs.FileErrors.{file_error, file_refusal};
 
 use refusals::Refusal;
@@ -59,13 +59,22 @@ pub trait Files {
     /// The writes that were asked for, in order, where they are known.
     ghost writes: { Self → Option (List Write) };
 
-    /// The whole of a file of at most `limit` bytes.
+    /// The whole of a file of at most `limit` bytes. A longer file is refused; where a file's bytes are
+    /// known and aren't too many, only memory can refuse it.
     fn read(&mut self, alloc: Global, name: &str, limit: u64) -> Result<Vec<u8>, FileError>
         ensures contents { IfOk result (λ bytes. MatchesContents (contents self.old name.now) bytes.items) }
         ensures within { IfOk result (λ bytes. vec_len bytes ≤ limit) }
+        ensures readable { IsWithin limit (contents self.old name.now) → IfErr result (λ error. error ≡ FileError.Memory) }
+        ensures kept { KeepsFiles (contents self.old) (contents self.new) }
         ensures writes { writes self.new ≡ writes self.old };
 
-    /// Makes the file hold these bytes and no others. After an error it may hold a part of them.
-    fn write(&mut self, name: &str, bytes: &[u8]) -> Result<(), FileError>
+    /// Makes the file hold these bytes and no others, or, where it fails, leaves each file as it was.
+    fn write(&mut self, alloc: Global, name: &str, bytes: &[u8]) -> Result<(), FileError>
+        ensures holds { OnOk result (MatchesContents (contents self.new name.now) bytes.now) }
+        ensures kept { OnErr result (KeepsFiles (contents self.old) (contents self.new)) }
         ensures writes { writes self.new ≡ one_more (writes self.old) name.now bytes.now };
+
+    /// Whether both names are those of one file.
+    fn is_same(&self, first: &str, second: &str) -> bool
+        ensures { first.now ≡ second.now → result ≡ true };
 }

@@ -1,6 +1,6 @@
 ghost use Rattle.std.specs.Prelude.{◌≡◌, IfErr, IfOk};
 ghost use Rattle.script_runner.specs.Errors.{IsFileError};
-ghost use Rattle.dmlw_commands.specs.Files.{MatchesContents};
+ghost use Rattle.dmlw_commands.specs.Files.{KeepsFiles, MatchesContents};
 ghost use Rattle.dmlw_commands.specs.Lists.{IsImage};
 
 use crate::files::Files;
@@ -18,6 +18,7 @@ pub fn read_image<F: Files>(alloc: Global, name: &str, files: &mut F) -> Result<
     ensures contents { IfOk result (λ image. MatchesContents (F.contents files.old name.now) image.items) }
     ensures whole { IfOk result (λ image. IsImage image.items) }
     ensures fault { IfErr result IsFileError }
+    ensures kept { KeepsFiles (F.contents files.old) (F.contents files.new) }
     ensures unwritten { F.writes files.new ≡ F.writes files.old }
 {
     let image = files.read(alloc, name, MAX_IMAGE_BYTES)?;

@@ -11,6 +11,7 @@ pub use exit::Exit;
 pub use files::{FileError, Files};
 pub use host_files::HostFiles;
 pub use image::MAX_IMAGE_BYTES;
+pub use output::Output;
 
 mod ending;
 mod exit;
@@ -18,5 +19,6 @@ mod files;
 mod host_files;
 mod image;
 pub mod list;
+mod output;
 pub mod record;
 pub mod status;

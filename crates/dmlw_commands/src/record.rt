@@ -1,15 +1,17 @@
-ghost use Rattle.std.specs.Prelude.{◌≡◌, IfErr, IfOk, OnOk, Some};
+ghost use Rattle.std.specs.Prelude.{◌≡◌, ◌≤◌, IfErr, IfOk, OnErr, OnOk, Some, length};
 ghost use Rattle.std.specs.Io.KnownBytes.{Appends};
 ghost use Rattle.script_runner.specs.Errors.{IsFileError};
 ghost use Rattle.dmlw_script.specs.Grammar.{IsTextOf};
 ghost use Rattle.dmlw_commands.specs.Endings.{EndsRecording};
-ghost use Rattle.dmlw_commands.specs.Records.{FailsRecording, IsScriptLog, IsPrintedLog, PrintsLog, WritesLog, status_line};
+ghost use Rattle.dmlw_commands.specs.Files.{IsWithin, KeepsFiles, MatchesContents};
+ghost use Rattle.dmlw_commands.specs.Records.{FailsRecording, IsScriptLog, IsPrintedLog, WritesLog, status_line};
 
 use crate::ending::end;
 use crate::exit::Exit;
-use crate::files::Files;
+use crate::files::{FileError, Files};
 use bio::Status;
 use dmlw_script::{Kind, Script, read_script};
+use refusals::Refusal;
 use script_runner::{Filled, RunError, run};
 use std::alloc::Global;
 use std::io::Write;
@@ -28,11 +30,15 @@ pub fn record<F: Files, O: Write, E: Write>(
     out: &mut O,
     err: &mut E,
 ) -> Exit
-    ensures { EndsRecording (F.contents files.old script.now) log.now (F.writes files.old) (F.writes files.new)
+    ensures ends { EndsRecording (F.contents files.old script.now) log.now (F.writes files.old) (F.writes files.new)
         (O.contents out.old) (O.contents out.new) result }
+    // Unless it is done each file holds what it held, and a script isn't written over.
+    ensures kept { (result ≡ Exit.Done → ⊥) → KeepsFiles (F.contents files.old) (F.contents files.new) }
+    ensures apart { script.now ≡ log.now → F.writes files.new ≡ F.writes files.old }
+    ensures quiet { result ≡ Exit.Done → E.contents err.new ≡ E.contents err.old }
 {
     let recorded = record_script(alloc, script, log, files, out);
-    end(recorded, out, err)
+    end(alloc, recorded, out, err)
 }
 
 // Runs the script in a file, and writes its log.
@@ -43,14 +49,18 @@ fn record_script<F: Files, O: Write>(
     files: &mut F,
     out: &mut O,
 ) -> Result<(), RunError>
-    ensures log { WritesLog (F.contents files.old script.now) log.now (F.writes files.old) (F.writes files.new) result }
-    ensures printed { OnOk result (PrintsLog (F.contents files.old script.now) log.now
-        (F.writes files.old) (F.writes files.new) (O.contents out.old) (O.contents out.new)) }
+    ensures log { WritesLog (F.contents files.old script.now) log.now (F.writes files.old) (F.writes files.new)
+        (O.contents out.old) (O.contents out.new) result }
     ensures faults { IfErr result
         (FailsRecording (F.contents files.old script.now) (O.contents out.old) (O.contents out.new)) }
+    ensures kept { OnErr result (KeepsFiles (F.contents files.old) (F.contents files.new)) }
+    ensures apart { script.now ≡ log.now → F.writes files.new ≡ F.writes files.old }
 {
+    if files.is_same(script, log) {
+        return Err(RunError::from(Refusal::File));
+    }
     let filled = run_file(alloc, script, files, out)?;
-    files.write(log, &filled.image)?;
+    files.write(alloc, log, &filled.image)?;
     Ok(())
 }
 
@@ -66,10 +76,22 @@ fn run_file<F: Files, O: Write>(
         (O.contents out.old) (O.contents out.new)) }
     ensures faults { IfErr result
         (FailsRecording (F.contents files.old script.now) (O.contents out.old) (O.contents out.new)) }
+    ensures kept { KeepsFiles (F.contents files.old) (F.contents files.new) }
     ensures unwritten { F.writes files.new ≡ F.writes files.old }
 {
-    let text = files.read(alloc, script, MAX_SCRIPT_BYTES)?;
+    let text = read_text(alloc, script, files)?;
     run_text(alloc, &text, out)
+}
+
+// The text in a script's file.
+fn read_text<F: Files>(alloc: Global, script: &str, files: &mut F) -> Result<Vec<u8>, FileError>
+    ensures contents { IfOk result (λ text. MatchesContents (F.contents files.old script.now) text.items) }
+    ensures within { IfOk result (λ text. length text.items ≤ 4194304) }
+    ensures readable { IsWithin 4194304 (F.contents files.old script.now) → IfErr result (λ error. error ≡ FileError.Memory) }
+    ensures kept { KeepsFiles (F.contents files.old) (F.contents files.new) }
+    ensures unwritten { F.writes files.new ≡ F.writes files.old }
+{
+    files.read(alloc, script, MAX_SCRIPT_BYTES)
 }
 
 // Runs the script that a text spells, and prints what happens and how far its log has come.

@@ -22,3 +22,5 @@ pub mod list;
 mod output;
 pub mod record;
 pub mod status;
+#[cfg(test)]
+mod tests;

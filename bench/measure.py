@@ -1,13 +1,32 @@
-"""Runs the built program, and tells the time and the memory that it takes."""
+"""Runs the built program, and tells the CPU time and the memory that it takes; beside it, where there is a rustc, the
+plain Rust program of bench/peer.rs, which does the same unproved. Needs Linux, for ptrace."""
 
+import ctypes
 import os
+import shutil
 import subprocess
 import sys
 import tempfile
-import time
 
 ROOT = os.path.dirname(os.path.dirname(os.path.abspath(__file__)))
 MIB = 1 << 20
+RUNS = 5
+
+# The requests of ptrace(2) that are used here, and what it tells at a process's end.
+TRACEME, CONT, DETACH, SETOPTIONS = 0, 7, 17, 0x4200
+TRACE_EXIT, EXIT_EVENT = 0x40, 6
+
+
+class Measured:
+    """The least CPU seconds, user and system, of some runs, and the most memory that one of them held, in bytes."""
+
+    def __init__(self, runs):
+        self.seconds = min(seconds for seconds, _ in runs)
+        self.peak = max(peak for _, peak in runs)
+
+    def beside(self, peer):
+        """How many times the peer's seconds these are."""
+        return f"{self.seconds / peer.seconds:5.2f}" if peer else "     "
 
 
 def build():
@@ -16,21 +35,55 @@ def build():
     return f"{ROOT}/crates/dmlw/out/dmlw"
 
 
-def run(program, words, files):
-    """Seconds and the peak of the resident memory, in bytes, of one run in a folder with these files."""
+def build_peer(folder):
+    """The peer, built into a folder; None where there is no rustc."""
+    rustc = shutil.which("rustc")
+    if rustc is None:
+        return None
+    subprocess.run([rustc, "--edition", "2021", "-O", "-o", f"{folder}/peer", f"{ROOT}/bench/peer.rs"], check=True)
+    return f"{folder}/peer"
+
+
+def base(program):
+    """The memory that the program holds to tell its version, in bytes: what any run of it holds."""
+    return measure(program, ["--version"], {}).peak
+
+
+def measure(program, words, files, runs=RUNS):
+    """Measures so many runs of a program in a folder with these files."""
     with tempfile.TemporaryDirectory() as folder:
         for name, data in files.items():
             with open(f"{folder}/{name}", "wb") as it:
                 it.write(data)
-        child = os.fork()
-        start = time.monotonic()
-        if child == 0:
-            os.chdir(folder)
-            out = os.open(os.devnull, os.O_WRONLY)
-            os.dup2(out, 1)
-            os.execv(program, [program, *words])
-        _, status, used = os.wait4(child, 0)
-        seconds = time.monotonic() - start
-        if status != 0:
-            sys.exit(f"the program ended with {status}")
-        return seconds, used.ru_maxrss * 1024
+        return Measured([run([program, *words], folder) for _ in range(runs)])
+
+
+def run(words, folder):
+    """CPU seconds and peak memory of one run. The peak is read at its end from the kernel: what wait4(2) tells also
+    counts the memory of this process, from which the program was started."""
+    child = os.fork()
+    if child == 0:
+        os.chdir(folder)
+        os.dup2(os.open(os.devnull, os.O_WRONLY), 1)
+        ptrace(TRACEME, 0, 0)
+        os.execv(words[0], words)
+    os.waitpid(child, 0)
+    ptrace(SETOPTIONS, child, TRACE_EXIT)
+    ptrace(CONT, child, 0)
+    _, status = os.waitpid(child, 0)
+    if status >> 16 != EXIT_EVENT:
+        sys.exit(f"the program was stopped by {status}")
+    with open(f"/proc/{child}/status") as it:
+        lines = dict(line.split(":", 1) for line in it)
+    ptrace(DETACH, child, 0)
+    _, status, used = os.wait4(child, 0)
+    if status != 0:
+        sys.exit(f"the program ended with {status}")
+    return used.ru_utime + used.ru_stime, int(lines["VmHWM"].split()[0]) * 1024
+
+
+def ptrace(request, child, value):
+    call = ctypes.CDLL(None).ptrace
+    call.argtypes = [ctypes.c_long, ctypes.c_long, ctypes.c_void_p, ctypes.c_void_p]
+    if call(request, child, None, value) < 0:
+        sys.exit("the program can't be traced")

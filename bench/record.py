@@ -1,54 +1,100 @@
 #!/usr/bin/env python3
-"""Measures `dmlw record`: makes scripts of about 1, 2 and 4 MiB, runs the program on them, and prints times, the
-ratio to the script of half the size, and the peak memory beside what it is made of. Needs nothing but Python 3.
+"""Measures `dmlw record`: makes scripts, runs the program on them, and prints CPU times, the ratio to the script before of
+the same kind, the ratio to the plain Rust program of bench/peer.rs, and the peak memory beside what it is made of. Needs
+Python 3, and for the peer a rustc.
 
 usage: bench/record.py            (builds the program where needed, by ./dmlw)
+       bench/record.py --sizes    (the memory of a request alone, at 21 sizes of each kind of script)
 """
 
-from measure import MIB, build, run
+import sys
+import tempfile
+
+from measure import MIB, base, build, build_peer, measure
+
+SECTOR = 512
+
+# The kinds of small scripts, and how many of their requests come to a flush.
+KINDS = {"writes of a sector": 0, "a flush every 10": 10, "flushes alone": 1}
 
 
-def script(size, flush_every):
-    """A script of at most so many bytes: writes of one sector, each ended at once; each so many requests a flush.
-    Returns its bytes, its requests, the bytes of data that they write, and the log's sectors that it needs."""
-    head, tail = "data 1048576\nlog %07d\n", "close\n"
-    room = size - len(head % 0) - len(tail)
-    lines, requests, writes = [], 0, 0
+class Script:
+    """A script: its bytes, its requests, the bytes of data that they write, and the log's sectors that it needs."""
+
+    def __init__(self, lines, requests, sectors_written):
+        log = 3 + requests + sectors_written
+        self.text = f"data 1048576\nlog {log:07d}\n{''.join(lines)}close\n".encode()
+        self.requests = requests
+        self.data = sectors_written * SECTOR
+        self.image = log * SECTOR
+
+
+def small(size, flush_every):
+    """A script of at most so many bytes: writes of one sector, each ended at once; each so many requests a flush."""
+    room = size - len("data 1048576\nlog 0000000\nclose\n")
+    lines, writes = [], 0
     while True:
-        name = f"r{requests:06d}"
-        if flush_every and requests % flush_every == flush_every - 1:
+        number = len(lines)
+        name = f"r{number:06d}"
+        if flush_every and number % flush_every == flush_every - 1:
             text = f"f {name}\nc {name}\n"
         else:
-            text = f"w {name} {requests % 1000000} 1 5a\nc {name}\n"
+            text = f"w {name} {number} 1 5a\nc {name}\n"
         if len(text) > room:
-            break
+            return Script(lines, number, writes)
         room -= len(text)
         lines.append(text)
-        requests += 1
         writes += text.startswith("w")
-    log = 3 + requests + writes
-    return (head % log + "".join(lines) + tail).encode(), requests, writes * 512, log
+
+
+def large(writes):
+    """A script of so many writes of 1 MiB, each ended at once."""
+    lines = [f"w r{number} {2048 * number} 2048 5a\nc r{number}\n" for number in range(writes)]
+    return Script(lines, writes, 2048 * writes)
+
+
+def sizes(program, always):
+    """The most bytes that a request takes, over scripts of 0.25 to 4 MiB: a list that grows has more room than it needs
+    just after it has grown."""
+    for kind, flush_every in KINDS.items():
+        each = []
+        for step in range(4, 65, 3):
+            script = small(step * MIB // 16, flush_every)
+            each.append(bytes_of_request(script, measure(program, ["record", "script", "log"], {"script": script.text}, 1), always))
+        print(f"{kind}: {min(each):.0f} to {max(each):.0f} bytes a request at {len(each)} sizes")
+
+
+def bytes_of_request(script, measured, always):
+    """What a request takes beside the image, the data, three scripts and what any run holds."""
+    return (measured.peak - always - script.image - script.data - 3 * len(script.text)) / script.requests
 
 
 def main():
     program = build()
-    print("script     requests   seconds  ratio   peak MiB = image + data + rest   rest a request")
-    for flush_every in (0, 10, 1):
-        kind = {0: "writes", 10: "a flush every 10", 1: "flushes alone"}[flush_every]
-        print(f"{kind}:")
-        before = None
-        for size in (MIB, 2 * MIB, 4 * MIB):
-            text, requests, data, log = script(size, flush_every)
-            seconds, peak = min(run(program, ["record", "script", "log"], {"script": text}) for _ in range(3))
-            rest = peak - log * 512 - data
-            ratio = f"{seconds / before:5.2f}" if before else "     "
-            before = seconds
-            bound = log * 512 + data + 300 * requests + 3 * len(text)
-            print(
-                f"{len(text) / MIB:4.1f} MiB {requests:9d} {seconds:9.2f} {ratio} {peak / MIB:10.1f} = {log * 512 / MIB:.1f}"
-                f" + {data / MIB:.1f} + {rest / MIB:.1f}   {(rest - 3 * len(text)) / requests:6.0f} bytes beside 3 scripts"
-                f"   (image + data + 300 a request + 3 scripts: {bound / MIB:.1f})"
-            )
+    always = base(program)
+    if sys.argv[1:] == ["--sizes"]:
+        return sizes(program, always)
+    print(f"any run holds {always / MIB:.1f} MiB")
+    print("script                         requests  CPU s  ratio  times the peer   peak MiB = image + data + rest   rest a request")
+    kinds = [(kind, [small(size, flush_every) for size in (MIB, 2 * MIB, 4 * MIB)]) for kind, flush_every in KINDS.items()]
+    kinds += [("writes of 1 MiB", [large(writes) for writes in (255, 511)])]
+    with tempfile.TemporaryDirectory() as folder:
+        peer = build_peer(folder)
+        for kind, scripts in kinds:
+            before = None
+            for script in scripts:
+                files = {"script": script.text}
+                ours = measure(program, ["record", "script", "log"], files)
+                theirs = peer and measure(peer, ["record", "script", "log"], files)
+                ratio = f"{ours.seconds / before:5.2f}" if before else "     "
+                before = ours.seconds
+                rest = ours.peak - script.image - script.data
+                each = bytes_of_request(script, ours, always)
+                print(
+                    f"{kind:19}{len(script.text) / MIB:6.2f} MiB {script.requests:9d} {ours.seconds:6.2f}  {ratio}  {ours.beside(theirs)}"
+                    f"         {ours.peak / MIB:10.1f} = {script.image / MIB:.1f} + {script.data / MIB:.1f} + {rest / MIB:.1f}"
+                    f"   {each:6.0f} bytes beside 3 scripts and what any run holds"
+                )
 
 
 if __name__ == "__main__":

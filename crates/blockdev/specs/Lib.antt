@@ -3,3 +3,4 @@ pub mod Calls
 pub mod Law
 pub mod Joins
 pub mod Durable
+pub mod Counted

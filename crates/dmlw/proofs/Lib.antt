@@ -1,4 +1,4 @@
 pub mod PlainWords
-pub mod Listing
-pub mod Failing
-pub mod Endings
+pub mod Plain
+pub mod Ends
+pub mod Apps

@@ -1,5 +1,7 @@
-use Rattle.std.specs.Prelude.{◌≡◌, ℕ, ◌==◌, Bool, true, not, List, [], ◌∷◌, Option, Some, option_map, codes}
-use Rattle.clap.specs.Words.{App, Row, Rule, Text, fault_of, first_of, new_app, new_rule, subcommand_of, with_rule, with_subcommand}
+use Rattle.std.specs.Prelude.{◌≡◌, ℕ, ◌==◌, Bool, true, false, not, List, [], ◌∷◌, Option, Some, option_map, codes}
+use Rattle.clap.specs.declared.builder.command.Command.{Command}
+use Rattle.clap.specs.declared.builder.command.Command.TheViews.{out-Command as fields_of}
+use Rattle.clap.specs.Words.{App, Row, Rule, Text, app_of, fault_of, first_of, new_app, new_rule, subcommand_of, with_rule, with_subcommand}
 use Rattle.clap.specs.Simple.{on_top}
 
 -- the word doesn't begin with a hyphen
@@ -36,6 +38,11 @@ bare_app =
 abbrev pub program_app : App
 program_app =
     with_subcommand (with_subcommand (with_subcommand bare_app record_app.top) (log_app (codes "list")).top) (log_app (codes "status")).top
+
+-- this is a command as clap reads it, with no argument of the program's own
+pub record IsCommandOf (app : App) (command : Command) : Type 0 where
+  pub reads : app_of command ≡ app
+  pub own : (fields_of command).has_globals ≡ false
 
 -- the command that was entered: its name, and its words SCRIPT and LOG
 abbrev pub Entered : Type 0

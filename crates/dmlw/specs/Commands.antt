@@ -1,5 +1,5 @@
 -- What a command line comes to.
-use Rattle.std.specs.Prelude.{◌≡◌, ◌≤◌, ◌⊎◌, ℕ, Bool, true, false, List, Option, Result}
+use Rattle.std.specs.Prelude.{◌≡◌, ◌≤◌, ◌⊎◌, ℕ, Bool, true, false, List, Option}
 use Rattle.std.specs.declared.io.ErrorKind.{ErrorKind as IoErrorKind}
 use Rattle.std.specs.declared.io.ErrorKind.TheVariants.{InvalidData}
 use Rattle.std.specs.Io.KnownBytes.{Keeps}
@@ -8,13 +8,13 @@ use Rattle.clap.specs.declared.error.kind.ErrorKind.TheVariants.{DisplayHelp, Di
 use Rattle.clap.specs.Words.{kind_of}
 use Rattle.dmlw.specs.declared.command_line.Task.{Task}
 use Rattle.dmlw.specs.declared.command_line.Task.TheVariants as tasks
-use Rattle.dmlw.specs.declared.exit.Exit.{Exit}
-use Rattle.dmlw.specs.declared.exit.Exit.TheVariants.{Done, Refused, Usage}
-use Rattle.script_runner.specs.declared.error.RunError.{RunError}
-use Rattle.dmlw.specs.Exits.{exit_by, status_of}
-use Rattle.dmlw.specs.Files.{Write, one_more}
-use Rattle.dmlw.specs.Lists.{ListsImage, Shows, ShowsFile, ShowsStatus}
-use Rattle.dmlw.specs.Records.{Records}
+use Rattle.dmlw_commands.specs.declared.exit.Exit.{Exit}
+use Rattle.dmlw_commands.specs.declared.exit.Exit.TheVariants.{Done, Refused, Usage}
+use Rattle.dmlw_commands.specs.Endings.{EndsRecording, EndsShowing}
+use Rattle.dmlw_commands.specs.Exits.{status_of}
+use Rattle.dmlw_commands.specs.Files.{Write, one_more}
+use Rattle.dmlw_commands.specs.Lists.{ListsImage, ShowsStatus}
+use Rattle.dmlw.specs.Tasks.{IsRead}
 
 -- How a command line ends that has no task, by what clap makes of it: memory running out is a refusal, help and the
 -- version are done unless they can't be printed, and the others are usage faults.
@@ -42,34 +42,27 @@ pub record EndsCommand (old new : Option (List Write)) (status : ℕ) : Type 0 w
   pub once : (new ≡ old) ⊎ ((name bytes : List ℕ) × (new ≡ one_more old name bytes))
   pub unwritten : 2 ≤ status → new ≡ old
 
--- How the recording of a script in a log of this name ends: with the status of what it did.
-pub record EndsRecording (contents : Option (List ℕ)) (log : List ℕ) (writes_old writes_new : Option (List Write)) (old new : Option (List ℕ)) (status : ℕ)
-    : Type 0 where
-  pub done : Result (Unit {0}) RunError
-  pub recorded : Records contents log writes_old writes_new old new done
-  pub exits : status ≡ status_of (exit_by done)
-
--- How a command on the image in a file ends: no file was asked to be written, and the status is that of what it did.
-pub record EndsShowing (shows : Shows) (contents : Option (List ℕ)) (writes_old writes_new : Option (List Write)) (old new : Option (List ℕ)) (status : ℕ)
-    : Type 0 where
-  pub unwritten : writes_new ≡ writes_old
-  pub done : Result (Unit {0}) RunError
-  pub shown : ShowsFile shows contents old new done
-  pub exits : status ≡ status_of (exit_by done)
-
--- How a text ends that is shown, as one of this kind: no file was asked to be written, the status is that of its kind,
+-- How a text ends that is shown, as one of this kind: no file was asked to be written, it ends as its kind has it,
 -- and nothing was printed on the output unless it was asked for.
-pub record EndsText (kind : ErrorKind) (writes_old writes_new : Option (List Write)) (old new : Option (List ℕ)) (status : ℕ) : Type 0 where
+pub record EndsText (kind : ErrorKind) (writes_old writes_new : Option (List Write)) (old new : Option (List ℕ)) (exit : Exit) : Type 0 where
   pub unwritten : writes_new ≡ writes_old
-  pub exit : Exit
   pub ends : EndsUntasked kind exit
-  pub exits : status ≡ status_of exit
   pub silent : is_asked_for kind ≡ false → Keeps old new
 
 -- how a task ends, over files that hold this
-abbrev pub EndsTask : Task → (List ℕ → Option (List ℕ)) → Option (List Write) → Option (List Write) → Option (List ℕ) → Option (List ℕ) → ℕ → Type 0
-EndsTask (tasks.Record script log) contents writes_old writes_new old new status =
-    EndsRecording (contents script.now) log.now writes_old writes_new old new status
-EndsTask (tasks.List log) contents writes_old writes_new old new status = EndsShowing ListsImage (contents log.now) writes_old writes_new old new status
-EndsTask (tasks.Status log) contents writes_old writes_new old new status = EndsShowing ShowsStatus (contents log.now) writes_old writes_new old new status
-EndsTask (tasks.Show error) contents writes_old writes_new old new status = EndsText (kind_of error) writes_old writes_new old new status
+abbrev pub EndsTask : Task → (List ℕ → Option (List ℕ)) → Option (List Write) → Option (List Write) → Option (List ℕ) → Option (List ℕ) → Exit → Type 0
+EndsTask (tasks.Record script log) contents writes_old writes_new old new exit =
+    EndsRecording (contents script.now) log.now writes_old writes_new old new exit
+EndsTask (tasks.List log) contents writes_old writes_new old new exit = EndsShowing ListsImage (contents log.now) writes_old writes_new old new exit
+EndsTask (tasks.Status log) contents writes_old writes_new old new exit = EndsShowing ShowsStatus (contents log.now) writes_old writes_new old new exit
+EndsTask (tasks.Show error) contents writes_old writes_new old new exit = EndsText (kind_of error) writes_old writes_new old new exit
+
+-- What doing a command line comes to, over files that hold this: its words are read as a task, that task ends, and the
+-- status is that of how it ends.
+pub record DoesWords (words : List (List ℕ)) (contents : List ℕ → Option (List ℕ)) (writes_old writes_new : Option (List Write)) (old new : Option (List ℕ))
+    (status : ℕ) : Type 0 where
+  pub task : Task
+  pub read : IsRead words task
+  pub exit : Exit
+  pub ends : EndsTask task contents writes_old writes_new old new exit
+  pub exits : status ≡ status_of exit

@@ -1,7 +1,6 @@
 ghost use Rattle.std.specs.Prelude.{◌≡◌, ◌⊎◌, IfOk, IfSome, Some, false, is_some, map, true};
-ghost use Rattle.clap.specs.Words.{FailsBy, app_of, fault_of, kind_of, rule_of, subcommand_of, subcommand_rows_of};
-ghost use Rattle.clap.specs.declared.builder.command.Command.TheViews.{out-Command as fields_of};
-ghost use Rattle.dmlw.specs.CommandLine.{Entered, bare_app, entered_of, file_rule, log_app, program_app, record_app};
+ghost use Rattle.clap.specs.Words.{App, FailsBy, app_of, fault_of, kind_of, rule_of, subcommand_of, subcommand_rows_of, with_subcommand};
+ghost use Rattle.dmlw.specs.CommandLine.{Entered, IsCommandOf, bare_app, entered_of, file_rule, log_app, program_app, record_app};
 ghost use Rattle.dmlw.specs.Tasks.{IsAskedBy, IsComplete, IsRead};
 
 use clap::error::ErrorKind;
@@ -31,8 +30,7 @@ fn file<'a>(alloc: Global, name: &'a str, help: &'a str) -> Arg<'a>
 }
 
 fn record_command<'a>(alloc: Global) -> Result<Command<'a>, AllocError>
-    ensures app { IfOk result (λ command. app_of command ≡ record_app) }
-    ensures own { IfOk result (λ command. (fields_of command).has_globals ≡ false) }
+    ensures { IfOk result (IsCommandOf record_app) }
 {
     Command::new(alloc, "record")
         .about("Records the requests of a script in a new log")
@@ -42,8 +40,7 @@ fn record_command<'a>(alloc: Global) -> Result<Command<'a>, AllocError>
 
 // A command that reads a log.
 fn log_command<'a>(alloc: Global, name: &'a str, about: &'a str) -> Result<Command<'a>, AllocError>
-    ensures app { IfOk result (λ command. app_of command ≡ log_app name.entry.now) }
-    ensures own { IfOk result (λ command. (fields_of command).has_globals ≡ false) }
+    ensures { IfOk result (IsCommandOf (log_app name.entry.now)) }
 {
     Command::new(alloc, name)
         .about(about)
@@ -61,15 +58,25 @@ fn bare_command<'a>(alloc: Global) -> Command<'a>
         .arg_required_else_help(true)
 }
 
+// The program's command with one more that it is asked by.
+fn with_command<'a>(
+    program: Command<'a>,
+    made: Result<Command<'a>, AllocError>,
+) -> Result<Command<'a>, AllocError>
+    ensures { (lower : App) → IfOk made.entry (IsCommandOf lower) →
+        IfOk result (λ command. app_of command ≡ with_subcommand (app_of program.entry) lower.top) }
+{
+    program.subcommand(made?)
+}
+
 fn program_command<'a>(alloc: Global) -> Result<Command<'a>, AllocError>
     ensures { IfOk result (λ command. app_of command ≡ program_app) }
 {
-    let list = log_command(alloc, "list", "Lists the entries of a log")?;
-    let status = log_command(alloc, "status", "Tells how far a log has come")?;
-    bare_command(alloc)
-        .subcommand(record_command(alloc)?)?
-        .subcommand(list)?
-        .subcommand(status)
+    let program = with_command(bare_command(alloc), record_command(alloc))?;
+    let list = log_command(alloc, "list", "Lists the entries of a log");
+    let program = with_command(program, list)?;
+    let status = log_command(alloc, "status", "Tells how far a log has come");
+    with_command(program, status)
 }
 
 // The task that a parse found.

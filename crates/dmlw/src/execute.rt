@@ -1,23 +1,19 @@
-ghost use Rattle.std.specs.Prelude.{◌≡◌, IfErr, List, codes, false, map, true, ℕ};
+ghost use Rattle.std.specs.Prelude.{◌≡◌, ◌≤◌, IfErr, false, map};
 ghost use Rattle.std.specs.Io.KnownBytes.{Keeps};
 ghost use Rattle.std.specs.IoError.{error_kind};
 ghost use Rattle.clap.specs.Words.{kind_of};
-ghost use Rattle.dmlw.specs.CommandLine.{is_positional, log_words, record_words};
-ghost use Rattle.dmlw.specs.Commands.{EndsCommand, EndsRecording, EndsShowing, EndsTask, EndsUntasked, is_asked_for, unread_exit};
-ghost use Rattle.dmlw.specs.Tasks.{IsRead};
-ghost use Rattle.dmlw.specs.declared.command_line.Task.{Task};
+ghost use Rattle.dmlw.specs.Commands.{DoesWords, EndsCommand, EndsTask, EndsUntasked, is_asked_for, unread_exit};
 ghost use Rattle.script_runner.specs.Errors.{IsFileError};
-ghost use Rattle.dmlw.specs.Exits.{exit_by, exit_of, status_of};
-ghost use Rattle.dmlw.specs.Lists.{ListsImage, ShowsStatus};
+ghost use Rattle.dmlw_commands.specs.Files.{KeepsFiles};
+ghost use Rattle.dmlw_commands.specs.Exits.{status_of};
 
 use crate::command_line::{Task, read_words};
-use crate::exit::Exit;
-use crate::files::Files;
-use crate::list::list;
-use crate::record::record;
-use crate::status::status;
 use clap::Error;
 use clap::error::ErrorKind;
+use dmlw_commands::list::list;
+use dmlw_commands::record::record;
+use dmlw_commands::status::status;
+use dmlw_commands::{Exit, Files, end, report};
 use refusals::Refusal;
 use script_runner::RunError;
 use std::alloc::Global;
@@ -29,6 +25,9 @@ use std::io::Write;
 /// line that isn't one of the program's, 3 logging ended before its time. `words` begin with the
 /// program's name. What the user is to read goes to `out`; faults go to `err`. Where `out` can't be
 /// written the command is refused, as by a file that can't be.
+///
+/// Whatever the words are, it does what they are read as, and no more. `crate::laws` says which words are
+/// read as which command.
 pub fn execute<'a, S: AsStr, F: Files, O: Write, E: Write>(
     alloc: Global,
     words: &'a [S],
@@ -36,48 +35,42 @@ pub fn execute<'a, S: AsStr, F: Files, O: Write, E: Write>(
     out: &mut O,
     err: &mut E,
 ) -> u8
-    // Whatever the words are: it does what they are read as, and no more.
-    ensures does { (task : Task) × IsRead (map S.text words.entry.now) task ×
-        EndsTask task (F.contents files.old) (F.writes files.old) (F.writes files.new)
+    ensures does { DoesWords (map S.text words.entry.now) (F.contents files.old) (F.writes files.old) (F.writes files.new)
         (O.contents out.old) (O.contents out.new) result }
     ensures command { EndsCommand (F.writes files.old) (F.writes files.new) result }
 
-    // Words that don't begin with a hyphen are names of files.
-    ensures record { (program script log : List ℕ) →
-        map S.text words.entry.now ≡ record_words program script log →
-        is_positional script ≡ true → is_positional log ≡ true →
-        EndsRecording (F.contents files.old script) log (F.writes files.old) (F.writes files.new)
-        (O.contents out.old) (O.contents out.new) result }
-    ensures list { (program log : List ℕ) →
-        map S.text words.entry.now ≡ log_words program (codes "list") log → is_positional log ≡ true →
-        EndsShowing ListsImage (F.contents files.old log) (F.writes files.old) (F.writes files.new)
-        (O.contents out.old) (O.contents out.new) result }
-    ensures status { (program log : List ℕ) →
-        map S.text words.entry.now ≡ log_words program (codes "status") log → is_positional log ≡ true →
-        EndsShowing ShowsStatus (F.contents files.old log) (F.writes files.old) (F.writes files.new)
-        (O.contents out.old) (O.contents out.new) result }
+    // Unless it is done each file holds what it held; where it is, nothing went to `err`.
+    ensures kept { 1 ≤ result → KeepsFiles (F.contents files.old) (F.contents files.new) }
+    ensures quiet { result ≡ 0 → E.contents err.new ≡ E.contents err.old }
 {
-    let exit = match read_words(alloc, words) {
-        Task::Record { script, log } => {
-            let recorded = record(alloc, script, log, files, out);
-            end(recorded, out, err)
-        }
-        Task::List { log } => {
-            let listed = list(alloc, log, files, out);
-            end(listed, out, err)
-        }
-        Task::Status { log } => {
-            let done = status(alloc, log, files, out);
-            end(done, out, err)
-        }
-        Task::Show(text) => show(text, out, err),
-    };
-    exit.status()
+    let task = read_words(alloc, words);
+    perform(alloc, task, files, out, err).status()
+}
+
+// Does a task, and answers how it ended.
+fn perform<F: Files, O: Write, E: Write>(
+    alloc: Global,
+    task: Task<'_>,
+    files: &mut F,
+    out: &mut O,
+    err: &mut E,
+) -> Exit
+    ensures ends { EndsTask task.entry (F.contents files.old) (F.writes files.old) (F.writes files.new)
+        (O.contents out.old) (O.contents out.new) result }
+    ensures kept { (result ≡ Exit.Done → ⊥) → KeepsFiles (F.contents files.old) (F.contents files.new) }
+    ensures quiet { result ≡ Exit.Done → E.contents err.new ≡ E.contents err.old }
+{
+    match task {
+        Task::Record { script, log } => record(alloc, script, log, files, out, err),
+        Task::List { log } => list(alloc, log, files, out, err),
+        Task::Status { log } => status(alloc, log, files, out, err),
+        Task::Show(text) => show(alloc, text, out, err),
+    }
 }
 
 /// Says why a command line can't be read, and answers the exit status: 2 where a word isn't UTF-8
 /// text, else 1.
-pub fn refuse<E: Write>(error: io::Error, err: &mut E) -> u8
+pub fn refuse<E: Write>(alloc: Global, error: io::Error, err: &mut E) -> u8
     ensures { result ≡ status_of (unread_exit (error_kind error)) }
 {
     let exit = match error.kind() {
@@ -85,42 +78,25 @@ pub fn refuse<E: Write>(error: io::Error, err: &mut E) -> u8
             let _ = writeln!(err, "error: a word of the command line isn't UTF-8 text");
             Exit::Usage
         }
-        _ => report(RunError::from(error), err),
+        _ => report(alloc, RunError::from(error), err),
     };
     exit.status()
 }
 
-// How a command ends that did this. A fault is reported, after what was printed before it.
-fn end<O: Write, E: Write>(done: Result<(), RunError>, out: &mut O, err: &mut E) -> Exit
-    ensures exit { result ≡ exit_by done }
-    ensures kept { Keeps (O.contents out.old) (O.contents out.new) }
-{
-    match done {
-        Ok(()) => Exit::Done,
-        Err(fault) => {
-            let _ = out.flush();
-            report(fault, err)
-        }
-    }
-}
-
-// Reports a fault. Where that fails too nobody is left to hear of it.
-fn report<E: Write>(fault: RunError, err: &mut E) -> Exit
-    ensures { result ≡ exit_of fault }
-{
-    let _ = writeln!(err, "dmlw: {fault}");
-    let _ = err.flush();
-    Exit::from(fault)
-}
-
 // Shows the text of a command line that has no other task.
-fn show<O: Write, E: Write>(text: Error, out: &mut O, err: &mut E) -> Exit
+fn show<O: Write, E: Write>(alloc: Global, text: Error, out: &mut O, err: &mut E) -> Exit
     ensures ends { EndsUntasked (kind_of text) result }
     ensures silent { is_asked_for (kind_of text) ≡ false → Keeps (O.contents out.old) (O.contents out.new) }
+    ensures quiet { result ≡ Exit.Done → E.contents err.new ≡ E.contents err.old }
 {
     match text.kind() {
-        ErrorKind::OutOfMemory => report(RunError::from(Refusal::Memory), err),
-        ErrorKind::DisplayHelp | ErrorKind::DisplayVersion => end(print(&text, out), out, err),
+        ErrorKind::OutOfMemory => report(alloc, RunError::from(Refusal::Memory), err),
+        ErrorKind::DisplayHelp | ErrorKind::DisplayVersion => end(
+            alloc,
+            print(&text, out),
+            out,
+            err,
+        ),
         _ => {
             let _ = print(&text, err);
             Exit::Usage

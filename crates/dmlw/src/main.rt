@@ -2,27 +2,21 @@
 //!
 //! `dmlw record SCRIPT LOG` runs a script of writes, flushes and their ends, and writes the log of the
 //! whole run, byte for byte. `dmlw list LOG` prints a log's entries up to the first fault, `dmlw status
-//! LOG` how far the log has come. `execute` does one command over files and writers of any kind; its
+//! LOG` how far the log has come. `execute` does one command line over files and writers of any kind; its
 //! contract says of each command what it has printed and which file it has asked to be written, in
-//! the words of `specs/Commands`. `record` runs a script by `script_runner`, and asks for its log to be
-//! written (`specs/Records`); `list` and `status` print what is read of an image (`specs/Lists`). `main`
-//! calls `execute` over the system's files and streams, of which no clause knows what they hold.
+//! the words of `specs/Commands`. The commands themselves stand in `dmlw_commands`; `command_line` reads the
+//! words, `laws` says which plain words are which command. `main` calls `execute` over the system's files
+//! and streams, of which no clause knows what they hold.
 #![tactic(auto)]
 
 mod command_line;
 mod execute;
-mod exit;
-mod files;
-mod host_files;
-mod image;
-mod list;
-mod record;
-mod status;
+mod laws;
 #[cfg(test)]
 mod tests;
 
+use dmlw_commands::{HostFiles, Output};
 use execute::{execute, refuse};
-use host_files::HostFiles;
 use std::io::{BufWriter, Write};
 use std::process::ExitCode;
 use std::rt::{Env, Files};
@@ -32,15 +26,15 @@ fn main(rt: HostRuntime) -> ExitCode {
     let mut err = rt.stderr();
     let status = match run(&rt, &mut err) {
         Ok(status) => status,
-        Err(error) => refuse(error, &mut err),
+        Err(error) => refuse(rt.alloc(), error, &mut err),
     };
     ExitCode::from(status)
 }
 
-// Does the process's command line. An error comes only from before a command is begun.
+// Does the process's command line; where nobody reads the output on, the rest of it is dropped. An error comes only from before a command is begun.
 fn run<R: Files + Env + Print + AllocGlobal, E: Write>(rt: &R, err: &mut E) -> io::Result<u8> {
     let words: Vec<String> = env::args(rt)?.collect(rt.alloc())?;
     let mut files = HostFiles::new(rt);
-    let mut out = BufWriter::new(rt.alloc(), io::writer(rt))?;
+    let mut out = BufWriter::new(rt.alloc(), Output::new(io::writer(rt)))?;
     Ok(execute(rt.alloc(), &words, &mut files, &mut out, err))
 }

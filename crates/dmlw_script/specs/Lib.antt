@@ -1,3 +1,4 @@
+pub use Rattle.bio.specs.Refusals
 pub mod Words
 pub mod Ids
 pub mod Lines

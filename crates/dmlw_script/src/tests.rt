@@ -286,7 +286,15 @@ w a 15 1 00
 ~data 16
 log 32
 w a 000000000000000000015 1 00
-=line 3: 30 BadLine";
+=line 3: 30 BadLine
+~# a comment of more than eighty characters, as one may be that says what is done here, and why
+data 16
+log 32
+w 0123456789abcdez 00000000000000000005 00000000000000000001 41
+=data 16
+log 32
+w 0123456789abcdez 5 1 41
+";
 
 // The same, where a run is read.
 const RUN_TEXTS: &str = "=line 1: 30 BadLine
@@ -320,4 +328,22 @@ fn texts(rt: HostRuntime) -> Result<(), Fail> {
     let alloc = rt.alloc();
     assert_texts(&rt, alloc, TEXTS, Kind::Record)?;
     assert_texts(&rt, alloc, RUN_TEXTS, Kind::Run)
+}
+
+// A script of many requests is read.
+#[test]
+fn long_scripts_are_read(rt: HostRuntime) -> Result<(), Fail> {
+    let alloc = rt.alloc();
+    let mut text = String::from_str(alloc, "data 16\nlog 32\n")?;
+    for number in 0..20_000 {
+        text.push_str(format!(in alloc; "f {number}\nc {number}\n")?.as_str())?;
+    }
+    assert!(rt; answer(alloc, text.as_bytes(), Kind::Record)?.as_str() == text.as_str());
+    Ok(())
+}
+
+#[test]
+fn others_differ(rt: HostRuntime) {
+    assert!(rt; Kind::Record != Kind::Run);
+    assert!(rt; Command::Flush != Command::Close);
 }

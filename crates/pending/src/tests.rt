@@ -1,18 +1,34 @@
 use super::*;
 use bio::{Bio, Bytes, End, Id};
-use log_format::{Entry, Flags};
-use refusals::Refusal;
-use std::alloc::Global;
+use std::alloc::{AllocError, Global};
 use std::test::Fail;
 
-fn write(alloc: Global, first: u64, byte: u8, fua: bool) -> Result<Bio, Fail> {
+// A write of so many bytes; the number has a bit each for flush, FUA and meta.
+fn write(alloc: Global, first: u64, length: usize, flags: u64) -> Result<Bio, AllocError> {
     Ok(Bio::Write {
         first,
-        bytes: Bytes::from_vec(vec![in alloc; byte; 512]?),
-        flush: false,
-        fua,
-        meta: false,
+        bytes: Bytes::from_vec(vec![in alloc; 65; length]?),
+        flush: flags % 2 == 1,
+        fua: flags / 2 % 2 == 1,
+        meta: flags / 4 % 2 == 1,
     })
+}
+
+// The request that a word names.
+fn request(alloc: Global, word: &str, number: u64) -> Result<Bio, AllocError> {
+    match word {
+        "write" => write(alloc, number, 512, 0),
+        "fua" => write(alloc, number, 512, 2),
+        "discard" => Ok(Bio::Discard {
+            first: number,
+            count: 1,
+        }),
+        "read" => Ok(Bio::Read {
+            first: number,
+            count: 1,
+        }),
+        _ => Ok(Bio::Flush),
+    }
 }
 
 // The place that a submission got; a passed one has none.
@@ -31,228 +47,144 @@ fn end(core: &mut Core, place: u64, ok: bool) {
     }
 }
 
-// Submits a request and ends it at once.
-fn finish(core: &mut Core, bio: &Bio, ok: bool) -> Result<(), Fail> {
-    let answer = core.submit(bio)?;
-    end(core, place_of(answer), ok);
-    Ok(())
-}
-
-// The places of all that can be taken.
-fn taken(alloc: Global, core: &mut Core) -> Result<Vec<u64>, Fail> {
-    let mut places = Vec::new(alloc);
+// All that can be taken: the place, the sector and the flags of each.
+fn taken(alloc: Global, core: &mut Core) -> Result<String, AllocError> {
+    let mut shown = String::new(alloc);
     for _ in 0..100 {
-        let Some((id, _entry)) = core.take() else {
+        let Some((id, entry)) = core.take() else {
             break;
         };
-        places.push(id.place())?;
+        let item = format!(in alloc;
+            "{} {}+{} {};",
+            id.place(),
+            entry.sector,
+            entry.nr_sectors,
+            entry.flags.bits()
+        )?;
+        shown.push_str(item.as_str())?;
     }
-    Ok(places)
+    Ok(shown)
 }
 
-#[test]
-fn a_flush_takes_what_ended_before_it(rt: HostRuntime) -> Result<(), Fail> {
-    let alloc = rt.alloc();
-    let mut core = Core::new(alloc)?;
-    let late = core.submit(&write(alloc, 10, 17, false)?)?;
-    let second = core.submit(&write(alloc, 20, 34, false)?)?;
-    let third = core.submit(&write(alloc, 30, 51, false)?)?;
-    for answer in [third, second] {
-        end(&mut core, place_of(answer), true);
-    }
-    let flush = core.submit(&Bio::Flush)?;
-    for answer in [late, flush] {
-        end(&mut core, place_of(answer), true);
-    }
-    assert_eq!(rt; core.close(), Ok(()));
-    assert_eq!(rt; core.events().len(), 9);
-    assert_eq!(rt;
-        taken(alloc, &mut core)?.as_slice(),
-        [2, 1, 5, 0, 8].as_slice()
-    );
-    Ok(())
-}
-
-#[test]
-fn what_is_taken_has_its_entry(rt: HostRuntime) -> Result<(), Fail> {
-    let alloc = rt.alloc();
-    let mut core = Core::new(alloc)?;
-    finish(&mut core, &write(alloc, 5, 65, true)?, false)?;
-    let Some(
-        (
-            id,
-            Entry {
-                sector,
-                nr_sectors,
-                flags,
-                body,
-            },
-        ),
-    ) = core.take()
-    else {
-        panic!(rt; "a FUA write is queued at its end");
-    };
-    assert_eq!(rt;
-        (id.place(), sector, nr_sectors, flags.fua, body.len()),
-        (0, 5, 1, true, 512)
-    );
-    assert!(rt; core.take().is_none());
-    Ok(())
-}
-
-#[test]
-fn a_busy_core_is_not_closed(rt: HostRuntime) -> Result<(), Fail> {
-    let alloc = rt.alloc();
-    let mut core = Core::new(alloc)?;
-    let first = core.submit(&Bio::Discard { first: 1, count: 2 })?;
-    assert_eq!(rt; core.close(), Err(CloseError::Busy));
-    assert_eq!(rt; Refusal::from(CloseError::Busy), Refusal::Busy);
-    end(&mut core, place_of(first), true);
-    assert!(rt; !core.is_open(Id::new(place_of(first))));
-    assert_eq!(rt; core.close(), Ok(()));
-    assert_eq!(rt; core.close(), Ok(()));
-    assert_eq!(rt; core.submit(&Bio::Flush)?, Submitted::Passed);
-    assert_eq!(rt; core.events().len(), 3);
-    Ok(())
-}
-
-#[test]
-fn nothing_is_queued_after_a_stop(rt: HostRuntime) -> Result<(), Fail> {
-    let alloc = rt.alloc();
-    let mut core = Core::new(alloc)?;
-    assert_eq!(rt;
-        core.submit(&Bio::Read { first: 0, count: 1 })?,
-        Submitted::Passed
-    );
-    finish(&mut core, &write(alloc, 5, 65, false)?, true)?;
-    let flush = core.submit(&Bio::Flush)?;
-    core.stop(End::Device);
-    core.stop(End::Full);
-    end(&mut core, place_of(flush), true);
-    assert_eq!(rt; core.submit(&Bio::Flush)?, Submitted::Passed);
-    assert_eq!(rt; core.close(), Ok(()));
-    assert!(rt; core.take().is_none());
-    assert_eq!(rt; core.events().len(), 6);
-    Ok(())
-}
-
-#[test]
-fn many_requests_are_recorded(rt: HostRuntime) -> Result<(), Fail> {
-    let alloc = rt.alloc();
-    let mut core = Core::new(alloc)?;
-    for first in 0..5_000 {
-        finish(&mut core, &Bio::Discard { first, count: 1 }, first % 3 != 0)?;
-    }
-    finish(&mut core, &Bio::Flush, true)?;
-    assert_eq!(rt; core.close(), Ok(()));
-    assert_eq!(rt; core.events().len(), 10_003);
-    for next in 0..5_000 {
-        let Some((id, entry)) = core.take() else {
-            panic!(rt; "an entry for each request");
-        };
-        assert_eq!(rt; (id.place(), entry.sector), (2 * next, next));
-    }
-    assert_eq!(rt;
-        taken(alloc, &mut core)?.as_slice(),
-        [10_000, 10_002].as_slice()
-    );
-    Ok(())
-}
-
-#[test]
-fn a_later_flush_overtakes(rt: HostRuntime) -> Result<(), Fail> {
-    let alloc = rt.alloc();
-    let mut core = Core::new(alloc)?;
-    finish(&mut core, &write(alloc, 5, 97, false)?, true)?;
-    core.submit(&Bio::Flush)?;
-    core.submit(&Bio::Flush)?;
-    end(&mut core, 3, true);
-    finish(&mut core, &write(alloc, 9, 99, true)?, true)?;
-    end(&mut core, 2, true);
-    assert_eq!(rt; core.close(), Ok(()));
-    let none = Flags::NONE;
-    let flush = Flags {
-        flush: true,
-        ..none
-    };
-    let fua = Flags { fua: true, ..none };
-    let mark = Flags { mark: true, ..none };
-    for (place, sector, flags) in [
-        (3, 0, flush),
-        (5, 9, fua),
-        (0, 5, none),
-        (2, 0, flush),
-        (8, 0, mark),
-    ] {
-        let Some((id, entry)) = core.take() else {
-            panic!(rt; "an entry for each request, and the end mark");
-        };
-        assert_eq!(rt;
-            (id.place(), entry.sector, entry.flags),
-            (place, sector, flags)
-        );
-    }
-    assert!(rt; core.take().is_none());
-    Ok(())
-}
-
-#[test]
-fn each_kind_is_tracked(rt: HostRuntime) -> Result<(), Fail> {
-    let alloc = rt.alloc();
-    let mut core = Core::new(alloc)?;
-    for kind in 0..8 {
-        for length in [512, 2 * 512, 2048 * 512] {
-            let bio = Bio::Write {
-                first: 0,
-                bytes: Bytes::from_vec(vec![in alloc; 65; length]?),
-                flush: kind % 2 == 1,
-                fua: kind / 2 % 2 == 1,
-                meta: kind / 4 == 1,
-            };
-            let place = core.events().len() as u64;
-            assert_eq!(rt; place_of(core.submit(&bio)?), place, "{length} bytes");
+// Does what a step's word says with its number.
+fn play(alloc: Global, core: &mut Core, word: &str, number: u64) -> Result<String, AllocError> {
+    match word {
+        "end" => end(core, number, true),
+        "fail" => end(core, number, false),
+        "stop" => core.stop(End::Device),
+        "take" => return taken(alloc, core),
+        "close" => {
+            if let Err(error) = core.close() {
+                return format!(in alloc; "{error};");
+            }
+        }
+        _ => {
+            if core.submit(&request(alloc, word, number)?)? == Submitted::Passed {
+                return String::from_str(alloc, "passed;");
+            }
         }
     }
-    for bio in [Bio::Discard { first: 1, count: 2 }, Bio::Flush] {
-        let place = core.events().len() as u64;
-        assert_eq!(rt; place_of(core.submit(&bio)?), place);
+    Ok(String::new(alloc))
+}
+
+// What is shown of a row's steps, and how many events were recorded.
+fn played(alloc: Global, steps: &str) -> Result<String, AllocError> {
+    let mut core = Core::new(alloc)?;
+    let mut shown = String::new(alloc);
+    for step in steps.split(",") {
+        let mut words = step.split(" ");
+        let word = words.next().unwrap_or_default();
+        let number = words.next().unwrap_or_default().parse::<u64>().unwrap_or(0);
+        shown.push_str(play(alloc, &mut core, word, number)?.as_str())?;
     }
-    assert_eq!(rt; core.events().len(), 26);
+    shown.push_str(format!(in alloc; "{}", core.events().len())?.as_str())?;
+    Ok(shown)
+}
+
+// Steps, and what is shown of them: a flush takes what ended before it; a FUA write is queued at its end,
+// failed or not; a busy core isn't closed; nothing is queued after a stop; of two flushes the later one
+// overtakes; and recording goes on after a take.
+const ROWS: &str =
+    "write 10,write 20,write 30,end 2,end 1,flush,end 0,end 5,close,take=2 30+1 0;1 20+1 0;5 0+0 1;0 10+1 0;8 0+0 8;9
+fua 5,fail 0,take,take=0 5+1 2;2
+discard 1,close,end 0,close,close,flush,take=a request is open;passed;0 1+1 4;2 0+0 8;3
+read 0,write 5,end 0,flush,stop,stop,end 2,flush,close,take=passed;passed;6
+write 5,end 0,flush,flush,end 3,fua 9,end 5,end 2,close,take=3 0+0 1;5 9+1 2;0 5+1 0;2 0+0 1;8 0+0 8;9
+fua 5,end 0,take,write 6,end 2,flush,write 7,discard 8,flush,end 6,take,end 5,take,end 7,take,end 4,take,close,take=0 5+1 2;7 0+0 1;2 6+1 0;4 0+0 1;6 8+1 4;5 7+1 0;12 0+0 8;13";
+
+#[test]
+fn steps_are_answered(rt: HostRuntime) -> Result<(), Fail> {
+    for row in ROWS.split("\n") {
+        let mut parts = row.split("=");
+        let shown = played(rt.alloc(), parts.next().unwrap_or_default())?;
+        assert_eq!(rt; Some(shown.as_str()), parts.next(), "{row}");
+    }
     Ok(())
 }
 
+// A request of the mix: flushes, and writes with flush, only where they are asked for.
+fn mixed(alloc: Global, random: u64, flushes: bool) -> Result<Bio, AllocError> {
+    match random % 4096 {
+        0..64 if flushes => Ok(Bio::Flush),
+        64..512 => Ok(Bio::Discard {
+            first: random,
+            count: 1,
+        }),
+        512 => write(alloc, random, 2048 * 512, 4),
+        kind if flushes => write(alloc, random, 512, kind),
+        kind => write(alloc, random, 512, kind / 2 * 2),
+    }
+}
+
+// Submits so many requests of the mix, and ends some of the open ones, but for 200.
+fn submit_mixed(
+    alloc: Global,
+    core: &mut Core,
+    open: &mut Vec<u64>,
+    count: u64,
+    flushes: bool,
+) -> Result<(), AllocError> {
+    let mut random: u64 = 1;
+    for _ in 0..count {
+        random = random
+            .wrapping_mul(6_364_136_223_846_793_005)
+            .wrapping_add(1);
+        let bio = mixed(alloc, random >> 40, flushes)?;
+        open.push(place_of(core.submit(&bio)?))?;
+        if open.len() > 200 {
+            let place = open.swap_remove((random >> 33) as usize % open.len());
+            end(core, place, random % 3 != 0);
+        }
+    }
+    Ok(())
+}
+
+// No request of a long mix is refused, with 200 open at a time and many waiting, and all are taken.
 #[test]
-fn recording_goes_on_after_a_take(rt: HostRuntime) -> Result<(), Fail> {
+fn a_long_mix_is_recorded(rt: HostRuntime) -> Result<(), Fail> {
     let alloc = rt.alloc();
     let mut core = Core::new(alloc)?;
-    finish(&mut core, &write(alloc, 5, 65, true)?, true)?;
-    assert_eq!(rt; taken(alloc, &mut core)?.as_slice(), [0].as_slice());
-    finish(&mut core, &write(alloc, 6, 66, false)?, true)?;
-    core.submit(&Bio::Flush)?;
-    // The flush at place 4 holds the write at place 2.
-    core.submit(&write(alloc, 7, 67, false)?)?;
-    core.submit(&Bio::Discard { first: 8, count: 1 })?;
-    core.submit(&Bio::Flush)?;
-    let mut shown = String::new(alloc);
-    for ended in [6, 5, 7, 4] {
-        end(&mut core, ended, true);
-        let places = taken(alloc, &mut core)?;
-        shown.push_str(format!(in alloc; "{ended}: {places:?} ")?.as_str())?;
+    let mut open = Vec::new(alloc);
+    submit_mixed(alloc, &mut core, &mut open, 20_000, false)?;
+    submit_mixed(alloc, &mut core, &mut open, 20_000, true)?;
+    submit_mixed(alloc, &mut core, &mut open, 20_000, false)?;
+    for place in open {
+        end(&mut core, place, false);
     }
     core.close()?;
-    let places = taken(alloc, &mut core)?;
-    shown.push_str(format!(in alloc; "{places:?}")?.as_str())?;
-    assert_eq!(rt; shown.as_str(), "6: [] 5: [] 7: [7] 4: [2, 4] [6, 5, 12]");
+    assert_eq!(rt; core.events().len(), 120_001);
+    for at in 0..60_001 {
+        assert!(rt; core.take().is_some(), "{at}");
+    }
+    assert!(rt; core.take().is_none());
     Ok(())
 }
 
 #[test]
-fn close_errors_are_shown(rt: HostRuntime) -> Result<(), Fail> {
-    for (error, want) in [
-        (CloseError::Busy, "a request is open"),
-        (CloseError::Memory, "no memory"),
-    ] {
-        assert_eq!(rt; error.to_string(rt.alloc())?.as_str(), want);
-    }
+fn answers_differ(rt: HostRuntime) -> Result<(), Fail> {
+    assert!(rt; Submitted::Passed != Submitted::Tracked(Id::new(0)));
+    assert!(rt; CloseError::Busy != CloseError::Memory);
+    let shown = CloseError::Memory.to_string(rt.alloc())?;
+    assert_eq!(rt; shown.as_str(), "no memory");
     Ok(())
 }

@@ -1,3 +1,12 @@
+pub use Rattle.bio.specs.Check
+pub use Rattle.bio.specs.Lawful
+pub use Rattle.bio.specs.Requests
+pub use Rattle.dmlw_script.specs.Plans
+pub use Rattle.log_format.specs.Encode
+pub use Rattle.log_format.specs.Entries
+pub use Rattle.log_format.specs.Placing
+pub use Rattle.pending.specs.Refusals
+pub use Rattle.refusals.specs.Texts
 pub mod Errors
 pub mod CallLaws
 pub mod Image

@@ -51,8 +51,8 @@ begins_made sectors n m calls none base call one empty zeroes same =
     let Made : List Call → Type 0 = λ cs. Begins n (put (values_of call) (λ _. replicate 512 0)) (view_of sectors (content_at cs base) (past_of cs 1 false)) in
     let Sized : ℕ → Type 0 = λ size. Begins n (put (values_of call) (λ _. replicate 512 0)) (view_of size (content_at (call ∷ []) base) []) in
     subst Made (sym (one ∙ ap (λ (cs : List Call). cs ++ call ∷ []) empty)) (subst Sized (sym same) (begins_fresh n (content_at (call ∷ []) base) (put (values_of call) (λ _. replicate 512 0)) (λ s h.
-      let place : place_of base s ≡ 0 = ap (λ (xs : List ℕ). place_of xs s) zeroes ∙ first_place m s in
-      ap (λ (p : ℕ). value_at (call ∷ []) p s) place)))
+    let place : place_of base s ≡ 0 = ap (λ (xs : List ℕ). place_of xs s) zeroes ∙ first_place m s in
+    ap (λ (p : ℕ). value_at (call ∷ []) p s) place)))
 
 -- what a disk of zeroes begins with
 pub zeroes_made : (n : ℕ) (v : View) → Begins n (put (discards 0 n) (λ _. replicate 512 0)) v → Begins n (λ _. replicate 512 0) v
@@ -62,8 +62,8 @@ zeroes_made n v = begins_same n (put (discards 0 n) (λ _. replicate 512 0)) (λ
 pub image_made : (bytes : List ℕ) (v : View) → Begins (length bytes / 512) (put (writes 0 bytes) (λ _. replicate 512 0)) v
     → Begins (length bytes / 512) (sector_of bytes) v
 image_made bytes v = begins_same (length bytes / 512) (put (writes 0 bytes) (λ _. replicate 512 0)) (sector_of bytes) v (λ s h.
-  let same : s - 0 ≡ s = omega arith in
-  put-writes 0 bytes (λ _. replicate 512 0) s (omega arith) (omega arith) ∙ ap (sector_of bytes) same)
+    let same : s - 0 ≡ s = omega arith in
+    put-writes 0 bytes (λ _. replicate 512 0) s (omega arith) (omega arith) ∙ ap (sector_of bytes) same)
 
 -- what was chosen of a disk
 pub chosen_of : (disk : SectorDisk) (calls : List Call) (newest picks chosen : List ℕ) → calls ≡ disk.calls.items → newest ≡ disk.newest.items
@@ -75,7 +75,7 @@ chosen_of disk calls newest picks chosen same_calls same_newest choice =
     let Placed : List Call → Type 0 = λ cs. ArePlaced cs disk.synced newest (cache_of disk) in
     let Newest : List ℕ → Type 0 = λ places. ArePlaced disk.calls.items disk.synced places (cache_of disk) in
     subst Calls same_calls (subst Count (ap length same_newest ∙ disk.kept.newest_length) (
-      choice (cache_of disk) (subst Placed (sym same_calls) (subst Newest (sym same_newest) disk.kept.placed))
+    choice (cache_of disk) (subst Placed (sym same_calls) (subst Newest (sym same_newest) disk.kept.placed))
     ))
 
 -- the places that were chosen are those of calls
@@ -99,7 +99,7 @@ kept_chosen disk picks newest chosen count choice size same is =
     let Newest : List ℕ → Type 0 = λ places. IsKept disk.sectors disk.calls.items places chosen count count false in
     let Count : ℕ → Type 0 = λ n. IsKept disk.sectors disk.calls.items chosen chosen n n false in
     subst Newest (sym same) (subst Count (sym is) (
-      kept_begun disk.sectors disk.calls.items chosen disk.kept.some disk.kept.few size (chosen-within disk picks chosen choice size)
+    kept_begun disk.sectors disk.calls.items chosen disk.kept.some disk.kept.few size (chosen-within disk picks chosen choice size)
     ))
 
 -- a crash leaves what its picks name
@@ -109,5 +109,5 @@ pub begins_chosen : (disk : SectorDisk) (picks chosen : List ℕ) (count : ℕ) 
 begins_chosen disk picks chosen count choice is =
     let Past : List Step → Type 0 = λ past. Begins disk.sectors (left_by (cache_of disk) picks) (view_of disk.sectors (content_at disk.calls.items chosen) past) in
     subst Past (sym (ap (λ (n : ℕ). past_of disk.calls.items n false) is ∙ past_begun disk.calls.items)) (
-      begins_fresh disk.sectors (content_at disk.calls.items chosen) (left_by (cache_of disk) picks) (λ s h. choice.value s h)
+    begins_fresh disk.sectors (content_at disk.calls.items chosen) (left_by (cache_of disk) picks) (λ s h. choice.value s h)
     )

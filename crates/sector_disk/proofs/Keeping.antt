@@ -59,7 +59,7 @@ chain-kept calls call synced sector (suc (suc n)) place e =
   where
     rest : is_chain calls synced sector (suc (suc n)) place ≡ true → is_chain calls synced sector (suc n) (before_at calls place sector) ≡ true
     rest e = (and_parts (is_open calls synced place) (is_chain calls synced sector (suc n) (before_at calls place sector))
-      (and_parts (nat_lt place (length calls)) (is_open calls synced place && is_chain calls synced sector (suc n) (before_at calls place sector)) e).1).1
+        (and_parts (nat_lt place (length calls)) (is_open calls synced place && is_chain calls synced sector (suc n) (before_at calls place sector)) e).1).1
 
 -- with the same values
 back-kept : (calls : List Call) (call : Call) (synced sector n place : ℕ) → is_chain calls synced sector n place ≡ true
@@ -76,7 +76,7 @@ back-kept calls call synced sector (suc (suc n)) place e =
   where
     rest : is_chain calls synced sector (suc (suc n)) place ≡ true → is_chain calls synced sector (suc n) (before_at calls place sector) ≡ true
     rest e = (and_parts (is_open calls synced place) (is_chain calls synced sector (suc n) (before_at calls place sector))
-      (and_parts (nat_lt place (length calls)) (is_open calls synced place && is_chain calls synced sector (suc n) (before_at calls place sector)) e).1).1
+        (and_parts (nat_lt place (length calls)) (is_open calls synced place && is_chain calls synced sector (suc n) (before_at calls place sector)) e).1).1
 
 -- a sector that the new call leaves alone stays placed
 pub placed-kept : (calls : List Call) (call : Call) (synced sector place : ℕ) (now : List ℕ) (may : List (List ℕ))
@@ -123,6 +123,7 @@ values-in call sector low high = at call.change high
     within count value less =
         let place : sector ≡ call.first + (sector - call.first) = omega arith in
         (value (sector - call.first), ap (over call.first count value) place ∙ over-in call.first count value (sector - call.first) (omega arith))
+
     at : (change : Change) → sector < call.first + count_of change → (value : List ℕ) × (change_values call.first change sector ≡ Some value)
     at (Write bytes) less = within (length bytes.items / 512) (sector_of bytes.items) less
     at (Discard count) less = within count (λ _. replicate 512 0) less
@@ -135,6 +136,7 @@ values-out call sector outside = at call.change outside
       | inl before ↦ over-before call.first count value sector before
       | inr after ↦ over-after call.first count value sector after
     ]
+
     at : (change : Change) → (sector < call.first) ⊎ (call.first + count_of change ≤ sector) → change_values call.first change sector ≡ None
     at (Write bytes) side = without (length bytes.items / 512) (sector_of bytes.items) side
     at (Discard count) side = without count (λ _. replicate 512 0) side
@@ -167,17 +169,21 @@ placed-new calls call synced sector before now value may placed low is came = at
   where
     all : List Call
     all = calls ++ call ∷ []
+
     there : length calls < length (calls ++ call ∷ [])
     there = let more = length-snoc calls call in omega arith
+
     value_is : value_at (calls ++ call ∷ []) (length calls) sector ≡ value
     value_is =
         ap (λ (o : Option Call). value_in o sector) (here calls call)
         ∙ ap (λ (o : Option (List ℕ)). unwrap_or o (replicate 512 0)) is
+
     open_is : (fua : Bool) → call.fua ≡ fua → is_open (calls ++ call ∷ []) synced (length calls) ≡ not fua
     open_is fua e =
         ap (λ (o : Option Call). nat_le synced (length calls) && is_plain o) (here calls call)
         ∙ ap (λ b. b && not call.fua) (le-leb synced (length calls) low)
         ∙ ap not e
+
     at : (fua : Bool) → call.fua ≡ fua → IsPlaced (calls ++ call ∷ []) synced sector (length calls) value (candidates_after (Some value) fua may)
     at true e = record {
       value = value_is;
@@ -193,13 +199,13 @@ placed-new calls call synced sector before now value may placed low is came = at
         record {
           value = value_is;
           values =
-            ap (λ (n : ℕ). back (calls ++ call ∷ []) sector n (length calls)) many
-            ∙ ap (λ (p : ℕ). back (calls ++ call ∷ []) sector (length may) p ++ value_at (calls ++ call ∷ []) (length calls) sector ∷ []) before_is
-            ∙ ap (λ (xs : List (List ℕ)). xs ++ value_at (calls ++ call ∷ []) (length calls) sector ∷ []) kept.values
-            ∙ ap (λ (v : List ℕ). may ++ v ∷ []) value_is;
+              ap (λ (n : ℕ). back (calls ++ call ∷ []) sector n (length calls)) many
+              ∙ ap (λ (p : ℕ). back (calls ++ call ∷ []) sector (length may) p ++ value_at (calls ++ call ∷ []) (length calls) sector ∷ []) before_is
+              ∙ ap (λ (xs : List (List ℕ)). xs ++ value_at (calls ++ call ∷ []) (length calls) sector ∷ []) kept.values
+              ∙ ap (λ (v : List ℕ). may ++ v ∷ []) value_is;
           chain =
-            ap (λ (n : ℕ). is_chain (calls ++ call ∷ []) synced sector n (length calls)) many
-            ∙ chain-more (calls ++ call ∷ []) synced sector (length may) (length calls) before there (open_is false e) before_is kept.chain;
+              ap (λ (n : ℕ). is_chain (calls ++ call ∷ []) synced sector n (length calls)) many
+              ∙ chain-more (calls ++ call ∷ []) synced sector (length may) (length calls) before there (open_is false e) before_is kept.chain;
           few = let h = placed.few in let more = length-snoc calls call in omega arith;
         }
 
@@ -243,12 +249,13 @@ kept-put sectors calls newest filled base begun synced flushed call kept after b
       synced_now = λ is. cc;
       base_within = record { each = λ s. let h = kept.base_within.each s in omega arith };
       placed =
-        let Placed : Cache → Type 0 = λ cache. ArePlaced (calls ++ call ∷ []) synced filled cache in
-        subst Placed (sym (cache-put calls call base begun flushed kept.begun_within kept.base_within after)) (record { each = each });
+          let Placed : Cache → Type 0 = λ cache. ArePlaced (calls ++ call ∷ []) synced filled cache in
+          subst Placed (sym (cache-put calls call base begun flushed kept.begun_within kept.base_within after)) (record { each = each });
     }
   where
     cache : Cache
     cache = cache_of calls base begun flushed
+
     each : (sector : ℕ) → sector < length filled → IsPlaced (calls ++ call ∷ []) synced sector (place_of filled sector)
         (unwrap_or (values_of call sector) ((cache_of calls base begun flushed).now sector))
         (candidates_after (values_of call sector) call.fua ((cache_of calls base begun flushed).may sector))
@@ -259,11 +266,11 @@ kept-put sectors calls newest filled base begun synced flushed call kept after b
         let Placed : ℕ → Option (List ℕ) → Type 0 = λ place o. IsPlaced (calls ++ call ∷ []) synced sector place (unwrap_or o now) (candidates_after o call.fua may) in
         let outside : (sector < call.first) ⊎ (call.first + count_of call.change ≤ sector) → Placed (place_of filled sector) (values_of call sector) =
         λ side.
-          let Place : ℕ → Type 0 = λ place. Placed place (values_of call sector) in
-          let Value : Option (List ℕ) → Type 0 = λ o. Placed (place_of newest sector) o in
-          subst Place (sym (fills.outside sector side)) (
-            subst Value (sym (values-out call sector side)) (placed-kept calls call synced sector (place_of newest sector) now may old)
-          ) in
+        let Place : ℕ → Type 0 = λ place. Placed place (values_of call sector) in
+        let Value : Option (List ℕ) → Type 0 = λ o. Placed (place_of newest sector) o in
+        subst Place (sym (fills.outside sector side)) (
+        subst Value (sym (values-out call sector side)) (placed-kept calls call synced sector (place_of newest sector) now may old)
+        ) in
         elim (cases_lt sector call.first) [
           | inl low ↦ outside (inl low)
           | inr from ↦ elim (cases_lt sector (call.first + count_of call.change)) [
@@ -272,10 +279,10 @@ kept-put sectors calls newest filled base begun synced flushed call kept after b
                 let Place : ℕ → Type 0 = λ place. Placed place (values_of call sector) in
                 let Value : Option (List ℕ) → Type 0 = λ o. Placed (length calls) o in
                 subst Place (sym (fills.within sector from high)) (
-                  subst Value (sym value.1) (
-                    placed-new calls call synced sector (place_of newest sector) now value.0 may old kept.synced_within value.1
-                    (came-before newest call.before.items call.first (count_of call.change) sector before from high)
-                  )
+                subst Value (sym value.1) (
+                placed-new calls call synced sector (place_of newest sector) now value.0 may old kept.synced_within value.1
+                (came-before newest call.before.items call.first (count_of call.change) sector before from high)
+                )
                 )
             | inr after_it ↦ outside (inr after_it)
           ]
@@ -291,8 +298,8 @@ kept_added sectors calls all newest filled base begun synced count flushed call 
     let Kept : List Call → Type 0 = λ cs. IsKept sectors cs filled base begun synced false in
     let Filled : ℕ → Type 0 = λ n. IsFilled call.first n (length calls) newest filled in
     subst Kept (sym added) (
-      kept-put sectors calls newest filled base begun synced flushed call kept after
-      (before ∙ ap (λ (n : ℕ). take n (drop call.first newest)) counted) (subst Filled counted fills)
+    kept-put sectors calls newest filled base begun synced flushed call kept after
+    (before ∙ ap (λ (n : ℕ). take n (drop call.first newest)) counted) (subst Filled counted fills)
     )
 
 pub past_added : (calls all : List Call) (call : Call) (begun : ℕ) → all ≡ calls ++ call ∷ [] → begun ≤ length calls
@@ -368,13 +375,13 @@ kept_begun sectors calls places some few size within = record {
   synced_now = λ is. refl;
   base_within = within;
   placed =
-    let none : length calls - length calls ≡ 0 = omega arith in
-    let Placed : ℕ → Type 0 = λ n. ArePlaced calls (length calls) places (cache_after (content_at calls places) (steps_of calls (length calls) n)) in
-    subst Placed (sym none) (record {
-      each = λ sector h.
-        let place = place_of places sector in
-        placed-alone calls (length calls) sector place (within.each sector) (all-closed calls place (within.each sector));
-    });
+      let none : length calls - length calls ≡ 0 = omega arith in
+      let Placed : ℕ → Type 0 = λ n. ArePlaced calls (length calls) places (cache_after (content_at calls places) (steps_of calls (length calls) n)) in
+      subst Placed (sym none) (record {
+        each = λ sector h.
+            let place = place_of places sector in
+            placed-alone calls (length calls) sector place (within.each sector) (all-closed calls place (within.each sector));
+      });
 }
 
 -- no call came since the past began

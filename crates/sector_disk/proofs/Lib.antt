@@ -5,3 +5,4 @@ pub mod Keeping
 pub mod Moved
 pub mod Beginning
 pub mod Lawful
+pub mod Examples

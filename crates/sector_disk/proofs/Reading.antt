@@ -42,7 +42,7 @@ discarded first count sector = elim (over_cases first count (λ _. replicate 512
   | inl within ↦
       let place = within.2 in
       ap (λ (o : Option (List ℕ)). unwrap_or o (replicate 512 0)) (
-        ap (discards first count) place ∙ over-in first count (λ _. replicate 512 0) within.0 within.1
+      ap (discards first count) place ∙ over-in first count (λ _. replicate 512 0) within.0 within.1
       )
   | inr none ↦ ap (λ (o : Option (List ℕ)). unwrap_or o (replicate 512 0)) none
 ]
@@ -72,9 +72,11 @@ length-value_at calls place sector = at (slice_get calls place)
         by_change : (from : ℕ) (change : Change) → HasWholeValues (change_values from change)
         by_change from (Write bytes) = writes-whole from bytes.items
         by_change from (Discard count) = discards-whole from count
+
     there : (o : Option (List ℕ)) → ((x : List ℕ) → o ≡ Some x → length x ≡ 512) → length (unwrap_or o (replicate 512 0)) ≡ 512
     there None whole = refl
     there (Some x) whole = whole x refl
+
     at : (o : Option Call) → length (value_in o sector) ≡ 512
     at None = refl
     at (Some call) = there (values_of call sector) (values call sector)

@@ -246,9 +246,9 @@ since-whole size start [] whole steps moment left may = left-whole size start []
 since-whole size start (step ∷ past) whole steps moment left may = elim (cases_lt (length past) moment) [
   | inl after ↦
       left-whole size start (step ∷ past) left whole steps (
-        match_true (nat_lt (length past) moment) (MayLeave (cache_after start (step ∷ past)) left)
-        (LeftSince start past moment left ⊎ LeftDuring step (cache_after start past) left)
-        (lt-ltb (length past) moment after) may
+      match_true (nat_lt (length past) moment) (MayLeave (cache_after start (step ∷ past)) left)
+      (LeftSince start past moment left ⊎ LeftDuring step (cache_after start past) left)
+      (lt-ltb (length past) moment after) may
       )
   | inr before ↦ elim (since-step start step past moment left before may) [
     | inl earlier ↦ since-whole size start past whole (earlier-whole step past steps) moment left earlier

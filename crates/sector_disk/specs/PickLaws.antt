@@ -78,9 +78,11 @@ choice-there cache index n sector h within = elim (cases_lt 1 (length (cache.may
 pub each_is_picked : (size : ℕ) (cache : Cache) (left : Content) → MayLeave cache left
     → (picks : List ℕ) × ((sector : ℕ) → sector < size → left_by cache picks sector ≡ left sector)
 each_is_picked size cache left may =
-    let index : ℕ → ℕ = λ sector. (may sector).0 in
-    (picks_for cache index size, λ sector h.
-      let there = may sector in
-      ap (λ (k : ℕ). unwrap_or (slice_get (cache.may sector) k) []) (choice-there cache index size sector h there.1)
-      ∙ ap (λ (o : Option (List ℕ)). unwrap_or o []) (slice_get-get_or (cache.may sector) there.0 (left sector) there.1)
-      ∙ there.2)
+    let index : ℕ → ℕ = λ sector. (may sector).0 in (
+      picks_for cache index size,
+      λ sector h.
+          let there = may sector in
+          ap (λ (k : ℕ). unwrap_or (slice_get (cache.may sector) k) []) (choice-there cache index size sector h there.1)
+          ∙ ap (λ (o : Option (List ℕ)). unwrap_or o []) (slice_get-get_or (cache.may sector) there.0 (left sector) there.1)
+          ∙ there.2,
+    )

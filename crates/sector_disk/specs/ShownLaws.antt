@@ -29,6 +29,7 @@ value_at-whole calls place sector = at (slice_get calls place)
     there : (o : Option (List ℕ)) → ((x : List ℕ) → o ≡ Some x → length x ≡ 512) → length (unwrap_or o (replicate 512 0)) ≡ 512
     there None whole = refl
     there (Some x) whole = whole x refl
+
     at : (o : Option Call) → length (value_in o sector) ≡ 512
     at None = refl
     at (Some call) = there (values_of call sector) (values-whole call sector)

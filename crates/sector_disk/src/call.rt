@@ -100,7 +100,12 @@ pub fn read_places(calls: &[Call], places: &[usize], first: usize, buffer: &mut 
 }
 
 /// The places of a range of sectors. Want of memory is an error.
-pub fn copy_places(alloc: Global, places: &[usize], first: usize, count: usize) -> Result<Vec<usize>, AllocError>
+pub fn copy_places(
+    alloc: Global,
+    places: &[usize],
+    first: usize,
+    count: usize,
+) -> Result<Vec<usize>, AllocError>
     requires { first + count ≤ length places.now }
     ensures { IfOk result (λ copy. copy.items ≡ take count (drop first places.now)) }
 {
@@ -116,7 +121,12 @@ fn fill_places(places: &mut Vec<usize>, first: usize, count: usize, place: usize
 }
 
 /// Adds a call, which is then the newest of its sectors. Where there is no memory, nothing is changed.
-pub fn add_call(calls: &mut Vec<Call>, newest: &mut Vec<usize>, call: Call, count: usize) -> Result<(), AllocError>
+pub fn add_call(
+    calls: &mut Vec<Call>,
+    newest: &mut Vec<usize>,
+    call: Call,
+    count: usize,
+) -> Result<(), AllocError>
     requires { call.first + count ≤ length newest.old.items }
     ensures calls { OnOk result (calls.new.items ≡ calls.old.items ++ call ∷ []) }
     ensures newest { OnOk result

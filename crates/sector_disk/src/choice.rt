@@ -40,7 +40,13 @@ fn pick_at(picks: &[u64], place: usize) -> u64
 }
 
 /// Finds for each sector the place of the candidate that the picks give it.
-pub fn choose(calls: &[Call], synced: usize, newest: &[usize], picks: &[u64], chosen: &mut Vec<usize>)
+pub fn choose(
+    calls: &[Call],
+    synced: usize,
+    newest: &[usize],
+    picks: &[u64],
+    chosen: &mut Vec<usize>,
+)
     requires { length chosen.old.items ≡ length newest.now }
     ensures length { length chosen.new.items ≡ length newest.now }
     ensures chosen { (cache : Cache) → ArePlaced calls.now synced newest.now cache →

@@ -14,7 +14,7 @@ pub fn picks_leave_one()
 pub fn each_crash_is_picked()
     ensures { (disk : SectorDisk) (left : Content) → (shown_of disk).crash left →
         (picks : List ℕ) × ((sector : ℕ) → sector < (shown_of disk).size →
-            left_by (cache_of disk) picks sector ≡ left sector) }
+        left_by (cache_of disk) picks sector ≡ left sector) }
 {}
 
 /// A sector that was written and isn't synced may be old: whatever a crash could leave before a plain write

@@ -4,9 +4,14 @@ ghost use Rattle.sector_disk.specs.Shown.{shown_of};
 use super::*;
 use bio::{DevError, Ms};
 use blockdev::BlockDev;
+use failing::Failing;
+use lying::Lying;
 use std::alloc::Global;
 use std::process::Abort;
 use std::test::Fail;
+
+mod failing;
+mod lying;
 
 // Crashes of a disk of 8 sectors of zeroes, a line each. `w31` writes 1s to sector 3, `F31` does with FUA, `d32`
 // discards 2 sectors from sector 3 on, `f` flushes, `c12` crashes with the picks 1 and 2, and `=` says what each
@@ -56,7 +61,6 @@ fn digit(byte: u8) -> u64
 
 fn write(disk: &mut SectorDisk, sector: u8, value: u8, fua: bool) -> Result<Ms, DevError>
     requires { (shown_of disk.old).size ≡ 8 }
-    ensures { (shown_of disk.new).size ≡ 8 }
 {
     let bytes = [value.saturating_sub(48); 512];
     disk.write(Ms::new(5), digit(sector), &bytes, fua)
@@ -64,31 +68,25 @@ fn write(disk: &mut SectorDisk, sector: u8, value: u8, fua: bool) -> Result<Ms, 
 
 fn discard(disk: &mut SectorDisk, sector: u8, count: u8) -> Result<Ms, DevError>
     requires { (shown_of disk.old).size ≡ 8 }
-    ensures { (shown_of disk.new).size ≡ 8 }
 {
     let first = digit(sector);
     let count = digit(count).clamp(1, 8 - first);
     disk.discard(Ms::new(5), first, count)
 }
 
-// Whether each sector has the digit of its place in all its bytes.
-fn check(rt: &impl Abort, disk: &mut SectorDisk, want: &[u8], line: &str)
-    requires { (shown_of disk.old).size ≡ 8 }
-    ensures { (shown_of disk.new).size ≡ 8 }
-{
-    for sector in 0..8 {
-        let mut buffer = [9; 512];
-        assert_eq!(rt; disk.read(Ms::new(7), sector, &mut buffer), Ok(Ms::new(7)), "{line}");
-        let digit = want.get(sector as usize).copied().unwrap_or(0);
-        let wanted = digit.saturating_sub(48);
-        assert!(rt; buffer.iter().all(|byte| *byte == wanted), "sector {sector} after {line}");
-    }
+fn check_sector(rt: &impl Abort, disk: &mut SectorDisk, sector: u64, want: u8, line: &str) {
+    assert!(rt; sector < disk.sectors(), "{line}");
+    let mut buffer = [9; 512];
+    let end = disk.read(Ms::new(7), sector, &mut buffer);
+    assert_eq!(rt; end, Ok(Ms::new(7)), "{line}");
+    let wanted = want.saturating_sub(48);
+    assert!(rt;
+        buffer.iter().all(|byte| *byte == wanted),
+        "sector {sector} after {line}"
+    );
 }
 
-fn crash(alloc: Global, disk: &mut SectorDisk, digits: &[u8]) -> Result<(), Fail>
-    requires { (shown_of disk.old).size ≡ 8 }
-    ensures { (shown_of disk.new).size ≡ 8 }
-{
+fn crash(alloc: Global, disk: &mut SectorDisk, digits: &[u8]) -> Result<(), Fail> {
     let mut picks = Vec::new(alloc);
     for byte in digits {
         picks.push(digit(*byte))?;
@@ -103,22 +101,24 @@ fn step(
     disk: &mut SectorDisk,
     word: &[u8],
     line: &str,
-) -> Result<(), Fail>
-    requires { (shown_of disk.old).size ≡ 8 }
-    ensures { (shown_of disk.new).size ≡ 8 }
-{
+) -> Result<(), Fail> {
+    assert_eq!(rt; disk.sectors(), 8);
     let end = match word {
         [b'w', sector, value] => write(disk, *sector, *value, false),
         [b'F', sector, value] => write(disk, *sector, *value, true),
         [b'd', sector, count] => discard(disk, *sector, *count),
         [b'f'] => disk.flush(Ms::new(5)),
+        [b'c', picks @ ..] => {
+            crash(alloc, disk, picks)?;
+            Ok(Ms::new(5))
+        }
         _ => Ok(Ms::new(5)),
     };
     assert_eq!(rt; end, Ok(Ms::new(5)), "{line}");
-    match word {
-        [b'c', picks @ ..] => crash(alloc, disk, picks)?,
-        [b'=', want @ ..] => check(rt, disk, want, line),
-        _ => {}
+    if let [b'=', want @ ..] = word {
+        for (sector, byte) in want.iter().enumerate() {
+            check_sector(rt, disk, sector as u64, *byte, line);
+        }
     }
     Ok(())
 }
@@ -147,14 +147,26 @@ fn disks_of_each_size_are_kept(rt: HostRuntime) -> Result<(), Fail> {
         let zeroes = vec![in alloc; 0; length]?;
         let mut disk = SectorDisk::from_bytes(alloc, image.clone()?)?;
         assert_eq!(rt; disk.sectors(), sectors);
-        assert!(rt; disk.bytes()?.as_slice() == image.as_slice(), "the image of {sectors}");
+        assert!(rt;
+            disk.bytes()?.as_slice() == image.as_slice(),
+            "the image of {sectors}"
+        );
         disk.discard(Ms::new(0), 0, sectors)?;
-        assert!(rt; disk.bytes()?.as_slice() == zeroes.as_slice(), "{sectors} discarded");
+        assert!(rt;
+            disk.bytes()?.as_slice() == zeroes.as_slice(),
+            "{sectors} discarded"
+        );
         let mut new = SectorDisk::new(alloc, sectors)?;
-        assert!(rt; new.bytes()?.as_slice() == zeroes.as_slice(), "{sectors} of zeroes");
+        assert!(rt;
+            new.bytes()?.as_slice() == zeroes.as_slice(),
+            "{sectors} of zeroes"
+        );
         new.write(Ms::new(0), 0, &image, true)?;
         new.crash(&[]);
-        assert!(rt; new.bytes()?.as_slice() == image.as_slice(), "{sectors} written");
+        assert!(rt;
+            new.bytes()?.as_slice() == image.as_slice(),
+            "{sectors} written"
+        );
     }
     let large = SectorDisk::new(alloc, 1_048_576)?;
     assert_eq!(rt; large.sectors(), 1_048_576);
@@ -171,4 +183,33 @@ fn the_device_laws_hold() {
     blockdev::laws::calls_tear_their_own_sectors_at_any_moment::<SectorDisk>();
     blockdev::laws::crashes_leave_whole_sectors::<SectorDisk>();
     blockdev::laws::devices_keep_their_size::<SectorDisk>();
+}
+
+// The law has other members than the disk: a device that lies, and one that fails.
+#[test]
+fn devices_lie_and_fail(rt: HostRuntime) -> Result<(), Fail> {
+    let now = Ms::new(3);
+    let mut lying = Lying {
+        lower: SectorDisk::new(rt.alloc(), 1)?,
+        lies: 0,
+    };
+    assert_eq!(rt; lying.sectors(), 1);
+    assert_eq!(rt; lying.write(now, 0, &[1; 512], true), Ok(now));
+    assert_eq!(rt; lying.flush(now), Ok(now));
+    assert_eq!(rt; (lying.faults(), lying.lies()), (0, 2));
+    check_sector(&rt, &mut lying.lower, 0, b'0', "a write that was lost");
+    let mut failing = Failing {
+        lower: SectorDisk::new(rt.alloc(), 1)?,
+        left: 1,
+        faults: 0,
+    };
+    assert_eq!(rt; failing.sectors(), 1);
+    assert_eq!(rt; failing.write(now, 0, &[1; 512], false), Ok(now));
+    assert_eq!(rt; failing.write(now, 0, &[2; 512], false), Err(DevError::Io));
+    assert_eq!(rt; failing.flush(now), Err(DevError::Io));
+    assert_eq!(rt; (failing.faults(), failing.lies()), (2, 0));
+    check_sector(&rt, &mut failing.lower, 0, b'1', "a write that failed");
+    failing.lower.crash(&[]);
+    check_sector(&rt, &mut failing.lower, 0, b'0', "a flush that failed");
+    Ok(())
 }

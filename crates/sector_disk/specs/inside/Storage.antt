@@ -99,7 +99,7 @@ pub record IsPlaced (calls : List Call) (synced sector place : ℕ) (now : List 
 -- each sector of a disk has its newest call at its place
 pub record ArePlaced (calls : List Call) (synced : ℕ) (newest : List ℕ) (cache : Cache) : Type 0 where
   pub each : (sector : ℕ) → sector < length newest
-    → IsPlaced calls synced sector (place_of newest sector) (cache.now sector) (cache.may sector)
+      → IsPlaced calls synced sector (place_of newest sector) (cache.now sector) (cache.may sector)
 
 -- each place is one of a call
 pub record AreWithin (calls : List Call) (places : List ℕ) : Type 0 where

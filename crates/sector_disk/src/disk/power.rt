@@ -23,7 +23,13 @@ impl SectorDisk {
     pub fn crash(&mut self, picks: &[u64])
         ensures { Begins (shown_of self.old).size (left_by (cache_of self.old) picks.now) (shown_of self.new) }
     {
-        choose(&self.calls, self.synced, &self.newest, picks, &mut self.base);
+        choose(
+            &self.calls,
+            self.synced,
+            &self.newest,
+            picks,
+            &mut self.base,
+        );
         copy_over(&self.base, &mut self.newest);
         self.begun = self.calls.len();
         self.synced = self.begun;

@@ -17,7 +17,8 @@ loop-index-preserved c count chain =
     let index = c.loop-index.index in
     let next = chain-open c.args.calls.now c.args.synced c.args.sector (count - index) c.loop-index.place before.1 (sym c.is_open.ensures ∙ c.if-not-is_open.false) in
     let h = before.0 in
-    let more = next.0 in
-    (omega arith,
+    let more = next.0 in (
+      omega arith,
       ap (λ n. is_chain c.args.calls.now c.args.synced c.args.sector n c.before-place.result) (omega arith)
-      ∙ ap (is_chain c.args.calls.now c.args.synced c.args.sector (count - index - 1)) c.before-place.ensures ∙ next.1)
+          ∙ ap (is_chain c.args.calls.now c.args.synced c.args.sector (count - index - 1)) c.before-place.ensures ∙ next.1,
+    )

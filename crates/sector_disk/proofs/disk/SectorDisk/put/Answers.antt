@@ -9,7 +9,7 @@ invariant_of-self-2 c =
     let done = c.in_ok-add_call.ensures in
     record {
       kept = kept_added old.sectors old.calls.items c.add_call.new.calls.items old.newest.items c.add_call.new.newest.items old.base.items
-        old.begun old.synced c.sectors-count.result old.flushed _ done.calls old.kept refl c.sectors-count.ensures before done.newest;
+          old.begun old.synced c.sectors-count.result old.flushed _ done.calls old.kept refl c.sectors-count.ensures before done.newest;
     }
 
 pub returns-clause-ok : goal.returns-clause-ok

@@ -10,7 +10,7 @@ invariant_of-self c =
     let old = c.args.self.now in
     record {
       kept = kept_synced old.sectors old.calls.items old.newest.items old.base.items old.begun old.synced c.len-self.result old.flushed old.kept
-        (c.len-self.ensures ∙ old.calls.ok.0);
+          (c.len-self.ensures ∙ old.calls.ok.0);
     }
 
 pub returns-clause-goes : goal.returns-clause-goes

@@ -16,12 +16,12 @@ pub returns-clause-goes : goal.returns-clause-goes
 returns-clause-goes c =
     let same = c.in_ok-to_vec.ensures.items_if_clones_equal (λ x y equal. equal) in
     goes_past c.args.self.now c.put.new.self (writes c.args.first c.args.bytes.now) c.args.fua (
-      written_past c.args.self.now c.put.new.self c.args.first _ c.args.bytes.now c.args.fua same c.in_ok-put.ensures.ok
+    written_past c.args.self.now c.put.new.self c.args.first _ c.args.bytes.now c.args.fua same c.in_ok-put.ensures.ok
     )
 
 pub returns-clause-lands : goal.returns-clause-lands
 returns-clause-lands c told =
     let same = c.in_ok-to_vec.ensures.items_if_clones_equal (λ x y equal. equal) in
     lands_past c.args.self.now c.put.new.self (writes c.args.first c.args.bytes.now) c.args.fua (
-      written_past c.args.self.now c.put.new.self c.args.first _ c.args.bytes.now c.args.fua same c.in_ok-put.ensures.ok
+    written_past c.args.self.now c.put.new.self c.args.first _ c.args.bytes.now c.args.fua same c.in_ok-put.ensures.ok
     )

@@ -1,0 +1,169 @@
+-- For each clause of the law, views that break it and nothing else, and are refused by it.
+use Rattle.std.proofs.Common.{◌≡◌, ℕ, zero, suc, ◌+◌, ◌<◌, ◌≤◌, true, false, List, [], ◌∷◌, Some, None, Ok, Err, replicate, refl, ap, ◌∙◌, inl, inr, arith}
+use Rattle.std.specs.Prelude.{◌^◌, slice_index_or}
+use Rattle.bio.specs.declared.outcome.DevError.{DevError}
+use Rattle.bio.specs.declared.outcome.DevError.TheVariants.{Io}
+use Rattle.sectors.specs.Content.{Content, Patch, nothing, put}
+use Rattle.blockdev.specs.View.{IsLawful, View, last_count}
+use Rattle.blockdev.specs.Law.{Goes, HasCause, Lands, NoLie, Stays, Syncs}
+
+-- content of one value in each sector
+all : ℕ → Content
+all value sector = replicate 512 value
+
+-- a crash leaves this content alone
+Only : Content → Content → Type 0
+Only content left = (sector : ℕ) → left sector ≡ content sector
+
+-- a device of one sector, of zeroes, of which each crash left that
+still : View
+still = record {
+  size = 1;
+  content = all 0;
+  crash = Only (all 0);
+  moment = 0;
+  since = λ moment. Only (all 0);
+  faults = 0;
+  lies = 0;
+}
+
+-- a call that puts 1s in sector 0
+one : Patch
+one zero = Some (replicate 512 1)
+one (suc sector) = None
+
+-- sectors of one value tell it
+one_value : (a b : ℕ) → replicate 512 a ≡ replicate 512 b → a ≡ b
+one_value a b same = ap (λ (xs : List ℕ). slice_index_or xs 0 0) same
+
+-- another size
+size : Goes one still (record still { size = 2 }) → ⊥
+unfolding still
+size goes = let same = goes.size in omega arith
+
+-- a value that isn't the call's
+content : Goes one still (record still { content = all 2 }) → ⊥
+unfolding still one all
+content goes = elim (goes.content 0) [
+  | inl old ↦ let same = one_value 2 0 old in omega arith
+  | inr new ↦ let same = one_value 2 1 new in omega arith
+]
+
+-- a value that a crash leaves and that isn't the call's, for any call
+crash : Goes one still (record still { crash = Only (all 2) }) → ⊥
+unfolding still one all Only
+crash goes =
+    let old = goes.crash (all 2) (λ sector. refl) in
+    elim (old.2 0) [
+      | inl same ↦ let two = one_value 2 0 (same ∙ old.1 0) in omega arith
+      | inr new ↦ let two = one_value 2 1 new in omega arith
+    ]
+
+-- a clock that goes back
+moment : Goes one (record still { moment = 1 }) still → ⊥
+unfolding still
+moment goes = let h = goes.moment in omega arith
+
+-- a value that isn't the call's, left by a crash during the call
+gains : Goes one still (record still { since = λ moment. Only (all 2) }) → ⊥
+unfolding still one all Only
+gains goes = elim (goes.gains 0 (all 2) (omega arith) (λ sector. refl)) [
+  | inl before ↦ let two = one_value 2 0 (before 0) in omega arith
+  | inr old ↦ elim (old.2 0) [
+    | inl same ↦ let two = one_value 2 0 (same ∙ old.1 0) in omega arith
+    | inr new ↦ let two = one_value 2 1 new in omega arith
+  ]
+]
+
+-- what was left is no longer so
+keeps : Goes one still (record still { since = λ moment left. ⊥ }) → ⊥
+unfolding still one all Only
+keeps goes = goes.keeps 0 (all 0) (omega arith) (λ sector. refl)
+
+-- counts that fall
+faults : Goes one (record still { faults = 1 }) still → ⊥
+unfolding still
+faults goes = let h = goes.faults in omega arith
+
+lies : Goes one (record still { lies = 1 }) still → ⊥
+unfolding still
+lies goes = let h = goes.lies in omega arith
+
+-- a write that ended well and left the old value
+landed : Lands one false still still → ⊥
+unfolding still one all
+landed lands = let same = one_value 0 1 (lands.content 0) in omega arith
+
+-- a FUA write that a crash takes back
+durable : Lands one true still (record still { content = put one (all 0) }) → ⊥
+unfolding still one all Only
+durable lands =
+    let old = lands.durable refl (all 0) (λ sector. refl) in
+    let same = one_value 0 1 (old.2 0) in
+    omega arith
+
+-- a flush after which a crash leaves something else
+synced : Syncs (record still { content = all 1 }) → ⊥
+unfolding still all Only
+synced syncs = let same = one_value 0 1 (syncs.only (all 0) (λ sector. refl) 0) in omega arith
+
+-- a read after which a crash leaves less
+stayed : Stays still (record still { crash = λ left. ⊥ }) → ⊥
+unfolding still all Only
+stayed stays = stays.crash (all 0) (λ sector. refl)
+
+-- one more lie, and a count of lies at its end
+lied : NoLie still (record still { lies = 1 }) → ⊥
+unfolding still
+lied told = let same = told.same in omega arith
+
+full : NoLie (record still { lies = last_count }) (record still { lies = last_count }) → ⊥
+unfolding still
+full told = let h = told.counted in omega arith
+
+-- a failure without a fault, and an end before the call
+failed : HasCause 0 still still (Err Io) → ⊥
+unfolding still
+failed cause = elim (cause.failed refl) [ inl grew ↦ omega arith | inr end ↦ omega arith ]
+
+ends : HasCause 5 still still (Ok 4) → ⊥
+unfolding still
+ends cause = let h = cause.ends 4 refl in omega arith
+
+-- devices of no sector, of too many, and of sectors that aren't 512 bytes
+none : IsLawful (record still { size = 0 }) → ⊥
+unfolding still
+none lawful = let h = lawful.some_sectors in omega arith
+
+many : IsLawful (record still { size = 1048577 }) → ⊥
+unfolding still
+many lawful = let h = lawful.few_sectors in omega arith
+
+-- a crash that can't leave the content
+current : IsLawful (record still { content = all 1 }) → ⊥
+unfolding still all Only
+current lawful = let same = one_value 1 0 (lawful.current 0) in omega arith
+
+-- one that may leave what none since now did
+nested : IsLawful (record still { since = λ moment left. ⊥ }) → ⊥
+unfolding still all Only
+nested lawful = lawful.nested 0 (all 0) (omega arith) (λ sector. refl)
+
+-- since now, another one
+now : IsLawful (record still { since = λ moment left. Unit {0} }) → ⊥
+unfolding still all Only
+now lawful = let same = one_value 1 0 (lawful.only_now (all 1) tt 0) in omega arith
+
+-- one that leaves an empty sector
+whole : IsLawful (record still { crash = λ left. Unit {0}; since = λ moment left. Unit {0} }) → ⊥
+unfolding still
+whole lawful = let size = lawful.whole 0 (λ sector. []) (omega arith) tt 0 (omega arith) in omega arith
+
+-- counts past the last one
+past_faults : IsLawful (record still { faults = 2 ^ 64 }) → ⊥
+unfolding still
+past_faults lawful = let h = lawful.faults in omega arith
+
+past_lies : IsLawful (record still { lies = 2 ^ 64 }) → ⊥
+unfolding still
+past_lies lawful = let h = lawful.lies in omega arith

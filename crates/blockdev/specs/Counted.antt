@@ -1,0 +1,107 @@
+-- A device over another one, with faults and lies of its own beside the lower one's.
+use Rattle.std.proofs.Common.{◌≡◌, ℕ, ◌+◌, ◌-◌, ◌<◌, ◌≤◌, ◌^◌, Bool, IsTrue, Err, List, refl, ap, sym, ◌∙◌, inl, inr, arith}
+use Rattle.std.proofs.lemmas.Bool.{cases_lt}
+use Rattle.std.specs.Prelude.{◌⊎◌, Result, min}
+use Rattle.bio.specs.declared.outcome.DevError.{DevError}
+use Rattle.sectors.specs.Content.{Content, Patch}
+use Rattle.blockdev.specs.View.{IsLawful, View, last_count}
+use Rattle.blockdev.specs.Law.{AfterPatch, Goes, HasCause, Lands, NoLie, Stays, Syncs}
+
+-- the sum of two counts, which stops at the last one
+abbrev pub sum_of : ℕ → ℕ → ℕ
+sum_of a b = min (a + b) last_count
+
+-- one more, which stops there too
+abbrev pub one_more : ℕ → ℕ
+one_more count = sum_of count 1
+
+-- the view of a layer: the lower device's, with the faults and lies of the layer itself
+abbrev pub counted : View → ℕ → ℕ → View
+counted v faults lies = record {
+  size = v.size;
+  content = v.content;
+  crash = v.crash;
+  moment = v.moment;
+  since = v.since;
+  faults = sum_of v.faults faults;
+  lies = sum_of v.lies lies;
+}
+
+-- it is lawful where the lower device is
+pub lawful_counted : (v : View) (faults lies : ℕ) → IsLawful v → IsLawful (counted v faults lies)
+lawful_counted v faults lies lawful = record {
+  some_sectors = lawful.some_sectors;
+  few_sectors = lawful.few_sectors;
+  current = lawful.current;
+  nested = lawful.nested;
+  only_now = lawful.only_now;
+  whole = lawful.whole;
+  faults = omega arith;
+  lies = omega arith;
+}
+
+-- where the lower device goes by a call, and the own counts don't fall, the layer does
+pub goes_counted : (patch : Patch) (v w : View) (faults more_faults lies more_lies : ℕ) → faults ≤ more_faults → lies ≤ more_lies
+    → Goes patch v w → Goes patch (counted v faults lies) (counted w more_faults more_lies)
+goes_counted patch v w faults more_faults lies more_lies h k goes = record {
+  size = goes.size;
+  content = goes.content;
+  crash = goes.crash;
+  moment = goes.moment;
+  gains = goes.gains;
+  keeps = goes.keeps;
+  faults = let low = goes.faults in omega arith;
+  lies = let low = goes.lies in omega arith;
+}
+
+-- and what lands below, or is synced there, or stays, does so in the layer
+pub lands_counted : (patch : Patch) (fua : Bool) (v w : View) (faults more_faults lies more_lies : ℕ) → Lands patch fua v w
+    → Lands patch fua (counted v faults lies) (counted w more_faults more_lies)
+lands_counted patch fua v w faults more_faults lies more_lies lands = record { content = lands.content; durable = lands.durable }
+
+pub syncs_counted : (w : View) (faults lies : ℕ) → Syncs w → Syncs (counted w faults lies)
+syncs_counted w faults lies syncs = record { only = syncs.only }
+
+pub stays_counted : (v w : View) (faults more_faults lies more_lies : ℕ) → Stays v w → Stays (counted v faults lies) (counted w more_faults more_lies)
+stays_counted v w faults more_faults lies more_lies stays = record { crash = stays.crash }
+
+-- where the layer told no lie, the lower device told none
+pub no_lie_counted : (v w : View) (faults more_faults lies : ℕ) → v.lies ≤ w.lies → NoLie (counted v faults lies) (counted w more_faults lies) → NoLie v w
+no_lie_counted v w faults more_faults lies low told =
+    let same = told.same in
+    let below = told.counted in
+    record { same = omega arith; counted = omega arith }
+
+-- a layer that tells one more lie of its own tells a new one
+pub own_lie : (v : View) (faults lies : ℕ) → lies ≤ last_count → NoLie (counted v faults lies) (counted v faults (one_more lies)) → ⊥
+own_lie v faults lies h told =
+    let same = told.same in
+    let below = told.counted in
+    omega arith
+
+-- the lower device's cause is the layer's
+pub cause_counted : (now : ℕ) (v w : View) (result : Result ℕ DevError) (faults more_faults lies more_lies : ℕ) → faults ≤ more_faults
+    → HasCause now v w result → HasCause now (counted v faults lies) (counted w more_faults more_lies) result
+cause_counted now v w result faults more_faults lies more_lies h cause = record {
+  failed = λ is. elim (cause.failed is) [
+    | inl grew ↦ more grew
+    | inr full ↦ inr (omega arith)
+  ];
+  ends = cause.ends;
+}
+  where
+    more : v.faults < w.faults → (sum_of v.faults faults < sum_of w.faults more_faults) ⊎ (sum_of w.faults more_faults ≡ last_count)
+    more grew = elim (cases_lt (sum_of v.faults faults) (sum_of w.faults more_faults)) [
+      | inl less ↦ inl less
+      | inr same ↦ inr (omega arith)
+    ]
+
+-- one more fault of its own is a cause
+pub own_cause : (now : ℕ) (v : View) (faults lies : ℕ) (error : DevError) → HasCause now (counted v faults lies) (counted v (one_more faults) lies) (Err error)
+own_cause now v faults lies error = record {
+  failed = λ is. elim (cases_lt (sum_of v.faults faults) (sum_of v.faults (one_more faults))) [
+    | inl less ↦ inl less
+    | inr same ↦ inr (omega arith)
+  ];
+  ends = λ end is. let never : ⊥ = cc in absurd never;
+}

@@ -1,7 +1,0 @@
-use Rattle.script_runner.specs.CallLaws.{on_error}
-use Rattle.dmlw.proofs.Failing.{fails_for_file}
-use Rattle.dmlw.proofs.record.record.Goals as goal
-
-pub returns-in_err-write-clause-faults : goal.returns-in_err-write-clause-faults
-returns-in_err-write-clause-faults g c =
-    on_error c.from_residual-in_err-write.result c.from_residual-in_err-write.ensures.1 (λ fault is. fails_for_file _ _ _ _ fault is)

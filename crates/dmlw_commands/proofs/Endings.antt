@@ -1,0 +1,101 @@
+use Rattle.std.proofs.Common.{◌≡◌, ◌∙◌, ℕ, List, Option, Result, Ok, Err, IfErr, ap, inl, inr, refl, subst, sym}
+use Rattle.std.specs.Io.KnownBytes.{Keeps}
+use Rattle.dmlw_commands.specs.declared.exit.Exit.{Exit}
+use Rattle.script_runner.specs.declared.error.RunError.{RunError}
+use Rattle.script_runner.specs.RunFaults.{EndsRun, close, file as by_file, logging}
+use Rattle.dmlw_commands.specs.Endings.{EndsRecording, EndsShowing}
+use Rattle.dmlw_commands.specs.Exits.{exit_by}
+use Rattle.dmlw_commands.specs.Files.{Write}
+use Rattle.dmlw_commands.specs.Lists.{Shows, ShowsFile}
+use Rattle.dmlw_commands.specs.Records.{FailsRecording, Records, PrintsLog, WritesLog, file, run as ran, text as unread}
+use Rattle.dmlw_script.specs.Plans.{Plan}
+use Rattle.dmlw_commands.proofs.Listing.{IsKept, shows_kept}
+use Rattle.script_runner.specs.CallLaws.{appends_kept, keeps_twice}
+
+-- why a run ended is kept
+run_kept : (text : List ℕ) (script : Plan) (old middle new : Option (List ℕ)) (fault : RunError) → EndsRun text script old middle fault
+    → Keeps middle new → EndsRun text script old new fault
+run_kept text script old middle new fault (by_file f is) kept = by_file f is
+run_kept text script old middle new fault (logging end is) kept = logging end (record {
+  failed = is.failed;
+  submitted = is.submitted;
+  output = appends_kept old middle new _ is.output kept;
+  cause = is.cause;
+})
+run_kept text script old middle new fault (close line refusal is) kept = close line refusal (record {
+  place = is.place;
+  failed = is.failed;
+  closes = is.closes;
+  first = is.first;
+  here = is.here;
+  submitted = is.submitted;
+  output = appends_kept old middle new _ is.output kept;
+  cause = is.cause;
+})
+
+-- why a recording failed is kept
+failure_kept : (contents old middle new : Option (List ℕ)) (fault : RunError) → FailsRecording contents old middle fault → Keeps middle new
+    → FailsRecording contents old new fault
+failure_kept contents old middle new fault (file f is) kept = file f is
+failure_kept contents old middle new fault (unread bytes line refusal read none first before) kept =
+    unread bytes line refusal read none first (keeps_twice old middle new before kept)
+failure_kept contents old middle new fault (ran bytes script f read spells ends) kept =
+    ran bytes script f read spells (run_kept bytes script old middle new f ends kept)
+
+-- what was printed before a log was asked for is kept
+prints_kept : (contents : Option (List ℕ)) (log : List ℕ) (writes_old writes_new : Option (List Write)) (old middle new : Option (List ℕ))
+    → PrintsLog contents log writes_old writes_new old middle → Keeps middle new → PrintsLog contents log writes_old writes_new old new
+prints_kept contents log writes_old writes_new old middle new (bytes, output, writes) kept = (
+  bytes,
+  record {
+    text = output.text;
+    script = output.script;
+    lines = output.lines;
+    read = output.read;
+    spelled = output.spelled;
+    made = output.made;
+    image = output.image;
+    run = output.run;
+    output = appends_kept old middle new _ output.output kept;
+  },
+  writes,
+)
+
+-- what recording has printed is kept
+records_kept : (contents : Option (List ℕ)) (log : List ℕ) (writes_old writes_new : Option (List Write)) (old middle new : Option (List ℕ))
+    (done : Result (Unit {0}) RunError) → Records contents log writes_old writes_new old middle done → Keeps middle new
+    → Records contents log writes_old writes_new old new done
+records_kept contents log writes_old writes_new old middle new (Ok u) prints kept =
+    prints_kept contents log writes_old writes_new old middle new prints kept
+records_kept contents log writes_old writes_new old middle new (Err fault) (inl same, fails) kept =
+    (inl same, failure_kept contents old middle new fault fails kept)
+records_kept contents log writes_old writes_new old middle new (Err fault) (inr (is, prints), fails) kept =
+    (inr (is, prints_kept contents log writes_old writes_new old middle new prints kept), failure_kept contents old middle new fault fails kept)
+
+-- what recording comes to, by the clauses of the call
+pub records_all : (contents : Option (List ℕ)) (log : List ℕ) (writes_old writes_new : Option (List Write)) (old new : Option (List ℕ))
+    (done : Result (Unit {0}) RunError) → WritesLog contents log writes_old writes_new old new done
+    → IfErr done (FailsRecording contents old new) → Records contents log writes_old writes_new old new done
+records_all contents log writes_old writes_new old new (Ok u) writes fails = writes
+records_all contents log writes_old writes_new old new (Err fault) writes fails = (writes, fails)
+
+-- how a recording ends
+pub recording_ends : (contents : Option (List ℕ)) (log : List ℕ) (writes_old writes_new : Option (List Write)) (old middle new : Option (List ℕ))
+    (done : Result (Unit {0}) RunError) (exit : Exit) → Records contents log writes_old writes_new old middle done → Keeps middle new
+    → exit ≡ exit_by done → EndsRecording contents log writes_old writes_new old new exit
+recording_ends contents log writes_old writes_new old middle new done exit records kept exits = record {
+  done = done;
+  recorded = records_kept contents log writes_old writes_new old middle new done records kept;
+  exits = exits;
+}
+
+-- how a command on the image in a file ends
+pub showing_ends : (shows : Shows) (stable : IsKept shows) (contents : Option (List ℕ)) (writes_old writes_new : Option (List Write))
+    (old middle new : Option (List ℕ)) (done : Result (Unit {0}) RunError) (exit : Exit) → ShowsFile shows contents old middle done
+    → Keeps middle new → writes_new ≡ writes_old → exit ≡ exit_by done → EndsShowing shows contents writes_old writes_new old new exit
+showing_ends shows stable contents writes_old writes_new old middle new done exit shown kept unwritten exits = record {
+  unwritten = unwritten;
+  done = done;
+  shown = shows_kept shows stable contents old middle new done shown kept;
+  exits = exits;
+}

@@ -1,0 +1,121 @@
+-- How the recording of the script in a file ends.
+use Rattle.std.proofs.Common.{◌≡◌, ◌∙◌, ℕ, ◌++◌, Err, IfErr, IfOk, List, None, Ok, Option, Result, Some, ap, inl, inr, refl, subst, sym}
+use Rattle.std.specs.Io.KnownBytes.{Appends}
+use Rattle.std.specs.declared.io.ErrorKind.{ErrorKind}
+use Rattle.std.specs.declared.io.ErrorKind.TheVariants as kinds
+use Rattle.script_runner.specs.CallLaws.{appends_twice, keeps_same}
+use Rattle.bio.specs.declared.outcome.Status.{Status}
+use Rattle.refusals.specs.declared.fault.Fault.{Fault}
+use Rattle.dmlw_script.specs.Grammar.{IsTextOf}
+use Rattle.dmlw_script.specs.Plans.{Plan}
+use Rattle.dmlw_script.specs.Reading.{IsFaultOf, is_memory}
+use Rattle.script_runner.specs.declared.error.RunError.{RunError}
+use Rattle.script_runner.specs.declared.error.RunError.TheVariants.{Refused}
+use Rattle.script_runner.specs.declared.fill.Filled.{Filled}
+use Rattle.script_runner.specs.Errors.{IsFileError, io_refusal, refused_by}
+use Rattle.script_runner.specs.RunFaults.{EndsRun}
+use Rattle.dmlw_commands.specs.declared.files.FileError.{FileError}
+use Rattle.dmlw_commands.specs.declared.files.FileError.TheVariants as errors
+use Rattle.dmlw_commands.specs.FileErrors.{file_refusal}
+use Rattle.dmlw_commands.specs.Files.{MatchesContents}
+use Rattle.dmlw_commands.specs.Records.{FailsRecording, IsPrintedLog, IsScriptLog, file, run as run_fails, status_line, text as unread}
+
+-- a file's error is printed as such
+file_told : (error : FileError) → IsFileError (refused_by (file_refusal error))
+file_told errors.Unusable = inl refl
+file_told errors.Memory = inr refl
+
+-- recording ended by a file's error
+pub fails_for_file : (contents before after : Option (List ℕ)) (error : FileError) (fault : RunError) → fault ≡ refused_by (file_refusal error)
+    → FailsRecording contents before after fault
+fails_for_file contents before after error fault is = file fault (subst IsFileError (sym is) (file_told error))
+
+-- an output's error is printed as such
+io_shown : (kind : ErrorKind) → IsFileError (refused_by (io_refusal kind))
+io_shown kinds.OutOfMemory = inr refl
+io_shown _ = inl refl
+
+-- recording ended by an error of the output
+pub fails_for_output : (contents before after : Option (List ℕ)) (kind : ErrorKind) (fault : RunError) → fault ≡ refused_by (io_refusal kind)
+    → FailsRecording contents before after fault
+fails_for_output contents before after kind fault is = file fault (subst IsFileError (sym is) (io_shown kind))
+
+-- recording ended since no script was read
+pub fails_unread : (contents before : Option (List ℕ)) (bytes text : List ℕ) (error : Fault) (fault : RunError) → MatchesContents contents bytes
+    → text ≡ bytes → IsFaultOf text error error.line → ((plan : Plan) → IsTextOf text plan → error ≡ is_memory)
+    → fault ≡ Refused error → FailsRecording contents before before fault
+fails_unread contents before bytes text error fault is same wrong only output =
+    subst (FailsRecording contents before before) (sym output)
+    (by_line error.line refl (subst (λ (all : List ℕ). IsFaultOf all error error.line) same wrong))
+  where
+    by_line : (line : Option ℕ) → error.line ≡ line → IsFaultOf bytes error line
+        → FailsRecording contents before before (Refused (record { line = line; refusal = error.refusal }))
+    by_line None here memory = file _ (inr (ap (λ (e : Fault). Refused (record { line = None; refusal = e.refusal })) memory))
+    by_line (Some number) here first = unread bytes number error.refusal is
+        (λ plan spells.
+        let memory = only plan (subst (λ (all : List ℕ). IsTextOf all plan) (sym same) spells) in
+        absurd (cc (ap (λ (e : Fault). e.line) memory, here))) first (keeps_same before)
+
+-- recording ended by an error of the output's
+pub fails_to_tell : (contents before after : Option (List ℕ)) (told fault : RunError) → IsFileError told → fault ≡ told
+    → FailsRecording contents before after fault
+fails_to_tell contents before after told fault is same = file fault (subst IsFileError (sym same) is)
+
+-- recording ended by a fault of the script's run
+pub fails_run : (before after : Option (List ℕ)) (text : List ℕ) (plan : Plan) (fault again : RunError) → IsTextOf text plan
+    → EndsRun text plan before after fault → again ≡ fault → FailsRecording (Some text) before after again
+fails_run before after text plan fault again spells ends same =
+    subst (FailsRecording (Some text) before after) (sym same) (run_fails text plan fault refl spells ends)
+
+-- what failed of a text that is a file's failed of the file
+pub fails_of_file : (contents before after : Option (List ℕ)) (text : List ℕ) (fault : RunError) → MatchesContents contents text
+    → FailsRecording (Some text) before after fault → FailsRecording contents before after fault
+fails_of_file contents before after text fault is (file f by) = file f by
+fails_of_file contents before after text fault is (unread bytes line refusal same none first kept) =
+    unread bytes line refusal (subst (MatchesContents contents) (sym same) is) none first kept
+fails_of_file contents before after text fault is (run_fails bytes plan f same spells ends) =
+    run_fails bytes plan f (subst (MatchesContents contents) (sym same) is) spells ends
+
+-- what a script prints was printed, and then the status of its log
+pub status_printed : (before ran now : Option (List ℕ)) (lines : List ℕ) (status other : Status) → Appends before ran lines
+    → Appends ran now (status_line status) → status ≡ other → Appends before now (lines ++ status_line other)
+status_printed before ran now lines status other first second are =
+    subst (λ (more : Status). Appends before now (lines ++ status_line more)) are
+    (appends_twice before ran now lines (status_line status) first second)
+
+-- the log of a text that is a file's is the log of the file's script
+pub log_of_text : (contents : Option (List ℕ)) (items text : List ℕ) (r : Result Filled RunError) → MatchesContents contents items → text ≡ items
+    → IfOk r (λ filled. IsScriptLog (Some text) filled.image.items) → IfOk r (λ filled. IsScriptLog contents filled.image.items)
+log_of_text contents items text (Ok filled) is same log = record {
+  text = log.text;
+  script = log.script;
+  read = subst (MatchesContents contents) (sym same ∙ sym log.read) is;
+  spelled = log.spelled;
+  made = log.made;
+  image = log.image;
+}
+log_of_text contents items text (Err fault) is same log = log
+
+-- what was printed of a text that is a file's was printed of the file's script
+pub printed_of_text : (contents : Option (List ℕ)) (items text : List ℕ) (before after : Option (List ℕ)) (r : Result Filled RunError)
+    → MatchesContents contents items → text ≡ items → IfOk r (λ filled. IsPrintedLog (Some text) filled.image.items before after)
+    → IfOk r (λ filled. IsPrintedLog contents filled.image.items before after)
+printed_of_text contents items text before after (Ok filled) is same log = record {
+  text = log.text;
+  script = log.script;
+  lines = log.lines;
+  read = subst (MatchesContents contents) (sym same ∙ sym log.read) is;
+  spelled = log.spelled;
+  made = log.made;
+  image = log.image;
+  run = log.run;
+  output = log.output;
+}
+printed_of_text contents items text before after (Err fault) is same log = log
+
+-- what failed of a text that is a file's failed of the file's script
+pub fails_of_text : (contents : Option (List ℕ)) (items text : List ℕ) (before after : Option (List ℕ)) (r : Result Filled RunError)
+    → MatchesContents contents items → text ≡ items → IfErr r (FailsRecording (Some text) before after) → IfErr r (FailsRecording contents before after)
+fails_of_text contents items text before after (Ok filled) is same fails = fails
+fails_of_text contents items text before after (Err fault) is same fails =
+    fails_of_file contents before after text fault (subst (MatchesContents contents) (sym same) is) fails

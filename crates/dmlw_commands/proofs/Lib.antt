@@ -1,0 +1,3 @@
+pub mod Listing
+pub mod Failing
+pub mod Endings

@@ -1,0 +1,12 @@
+use Rattle.std.proofs.Common.{inl}
+use Rattle.script_runner.specs.CallLaws.{on_error}
+use Rattle.dmlw_commands.proofs.Failing.{fails_for_file}
+use Rattle.dmlw_commands.specs.Records.{file}
+use Rattle.dmlw_commands.proofs.record.record_script.Goals as goal
+
+pub returns-in_err-write-clause-faults : goal.returns-in_err-write-clause-faults
+returns-in_err-write-clause-faults g c =
+    on_error c.from_residual-in_err-write.result c.from_residual-in_err-write.ensures.1 (λ fault is. fails_for_file _ _ _ _ fault is)
+
+pub returns-then-is_same-clause-faults : goal.returns-then-is_same-clause-faults
+returns-then-is_same-clause-faults g c = file c.from.result (inl c.from.ensures)

@@ -1,0 +1,16 @@
+use Rattle.std.specs.declared.io.ErrorKind.{ErrorKind}
+use Rattle.std.specs.declared.io.ErrorKind.TheVariants as kinds
+use Rattle.refusals.specs.declared.refusal.Refusal.{Refusal}
+use Rattle.refusals.specs.declared.refusal.Refusal.TheVariants as refusals
+use Rattle.dmlw_commands.specs.declared.files.FileError.{FileError}
+use Rattle.dmlw_commands.specs.declared.files.FileError.TheVariants.{Unusable, Memory}
+
+-- the error of a call on a file that failed for this kind of reason
+abbrev pub file_error : ErrorKind → FileError
+file_error kinds.OutOfMemory = Memory
+file_error _ = Unusable
+
+-- the refusal that a file's error is shown by
+abbrev pub file_refusal : FileError → Refusal
+file_refusal Unusable = refusals.File
+file_refusal Memory = refusals.Memory

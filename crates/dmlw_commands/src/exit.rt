@@ -1,0 +1,42 @@
+ghost use Rattle.std.specs.Prelude.{◌≡◌};
+ghost use Rattle.dmlw_commands.specs.Exits.{exit_of, status_of};
+
+use script_runner::RunError;
+
+/// How a command ended.
+#[derive(Clone, Copy, Debug, PartialEq, Eq)]
+pub enum Exit {
+    /// It did what it was asked.
+    Done,
+    /// It was refused.
+    Refused,
+    /// The command line isn't one of the program's.
+    Usage,
+    /// Logging ended before its time.
+    LoggingEnded,
+}
+
+impl Exit {
+    /// The exit status, from 0 to 3.
+    pub fn status(self) -> u8
+        ensures { result ≡ status_of self }
+    {
+        match self {
+            Exit::Done => 0,
+            Exit::Refused => 1,
+            Exit::Usage => 2,
+            Exit::LoggingEnded => 3,
+        }
+    }
+}
+
+impl From<RunError> for Exit {
+    ghost from_gives = { λ fault exit. exit ≡ exit_of fault };
+
+    fn from(fault: RunError) -> Exit {
+        match fault {
+            RunError::Refused(_) => Exit::Refused,
+            RunError::LoggingEnded(_) => Exit::LoggingEnded,
+        }
+    }
+}

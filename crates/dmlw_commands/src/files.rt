@@ -1,0 +1,80 @@
+ghost use Rattle.std.specs.Prelude.{◌≡◌, ◌≤◌, IfErr, IfOk, List, OnErr, OnOk, Option, true, vec_len, ℕ};
+ghost use Rattle.std.specs.IoError.{error_kind};
+ghost use Rattle.script_runner.specs.Errors.{refused_by};
+ghost use Rattle.dmlw_commands.specs.Files.{IsWithin, KeepsFiles, MatchesContents, Write, one_more};
+ghost use Rattle.dmlw_commands.specs.FileErrors.{file_error, file_refusal};
+
+use refusals::Refusal;
+use script_runner::RunError;
+use std::alloc::Global;
+use std::io;
+use thiserror::Error;
+
+/// Why a file wasn't read or written.
+#[derive(Clone, Copy, Debug, PartialEq, Eq, Error)]
+pub enum FileError {
+    /// It can't be opened, read or written, or it is too long.
+    #[error("the file can't be read or written, or is too long")]
+    Unusable,
+    /// There was no memory for it.
+    #[error("no memory for the file")]
+    Memory,
+}
+
+impl From<io::Error> for FileError {
+    ghost from_gives = { λ io_error error. error ≡ file_error (error_kind io_error) };
+
+    fn from(error: io::Error) -> FileError {
+        match error.kind() {
+            io::ErrorKind::OutOfMemory => FileError::Memory,
+            _ => FileError::Unusable,
+        }
+    }
+}
+
+impl From<FileError> for Refusal {
+    ghost from_gives = { λ error refusal. refusal ≡ file_refusal error };
+
+    fn from(error: FileError) -> Refusal {
+        match error {
+            FileError::Unusable => Refusal::File,
+            FileError::Memory => Refusal::Memory,
+        }
+    }
+}
+
+impl From<FileError> for RunError {
+    ghost from_gives = { λ error fault. fault ≡ refused_by (file_refusal error) };
+
+    fn from(error: FileError) -> RunError {
+        RunError::from(Refusal::from(error))
+    }
+}
+
+/// The files that a command reads and writes, by name.
+pub trait Files {
+    /// What the file of a name holds, where it is known.
+    ghost contents: { Self → List ℕ → Option (List ℕ) };
+
+    /// The writes that were asked for, in order, where they are known.
+    ghost writes: { Self → Option (List Write) };
+
+    /// The whole of a file of at most `limit` bytes. A longer file is refused; where a file's bytes are
+    /// known and aren't too many, only memory can refuse it.
+    fn read(&mut self, alloc: Global, name: &str, limit: u64) -> Result<Vec<u8>, FileError>
+        ensures contents { IfOk result (λ bytes. MatchesContents (contents self.old name.now) bytes.items) }
+        ensures within { IfOk result (λ bytes. vec_len bytes ≤ limit) }
+        ensures readable { IsWithin limit (contents self.old name.now) → IfErr result (λ error. error ≡ FileError.Memory) }
+        ensures kept { KeepsFiles (contents self.old) (contents self.new) }
+        ensures writes { writes self.new ≡ writes self.old };
+
+    /// Makes the file hold these bytes and no others, or, where it fails, leaves each file as it was.
+    fn write(&mut self, alloc: Global, name: &str, bytes: &[u8]) -> Result<(), FileError>
+        ensures holds { OnOk result (MatchesContents (contents self.new name.now) bytes.now) }
+        ensures kept { OnErr result (KeepsFiles (contents self.old) (contents self.new)) }
+        ensures writes { writes self.new ≡ one_more (writes self.old) name.now bytes.now };
+
+    /// Whether both names are those of one file.
+    fn is_same(&self, first: &str, second: &str) -> bool
+        ensures { first.now ≡ second.now → result ≡ true };
+}

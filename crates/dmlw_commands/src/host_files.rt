@@ -1,0 +1,159 @@
+ghost use Rattle.std.specs.Prelude.{None};
+
+use crate::files::{FileError, Files};
+use std::alloc::Global;
+use std::fs::{File, OpenFile, OpenOptions, Permissions};
+use std::io::{Read, Write};
+use std::os::unix::fs::MetadataExt;
+use std::{fs, io};
+
+// How many names are tried for the file beside a log.
+const MAX_BESIDE: u32 = 1000;
+
+/// The system's files. No clause knows what they hold.
+///
+/// A regular file is written whole or not at all: beside it, as `NAME.dmlw-tmp-<n>`, and then renamed over
+/// it. A link stays, and the file that it leads to is replaced. A pipe or a device, and any name in `/dev/`,
+/// is written as it is, after what it holds.
+#[derive(Drop)]
+pub struct HostFiles<'a, R: std::rt::Files> {
+    runtime: &'a R,
+}
+
+impl<'a, R: std::rt::Files> HostFiles<'a, R> {
+    pub fn new(runtime: &'a R) -> HostFiles<'a, R> {
+        HostFiles { runtime }
+    }
+}
+
+impl<R: std::rt::Files> Files for HostFiles<'_, R> {
+    ghost contents = { λ _ _. None };
+
+    ghost writes = { λ _. None };
+
+    fn read(&mut self, alloc: Global, name: &str, limit: u64) -> Result<Vec<u8>, FileError> {
+        let file = fs::open(self.runtime, name)?;
+        let room = file.metadata()?.len().min(limit);
+        let mut bytes = Vec::with_capacity(alloc, room as usize).map_err(io::Error::from)?;
+        // One byte more than the limit says a file that is too long.
+        file.take(limit.saturating_add(1)).read_to_end(&mut bytes)?;
+        if bytes.len() as u64 > limit {
+            return Err(FileError::Unusable);
+        }
+        Ok(bytes)
+    }
+
+    fn write(&mut self, alloc: Global, name: &str, bytes: &[u8]) -> Result<(), FileError> {
+        Ok(write_file(self.runtime, alloc, name, bytes)?)
+    }
+
+    fn is_same(&self, first: &str, second: &str) -> bool {
+        if first == second {
+            return true;
+        }
+        match (
+            fs::metadata(self.runtime, first),
+            fs::metadata(self.runtime, second),
+        ) {
+            (Ok(one), Ok(other)) => one.dev() == other.dev() && one.ino() == other.ino(),
+            _ => false,
+        }
+    }
+}
+
+// Writes the file of a name, as what stands there asks for.
+fn write_file<R: std::rt::Files>(
+    runtime: &R,
+    alloc: Global,
+    name: &str,
+    bytes: &[u8],
+) -> io::Result<()> {
+    if name.starts_with("/dev/") {
+        return write_through(runtime, name, bytes);
+    }
+    match fs::metadata(runtime, name) {
+        Ok(found) if found.is_file() => {
+            let target = runtime.canonicalize(alloc, name)?;
+            replace(
+                runtime,
+                alloc,
+                target.as_str(),
+                Some(found.permissions()),
+                bytes,
+            )
+        }
+        Ok(_) => write_through(runtime, name, bytes),
+        Err(error) => {
+            // A link that leads nowhere has a name, and no file.
+            if error.kind() != io::ErrorKind::NotFound
+                || fs::symlink_metadata(runtime, name).is_ok()
+            {
+                return Err(error);
+            }
+            replace(runtime, alloc, name, None, bytes)
+        }
+    }
+}
+
+// Writes to what has no length of its own, as a pipe or a device.
+fn write_through<R: std::rt::Files>(runtime: &R, name: &str, bytes: &[u8]) -> io::Result<()> {
+    let mut file = OpenOptions::new().append(true).open(runtime, name)?;
+    file.write_all(bytes)
+}
+
+// Makes a regular file hold these bytes, or leaves it as it was.
+fn replace<R: std::rt::Files>(
+    runtime: &R,
+    alloc: Global,
+    target: &str,
+    permissions: Option<Permissions>,
+    bytes: &[u8],
+) -> io::Result<()> {
+    let (beside, file) = create_beside(runtime, alloc, target)?;
+    let mut done = fill::<R>(file, permissions, bytes);
+    if done.is_ok() {
+        done = fs::rename(runtime, beside.as_str(), target);
+    }
+    if done.is_err() {
+        let _ = fs::remove_file(runtime, beside.as_str());
+    }
+    done
+}
+
+// A new file beside another one, and its name, which nobody else has.
+fn create_beside<R: std::rt::Files>(
+    runtime: &R,
+    alloc: Global,
+    target: &str,
+) -> io::Result<(String, R::File)> {
+    for number in 0..MAX_BESIDE {
+        let beside = format!(in alloc; "{target}.dmlw-tmp-{number}")?;
+        match File::create_new(runtime, beside.as_str()) {
+            Ok(file) => return Ok((beside, file)),
+            Err(error) => {
+                if error.kind() != io::ErrorKind::AlreadyExists {
+                    return Err(error);
+                }
+            }
+        }
+    }
+    Err(io::Error::from(io::ErrorKind::AlreadyExists))
+}
+
+// Writes a new file, and sees it on the disk. Zeroes at its end take no time and no room.
+fn fill<R: std::rt::Files>(
+    file: R::File,
+    permissions: Option<Permissions>,
+    bytes: &[u8],
+) -> io::Result<()> {
+    let mut file = file;
+    let used = bytes.iter().rposition(|byte| *byte != 0);
+    if let Some(last) = used {
+        file.write_all(bytes.get(..=last).unwrap_or(bytes))?;
+    }
+    file.set_len(bytes.len() as u64)?;
+    if let Some(permissions) = permissions {
+        let _ = file.set_permissions(permissions);
+    }
+    file.sync_all()
+}

@@ -1,0 +1,29 @@
+ghost use Rattle.std.specs.Prelude.{◌≡◌, IfErr, IfOk};
+ghost use Rattle.script_runner.specs.Errors.{IsFileError};
+ghost use Rattle.dmlw_commands.specs.Files.{KeepsFiles, MatchesContents};
+ghost use Rattle.dmlw_commands.specs.Lists.{IsImage};
+
+use crate::files::Files;
+use refusals::Refusal;
+use script_runner::RunError;
+use sectors::SECTOR_BYTES;
+use std::alloc::Global;
+
+/// The most bytes of an image: those of 1,048,576 sectors.
+pub const MAX_IMAGE_BYTES: u64 = 536_870_912;
+
+/// The image in the file of a name: whole sectors of 512 bytes, at least one. Any other file is
+/// refused with `File`, as is one that can't be read.
+pub fn read_image<F: Files>(alloc: Global, name: &str, files: &mut F) -> Result<Vec<u8>, RunError>
+    ensures contents { IfOk result (λ image. MatchesContents (F.contents files.old name.now) image.items) }
+    ensures whole { IfOk result (λ image. IsImage image.items) }
+    ensures fault { IfErr result IsFileError }
+    ensures kept { KeepsFiles (F.contents files.old) (F.contents files.new) }
+    ensures unwritten { F.writes files.new ≡ F.writes files.old }
+{
+    let image = files.read(alloc, name, MAX_IMAGE_BYTES)?;
+    if image.is_empty() || image.len() as u64 % SECTOR_BYTES != 0 {
+        return Err(RunError::from(Refusal::File));
+    }
+    Ok(image)
+}

@@ -1,0 +1,26 @@
+//! The commands of dmlw, over files and writers of any kind.
+//!
+//! `record` runs a script by `script_runner`, and asks for its log to be written (`specs/Records`); `list`
+//! and `status` print what is read of an image (`specs/Lists`). Each reports its fault and answers how it
+//! ended (`specs/Endings`). `Files` is what a command asks of a file system; `HostFiles` is the system's, of
+//! which no clause knows what it holds.
+#![tactic(auto)]
+
+pub use ending::{end, report};
+pub use exit::Exit;
+pub use files::{FileError, Files};
+pub use host_files::HostFiles;
+pub use image::MAX_IMAGE_BYTES;
+pub use output::Output;
+
+mod ending;
+mod exit;
+mod files;
+mod host_files;
+mod image;
+pub mod list;
+mod output;
+pub mod record;
+pub mod status;
+#[cfg(test)]
+mod tests;

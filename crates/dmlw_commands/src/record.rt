@@ -1,0 +1,134 @@
+ghost use Rattle.std.specs.Prelude.{◌≡◌, ◌≤◌, IfErr, IfOk, OnErr, OnOk, Some, length};
+ghost use Rattle.std.specs.Io.KnownBytes.{Appends};
+ghost use Rattle.script_runner.specs.Errors.{IsFileError};
+ghost use Rattle.dmlw_script.specs.Grammar.{IsTextOf};
+ghost use Rattle.dmlw_commands.specs.Endings.{EndsRecording};
+ghost use Rattle.dmlw_commands.specs.Files.{IsWithin, KeepsFiles, MatchesContents};
+ghost use Rattle.dmlw_commands.specs.Records.{FailsRecording, IsScriptLog, IsPrintedLog, WritesLog, status_line};
+
+use crate::ending::end;
+use crate::exit::Exit;
+use crate::files::{FileError, Files};
+use bio::Status;
+use dmlw_script::{Kind, Script, read_script};
+use refusals::Refusal;
+use script_runner::{Filled, RunError, run};
+use std::alloc::Global;
+use std::io::Write;
+
+/// The most bytes of a script.
+pub const MAX_SCRIPT_BYTES: u64 = 4_194_304;
+
+/// Does `record SCRIPT LOG`: records the requests of a script in a new log, and answers how it ended.
+/// `script` and `log` are names of files. What there is to print goes to `out` before the log is
+/// written; a fault is reported to `err`.
+pub fn record<F: Files, O: Write, E: Write>(
+    alloc: Global,
+    script: &str,
+    log: &str,
+    files: &mut F,
+    out: &mut O,
+    err: &mut E,
+) -> Exit
+    ensures ends { EndsRecording (F.contents files.old script.now) log.now (F.writes files.old) (F.writes files.new)
+        (O.contents out.old) (O.contents out.new) result }
+    // Unless it is done each file holds what it held, and a script isn't written over.
+    ensures kept { (result ≡ Exit.Done → ⊥) → KeepsFiles (F.contents files.old) (F.contents files.new) }
+    ensures apart { script.now ≡ log.now → F.writes files.new ≡ F.writes files.old }
+    ensures quiet { result ≡ Exit.Done → E.contents err.new ≡ E.contents err.old }
+{
+    let recorded = record_script(alloc, script, log, files, out);
+    end(alloc, recorded, out, err)
+}
+
+// Runs the script in a file, and writes its log.
+fn record_script<F: Files, O: Write>(
+    alloc: Global,
+    script: &str,
+    log: &str,
+    files: &mut F,
+    out: &mut O,
+) -> Result<(), RunError>
+    ensures log { WritesLog (F.contents files.old script.now) log.now (F.writes files.old) (F.writes files.new)
+        (O.contents out.old) (O.contents out.new) result }
+    ensures faults { IfErr result
+        (FailsRecording (F.contents files.old script.now) (O.contents out.old) (O.contents out.new)) }
+    ensures kept { OnErr result (KeepsFiles (F.contents files.old) (F.contents files.new)) }
+    ensures apart { script.now ≡ log.now → F.writes files.new ≡ F.writes files.old }
+{
+    if files.is_same(script, log) {
+        return Err(RunError::from(Refusal::File));
+    }
+    let filled = run_file(alloc, script, files, out)?;
+    files.write(alloc, log, &filled.image)?;
+    Ok(())
+}
+
+// Runs the script in a file, and prints what happens and how far its log has come.
+fn run_file<F: Files, O: Write>(
+    alloc: Global,
+    script: &str,
+    files: &mut F,
+    out: &mut O,
+) -> Result<Filled, RunError>
+    ensures log { IfOk result (λ filled. IsScriptLog (F.contents files.old script.now) filled.image.items) }
+    ensures printed { IfOk result (λ filled. IsPrintedLog (F.contents files.old script.now) filled.image.items
+        (O.contents out.old) (O.contents out.new)) }
+    ensures faults { IfErr result
+        (FailsRecording (F.contents files.old script.now) (O.contents out.old) (O.contents out.new)) }
+    ensures kept { KeepsFiles (F.contents files.old) (F.contents files.new) }
+    ensures unwritten { F.writes files.new ≡ F.writes files.old }
+{
+    let text = read_text(alloc, script, files)?;
+    run_text(alloc, &text, out)
+}
+
+// The text in a script's file.
+fn read_text<F: Files>(alloc: Global, script: &str, files: &mut F) -> Result<Vec<u8>, FileError>
+    ensures contents { IfOk result (λ text. MatchesContents (F.contents files.old script.now) text.items) }
+    ensures within { IfOk result (λ text. length text.items ≤ 4194304) }
+    ensures readable { IsWithin 4194304 (F.contents files.old script.now) → IfErr result (λ error. error ≡ FileError.Memory) }
+    ensures kept { KeepsFiles (F.contents files.old) (F.contents files.new) }
+    ensures unwritten { F.writes files.new ≡ F.writes files.old }
+{
+    files.read(alloc, script, MAX_SCRIPT_BYTES)
+}
+
+// Runs the script that a text spells, and prints what happens and how far its log has come.
+fn run_text<O: Write>(alloc: Global, text: &[u8], out: &mut O) -> Result<Filled, RunError>
+    ensures log { IfOk result (λ filled. IsScriptLog (Some text.now) filled.image.items) }
+    ensures printed { IfOk result (λ filled. IsPrintedLog (Some text.now) filled.image.items
+        (O.contents out.old) (O.contents out.new)) }
+    ensures faults { IfErr result (FailsRecording (Some text.now) (O.contents out.old) (O.contents out.new)) }
+{
+    let script = read_script(alloc, text, Kind::Record)?;
+    run_script(alloc, text, &script, out)
+}
+
+// Runs a script, which was read from `text`, and prints what happens and how far its log has come.
+fn run_script<O: Write>(
+    alloc: Global,
+    text: &[u8],
+    script: &Script,
+    out: &mut O,
+) -> Result<Filled, RunError>
+    requires { IsTextOf text.now script.now }
+    ensures log { IfOk result (λ filled. IsScriptLog (Some text.now) filled.image.items) }
+    ensures printed { IfOk result (λ filled. IsPrintedLog (Some text.now) filled.image.items
+        (O.contents out.old) (O.contents out.new)) }
+    ensures faults { IfErr result (FailsRecording (Some text.now) (O.contents out.old) (O.contents out.new)) }
+{
+    let filled = run(alloc, text, script, out)?;
+    print_status(filled.status, out)?;
+    Ok(filled)
+}
+
+// Prints how far a log has come.
+fn print_status<O: Write>(status: Status, out: &mut O) -> Result<(), RunError>
+    ensures printed { OnOk result (Appends (O.contents out.old) (O.contents out.new) (status_line status)) }
+    ensures faults { IfErr result IsFileError }
+{
+    writeln!(out, "{status}")?;
+    out.flush()?;
+    Ok(())
+}

@@ -1,0 +1,445 @@
+ghost use Rattle.std.specs.Prelude.{None};
+
+use crate::list::list;
+use crate::record::record;
+use crate::status::status;
+use crate::{FileError, Files, Output};
+use std::alloc::{AllocError, Global};
+use std::io;
+use std::io::Write;
+use std::test::Fail;
+
+mod host;
+mod reading;
+
+// The files "script" and "image" can be read, and the file "log" written.
+#[derive(Drop)]
+struct FakeFiles<'a> {
+    bytes: &'a [u8],
+    // How many bytes it takes to hold the file that is read.
+    length: u64,
+    log: Option<Vec<u8>>,
+}
+
+impl<'a> FakeFiles<'a> {
+    fn new(bytes: &'a [u8]) -> FakeFiles<'a> {
+        FakeFiles {
+            bytes,
+            length: bytes.len() as u64,
+            log: None,
+        }
+    }
+}
+
+impl Files for FakeFiles<'_> {
+    ghost contents = { λ _ _. None };
+
+    ghost writes = { λ _. None };
+
+    fn read(&mut self, alloc: Global, name: &str, limit: u64) -> Result<Vec<u8>, FileError> {
+        let is_known = name == "script" || name == "image";
+        if !is_known || self.length.max(self.bytes.len() as u64) > limit {
+            return Err(FileError::Unusable);
+        }
+        Vec::from_slice(alloc, self.bytes).map_err(|_| FileError::Memory)
+    }
+
+    fn write(&mut self, alloc: Global, name: &str, bytes: &[u8]) -> Result<(), FileError> {
+        if name != "log" {
+            return Err(FileError::Unusable);
+        }
+        let bytes = Vec::from_slice(alloc, bytes).map_err(|_| FileError::Memory)?;
+        self.log = Some(bytes);
+        Ok(())
+    }
+
+    fn is_same(&self, first: &str, second: &str) -> bool {
+        first == second
+    }
+}
+
+// A writer that has room for so many bytes.
+#[derive(Drop)]
+struct Narrow {
+    room: usize,
+}
+
+impl Write for Narrow {
+    fn write(&mut self, buf: &[u8]) -> io::Result<usize> {
+        let count = buf.len().min(self.room);
+        self.room -= count;
+        Ok(count)
+    }
+
+    fn flush(&mut self) -> io::Result<()> {
+        Ok(())
+    }
+}
+
+// A writer that takes what it is given, and can't be flushed.
+#[derive(Drop)]
+struct Unflushed;
+
+impl Write for Unflushed {
+    fn write(&mut self, buf: &[u8]) -> io::Result<usize> {
+        Ok(buf.len())
+    }
+
+    fn flush(&mut self) -> io::Result<()> {
+        Err(io::Error::from(io::ErrorKind::Other))
+    }
+}
+
+// A writer that fails so, once it has taken so many bytes.
+#[derive(Drop)]
+struct Failing {
+    room: usize,
+    kind: io::ErrorKind,
+}
+
+impl Write for Failing {
+    fn write(&mut self, buf: &[u8]) -> io::Result<usize> {
+        let count = buf.len().min(self.room);
+        if count == 0 {
+            return Err(io::Error::from(self.kind));
+        }
+        self.room -= count;
+        Ok(count)
+    }
+
+    fn flush(&mut self) -> io::Result<()> {
+        Ok(())
+    }
+}
+
+// A writer that counts its writes.
+#[derive(Drop)]
+struct Counted {
+    writes: usize,
+}
+
+impl Write for Counted {
+    fn write(&mut self, buf: &[u8]) -> io::Result<usize> {
+        self.writes = self.writes.saturating_add(1);
+        Ok(buf.len())
+    }
+
+    fn flush(&mut self) -> io::Result<()> {
+        Ok(())
+    }
+}
+
+// The command that words name, after the program's name, with its status.
+fn execute<O: Write, E: Write>(
+    alloc: Global,
+    words: &[&str],
+    files: &mut FakeFiles<'_>,
+    out: &mut O,
+    err: &mut E,
+) -> u8 {
+    let command = words.get(1).copied().unwrap_or_default();
+    let first = words.get(2).copied().unwrap_or_default();
+    let exit = if command == "record" {
+        let log = words.get(3).copied().unwrap_or_default();
+        record(alloc, first, log, files, out, err)
+    } else if command == "list" {
+        list(alloc, first, files, out, err)
+    } else {
+        status(alloc, first, files, out, err)
+    };
+    exit.status()
+}
+
+// What a command did.
+#[derive(Debug, Drop)]
+struct Ran {
+    status: u8,
+    out: Vec<u8>,
+    err: Vec<u8>,
+    log: Option<Vec<u8>>,
+}
+
+impl Ran {
+    // The status, and what was printed.
+    fn is(&self, status: u8, out: &str, err: &str) -> bool {
+        self.status == status
+            && self.out.as_slice() == out.as_bytes()
+            && self.err.as_slice() == err.as_bytes()
+    }
+}
+
+fn run(alloc: Global, words: &[&str], bytes: &[u8]) -> Ran {
+    let mut files = FakeFiles::new(bytes);
+    let mut out = Vec::new(alloc);
+    let mut err = Vec::new(alloc);
+    let status = execute(alloc, words, &mut files, &mut out, &mut err);
+    let log = files.log.take();
+    Ran {
+        status,
+        out,
+        err,
+        log,
+    }
+}
+
+fn recorded(alloc: Global, script: &[u8]) -> Ran {
+    run(alloc, &["dmlw", "record", "script", "log"], script)
+}
+
+// The bytes at these places of an image of 32 sectors, and zeroes between them.
+fn image(alloc: Global, pieces: &[(usize, &[u8])]) -> Result<Vec<u8>, AllocError> {
+    let mut image = Vec::with_capacity(alloc, 16_384)?;
+    for (place, bytes) in pieces {
+        image.resize(*place, 0)?;
+        image.extend_from_slice(*bytes)?;
+    }
+    image.resize(16_384, 0)?;
+    Ok(image)
+}
+
+const FIRST: &str = "data 16\nlog 32\nw a 5 1 41\nc a\nf b\nc b\nclose\n";
+
+// The front of a super block: the magic number and the version.
+const SUPER: &[u8] = b"rhswfsj\0\x01\0\0\0\0\0\0\0";
+
+const SECTOR_SIZE: &[u8] = &[0, 2, 0, 0];
+
+// The flags, the text's length and the text of the mark that ends a log.
+const END_MARK: &[u8] = b"\x08\0\0\0\0\0\0\0\x11\0\0\0\0\0\0\0dm-log-writes-end";
+
+#[test]
+fn records_the_first_run(rt: HostRuntime) -> Result<(), Fail> {
+    let alloc = rt.alloc();
+    let ran = recorded(alloc, FIRST.as_bytes());
+    assert!(rt; ran.is(0, "a ok\nb ok\n3 4\n", ""));
+    let pieces = [
+        (0, SUPER),
+        (16, [3].as_slice()),
+        (24, SECTOR_SIZE),
+        (512, [5, 0, 0, 0, 0, 0, 0, 0, 1].as_slice()),
+        (1024, [0x41; 512].as_slice()),
+        (1552, [1].as_slice()),
+        (2064, END_MARK),
+    ];
+    assert!(rt; ran.log.ok_or("a log")?.as_slice() == image(alloc, pieces.as_slice())?.as_slice());
+    Ok(())
+}
+
+#[test]
+fn splices_in_the_order_of_ends(rt: HostRuntime) -> Result<(), Fail> {
+    let alloc = rt.alloc();
+    let script =
+        "data 64\nlog 32\nw w1 10 1 11\nw w2 20 1 22\nw w3 30 1 33\nc w3\nc w2\nf wf\nc w1\nc wf\nclose\n";
+    let ran = recorded(alloc, script.as_bytes());
+    assert!(rt; ran.is(0, "w3 ok\nw2 ok\nw1 ok\nwf ok\n5 8\n", ""));
+    let pieces = [
+        (0, SUPER),
+        (16, [5].as_slice()),
+        (24, SECTOR_SIZE),
+        (512, [30, 0, 0, 0, 0, 0, 0, 0, 1].as_slice()),
+        (1024, [0x33; 512].as_slice()),
+        (1536, [20, 0, 0, 0, 0, 0, 0, 0, 1].as_slice()),
+        (2048, [0x22; 512].as_slice()),
+        (2576, [1].as_slice()),
+        (3072, [10, 0, 0, 0, 0, 0, 0, 0, 1].as_slice()),
+        (3584, [0x11; 512].as_slice()),
+        (4112, END_MARK),
+    ];
+    assert!(rt; ran.log.ok_or("a log")?.as_slice() == image(alloc, pieces.as_slice())?.as_slice());
+    Ok(())
+}
+
+#[test]
+fn answers_scripts(rt: HostRuntime) {
+    let table = [
+        // A log of an end mark alone, of nothing, and of nothing placed.
+        ("data 16\nlog 32\nclose", 0, "1 1\n", ""),
+        ("data 16\nlog 32\nw a 5 1 41\nc a\n", 0, "a ok\n0 0\n", ""),
+        ("data 16\nlog 1\n# comment\n\nw a 0 1 00\n", 0, "0 0\n", ""),
+        // A close with an open request.
+        (
+            "data 16\nlog 32\nw a 5 1 41\nclose\n",
+            1,
+            "",
+            "dmlw: line 4: 24 Busy\n",
+        ),
+        (
+            "data 16\nlog 32\nw a 5 1 41\nc a\n#\n\nf b\nclose\n",
+            1,
+            "a ok\n",
+            "dmlw: line 8: 24 Busy\n",
+        ),
+        // Texts that are no scripts.
+        (
+            "data 16\nlog 32\nw a 16 1 41\n",
+            1,
+            "",
+            "dmlw: line 3: 3 PastEnd\n",
+        ),
+        (
+            "data 16\nlog 32\nd a 1 1\n",
+            1,
+            "",
+            "dmlw: line 3: 30 BadLine\n",
+        ),
+        (
+            "data 16\nlog 32\nw a 5 1 41\nc a\nc a\n",
+            1,
+            "",
+            "dmlw: line 5: 31 BadId\n",
+        ),
+        ("", 1, "", "dmlw: line 1: 30 BadLine\n"),
+        // A log that is one sector too short, and one that isn't.
+        (
+            "data 16\nlog 5\nw a 5 1 41\nc a\nf b\nc b\nclose\nf z\nc z\n",
+            3,
+            "a ok\nb ok\n",
+            "dmlw: 18 Full\n",
+        ),
+        (
+            "data 16\nlog 6\nw a 5 1 41\nc a\nf b\nc b\nclose\n",
+            0,
+            "a ok\nb ok\n3 4\n",
+            "",
+        ),
+        ("data 16\nlog 2\nclose\n", 3, "", "dmlw: 18 Full\n"),
+        // More than one close: the first counts.
+        ("data 16\nlog 32\nclose\nf a\nclose\n", 0, "1 1\n", ""),
+        (
+            "data 16\nlog 32\nf a\nclose\nc a\nclose\n",
+            1,
+            "",
+            "dmlw: line 4: 24 Busy\n",
+        ),
+        // Lines after a close.
+        (
+            "data 16\nlog 32\nclose\nw a 5 1 41\nc a\nclose\nf b\n",
+            0,
+            "a ok\n1 1\n",
+            "",
+        ),
+    ];
+    for (script, status, out, err) in table {
+        let ran = recorded(rt.alloc(), script.as_bytes());
+        assert!(rt; ran.is(status, out, err), "{script}: {ran:?}");
+        assert_eq!(rt; ran.log.is_some(), status == 0, "log of {script}");
+    }
+}
+
+#[test]
+fn refuses_files(rt: HostRuntime) -> Result<(), Fail> {
+    let alloc = rt.alloc();
+    let refused = "dmlw: 32 File\n";
+    let ran = run(alloc, &["dmlw", "record", "other", "log"], b"");
+    assert!(rt; ran.is(1, "", refused));
+    let ran = run(
+        alloc,
+        &["dmlw", "record", "script", "other"],
+        FIRST.as_bytes(),
+    );
+    assert!(rt; ran.is(1, "a ok\nb ok\n3 4\n", refused) && ran.log.is_none());
+    let ran = run(
+        alloc,
+        &["dmlw", "record", "script", "script"],
+        FIRST.as_bytes(),
+    );
+    assert!(rt; ran.is(1, "", refused) && ran.log.is_none());
+    let mut long = vec![in alloc; b'\n'; 4_194_305]?;
+    assert!(rt; recorded(alloc, &long).is(1, "", refused));
+    long.truncate(4_194_304);
+    assert!(rt; recorded(alloc, &long).is(1, "", "dmlw: line 4194305: 30 BadLine\n"));
+    Ok(())
+}
+
+#[test]
+fn refuses_a_full_output(rt: HostRuntime) -> Result<(), Fail> {
+    let alloc = rt.alloc();
+    for room in 0..14 {
+        let mut files = FakeFiles::new(FIRST.as_bytes());
+        let mut err = Vec::new(alloc);
+        let words = ["dmlw", "record", "script", "log"];
+        let status = execute(alloc, &words, &mut files, &mut Narrow { room }, &mut err);
+        assert!(rt; status == 1 && files.log.is_none(), "with room for {room}");
+        assert!(rt;
+            err.as_slice() == b"dmlw: 32 File\n".as_slice(),
+            "with room for {room}"
+        );
+    }
+    Ok(())
+}
+
+// An output that can't be flushed is seen before the status is given.
+#[test]
+fn refuses_an_output_that_cannot_be_flushed(rt: HostRuntime) -> Result<(), Fail> {
+    let alloc = rt.alloc();
+    let log = recorded(alloc, FIRST.as_bytes()).log.ok_or("a log")?;
+    for command in ["record", "list", "status"] {
+        let is_record = command == "record";
+        let (name, bytes) = if is_record {
+            ("script", FIRST.as_bytes())
+        } else {
+            ("image", log.as_slice())
+        };
+        let mut files = FakeFiles::new(bytes);
+        let mut err = Vec::new(alloc);
+        let words = ["dmlw", command, name, "log"];
+        let code = execute(alloc, &words, &mut files, &mut Unflushed, &mut err);
+        assert!(rt; code == 1 && files.log.is_none(), "{command}");
+        assert!(rt;
+            err.as_slice() == b"dmlw: 32 File\n".as_slice(),
+            "{command}"
+        );
+    }
+    Ok(())
+}
+
+// Where nobody reads on, the rest is dropped, and the command goes on; any other error is a fault.
+#[test]
+fn goes_on_where_nobody_reads(rt: HostRuntime) {
+    let alloc = rt.alloc();
+    for room in 0..14 {
+        for kind in [io::ErrorKind::BrokenPipe, io::ErrorKind::StorageFull] {
+            let is_pipe = kind == io::ErrorKind::BrokenPipe;
+            let mut files = FakeFiles::new(FIRST.as_bytes());
+            let mut err = Vec::new(alloc);
+            let mut out = Output::new(Failing { room, kind });
+            let words = ["dmlw", "record", "script", "log"];
+            let code = execute(alloc, &words, &mut files, &mut out, &mut err);
+            assert!(rt; files.log.is_some() == is_pipe, "room for {room}");
+            let (status, line) = if is_pipe {
+                (0, "")
+            } else {
+                (1, "dmlw: 32 File\n")
+            };
+            assert!(rt;
+                code == status && err.as_slice() == line.as_bytes(),
+                "room for {room}"
+            );
+        }
+    }
+}
+
+#[test]
+fn tells_a_fault_in_one_write(rt: HostRuntime) {
+    let mut files = FakeFiles::new(b"data 16\nlog 32\nno\n".as_slice());
+    let mut err = Counted { writes: 0 };
+    let mut out = Vec::new(rt.alloc());
+    let words = ["dmlw", "record", "script", "log"];
+    let code = execute(rt.alloc(), &words, &mut files, &mut out, &mut err);
+    assert!(rt; code == 1 && err.writes == 1);
+}
+
+// Where an allocation is refused (`rt try --test --fail-alloc N`) that is what is shown, in place of an
+// answer.
+#[test]
+fn shows_want_of_memory(rt: HostRuntime) {
+    let ran = recorded(rt.alloc(), FIRST.as_bytes());
+    let is_whole = ran.is(0, "a ok\nb ok\n3 4\n", "") && ran.log.is_some();
+    let is_shown = match ran.err.as_slice() {
+        b"dmlw: 2 Memory\n" => ran.status == 1,
+        b"dmlw: 20 Memory\n" => ran.status == 3,
+        [] => ran.status != 0,
+        _ => false,
+    };
+    assert!(rt; is_whole || (is_shown && ran.log.is_none()), "{ran:?}");
+}

@@ -1,9 +1,8 @@
 -- For each clause of the law, views that break it and nothing else, and are refused by it.
-use Rattle.std.proofs.Common.{◌≡◌, ℕ, zero, suc, ◌+◌, ◌<◌, ◌≤◌, true, false, List, [], ◌∷◌, Some, None, Ok, Err, replicate, refl, ap, ◌∙◌, inl, inr, arith}
+use Rattle.std.proofs.Common.{◌≡◌, ℕ, zero, suc, true, false, List, [], Some, None, Ok, Err, replicate, refl, ap, ◌∙◌, inl, inr, arith}
 use Rattle.std.specs.Prelude.{◌^◌, slice_index_or}
-use Rattle.bio.specs.declared.outcome.DevError.{DevError}
 use Rattle.bio.specs.declared.outcome.DevError.TheVariants.{Io}
-use Rattle.sectors.specs.Content.{Content, Patch, nothing, put}
+use Rattle.sectors.specs.Content.{Content, Patch, put}
 use Rattle.blockdev.specs.View.{IsLawful, View, last_count}
 use Rattle.blockdev.specs.Law.{Goes, HasCause, Lands, NoLie, Stays, Syncs}
 

@@ -1,11 +1,11 @@
 -- A device over another one, with faults and lies of its own beside the lower one's.
-use Rattle.std.proofs.Common.{◌≡◌, ℕ, ◌+◌, ◌-◌, ◌<◌, ◌≤◌, ◌^◌, Bool, IsTrue, Err, List, refl, ap, sym, ◌∙◌, inl, inr, arith}
+use Rattle.std.proofs.Common.{◌≡◌, ℕ, ◌+◌, ◌<◌, ◌≤◌, Bool, Err, inl, inr, arith}
 use Rattle.std.proofs.lemmas.Bool.{cases_lt}
 use Rattle.std.specs.Prelude.{◌⊎◌, Result, min}
 use Rattle.bio.specs.declared.outcome.DevError.{DevError}
-use Rattle.sectors.specs.Content.{Content, Patch}
+use Rattle.sectors.specs.Content.{Patch}
 use Rattle.blockdev.specs.View.{IsLawful, View, last_count}
-use Rattle.blockdev.specs.Law.{AfterPatch, Goes, HasCause, Lands, NoLie, Stays, Syncs}
+use Rattle.blockdev.specs.Law.{Goes, HasCause, Lands, NoLie, Stays, Syncs}
 
 -- the sum of two counts, which stops at the last one
 abbrev pub sum_of : ℕ → ℕ → ℕ

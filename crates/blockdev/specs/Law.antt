@@ -1,5 +1,5 @@
 -- The law of a device, as records of its view before a call (v) and after it (w).
-use Rattle.std.specs.Prelude.{◌≡◌, ◌⊎◌, ℕ, ◌<◌, ◌≤◌, Bool, IsTrue, Result, Ok, Err, List, Some}
+use Rattle.std.specs.Prelude.{◌≡◌, ◌⊎◌, ℕ, ◌<◌, ◌≤◌, Bool, IsTrue, Result, Ok, Err, Some}
 use Rattle.bio.specs.declared.outcome.DevError.{DevError}
 use Rattle.bio.specs.declared.outcome.DevError.TheVariants.{Io}
 use Rattle.sectors.specs.Content.{Content, Patch, Patched, put}

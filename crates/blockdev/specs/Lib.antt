@@ -1,6 +1,6 @@
 pub mod View
 pub mod Calls
 pub mod Law
-pub mod Joins
-pub mod Durable
+pub mod JoinLaws
+pub mod DurableLaws
 pub mod Counted

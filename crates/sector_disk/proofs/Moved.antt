@@ -3,7 +3,7 @@ use Rattle.std.proofs.Common.{◌≡◌, ℕ, suc, zero, ◌+◌, ◌-◌, ◌<�
 use Rattle.std.specs.Prelude.{Option, slice_get}
 use Rattle.sectors.specs.Content.{Content, Patch, gather, nothing, writes}
 use Rattle.sectors.specs.SectorLaws.{gather-ext}
-use Rattle.blockdev.specs.Joins.{goes_none}
+use Rattle.blockdev.specs.JoinLaws.{goes_none}
 use Rattle.blockdev.specs.Law.{Goes, Lands, Stays, Syncs}
 use Rattle.blockdev.specs.View.{View}
 use Rattle.sector_disk.specs.declared.call.Call.{Call}

@@ -81,23 +81,23 @@ pub below-joins : (from to : ℕ) (patch : Patch) → from ≤ to → Joins (bel
 below-joins from to patch h = λ sector. elim (cases_lt sector from) [
   | inl before ↦ inl (
     between-before from to patch sector before,
-    below-in from patch sector before ∙ sym (below-in to patch sector (omega arith))
+    below-in from patch sector before ∙ sym (below-in to patch sector (omega arith)),
   )
   | inr low ↦ elim (cases_lt sector to) [
     | inl high ↦ elim (option_cases (patch sector)) [
       | inl none ↦ inl (
         between-in from to patch sector low high ∙ none,
-        below-out from patch sector low ∙ sym none ∙ sym (below-in to patch sector high)
+        below-out from patch sector low ∙ sym none ∙ sym (below-in to patch sector high),
       )
       | inr some ↦ inr (
         some.0,
         between-in from to patch sector low high ∙ some.1,
-        below-in to patch sector high ∙ some.1
+        below-in to patch sector high ∙ some.1,
       )
     ]
     | inr past ↦ inl (
       between-after from to patch sector past,
-      below-out from patch sector low ∙ sym (below-out to patch sector past)
+      below-out from patch sector low ∙ sym (below-out to patch sector past),
     )
   ]
 ]
@@ -200,7 +200,7 @@ writes-between first k n bytes within =
     let count : length (take (512 * n) (drop (512 * k) bytes)) / 512 ≡ n = omega arith in
     λ sector. ap (λ (m : ℕ). over (first + k) m (sector_of (take (512 * n) (drop (512 * k) bytes))) sector) count
     ∙ over-between first (length bytes / 512) k n (sector_of bytes) (sector_of (take (512 * n) (drop (512 * k) bytes))) (omega arith)
-      (λ i h. sector_of-part bytes k n i h within) sector
+    (λ i h. sector_of-part bytes k n i h within) sector
 
 -- so has a discard of a part of the sectors
 pub discards-between : (first count k n : ℕ) → k + n ≤ count

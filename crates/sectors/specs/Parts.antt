@@ -1,4 +1,4 @@
-use Rattle.std.specs.Prelude.{◌≡◌, ℕ, ◌<◌, ◌≤◌, ◌&&◌, nat_le, nat_lt, Option, Some, None, List, ◌⊎◌, if◌then◌else◌}
+use Rattle.std.specs.Prelude.{◌≡◌, ℕ, ◌≤◌, ◌&&◌, nat_le, nat_lt, Some, None, List, ◌⊎◌, if◌then◌else◌}
 use Rattle.sectors.specs.Content.{Patch}
 
 -- the values of a call for the sectors below this one

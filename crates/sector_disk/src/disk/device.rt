@@ -1,6 +1,6 @@
-ghost use Rattle.std.specs.Prelude.{◌≡◌, ◌+◌, ◌/◌, ◌∷◌, ◌≤◌, ◌<◌, ◌%◌, OnErr, OnOk, false, length};
-ghost use Rattle.sector_disk.specs.Candidates.{Flushes, Puts};
-ghost use Rattle.sector_disk.specs.Shown.{Does, HasPast, flushed_after, shown_of, steps_of};
+ghost use Rattle.std.specs.Prelude.{◌∷◌, ◌+◌, ◌≤◌, OnErr, OnOk};
+ghost use Rattle.sector_disk.specs.Candidates.{Puts};
+ghost use Rattle.sector_disk.specs.Shown.{Does, HasPast, shown_of, steps_of};
 ghost use Rattle.sector_disk.specs.inside.Added.{count_of};
 ghost use Rattle.sector_disk.specs.inside.Storage.{change_values};
 ghost use Rattle.sector_disk.specs.ShownLaws.{disk_lawful};

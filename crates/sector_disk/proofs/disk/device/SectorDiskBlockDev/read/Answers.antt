@@ -1,6 +1,6 @@
 use Rattle.std.proofs.Common.{◌/◌, length, refl}
 use Rattle.sectors.specs.Content.{nothing}
-use Rattle.blockdev.specs.Joins.{goes_none}
+use Rattle.blockdev.specs.JoinLaws.{goes_none}
 use Rattle.sector_disk.specs.Shown.{shown_of}
 use Rattle.sector_disk.proofs.Moved.{read_of}
 use Rattle.sector_disk.proofs.disk.device.SectorDiskBlockDev.read.Goals as goal

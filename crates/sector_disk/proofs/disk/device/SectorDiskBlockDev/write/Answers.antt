@@ -1,6 +1,6 @@
 use Rattle.std.proofs.Common.{◌≡◌, ◌∷◌}
 use Rattle.sectors.specs.Content.{writes}
-use Rattle.blockdev.specs.Joins.{goes_none}
+use Rattle.blockdev.specs.JoinLaws.{goes_none}
 use Rattle.sector_disk.specs.Shown.{shown_of}
 use Rattle.sector_disk.proofs.Moved.{goes_past, goes_unchanged, lands_past, written_past}
 use Rattle.sector_disk.proofs.disk.device.SectorDiskBlockDev.write.Goals as goal

@@ -1,13 +1,12 @@
 -- What several calls come to, of which each does a part of one whole call.
-use Rattle.std.proofs.Common.{◌≡◌, ℕ, ◌<◌, ◌≤◌, Bool, false, Err, None, List, IsTrue, refl, ap, sym, ◌∙◌, inl, inr, arith}
-use Rattle.std.specs.Prelude.{◌⊎◌, unwrap_or, Option}
+use Rattle.std.proofs.Common.{◌≡◌, ℕ, ◌≤◌, Bool, false, Err, None, refl, sym, ◌∙◌, inl, inr, arith}
 use Rattle.bio.specs.declared.outcome.DevError.{DevError}
-use Rattle.sectors.specs.Content.{Content, HasNoneBelow, HasWholeSectors, Patch, Patched, nothing, put}
+use Rattle.sectors.specs.Content.{Content, HasNoneBelow, HasWholeSectors, Patch, nothing}
 use Rattle.sectors.specs.ContentLaws.{patched-same, put-none}
 use Rattle.sectors.specs.Parts.{HasNoneFrom, IsPart, Joins, SameValues, below, between}
-use Rattle.sectors.specs.PartLaws.{below-joins, below-part, below_all, below_more, below_none, between-part, patched-part, patched_twice, put-joined, put-same, same-part}
-use Rattle.blockdev.specs.View.{IsLawful, View, last_count}
-use Rattle.blockdev.specs.Law.{AfterPatch, AfterWhole, Goes, HasCause, Lands, NoLie, Stays, Syncs}
+use Rattle.sectors.specs.PartLaws.{below-joins, below-part, below_all, below_more, below_none, between-part, patched-part, patched_twice, put-joined, put-same}
+use Rattle.blockdev.specs.View.{IsLawful, View}
+use Rattle.blockdev.specs.Law.{AfterPatch, Goes, HasCause, Lands, NoLie, Stays}
 
 -- contents of a set, patched twice by a call
 after_twice : (patch : Patch) (set mid : Content → Type 0) (left : Content) → ((c : Content) → mid c → AfterPatch patch set c)
@@ -92,8 +91,8 @@ pub lands_same : (patch other : Patch) (fua : Bool) (v w : View) → SameValues 
 lands_same patch other fua v w same lands = record {
   content = λ sector. lands.content sector ∙ put-same patch other v.content same sector;
   durable = λ is left may.
-    let before = lands.durable is left may in
-    (before.0, before.1, λ sector. before.2 sector ∙ put-same patch other before.0 same sector);
+      let before = lands.durable is left may in
+      (before.0, before.1, λ sector. before.2 sector ∙ put-same patch other before.0 same sector);
 }
 
 -- a device that isn't called has landed what has no values
@@ -109,9 +108,9 @@ pub lands_joined : (first second whole : Patch) (fua : Bool) (u v w : View) → 
 lands_joined first second whole fua u v w joins before after = record {
   content = λ sector. after.content sector ∙ put-joined first second whole u.content v.content sector joins (before.content sector);
   durable = λ is left may.
-    let mid = after.durable is left may in
-    let old = before.durable is mid.0 mid.1 in
-    (old.0, old.1, λ sector. mid.2 sector ∙ put-joined first second whole old.0 mid.0 sector joins (old.2 sector));
+      let mid = after.durable is left may in
+      let old = before.durable is mid.0 mid.1 in
+      (old.0, old.1, λ sector. mid.2 sector ∙ put-joined first second whole old.0 mid.0 sector joins (old.2 sector));
 }
 
 -- the next piece of a call lands after all before it

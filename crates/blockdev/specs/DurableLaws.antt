@@ -1,5 +1,5 @@
 -- What the law comes to in the subject's words.
-use Rattle.std.proofs.Common.{◌≡◌, ℕ, ◌+◌, ◌≤◌, true, List, None, refl, ◌∙◌, inl, inr, arith}
+use Rattle.std.proofs.Common.{◌≡◌, ℕ, ◌+◌, true, List, None, refl, ◌∙◌, inl, inr, arith}
 use Rattle.std.specs.Prelude.{Bool}
 use Rattle.sectors.specs.Content.{Content, HasBytes, Patch, nothing, writes}
 use Rattle.sectors.specs.ContentLaws.{HasBytes-put}

@@ -1,8 +1,8 @@
 -- A sector's calls, from its newest back to the durable one.
-use Rattle.std.proofs.Common.{◌≡◌, ℕ, suc, zero, ◌+◌, ◌-◌, ◌<◌, ◌≤◌, ◌&&◌, Bool, true, false, Some, List, [], ◌∷◌, ◌++◌, length, refl, ap, sym, ◌∙◌, inl, inr, arith, length-append}
+use Rattle.std.proofs.Common.{◌≡◌, ℕ, suc, zero, ◌-◌, ◌<◌, ◌&&◌, true, false, Some, List, [], ◌∷◌, ◌++◌, length, refl, ap, sym, ◌∙◌, inl, inr, arith}
 use Rattle.std.proofs.lemmas.Bool.{and_parts, ltb-true}
 use Rattle.std.specs.Prelude.{not, nat_lt, slice_get, unwrap_or, Option}
-use Rattle.sectors.specs.PlaceLaws.{bool_cases, last_or_below, length-snoc, slice_get-append_front, slice_get-append_here}
+use Rattle.sectors.specs.PlaceLaws.{last_or_below, length-snoc, slice_get-append_front, slice_get-append_here}
 use Rattle.sector_disk.specs.declared.call.Call.{Call}
 use Rattle.sector_disk.specs.inside.Storage.{IsPlaced, back, before_at, is_chain, is_open, value_at, walk}
 

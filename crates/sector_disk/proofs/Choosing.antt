@@ -1,16 +1,16 @@
 -- The next sector of a crash gets its place.
-use Rattle.std.proofs.Common.{◌≡◌, ℕ, suc, zero, ◌+◌, ◌-◌, ◌%◌, ◌<◌, ◌≤◌, true, false, List, length, refl, ap, subst, sym, ◌∙◌, inl, inr, arith}
+use Rattle.std.proofs.Common.{◌≡◌, ℕ, suc, zero, ◌+◌, ◌-◌, ◌%◌, ◌<◌, ◌≤◌, true, List, length, ap, sym, ◌∙◌, inl, inr, arith}
 use Rattle.std.proofs.Math.Nat.{mod-lt}
 use Rattle.std.proofs.Math.ListN.{get_or, set}
 use Rattle.std.proofs.lemmas.Bool.{cases_lt, le-ltb, lt-ltb}
 use Rattle.std.proofs.lemmas.List.{get_or-set_other, get_or-set_same}
 use Rattle.std.proofs.lemmas.Option.{unwrap_or-slice_get}
-use Rattle.std.specs.Prelude.{◌⊎◌, nat_lt, slice_get, unwrap_or, if◌then◌else◌}
+use Rattle.std.specs.Prelude.{◌⊎◌, slice_get, unwrap_or, if◌then◌else◌}
 use Rattle.sectors.specs.PlaceLaws.{last_or_below}
 use Rattle.sector_disk.specs.declared.call.Call.{Call}
 use Rattle.sector_disk.specs.Candidates.{Cache, choice_of, left_by, unsynced_at, unsynced_below}
 use Rattle.sector_disk.specs.inside.Chosen.{AreChosen}
-use Rattle.sector_disk.specs.inside.Storage.{ArePlaced, IsPlaced, is_chain, place_of, value_at, walk}
+use Rattle.sector_disk.specs.inside.Storage.{ArePlaced, is_chain, place_of, value_at, walk}
 use Rattle.sector_disk.proofs.Chains.{candidate-value, candidate-within}
 
 -- a place that was set, and the others

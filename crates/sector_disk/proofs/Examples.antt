@@ -1,7 +1,7 @@
 -- Worked crashes, by computation.
 use Rattle.std.proofs.Common.{◌≡◌, ℕ, false, true, List, [], ◌∷◌, replicate, refl}
 use Rattle.sectors.specs.Content.{Content, discards, over, writes}
-use Rattle.sector_disk.specs.Candidates.{Cache, Flushes, Puts, Step, cache_after, left_by}
+use Rattle.sector_disk.specs.Candidates.{Flushes, Puts, Step, cache_after, left_by}
 
 -- a disk of zeroes
 zeroes : Content

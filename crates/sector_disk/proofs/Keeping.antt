@@ -1,17 +1,17 @@
 -- What holds of a disk's fields holds after each call.
-use Rattle.std.proofs.Common.{◌≡◌, ℕ, suc, zero, ◌+◌, ◌-◌, ◌/◌, ◌<◌, ◌≤◌, ◌&&◌, Bool, true, false, Some, None, List, [], ◌∷◌, ◌++◌, length, take, drop, replicate, refl, ap, subst, sym, ◌∙◌, inl, inr, arith, length-append}
-use Rattle.std.proofs.lemmas.Bool.{and_parts, cases_lt, le-leb, leb-true, lt-ltb, ltb-true}
+use Rattle.std.proofs.Common.{◌≡◌, ℕ, suc, zero, ◌+◌, ◌-◌, ◌/◌, ◌<◌, ◌≤◌, ◌&&◌, Bool, true, false, Some, None, List, [], ◌∷◌, ◌++◌, length, take, drop, replicate, refl, ap, subst, sym, ◌∙◌, inl, inr, arith}
+use Rattle.std.proofs.lemmas.Bool.{and_parts, cases_lt, le-leb, leb-true, lt-ltb}
 use Rattle.std.proofs.lemmas.List.{get_or-drop, get_or-take}
-use Rattle.std.proofs.lemmas.Option.{slice_get_past, unwrap_or-slice_get}
+use Rattle.std.proofs.lemmas.Option.{unwrap_or-slice_get}
 use Rattle.std.proofs.Math.ListN.{get_or}
 use Rattle.std.specs.Prelude.{◌⊎◌, Option, not, nat_le, nat_lt, slice_get, unwrap_or}
-use Rattle.sectors.specs.Content.{Content, over, sector_of, writes, discards}
+use Rattle.sectors.specs.Content.{Content, over, sector_of}
 use Rattle.sectors.specs.ContentLaws.{over-after, over-before, over-in}
-use Rattle.sectors.specs.PlaceLaws.{bool_cases, length-snoc, slice_get-append_front, slice_get-append_here}
+use Rattle.sectors.specs.PlaceLaws.{length-snoc, slice_get-append_front, slice_get-append_here}
 use Rattle.sector_disk.specs.declared.call.Call.{Call}
 use Rattle.sector_disk.specs.declared.call.Change.{Change}
 use Rattle.sector_disk.specs.declared.call.Change.TheVariants.{Write, Discard}
-use Rattle.sector_disk.specs.Candidates.{Cache, Flushes, Puts, Step, cache_after, candidates_after, settled}
+use Rattle.sector_disk.specs.Candidates.{Cache, Puts, Step, cache_after, candidates_after}
 use Rattle.sector_disk.specs.inside.Added.{IsFilled, count_of}
 use Rattle.sector_disk.specs.inside.Storage.{AreWithin, ArePlaced, IsKept, IsPlaced, back, before_at, before_in, cache_of, change_values, content_at, flushed_if, is_chain, is_open, is_plain, past_of, place_of, step_after, steps_of, value_at, value_in, values_of}
 use Rattle.sector_disk.proofs.Chains.{chain-within}

@@ -1,12 +1,12 @@
 -- What a disk's calls make of its candidates.
-use Rattle.std.proofs.Common.{◌≡◌, ℕ, ◌+◌, ◌-◌, ◌/◌, ◌<◌, ◌≤◌, Bool, true, false, Some, List, [], ◌∷◌, ◌++◌, length, replicate, refl, ap, subst, sym, ◌∙◌, arith}
-use Rattle.std.specs.Prelude.{Option, Ok}
-use Rattle.sectors.specs.Content.{Content, Patch, discards, over, sector_of, writes}
+use Rattle.std.proofs.Common.{◌≡◌, ℕ, ◌+◌, ◌-◌, ◌<◌, ◌≤◌, Bool, false, Some, List, [], ◌∷◌, refl, ap, subst, sym, ◌∙◌, arith}
+use Rattle.std.specs.Prelude.{Option}
+use Rattle.sectors.specs.Content.{Content, Patch, over}
 use Rattle.sectors.specs.ContentLaws.{over-in}
 use Rattle.sector_disk.specs.declared.disk.SectorDisk.{SectorDisk}
 use Rattle.sector_disk.specs.Candidates.{Cache, Flushes, MayLeave, Puts, Step, cache_after, candidates_after, left_by}
 use Rattle.sector_disk.specs.CandidateLaws.{is_current, left-kept}
-use Rattle.sector_disk.specs.PickLaws.{each_is_picked, picks_leave_one}
+use Rattle.sector_disk.specs.PickLaws.{picks_leave_one}
 use Rattle.sector_disk.specs.Shown.{HasPast, cache_of, flushed_after, start_of}
 use Rattle.sector_disk.specs.Shown as shown
 

@@ -1,18 +1,18 @@
 -- What a call does to a disk is what the law asks for.
-use Rattle.std.proofs.Common.{◌≡◌, ℕ, suc, zero, ◌+◌, ◌-◌, ◌<◌, ◌≤◌, Bool, true, false, Some, None, List, [], ◌∷◌, length, refl, ap, subst, sym, ◌∙◌, arith}
+use Rattle.std.proofs.Common.{◌≡◌, ℕ, suc, zero, ◌+◌, ◌-◌, ◌≤◌, Bool, true, false, Some, None, List, ◌∷◌, length, refl, ap, subst, sym, ◌∙◌, arith}
 use Rattle.std.specs.Prelude.{Option, slice_get}
 use Rattle.sectors.specs.Content.{Content, Patch, gather, nothing, writes}
 use Rattle.sectors.specs.SectorLaws.{gather-ext}
 use Rattle.blockdev.specs.JoinLaws.{goes_none}
-use Rattle.blockdev.specs.Law.{Goes, Lands, Stays, Syncs}
+use Rattle.blockdev.specs.Law.{Goes, Lands}
 use Rattle.blockdev.specs.View.{View}
 use Rattle.sector_disk.specs.declared.call.Call.{Call}
 use Rattle.sector_disk.specs.declared.disk.SectorDisk.{SectorDisk}
 use Rattle.sector_disk.specs.Candidates.{Flushes, Puts, Step, view_of}
-use Rattle.sector_disk.specs.CandidateLaws.{goes_flush, goes_puts, lands_puts, syncs_flush}
+use Rattle.sector_disk.specs.CandidateLaws.{goes_flush, goes_puts, lands_puts}
 use Rattle.sector_disk.specs.Shown.{HasPast, cache_of, flushed_after, shown_of, start_of}
 use Rattle.sector_disk.specs.Shown as shown
-use Rattle.sector_disk.specs.inside.Storage.{content_at, flushed_if, past_of, place_of, step_after, steps_of}
+use Rattle.sector_disk.specs.inside.Storage.{content_at, past_of, step_after, steps_of}
 
 -- what holds of a view holds of an equal one
 moved : (P : View → Type 0) (old new : SectorDisk) (past : List Step) → HasPast old new past

@@ -1,11 +1,11 @@
 -- A disk that is its candidates keeps the law of a device.
-use Rattle.std.proofs.Common.{◌≡◌, ℕ, suc, zero, ◌<◌, ◌≤◌, ◌^◌, Bool, true, false, IsTrue, Option, None, Some, List, [], ◌∷◌, ◌++◌, length, refl, ap, subst, sym, ◌∙◌, inl, inr, arith, lit<}
+use Rattle.std.proofs.Common.{◌≡◌, ℕ, suc, zero, ◌<◌, ◌≤◌, Bool, true, false, IsTrue, Option, None, Some, List, [], ◌∷◌, length, refl, ap, subst, sym, ◌∙◌, inl, inr, arith, lit<}
 use Rattle.std.proofs.lemmas.Bool.{cases_lt, le-ltb, lt-ltb}
 use Rattle.std.proofs.lemmas.List.Elements.{Contains-append_cases, Contains-append_left, Contains-append_right}
 use Rattle.std.specs.Prelude.{◌⊎◌, nat_lt, slice_index_or, unwrap_or, Contains, MatchBool}
-use Rattle.sectors.specs.Content.{Content, HasWholeSectors, HasWholeValues, Patch, Patched, nothing, put}
+use Rattle.sectors.specs.Content.{Content, HasWholeSectors, HasWholeValues, Patch, nothing}
 use Rattle.sectors.specs.ContentLaws.{patched-same, patched-whole, whole-patched}
-use Rattle.blockdev.specs.Law.{AfterPatch, AfterWhole, Goes, Lands, Stays, Syncs}
+use Rattle.blockdev.specs.Law.{AfterPatch, AfterWhole, Goes, Lands, Syncs}
 use Rattle.blockdev.specs.View.{IsLawful}
 use Rattle.sector_disk.specs.Candidates.{Cache, Flushes, LeftDuring, LeftSince, MayLeave, Puts, Step, after_step, cache_after, candidates_after, settled, view_of}
 

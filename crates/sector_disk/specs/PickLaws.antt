@@ -1,12 +1,12 @@
 -- The picks of a crash: each leave something that a crash may leave, and each of that is left by some.
 use Rattle.std.proofs.Common.{◌≡◌, ℕ, suc, zero, ◌+◌, ◌%◌, ◌<◌, true, false, Some, List, [], ◌∷◌, ◌++◌, length, refl, ap, sym, ◌∙◌, inl, inr, arith, length-append}
 use Rattle.std.proofs.Math.Nat.{mod-eq_of_lt, mod-lt}
-use Rattle.std.proofs.lemmas.Bool.{cases_lt, le-ltb, lt-ltb}
+use Rattle.std.proofs.lemmas.Bool.{cases_lt, lt-ltb}
 use Rattle.std.proofs.lemmas.Option.{get_or_from_slice_get, slice_get-get_or}
 use Rattle.std.specs.Prelude.{Bool, Option, nat_lt, slice_get, slice_index_or, unwrap_or, Contains, if◌then◌else◌}
 use Rattle.sectors.specs.Content.{Content}
 use Rattle.sectors.specs.PlaceLaws.{last_or_below, slice_get-append_front, slice_get-append_here, slice_get-within}
-use Rattle.sector_disk.specs.Candidates.{Cache, MayLeave, choice_of, left_by, unsynced_at, unsynced_below}
+use Rattle.sector_disk.specs.Candidates.{Cache, MayLeave, choice_of, left_by, unsynced_below}
 use Rattle.sector_disk.specs.CandidateLaws.{IsCurrent}
 
 -- what is at a place of a list is one of its elements

@@ -1,7 +1,7 @@
 -- A disk keeps the law of a device.
-use Rattle.std.proofs.Common.{◌≡◌, ℕ, suc, zero, ◌+◌, ◌-◌, Bool, true, false, Some, None, List, [], ◌∷◌, length, replicate, refl, ap, subst, sym, ◌∙◌, arith}
+use Rattle.std.proofs.Common.{◌≡◌, ℕ, suc, zero, ◌+◌, ◌-◌, Bool, true, false, Some, None, List, length, replicate, refl}
 use Rattle.std.specs.Prelude.{Option, slice_get, unwrap_or}
-use Rattle.sectors.specs.Content.{Content, HasWholeSectors, HasWholeValues}
+use Rattle.sectors.specs.Content.{HasWholeValues}
 use Rattle.sectors.specs.ContentLaws.{discards-whole, writes-whole}
 use Rattle.blockdev.specs.View.{IsLawful}
 use Rattle.sector_disk.specs.declared.call.Call.{Call}
@@ -12,7 +12,7 @@ use Rattle.sector_disk.specs.Candidates.{Step}
 use Rattle.sector_disk.specs.CandidateLaws.{HasWholeSteps, view-lawful}
 use Rattle.sector_disk.specs.Shown as shown
 use Rattle.sector_disk.specs.Shown.{shown_of, start_of}
-use Rattle.sector_disk.specs.inside.Storage.{change_values, flushed_if, past_of, step_after, steps_of, value_at, value_in, values_of}
+use Rattle.sector_disk.specs.inside.Storage.{change_values, flushed_if, step_after, steps_of, value_at, value_in, values_of}
 
 -- each value of a call is a whole sector
 values-whole : (call : Call) → HasWholeValues (values_of call)

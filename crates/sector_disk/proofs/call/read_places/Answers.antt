@@ -1,4 +1,4 @@
-use Rattle.std.proofs.Common.{◌≡◌, ◌+◌, ◌*◌, length, ap, refl, sym, ◌∙◌, arith}
+use Rattle.std.proofs.Common.{◌+◌, length, ap, refl, sym, ◌∙◌, arith}
 use Rattle.std.proofs.lemmas.Option.{unwrap_or-slice_get}
 use Rattle.sector_disk.specs.inside.Storage.{content_at, place_of, value_at}
 use Rattle.sector_disk.proofs.Reading.{gather-next, length-value_at}

@@ -1,6 +1,5 @@
-use Rattle.std.proofs.Common.{◌≡◌, ℕ, ◌≤◌, ◌+◌, length, ap, refl, subst, sym, ◌∙◌, arith}
+use Rattle.std.proofs.Common.{◌≡◌, ℕ, length, refl, subst, ◌∙◌, arith}
 use Rattle.std.proofs.lemmas.List.{length-set}
-use Rattle.sector_disk.specs.Candidates.{unsynced_below}
 use Rattle.sector_disk.specs.inside.Chosen.{AreChosen}
 use Rattle.sector_disk.proofs.Choosing.{chosen-next, unsynced-next}
 use Rattle.sector_disk.proofs.choice.choose.Goals as goal

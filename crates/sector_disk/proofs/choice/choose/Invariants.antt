@@ -1,4 +1,4 @@
-use Rattle.std.proofs.Common.{◌≡◌, ◌≤◌, ◌<◌, length}
+use Rattle.std.proofs.Common.{◌≡◌, ◌≤◌, length}
 use Rattle.sector_disk.specs.Candidates.{Cache, unsynced_below}
 use Rattle.sector_disk.specs.inside.Chosen.{AreChosen}
 use Rattle.sector_disk.specs.inside.Storage.{ArePlaced}

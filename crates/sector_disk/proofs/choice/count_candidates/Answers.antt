@@ -1,5 +1,5 @@
-use Rattle.std.proofs.Common.{◌≡◌, false, ◌+◌, ◌-◌, ap, sym, ◌∙◌, arith}
-use Rattle.sector_disk.specs.inside.Storage.{is_chain, is_open}
+use Rattle.std.proofs.Common.{◌-◌, ap, sym, ◌∙◌, arith}
+use Rattle.sector_disk.specs.inside.Storage.{is_chain}
 use Rattle.sector_disk.proofs.Chains.{chain-closed, chain-open}
 use Rattle.sector_disk.proofs.choice.count_candidates.Goals as goal
 

@@ -1,5 +1,5 @@
 use Rattle.std.proofs.Common.{◌≡◌, suc, ◌+◌, ◌-◌, ap, sym, ◌∙◌, arith}
-use Rattle.sector_disk.specs.inside.Storage.{before_at, walk}
+use Rattle.sector_disk.specs.inside.Storage.{walk}
 use Rattle.sector_disk.proofs.choice.walk_back.Goals as goal
 
 pub loop-step-preserved : goal.loop-step-preserved

@@ -1,4 +1,4 @@
-use Rattle.std.proofs.Common.{ap, length, refl, ◌∙◌, arith}
+use Rattle.std.proofs.Common.{ap, length, ◌∙◌, arith}
 use Rattle.sectors.specs.Content.{gather}
 use Rattle.sector_disk.specs.inside.Storage.{content_at}
 use Rattle.sector_disk.proofs.Moved.{read_of}

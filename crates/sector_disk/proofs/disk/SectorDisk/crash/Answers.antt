@@ -1,6 +1,4 @@
 use Rattle.std.proofs.Common.{ap, length, ◌∙◌}
-use Rattle.sector_disk.specs.inside.Chosen.{AreChosen}
-use Rattle.sector_disk.specs.Shown.{cache_of}
 use Rattle.sector_disk.proofs.Beginning.{begins_chosen, chosen_of, kept_chosen}
 use Rattle.sector_disk.proofs.disk.SectorDisk.crash.Goals as goal
 

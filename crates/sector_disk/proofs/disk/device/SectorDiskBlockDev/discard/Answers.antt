@@ -1,6 +1,6 @@
 use Rattle.std.proofs.Common.{false}
 use Rattle.sectors.specs.Content.{discards}
-use Rattle.sector_disk.proofs.Moved.{goes_past, goes_unchanged, lands_past}
+use Rattle.sector_disk.proofs.Moved.{goes_past, goes_unchanged}
 use Rattle.sector_disk.proofs.disk.device.SectorDiskBlockDev.discard.Goals as goal
 
 pub returns-in_err-put-clause-goes : goal.returns-in_err-put-clause-goes

@@ -8,6 +8,12 @@ use clap::{Arg, ArgMatches, Command, Error};
 use std::alloc::{AllocError, Global};
 use std::convert::AsStr;
 
+// What help says after its lists.
+const AFTER_HELP: &str = "\
+Exit status: 0 done, 1 refused, 2 usage, 3 logging ended before its time.
+A status such as 3 4 says: 3 entries, of which the last uses sector 4.
+The grammar of scripts, the faults and the limits are in docs/FORMATS.md.";
+
 /// What a command line asks for.
 #[derive(Debug, Drop)]
 pub enum Task<'a> {
@@ -53,7 +59,8 @@ fn bare_command<'a>(alloc: Global) -> Command<'a>
 {
     Command::new(alloc, "dmlw")
         .about("Records block requests in a log, and reads logs back")
-        .version("0.1")
+        .version("0.1 (log format version 1)")
+        .after_help(AFTER_HELP)
         .subcommand_required(true)
         .arg_required_else_help(true)
 }

@@ -140,7 +140,12 @@ fn reads_command_lines(rt: HostRuntime) {
             0,
             "Usage: dmlw status <LOG>",
         ),
-        (["dmlw", "--version"].as_slice(), 0, "dmlw 0.1"),
+        (
+            ["dmlw", "--version"].as_slice(),
+            0,
+            "dmlw 0.1 (log format version 1)",
+        ),
+        (["dmlw", "--help"].as_slice(), 0, "Exit status: 0 done"),
         (["dmlw"].as_slice(), 2, "Usage: dmlw <COMMAND>"),
         ([].as_slice(), 2, "Usage: dmlw <COMMAND>"),
         (

@@ -15,3 +15,5 @@ pub use recording::run;
 mod error;
 mod fill;
 mod recording;
+#[cfg(test)]
+mod tests;

@@ -1,17 +1,16 @@
 -- Plain words are read as the command that they name.
-use Rattle.std.proofs.Common.{◌≡◌, ◌∙◌, ℕ, List, None, Option, Some, Err, ap, arith, codes, inl, inr, refl, subst, sym, true}
+use Rattle.std.proofs.Common.{◌≡◌, ℕ, List, None, Option, Some, Err, arith, codes, inl, inr, refl, subst, sym, true}
 use Rattle.clap.specs.declared.error.kind.ErrorKind.{ErrorKind}
 use Rattle.clap.specs.Words.{Text, kind_of}
 use Rattle.script_runner.specs.Errors.{memory_error}
 use Rattle.dmlw_commands.specs.declared.exit.Exit.{Exit}
-use Rattle.dmlw_commands.specs.declared.exit.Exit.TheVariants.{Refused}
 use Rattle.dmlw_commands.specs.Endings.{EndsRecording, EndsShowing}
 use Rattle.dmlw_commands.specs.Exits.{status_of}
 use Rattle.dmlw_commands.specs.Files.{Write}
 use Rattle.dmlw_commands.specs.Lists.{ListsImage, Shows, ShowsStatus}
 use Rattle.dmlw_commands.specs.Records.{file}
-use Rattle.dmlw.specs.CommandLine.{Entered, is_positional, log_words, record_words}
-use Rattle.dmlw.specs.Commands.{DoesWords, EndsTask, EndsText, EndsUntasked, is_asked_for}
+use Rattle.dmlw.specs.CommandLine.{is_positional, log_words, record_words}
+use Rattle.dmlw.specs.Commands.{DoesWords, EndsTask, EndsText}
 use Rattle.dmlw.specs.Tasks.{Asks}
 use Rattle.dmlw.specs.declared.command_line.Task.{Task}
 use Rattle.dmlw.specs.declared.command_line.Task.TheVariants as tasks

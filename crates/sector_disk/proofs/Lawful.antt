@@ -1,11 +1,11 @@
 -- What a disk's calls make of its candidates.
-use Rattle.std.proofs.Common.{◌≡◌, ℕ, ◌+◌, ◌-◌, ◌<◌, ◌≤◌, Bool, false, Some, List, [], ◌∷◌, refl, ap, subst, sym, ◌∙◌, arith}
+use Rattle.std.proofs.Common.{◌≡◌, ℕ, ◌+◌, ◌-◌, ◌<◌, ◌≤◌, Bool, false, Some, List, [], ◌∷◌, length, refl, ap, subst, sym, ◌∙◌, arith}
 use Rattle.std.specs.Prelude.{Option}
-use Rattle.sectors.specs.Content.{Content, Patch, over}
+use Rattle.sectors.specs.Content.{Content, Patch, Patched, over}
 use Rattle.sectors.specs.ContentLaws.{over-in}
 use Rattle.sector_disk.specs.declared.disk.SectorDisk.{SectorDisk}
-use Rattle.sector_disk.specs.Candidates.{Cache, Flushes, MayLeave, Puts, Step, cache_after, candidates_after, left_by}
-use Rattle.sector_disk.specs.CandidateLaws.{is_current, left-kept}
+use Rattle.sector_disk.specs.Candidates.{Cache, Flushes, LeftSince, MayLeave, Puts, Step, cache_after, candidates_after, left_by}
+use Rattle.sector_disk.specs.CandidateLaws.{is_current, left-kept, since-during}
 use Rattle.sector_disk.specs.PickLaws.{picks_leave_one}
 use Rattle.sector_disk.specs.Shown.{HasPast, cache_of, flushed_after, start_of}
 use Rattle.sector_disk.specs.Shown as shown
@@ -25,6 +25,16 @@ pub old-left : (old new : SectorDisk) (patch : Patch) (left : Content) → HasPa
 old-left old new patch left has may =
     let May : Cache → Type 0 = λ cache. MayLeave cache left in
     subst May (sym (cache_by old new (Puts patch false ∷ shown.steps_of old) has)) (left-kept patch (cache_of old) left may)
+
+-- while a call runs, a crash may leave any part of it
+pub torn-left : (old new : SectorDisk) (patch : Patch) (fua : Bool) (before left : Content)
+    → HasPast old new (Puts patch fua ∷ shown.steps_of old) → MayLeave (cache_of old) before → Patched patch before left
+    → LeftSince (start_of new) (shown.steps_of new) (length (shown.steps_of old)) left
+torn-left old new patch fua before left has may patched =
+    let Since : Content → List Step → Type 0 = λ start past. LeftSince start past (length (shown.steps_of old)) left in
+    let during_it = since-during (start_of old) (Puts patch fua) (shown.steps_of old) left (before, may, patched) in
+    subst (λ (past : List Step). Since (start_of new) past) (sym has.past)
+    (subst (λ (start : Content). Since start (Puts patch fua ∷ shown.steps_of old)) (sym has.start) during_it)
 
 -- a sector's candidates after a call that has a value for it
 pub may-put : (old new : SectorDisk) (patch : Patch) (fua : Bool) (sector : ℕ) (value : List ℕ) → HasPast old new (Puts patch fua ∷ shown.steps_of old)

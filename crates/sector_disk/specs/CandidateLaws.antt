@@ -147,6 +147,14 @@ since-kept start step past moment left h may =
     (LeftSince start past moment left ⊎ LeftDuring step (cache_after start past) left)
     (λ after. let before = le-ltb (length past) moment h in cc) (λ before. inl may)
 
+-- what a step leaves while it runs may have been left since the moment at which it began
+pub since-during : (start : Content) (step : Step) (past : List Step) (left : Content) → LeftDuring step (cache_after start past) left
+    → LeftSince start (step ∷ past) (length past) left
+since-during start step past left during_it =
+    match_intro (nat_lt (length past) (length past)) (MayLeave (cache_after start (step ∷ past)) left)
+    (LeftSince start past (length past) left ⊎ LeftDuring step (cache_after start past) left)
+    (λ after. let before = le-ltb (length past) (length past) (omega arith) in cc) (λ before. inr during_it)
+
 -- a write or a discard goes as the law has it
 pub goes_puts : (size : ℕ) (start : Content) (past : List Step) (patch : Patch) (fua : Bool)
     → Goes patch (view_of size start past) (view_of size start (Puts patch fua ∷ past))

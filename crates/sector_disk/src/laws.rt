@@ -3,7 +3,7 @@ ghost use Rattle.blockdev.specs.Calls.{Discards, Flushes, Writes};
 ghost use Rattle.sector_disk.specs.Candidates.{left_by};
 ghost use Rattle.sector_disk.specs.declared.disk.SectorDisk.{SectorDisk};
 ghost use Rattle.sector_disk.specs.Shown.{Does, cache_of, shown_of};
-ghost use Rattle.sectors.specs.Content.{Content, sector_of};
+ghost use Rattle.sectors.specs.Content.{Content, Patched, discards, sector_of, writes};
 
 /// What any picks leave, a crash may leave.
 pub fn picks_leave_one()
@@ -26,6 +26,19 @@ pub fn unsynced_sectors_may_be_old()
     ensures discard { (old new : SectorDisk) (first count now end : ℕ) (left : Content) →
         Does old (Discards first count) now (Ok end) new →
         (shown_of old).crash left → (shown_of new).crash left }
+{}
+
+/// While a write or a discard runs, one with FUA too, a crash may leave any part of it: in each of its sectors
+/// the old value or the new one, over whatever a crash could leave before.
+pub fn running_calls_tear()
+    ensures write { (old new : SectorDisk) (first : ℕ) (bytes : List ℕ) (fua : Bool) (now end : ℕ) (before left : Content) →
+        Does old (Writes first bytes fua) now (Ok end) new →
+        (shown_of old).crash before → Patched (writes first bytes) before left →
+        (shown_of new).since (shown_of old).moment left }
+    ensures discard { (old new : SectorDisk) (first count now end : ℕ) (before left : Content) →
+        Does old (Discards first count) now (Ok end) new →
+        (shown_of old).crash before → Patched (discards first count) before left →
+        (shown_of new).since (shown_of old).moment left }
 {}
 
 /// Which candidates a sector has: a plain write and a discard add one, after a FUA write and after a flush

@@ -51,7 +51,8 @@ w01 f d01 =00000000 c =10000000
 w31 F52 c =00000200
 f f w31 f f c =00010000
 d31 F34 c =00040000
-F31 d31 =00000000 c =00010000";
+F31 d31 =00000000 c =00010000
+w01 w12 w23 w34 w45 w56 w67 w71 w02 w13 w24 w35 w46 w57 w61 w72 w03 w14 w25 w36 d01 c22222222 =23456712";
 
 fn digit(byte: u8) -> u64
     ensures { result < 8 }
@@ -140,8 +141,8 @@ fn crashes_leave_what_the_picks_name(rt: HostRuntime) -> Result<(), Fail> {
 #[test]
 fn disks_of_each_size_are_kept(rt: HostRuntime) -> Result<(), Fail> {
     let alloc = rt.alloc();
-    for sectors in [1, 8, 2048] {
-        assert!(rt; 0 < sectors && sectors <= 2048);
+    for sectors in [1, 8, 2048, 6000] {
+        assert!(rt; 0 < sectors && sectors <= 6000);
         let length = sectors as usize * 512;
         let image = vec![in alloc; 65; length]?;
         let zeroes = vec![in alloc; 0; length]?;
@@ -168,8 +169,9 @@ fn disks_of_each_size_are_kept(rt: HostRuntime) -> Result<(), Fail> {
             "{sectors} written"
         );
     }
-    let large = SectorDisk::new(alloc, 1_048_576)?;
+    let mut large = SectorDisk::new(alloc, 1_048_576)?;
     assert_eq!(rt; large.sectors(), 1_048_576);
+    assert_eq!(rt; large.discard(Ms::new(0), 0, 1_048_576), Ok(Ms::new(0)));
     Ok(())
 }
 

@@ -2,6 +2,13 @@ use Rattle.refusals.specs.declared.refusal.Refusal.{Refusal}
 use Rattle.refusals.specs.declared.refusal.Refusal.TheVariants as refusals
 use Rattle.pending.specs.declared.recording.CloseError.{CloseError}
 use Rattle.pending.specs.declared.recording.CloseError.TheVariants as close_errors
+use Rattle.pending.specs.declared.recording.MarkError.{MarkError}
+use Rattle.pending.specs.declared.recording.MarkError.TheVariants as mark_errors
+
+-- the refusal that a mark is shown by
+abbrev pub mark_refusal : MarkError → Refusal
+mark_refusal mark_errors.BadText = refusals.BadText
+mark_refusal mark_errors.Memory = refusals.Memory
 
 -- the refusal that a close is shown by
 abbrev pub close_refusal : CloseError → Refusal

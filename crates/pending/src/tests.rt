@@ -66,6 +66,15 @@ fn taken(alloc: Global, core: &mut Core) -> Result<String, AllocError> {
     Ok(shown)
 }
 
+// Marks with so many of this byte; what is shown where the mark isn't queued.
+fn marked(alloc: Global, core: &mut Core, byte: u8, length: u64) -> Result<String, AllocError> {
+    match core.mark(&Bytes::from_vec(vec![in alloc; byte; length as usize]?)) {
+        Ok(Marked::Queued(_)) => Ok(String::new(alloc)),
+        Ok(Marked::Passed) => String::from_str(alloc, "passed;"),
+        Err(error) => format!(in alloc; "{error};"),
+    }
+}
+
 // Does what a step's word says with its number.
 fn play(alloc: Global, core: &mut Core, word: &str, number: u64) -> Result<String, AllocError> {
     match word {
@@ -78,6 +87,7 @@ fn play(alloc: Global, core: &mut Core, word: &str, number: u64) -> Result<Strin
                 return format!(in alloc; "{error};");
             }
         }
+        "mark" | "zero" => return marked(alloc, core, if word == "mark" { 120 } else { 0 }, number),
         _ => {
             if core.submit(&request(alloc, word, number)?)? == Submitted::Passed {
                 return String::from_str(alloc, "passed;");
@@ -103,14 +113,16 @@ fn played(alloc: Global, steps: &str) -> Result<String, AllocError> {
 
 // Steps, and what is shown of them: a flush takes what ended before it; a FUA write is queued at its end,
 // failed or not; a busy core isn't closed; nothing is queued after a stop; of two flushes the later one
-// overtakes; and recording goes on after a take.
+// overtakes; recording goes on after a take; and a mark waits for nothing.
 const ROWS: &str =
     "write 10,write 20,write 30,end 2,end 1,flush,end 0,end 5,close,take=2 30+1 0;1 20+1 0;5 0+0 1;0 10+1 0;8 0+0 8;9
 fua 5,fail 0,take,take=0 5+1 2;2
 discard 1,close,end 0,close,close,flush,take=a request is open;passed;0 1+1 4;2 0+0 8;3
 read 0,write 5,end 0,flush,stop,stop,end 2,flush,close,take=passed;passed;6
 write 5,end 0,flush,flush,end 3,fua 9,end 5,end 2,close,take=3 0+0 1;5 9+1 2;0 5+1 0;2 0+0 1;8 0+0 8;9
-fua 5,end 0,take,write 6,end 2,flush,write 7,discard 8,flush,end 6,take,end 5,take,end 7,take,end 4,take,close,take=0 5+1 2;7 0+0 1;2 6+1 0;4 0+0 1;6 8+1 4;5 7+1 0;12 0+0 8;13";
+fua 5,end 0,take,write 6,end 2,flush,write 7,discard 8,flush,end 6,take,end 5,take,end 7,take,end 4,take,close,take=0 5+1 2;7 0+0 1;2 6+1 0;4 0+0 1;6 8+1 4;5 7+1 0;12 0+0 8;13
+mark 3,write 5,end 1,zero 1,mark 480,close,mark 1,take=a mark's text has a zero byte;passed;0 0+0 8;3 0+0 8;1 5+1 0;4 0+0 8;5
+mark 0,stop,mark 1,zero 2,take=passed;a mark's text has a zero byte;2";
 
 #[test]
 fn steps_are_answered(rt: HostRuntime) -> Result<(), Fail> {
@@ -168,12 +180,16 @@ fn a_long_mix_is_recorded(rt: HostRuntime) -> Result<(), Fail> {
     submit_mixed(alloc, &mut core, &mut open, 20_000, false)?;
     submit_mixed(alloc, &mut core, &mut open, 20_000, true)?;
     submit_mixed(alloc, &mut core, &mut open, 20_000, false)?;
+    let text = Bytes::from_vec(vec![in alloc; 65; 512]?);
+    for _ in 0..10_000 {
+        core.mark(&text)?;
+    }
     for place in open {
         end(&mut core, place, false);
     }
     core.close()?;
-    assert_eq!(rt; core.events().len(), 120_001);
-    for at in 0..60_001 {
+    assert_eq!(rt; core.events().len(), 130_001);
+    for at in 0..70_001 {
         assert!(rt; core.take().is_some(), "{at}");
     }
     assert!(rt; core.take().is_none());
@@ -184,6 +200,8 @@ fn a_long_mix_is_recorded(rt: HostRuntime) -> Result<(), Fail> {
 fn answers_differ(rt: HostRuntime) -> Result<(), Fail> {
     assert!(rt; Submitted::Passed != Submitted::Tracked(Id::new(0)));
     assert!(rt; CloseError::Busy != CloseError::Memory);
+    assert!(rt; MarkError::BadText != MarkError::Memory);
+    assert!(rt; Marked::Passed != Marked::Queued(Id::new(0)));
     let shown = CloseError::Memory.to_string(rt.alloc())?;
     assert_eq!(rt; shown.as_str(), "no memory");
     Ok(())

@@ -10,7 +10,6 @@ use Rattle.std.proofs.lemmas.Map.Keys.{apart_from_distinct, IsDistinct-from_apar
 use Rattle.std.proofs.lemmas.Slice.Eq.{bytes_eq-Decides}
 use Rattle.std.proofs.Math.Seq.{get_or-append_seam}
 use Rattle.std.proofs.lemmas.Option.{cond_some}
-use Rattle.bio.specs.Check.{range_answer}
 use Rattle.bio.specs.declared.request.BadBio.{BadBio}
 use Rattle.refusals.specs.declared.refusal.Refusal.{Refusal}
 use Rattle.refusals.specs.declared.refusal.Refusal.TheVariants.{BadId}
@@ -19,9 +18,16 @@ use Rattle.dmlw_script.specs.declared.command.Command.TheVariants as commands
 use Rattle.dmlw_script.specs.declared.script_id.ScriptId.{ScriptId}
 use Rattle.dmlw_script.specs.declared.line.Line.{Line}
 use Rattle.dmlw_script.specs.declared.line.Line.TheVariants as parsed_lines
-use Rattle.dmlw_script.specs.inside.Drafts.{◌>>=◌, body_step, ended_next, named_next, sectors_answer, as_refusal, with_command, with_name, Body}
+use Rattle.dmlw_script.specs.declared.line.BodyLine.{BodyLine}
+use Rattle.dmlw_script.specs.declared.line.BodyLine.TheVariants as body_lines
+use Rattle.dmlw_script.specs.declared.command.Submission.{Submission}
+use Rattle.dmlw_script.specs.declared.head.Head.TheVariants as heads
+use Rattle.dmlw_script.specs.declared.reader.Kind.{Kind}
+use Rattle.dmlw_script.specs.declared.reader.Kind.TheVariants as kinds
+use Rattle.dmlw_script.specs.inside.Drafts.{◌>>=◌, body_step, ended_next, named_next, as_refusal, with_command, with_name, Body}
 use Rattle.dmlw_script.specs.Ids.{script_id, same_name}
-use Rattle.dmlw_script.specs.Plans.{count_after_command, lines_of_body, is_ended, is_submission, name_at, request_of, line_at, submissions, IsName, IsWellFormed, CanFollow}
+use Rattle.dmlw_script.specs.Plans.{count_after_command, lines_of_body, is_ended, is_submission, name_at, request_of, line_at, step_answer, submission_answer, submissions, IsName, IsWellFormed, CanFollow, WritesByte}
+use Rattle.dmlw_script.specs.inside.Readers.{parsed_step, with_body, Progress}
 use Rattle.dmlw_script.proofs.DraftLemmas.{listed, with_new_name}
 
 -- ---- names
@@ -92,14 +98,11 @@ pub record IsSound (sectors : ℕ) (b : Body) : Type 0 where
   pub numbered : length b.names ≡ submissions b.body
   pub well_formed : IsWellFormed sectors [] b.body
 
--- what a sentence says may stand in a script, as far as that is known of the sentence alone
-abbrev pub IsFine : Line → Type 0
-IsFine (parsed_lines.Write name first count byte) = IsName name × (byte < 256)
-IsFine (parsed_lines.Flush name) = IsName name
-IsFine (parsed_lines.Complete name) = Unit {0}
-IsFine (parsed_lines.Data sectors) = Unit {0}
-IsFine (parsed_lines.Log sectors) = Unit {0}
-IsFine parsed_lines.Close = Unit {0}
+-- what a line of the body says may stand in a script, as far as that is known of the line alone
+abbrev pub IsFine : BodyLine → Type 0
+IsFine (body_lines.Submit name submission) = IsName name × WritesByte submission
+IsFine (body_lines.Complete name) = Unit {0}
+IsFine (body_lines.Step step) = Unit {0}
 
 -- the requests that one command submits
 abbrev pub submits : Command → ℕ
@@ -115,10 +118,9 @@ submissions-cons command body = sum_by-append submits (command ∷ []) body ∙ 
 
 -- a command adds the requests that it submits
 pub count_after_command-is : (before : ℕ) (command : Command) → count_after_command before command ≡ before + submits command
-count_after_command-is before (commands.Write first count byte) = refl
-count_after_command-is before commands.Flush = refl
+count_after_command-is before (commands.Submit submission) = refl
 count_after_command-is before (commands.Complete request) = omega arith
-count_after_command-is before commands.Close = omega arith
+count_after_command-is before (commands.Step step) = omega arith
 
 -- one more command that may come
 pub well_formed_push : (sectors : ℕ) (before body : List Command) (command : Command) → IsWellFormed sectors before body → CanFollow sectors (before ++ body) command → IsWellFormed sectors before (body ++ command ∷ [])
@@ -135,17 +137,12 @@ ids_push [] name all is = (is, tt)
 ids_push (n ∷ names) name all is = (all.0, ids_push names name all.1 is)
 
 -- a body grows by one line that says this
-pub record Grows (b c : Body) (s : Line) : Type 0 where
+pub record Grows (b c : Body) (s : BodyLine) : Type 0 where
   pub names : List ScriptId
   pub command : Command
   pub grown_names : c.names ≡ b.names ++ names
   pub grown_body : c.body ≡ b.body ++ command ∷ []
-  pub says : (rest : List ScriptId) → line_at (c.names ++ rest) (length b.names) command ≡ s
-  pub counts : count_after_command (length b.names) command ≡ length c.names
-
--- the name after others, whatever follows it
-name_behind : (names rest : List ScriptId) (name : ScriptId) → name_at ((names ++ name ∷ []) ++ rest) (length names) ≡ name
-name_behind names rest name = ap (λ x. name_at x (length names)) (append_assoc names (name ∷ []) rest) ∙ get_or-append_seam names name rest (script_id [])
+  pub says : line_at c.names (length b.names) command ≡ s
 
 -- what goes on well has a value, and goes on well from there
 pub bind_ok : {A B : Type 0} (r : Result A Refusal) (f : A → Result B Refusal) (y : B) → (r >>= f) ≡ Ok y → (x : A) × (r ≡ Ok x) × (f x ≡ Ok y)
@@ -167,35 +164,30 @@ unlisted name names e =
     (cases_Bool (list_any (same_name name) names))
 
 -- a submission
-submit_grows : (sectors : ℕ) (b : Body) (name : ScriptId) (command : Command) (s : Line) →
-    request_of name b.names ≡ None → IsName name → CanFollow sectors b.body command → submits command ≡ 1 →
-    ((ns : List ScriptId) → name_at ns (length b.names) ≡ name → line_at ns (length b.names) command ≡ s) → IsSound sectors b →
-    (c : Body) → record { names = b.names ++ name ∷ []; body = b.body ++ command ∷ [] } ≡ c → IsSound sectors c × Grows b c s
-submit_grows sectors b name command s new is may one says sound c same =
-    let d : Body = record { names = b.names ++ name ∷ []; body = b.body ++ command ∷ [] } in
+submit_grows : (sectors : ℕ) (b : Body) (name : ScriptId) (submission : Submission) → request_of name b.names ≡ None → IsName name
+    → CanFollow sectors b.body (commands.Submit submission) → IsSound sectors b → (c : Body)
+    → record { names = b.names ++ name ∷ []; body = b.body ++ commands.Submit submission ∷ [] } ≡ c → IsSound sectors c × Grows b c (body_lines.Submit name submission)
+submit_grows sectors b name submission new is may sound c same =
     let more : length (b.names ++ name ∷ []) ≡ length b.names + 1 = length-append b.names (name ∷ []) in
-    subst (λ (x : Body). IsSound sectors x × Grows b x s) same (
+    subst (λ (x : Body). IsSound sectors x × Grows b x (body_lines.Submit name submission)) same (
       record {
         ids = ids_push b.names name sound.ids is;
         distinct = IsDistinct-push same_name_equiv b.names name sound.distinct (unlisted name b.names new);
-        numbered = more ∙ sym (submissions-push b.body command ∙ omega (arith, one, sound.numbered));
-        well_formed = well_formed_push sectors [] b.body command sound.well_formed may;
+        numbered = more ∙ sym (submissions-push b.body (commands.Submit submission) ∙ omega (arith, sound.numbered));
+        well_formed = well_formed_push sectors [] b.body (commands.Submit submission) sound.well_formed may;
       },
       record {
         names = name ∷ [];
-        command = command;
+        command = commands.Submit submission;
         grown_names = refl;
         grown_body = refl;
-        says = λ rest. says ((b.names ++ name ∷ []) ++ rest) (name_behind b.names rest name);
-        counts = count_after_command-is (length b.names) command ∙ omega (arith, one, more);
+        says = ap (λ (x : ScriptId). body_lines.Submit x submission) (get_or-append_seam b.names name [] (script_id []));
       },
     )
 
 -- any other line
-other_grows : (sectors : ℕ) (b : Body) (command : Command) (s : Line) →
-    CanFollow sectors b.body command → submits command ≡ 0 →
-    ((rest : List ScriptId) → line_at (b.names ++ rest) (length b.names) command ≡ s) → IsSound sectors b →
-    (c : Body) → with_command b command ≡ c → IsSound sectors c × Grows b c s
+other_grows : (sectors : ℕ) (b : Body) (command : Command) (s : BodyLine) → CanFollow sectors b.body command → submits command ≡ 0
+    → line_at b.names (length b.names) command ≡ s → IsSound sectors b → (c : Body) → with_command b command ≡ c → IsSound sectors c × Grows b c s
 other_grows sectors b command s may none says sound c same =
     subst (λ (x : Body). IsSound sectors x × Grows b x s) same (
       record {
@@ -204,14 +196,7 @@ other_grows sectors b command s may none says sound c same =
         numbered = sound.numbered ∙ sym (submissions-push b.body command ∙ omega (arith, none));
         well_formed = well_formed_push sectors [] b.body command sound.well_formed may;
       },
-      record {
-        names = [];
-        command = command;
-        grown_names = sym (append-nil b.names);
-        grown_body = refl;
-        says = says;
-        counts = count_after_command-is (length b.names) command ∙ omega (arith, none);
-      },
+      record { names = []; command = command; grown_names = sym (append-nil b.names); grown_body = refl; says = says },
     )
 
 -- sectors that are answered well passed the test
@@ -225,78 +210,88 @@ ended_ok true b c command e = absurd (cc)
 ended_ok false b c command e = (refl, cc)
 
 -- an end
-end_grows : (sectors : ℕ) (b c : Body) (name : ScriptId) (o : Option ℕ) → request_of name b.names ≡ o → ended_next o b ≡ Ok c → IsSound sectors b → IsSound sectors c × Grows b c (parsed_lines.Complete name)
+end_grows : (sectors : ℕ) (b c : Body) (name : ScriptId) (o : Option ℕ) → request_of name b.names ≡ o → ended_next o b ≡ Ok c → IsSound sectors b → IsSound sectors c × Grows b c (body_lines.Complete name)
 end_grows sectors b c name None is e sound = absurd (cc)
 end_grows sectors b c name (Some request) is e sound =
     let p = name_of_request name b.names request (script_id []) is in
     let q = ended_ok (is_ended request b.body) b c (commands.Complete request) e in
-    other_grows sectors b (commands.Complete request) (parsed_lines.Complete name) (omega (arith, p.0, sound.numbered), q.0) refl
-    (λ rest. ap (λ (n : ScriptId). parsed_lines.Complete n) (get_or_append_left b.names rest (script_id []) request p.0 ∙ p.1)) sound c q.1
+    other_grows sectors b (commands.Complete request) (body_lines.Complete name) (omega (arith, p.0, sound.numbered), q.0) refl
+    (ap (λ (n : ScriptId). body_lines.Complete n) p.1) sound c q.1
 
 -- one more line keeps a body sound, and adds a line that says this
-pub step_grows : (sectors : ℕ) (b c : Body) (s : Line) → body_step sectors b s ≡ Ok c → IsFine s → IsSound sectors b → IsSound sectors c × Grows b c s
-step_grows sectors b c (parsed_lines.Write name first count byte) e fine sound =
+pub step_grows : (sectors : ℕ) (b c : Body) (s : BodyLine) → body_step sectors b s ≡ Ok c → IsFine s → IsSound sectors b → IsSound sectors c × Grows b c s
+step_grows sectors b c (body_lines.Submit name submission) e fine sound =
     let p = bind_ok (with_name b name) _ c e in
-    let q = bind_ok (sectors_answer first count sectors) _ c p.2 in
+    let q = bind_ok (as_refusal (submission_answer sectors submission)) _ c p.2 in
     let n = named_ok (request_of name b.names) b p.0 name p.1 in
-    submit_grows sectors b name (commands.Write first count byte) (parsed_lines.Write name first count byte) n.0 fine.0
-    (told_ok (range_answer first count sectors) q.0 q.1, fine.1) refl
-    (λ ns same. ap (λ (x : ScriptId). parsed_lines.Write x first count byte) same) sound c
-    (ap (λ (x : Body). with_command x (commands.Write first count byte)) n.1 ∙ (let last = q.2 in cc))
-step_grows sectors b c (parsed_lines.Flush name) e fine sound =
-    let p = bind_ok (with_name b name) _ c e in
-    let n = named_ok (request_of name b.names) b p.0 name p.1 in
-    submit_grows sectors b name commands.Flush (parsed_lines.Flush name) n.0 fine tt refl
-    (λ ns same. ap (λ (x : ScriptId). parsed_lines.Flush x) same) sound c
-    (ap (λ (x : Body). with_command x commands.Flush) n.1 ∙ (let last = p.2 in cc))
-step_grows sectors b c (parsed_lines.Complete name) e fine sound = end_grows sectors b c name (request_of name b.names) refl e sound
-step_grows sectors b c parsed_lines.Close e fine sound = other_grows sectors b commands.Close parsed_lines.Close tt refl (λ rest. refl) sound c (cc)
-step_grows sectors b c (parsed_lines.Data n) e fine sound = absurd (cc)
-step_grows sectors b c (parsed_lines.Log n) e fine sound = absurd (cc)
+    submit_grows sectors b name submission n.0 fine.0 (told_ok (submission_answer sectors submission) q.0 q.1, fine.1) sound c
+    (ap (λ (x : Body). with_command x (commands.Submit submission)) n.1 ∙ (let last = q.2 in cc))
+step_grows sectors b c (body_lines.Complete name) e fine sound = end_grows sectors b c name (request_of name b.names) refl e sound
+step_grows sectors b c (body_lines.Step step) e fine sound =
+    let q = bind_ok (as_refusal (step_answer sectors step)) _ c e in
+    other_grows sectors b (commands.Step step) (body_lines.Step step) (told_ok (step_answer sectors step) q.0 q.1) refl refl sound c (let last = q.2 in cc)
+
+-- ---- the lines of a body
+
+-- the lines of what was read of a body
+abbrev pub lines_of_draft : Body → List Line
+lines_of_draft b = lines_of_body b.names 0 b.body
+
+-- one more command has one more line
+lines_push : (names : List ScriptId) (n : ℕ) (body : List Command) (command : Command)
+    → lines_of_body names n (body ++ command ∷ []) ≡ lines_of_body names n body ++ parsed_lines.Body (line_at names (n + submissions body) command) ∷ []
+lines_push names n [] command = ap (λ (k : ℕ). parsed_lines.Body (line_at names k command) ∷ []) (omega arith)
+lines_push names n (c ∷ body) command =
+    let count : count_after_command n c + submissions body ≡ n + submissions (c ∷ body) = omega (arith, count_after_command-is n c, submissions-cons c body) in
+    ap (λ (ls : List Line). parsed_lines.Body (line_at names n c) ∷ ls)
+    (lines_push names (count_after_command n c) body command
+    ∙ ap (λ (k : ℕ). lines_of_body names (count_after_command n c) body ++ parsed_lines.Body (line_at names k command) ∷ []) count)
+
+-- a command's line doesn't depend on later names
+line_kept : (sectors : ℕ) (names more : List ScriptId) (done : List Command) (command : Command) (rest : ℕ) → CanFollow sectors done command
+    → length names ≡ submissions done + (submits command + rest) → line_at (names ++ more) (submissions done) command ≡ line_at names (submissions done) command
+line_kept sectors names more done (commands.Submit submission) rest may numbered =
+    ap (λ (x : ScriptId). body_lines.Submit x submission) (get_or_append_left names more (script_id []) (submissions done) (omega (arith, numbered)))
+line_kept sectors names more done (commands.Complete request) rest may numbered =
+    ap (λ (x : ScriptId). body_lines.Complete x) (get_or_append_left names more (script_id []) request (omega (arith, numbered, may.0)))
+line_kept sectors names more done (commands.Step step) rest may numbered = refl
+
+-- nor do those of a body
+lines_kept : (sectors : ℕ) (names more : List ScriptId) (n : ℕ) (done body : List Command) → n ≡ submissions done → IsWellFormed sectors done body
+    → length names ≡ n + submissions body → lines_of_body (names ++ more) n body ≡ lines_of_body names n body
+lines_kept sectors names more n done [] counted well_formed numbered = refl
+lines_kept sectors names more n done (c ∷ body) counted well_formed numbered =
+    let sum = submissions-cons c body in
+    let count = count_after_command-is n c in
+    let first : line_at (names ++ more) n c ≡ line_at names n c =
+    ap (λ (k : ℕ). line_at (names ++ more) k c) counted
+    ∙ line_kept sectors names more done c (submissions body) well_formed.0 (omega (arith, numbered, counted, sum))
+    ∙ ap (λ (k : ℕ). line_at names k c) (sym counted) in
+    ap (λ (x : BodyLine). parsed_lines.Body x ∷ lines_of_body (names ++ more) (count_after_command n c) body) first
+    ∙ ap (λ (ls : List Line). parsed_lines.Body (line_at names n c) ∷ ls)
+    (lines_kept sectors names more (count_after_command n c) (done ++ c ∷ []) body (omega (arith, count, counted, submissions-push done c)) well_formed.1
+    (omega (arith, numbered, sum, count)))
+
+-- a line more of a body that grows
+pub lines_grow : (sectors : ℕ) (b c : Body) (s : BodyLine) → IsSound sectors b → Grows b c s → lines_of_draft c ≡ lines_of_draft b ++ parsed_lines.Body s ∷ []
+lines_grow sectors b c s sound g =
+    let kept : lines_of_body c.names 0 b.body ≡ lines_of_draft b =
+    ap (λ (ns : List ScriptId). lines_of_body ns 0 b.body) g.grown_names ∙ lines_kept sectors b.names g.names 0 [] b.body refl sound.well_formed (sound.numbered ∙ omega arith) in
+    let last : line_at c.names (0 + submissions b.body) g.command ≡ s = ap (λ (k : ℕ). line_at c.names k g.command) (omega (arith, sound.numbered)) ∙ g.says in
+    ap (λ (cs : List Command). lines_of_body c.names 0 cs) g.grown_body ∙ lines_push c.names 0 b.body g.command
+    ∙ ap (λ (ls : List Line). ls ++ parsed_lines.Body (line_at c.names (0 + submissions b.body) g.command) ∷ []) kept
+    ∙ ap (λ (x : BodyLine). lines_of_draft b ++ parsed_lines.Body x ∷ []) last
 
 -- ---- runs
 
--- the body after the lines that say this
-abbrev pub run_body : ℕ → Body → List Line → Result Body Refusal
-run_body sectors b [] = Ok b
-run_body sectors b (s ∷ ss) = body_step sectors b s >>= λ c. run_body sectors c ss
+-- what was read after the lines that say this
+abbrev pub run : Kind → Progress → List Line → Result Progress Refusal
+run kind p [] = Ok p
+run kind p (s ∷ ss) = parsed_step kind p s >>= λ q. run kind q ss
 
--- a body grows by the lines that say this
-pub record Told (b c : Body) (ss : List Line) : Type 0 where
-  pub names : List ScriptId
-  pub commands : List Command
-  pub grown_names : c.names ≡ b.names ++ names
-  pub grown_body : c.body ≡ b.body ++ commands
-  pub says : (rest : List ScriptId) → lines_of_body (c.names ++ rest) (length b.names) commands ≡ ss
-
--- one more line before others
-told_more : (b c d : Body) (s : Line) (ss : List Line) → Grows b c s → Told c d ss → Told b d (s ∷ ss)
-told_more b c d s ss g t =
-    let all : d.names ≡ b.names ++ (g.names ++ t.names) = t.grown_names ∙ ap (λ x. x ++ t.names) g.grown_names ∙ append_assoc b.names g.names t.names in
-    let body : d.body ≡ b.body ++ (g.command ∷ t.commands) = t.grown_body ∙ ap (λ x. x ++ t.commands) g.grown_body ∙ append_assoc b.body (g.command ∷ []) t.commands in
-    record {
-      names = g.names ++ t.names;
-      commands = g.command ∷ t.commands;
-      grown_names = all;
-      grown_body = body;
-      says = λ rest.
-          let regrouped : d.names ++ rest ≡ c.names ++ (t.names ++ rest) = ap (λ x. x ++ rest) t.grown_names ∙ append_assoc c.names t.names rest in
-          let first : line_at (d.names ++ rest) (length b.names) g.command ≡ s = ap (λ x. line_at x (length b.names) g.command) regrouped ∙ g.says (t.names ++ rest) in
-          let others : lines_of_body (d.names ++ rest) (count_after_command (length b.names) g.command) t.commands ≡ ss = ap (λ n. lines_of_body (d.names ++ rest) n t.commands) g.counts ∙ t.says rest in
-          ap (λ x. x ∷ lines_of_body (d.names ++ rest) (count_after_command (length b.names) g.command) t.commands) first ∙ ap (λ x. s ∷ x) others;
-    }
-
--- what lines say stands in the body that they leave
-pub run_grows : (sectors : ℕ) (b c : Body) (ss : List Line) → run_body sectors b ss ≡ Ok c → AllByRecursion IsFine ss → IsSound sectors b → IsSound sectors c × Told b c ss
-run_grows sectors b c [] e fine sound =
-    let same : b ≡ c = cc in
-    subst (λ (x : Body). IsSound sectors x × Told b x []) same
-    (sound, record { names = []; commands = []; grown_names = sym (append-nil b.names); grown_body = sym (append-nil b.body); says = λ rest. refl })
-run_grows sectors b c (s ∷ ss) e fine sound =
-    let p = bind_ok (body_step sectors b s) _ c e in
-    let g = step_grows sectors b p.0 s p.1 fine.0 sound in
-    let t = run_grows sectors p.0 c ss p.2 fine.1 g.0 in
-    (t.0, told_more b p.0 c s ss g.1 t.1)
+-- the head is whole, and this was read of the body
+abbrev pub in_draft : ℕ → ℕ → Body → Progress
+in_draft d l b = record { head = heads.Whole d l; body = b }
 
 -- what has this value goes on from it
 pub bind_at : {A B : Type 0} (r : Result A Refusal) (f : A → Result B Refusal) (x : A) (y : Result B Refusal) → r ≡ Ok x → f x ≡ y → (r >>= f) ≡ y
@@ -321,16 +316,19 @@ with_name_again before_byte more names name before whole distinct =
     (new_name before_byte more name (subst (λ (x : List ScriptId). IsDistinct same_name x) whole distinct))
 
 -- one line of a body, and the lines after it
-again_step : (sectors : ℕ) (names before_byte next : List ScriptId) (before body : List Command) (command : Command) →
-    body_step sectors (record { names = before_byte; body = before }) (line_at names (length before_byte) command) ≡ Ok (record { names = next; body = before ++ command ∷ [] }) →
+again_step : (d l : ℕ) (names before_byte next : List ScriptId) (before body : List Command) (command : Command) →
+    body_step d (record { names = before_byte; body = before }) (line_at names (length before_byte) command) ≡ Ok (record { names = next; body = before ++ command ∷ [] }) →
     count_after_command (length before_byte) command ≡ length next →
-    run_body sectors (record { names = next; body = before ++ command ∷ [] }) (lines_of_body names (length next) body) ≡ Ok (record { names = names; body = (before ++ command ∷ []) ++ body }) →
-    run_body sectors (record { names = before_byte; body = before }) (lines_of_body names (length before_byte) (command ∷ body)) ≡ Ok (record { names = names; body = before ++ command ∷ body })
-again_step sectors names before_byte next before body command one counts others =
-    let done = λ (x : List Command). let b : Body = record { names = names; body = x } in b in
+    run kinds.Record (in_draft d l (record { names = next; body = before ++ command ∷ [] })) (lines_of_body names (length next) body)
+    ≡ Ok (in_draft d l (record { names = names; body = (before ++ command ∷ []) ++ body })) →
+    run kinds.Record (in_draft d l (record { names = before_byte; body = before })) (lines_of_body names (length before_byte) (command ∷ body))
+    ≡ Ok (in_draft d l (record { names = names; body = before ++ command ∷ body }))
+again_step d l names before_byte next before body command one counts others =
+    let done = λ (x : List Command). let b : Body = record { names = names; body = x } in in_draft d l b in
+    let old : Body = record { names = before_byte; body = before } in
     let start : Body = record { names = next; body = before ++ command ∷ [] } in
-    bind_at _ _ _ _ one
-    (ap (λ n. run_body sectors start (lines_of_body names n body)) counts ∙ others ∙ ap (λ x. Ok (done x)) (append_assoc before (command ∷ []) body))
+    bind_at _ _ _ _ (ap (with_body (in_draft d l old)) one)
+    (ap (λ n. run kinds.Record (in_draft d l start) (lines_of_body names n body)) counts ∙ others ∙ ap (λ x. Ok (done x)) (append_assoc before (command ∷ []) body))
 
 -- what is known of the next submission of names = front ++ rest
 record NextName (names before_byte rest : List ScriptId) (before body : List Command) (command : Command) : Type 0 where
@@ -384,32 +382,27 @@ end_again sectors names before_byte rest before request whole distinct inside go
     ap (λ o. ended_next o b) place ∙ cond-false _ _ _ going
 
 -- the lines of a body give it again: those after its beginning lead from there to all of it
-pub run_again : (sectors : ℕ) (names before_byte rest : List ScriptId) (before body : List Command) → names ≡ before_byte ++ rest → IsDistinct same_name names →
-    length before_byte ≡ submissions before → length rest ≡ submissions body → IsWellFormed sectors before body →
-    run_body sectors (record { names = before_byte; body = before }) (lines_of_body names (length before_byte) body) ≡ Ok (record { names = names; body = before ++ body })
-run_again sectors names before_byte rest before [] whole distinct numbered left well_formed =
+pub run_again : (d l : ℕ) (names before_byte rest : List ScriptId) (before body : List Command) → names ≡ before_byte ++ rest → IsDistinct same_name names →
+    length before_byte ≡ submissions before → length rest ≡ submissions body → IsWellFormed d before body →
+    run kinds.Record (in_draft d l (record { names = before_byte; body = before })) (lines_of_body names (length before_byte) body)
+    ≡ Ok (in_draft d l (record { names = names; body = before ++ body }))
+run_again d l names before_byte rest before [] whole distinct numbered left well_formed =
     let all : before_byte ≡ names = sym (whole ∙ ap (λ x. before_byte ++ x) (no_names rest left) ∙ append-nil before_byte) in
-    let b = λ (ns : List ScriptId) (cs : List Command). let x : Body = record { names = ns; body = cs } in x in
+    let b = λ (ns : List ScriptId) (cs : List Command). let x : Body = record { names = ns; body = cs } in in_draft d l x in
     ap (λ ns. Ok (b ns before)) all ∙ ap (λ cs. Ok (b names cs)) (sym (append-nil before))
-run_again sectors names before_byte rest before (commands.Write first count byte ∷ body) whole distinct numbered left well_formed =
-    let n = next_name names before_byte rest before body (commands.Write first count byte) refl whole numbered left in
-    again_step sectors names before_byte (before_byte ++ n.name ∷ []) before body (commands.Write first count byte)
+run_again d l names before_byte rest before (commands.Submit submission ∷ body) whole distinct numbered left well_formed =
+    let n = next_name names before_byte rest before body (commands.Submit submission) refl whole numbered left in
+    again_step d l names before_byte (before_byte ++ n.name ∷ []) before body (commands.Submit submission)
     (bind_at _ _ _ _ (ap (with_name (record { names = before_byte; body = before })) n.here ∙ with_name_again before_byte n.more names n.name before n.split distinct)
     (bind_at _ _ _ _ (ap as_refusal well_formed.0.0) refl))
     n.counts
-    (run_again sectors names (before_byte ++ n.name ∷ []) n.more (before ++ commands.Write first count byte ∷ []) body n.whole distinct n.numbered n.left well_formed.1)
-run_again sectors names before_byte rest before (commands.Flush ∷ body) whole distinct numbered left well_formed =
-    let n = next_name names before_byte rest before body commands.Flush refl whole numbered left in
-    again_step sectors names before_byte (before_byte ++ n.name ∷ []) before body commands.Flush
-    (bind_at _ _ _ _ (ap (with_name (record { names = before_byte; body = before })) n.here ∙ with_name_again before_byte n.more names n.name before n.split distinct) refl)
-    n.counts
-    (run_again sectors names (before_byte ++ n.name ∷ []) n.more (before ++ commands.Flush ∷ []) body n.whole distinct n.numbered n.left well_formed.1)
-run_again sectors names before_byte rest before (commands.Complete request ∷ body) whole distinct numbered left well_formed =
-    again_step sectors names before_byte before_byte before body (commands.Complete request)
-    (end_again sectors names before_byte rest before request whole distinct (omega (arith, well_formed.0.0, numbered)) well_formed.0.1) refl
-    (run_again sectors names before_byte rest (before ++ commands.Complete request ∷ []) body whole distinct
+    (run_again d l names (before_byte ++ n.name ∷ []) n.more (before ++ commands.Submit submission ∷ []) body n.whole distinct n.numbered n.left well_formed.1)
+run_again d l names before_byte rest before (commands.Complete request ∷ body) whole distinct numbered left well_formed =
+    again_step d l names before_byte before_byte before body (commands.Complete request)
+    (end_again d names before_byte rest before request whole distinct (omega (arith, well_formed.0.0, numbered)) well_formed.0.1) refl
+    (run_again d l names before_byte rest (before ++ commands.Complete request ∷ []) body whole distinct
     (numbered ∙ sym (submissions-push before (commands.Complete request) ∙ omega arith)) (left ∙ submissions-cons (commands.Complete request) body ∙ omega arith) well_formed.1)
-run_again sectors names before_byte rest before (commands.Close ∷ body) whole distinct numbered left well_formed =
-    again_step sectors names before_byte before_byte before body commands.Close refl refl
-    (run_again sectors names before_byte rest (before ++ commands.Close ∷ []) body whole distinct
-    (numbered ∙ sym (submissions-push before commands.Close ∙ omega arith)) (left ∙ submissions-cons commands.Close body ∙ omega arith) well_formed.1)
+run_again d l names before_byte rest before (commands.Step step ∷ body) whole distinct numbered left well_formed =
+    again_step d l names before_byte before_byte before body (commands.Step step) (bind_at _ _ _ _ (ap as_refusal well_formed.0) refl) refl
+    (run_again d l names before_byte rest (before ++ commands.Step step ∷ []) body whole distinct
+    (numbered ∙ sym (submissions-push before (commands.Step step) ∙ omega arith)) (left ∙ submissions-cons (commands.Step step) body ∙ omega arith) well_formed.1)

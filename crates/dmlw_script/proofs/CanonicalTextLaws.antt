@@ -13,15 +13,22 @@ use Rattle.dmlw_script.specs.declared.command.Command.{Command}
 use Rattle.dmlw_script.specs.declared.command.Command.TheVariants as commands
 use Rattle.dmlw_script.specs.declared.script_id.ScriptId.{ScriptId}
 use Rattle.dmlw_script.specs.declared.line.Line.{Line}
-use Rattle.dmlw_script.specs.declared.line.Line.TheVariants.{Data, Log, Write, Flush, Complete, Close}
+use Rattle.dmlw_script.specs.declared.line.Line.TheVariants as parsed_lines
+use Rattle.dmlw_script.specs.declared.line.HeadLine.TheVariants as head_lines
+use Rattle.dmlw_script.specs.declared.line.BodyLine.TheVariants as body_lines
+use Rattle.dmlw_script.specs.declared.command.Submission.{Submission}
+use Rattle.dmlw_script.specs.declared.command.Submission.TheVariants as submits
+use Rattle.dmlw_script.specs.declared.command.Step.{Step}
+use Rattle.dmlw_script.specs.declared.command.Step.TheVariants as steps
+use Rattle.dmlw_script.specs.inside.Parsing.{step, submit}
 use Rattle.dmlw_script.specs.Grammar.{IsId, IsNumber, ParsesAs, IsTextOf, AreLinesOf}
-use Rattle.dmlw_script.specs.Lines.{with_line_feeds, is_ascii_line, is_skipped, unskipped, lines_of, IsUnbroken}
+use Rattle.dmlw_script.specs.Lines.{with_line_feeds, is_ascii_line, unskipped, lines_of, IsUnbroken}
 use Rattle.dmlw_script.specs.Ids.{is_id, is_name_byte, letters_of, script_id}
-use Rattle.dmlw_script.specs.Plans.{lines_of_body, name_at, lines_of_script, submissions, IsName, IsWellFormed, IsPlan, Plan}
+use Rattle.dmlw_script.specs.Plans.{CanFollow, count_after_command, line_at, lines_of_body, name_at, lines_of_script, step_answer, submission_answer, submissions, IsName, IsWellFormed, IsPlan, Plan, WritesByte}
 use Rattle.dmlw_script.specs.CanonicalText.{ended_line, line_text, canonical_text}
 use Rattle.dmlw_script.specs.Words.{byte_text, before_byte, hex_digit, number_after, number_value}
-use Rattle.dmlw_script.proofs.BodyLaws.{submissions-cons, submissions-push, submits}
-use Rattle.dmlw_script.proofs.ParsingLaws.{all_weaker, lacks}
+use Rattle.dmlw_script.proofs.BodyLaws.{count_after_command-is, submissions-cons, submissions-push}
+use Rattle.dmlw_script.proofs.ParsingLaws.{all_weaker, lacks, said_kept}
 
 -- ---- words
 
@@ -112,11 +119,10 @@ visible_id name is = all_weaker is_name_byte is_visible visible_name_byte (lette
 visible_byte : (byte : ℕ) → byte < 256 → IsVisible (byte_text byte)
 visible_byte byte low = and_from _ _ (visible_hex (byte / 16) (omega arith)) (and_from _ _ (visible_hex (byte % 16) (omega arith)) refl)
 
--- what can be written of a sentence
+-- what can be written of what a line says
 pub record IsWritten (s : Line) : Type 0 where
   pub says : ParsesAs (line_text s) s
   pub visible : IsVisible (line_text s)
-  pub parse_words : is_skipped (line_text s) ≡ false
 
 -- a first word and a number
 written_number : (verb : List ℕ) (n : ℕ) → IsVisible verb → n < 2 ^ 64 → IsVisible (verb ++ 32 ∷ decimal n)
@@ -127,27 +133,19 @@ written_id : (verb : List ℕ) (name : ScriptId) → IsVisible verb → IsName n
 written_id verb name visible is = visible_append verb (32 ∷ letters_of name) visible (visible_id name is)
 
 -- the data disk's line
-pub data_written : (n : ℕ) → n < 2 ^ 64 → IsWritten (Data n)
-data_written n low = record { says = record { word = decimal n; number = decimal_number n low; spelled = refl }; visible = written_number (codes "data") n refl low; parse_words = refl }
+pub data_written : (n : ℕ) → n < 2 ^ 64 → IsWritten (parsed_lines.Head (head_lines.Data n))
+data_written n low = record { says = record { word = decimal n; number = decimal_number n low; spelled = refl }; visible = written_number (codes "data") n refl low }
 
 -- the log disk's line
-pub log_written : (n : ℕ) → n < 2 ^ 64 → IsWritten (Log n)
-log_written n low = record { says = record { word = decimal n; number = decimal_number n low; spelled = refl }; visible = written_number (codes "log") n refl low; parse_words = refl }
-
--- a flush's line
-pub flush_written : (name : ScriptId) → IsName name → IsWritten (Flush name)
-flush_written name is = record { says = record { word = letters_of name; id = letters_id name is; spelled = refl }; visible = written_id (codes "f") name refl is; parse_words = refl }
+pub log_written : (n : ℕ) → n < 2 ^ 64 → IsWritten (parsed_lines.Head (head_lines.Log n))
+log_written n low = record { says = record { word = decimal n; number = decimal_number n low; spelled = refl }; visible = written_number (codes "log") n refl low }
 
 -- an end's line
-pub complete_written : (name : ScriptId) → IsName name → IsWritten (Complete name)
-complete_written name is = record { says = record { word = letters_of name; id = letters_id name is; spelled = refl }; visible = written_id (codes "c") name refl is; parse_words = refl }
-
--- the line of a close
-pub close_written : IsWritten Close
-close_written = record { says = refl; visible = refl; parse_words = refl }
+pub complete_written : (name : ScriptId) → IsName name → IsWritten (parsed_lines.Body (body_lines.Complete name))
+complete_written name is = record { says = record { word = letters_of name; id = letters_id name is; spelled = refl }; visible = written_id (codes "c") name refl is }
 
 -- a write's line
-pub write_written : (name : ScriptId) (first count byte : ℕ) → IsName name → first < 2 ^ 64 → count < 2 ^ 64 → byte < 256 → IsWritten (Write name first count byte)
+write_written : (name : ScriptId) (first count byte : ℕ) → IsName name → first < 2 ^ 64 → count < 2 ^ 64 → byte < 256 → IsWritten (submit name (submits.Write first count byte))
 write_written name first count byte is first_low count_low byte_low = record {
   says = record {
     id_word = letters_of name;
@@ -164,7 +162,6 @@ write_written name first count byte is first_low count_low byte_low = record {
       (visible_append (letters_of name) (32 ∷ (decimal first ++ 32 ∷ (decimal count ++ 32 ∷ byte_text byte))) (visible_id name is)
       (visible_append (decimal first) (32 ∷ (decimal count ++ 32 ∷ byte_text byte)) (visible_number first first_low)
       (visible_append (decimal count) (32 ∷ byte_text byte) (visible_number count count_low) (visible_byte byte byte_low))));
-  parse_words = refl;
 }
 
 -- ---- scripts
@@ -182,39 +179,48 @@ range_ok first count sectors e =
     let within = passed (nat_lt sectors (first + count)) _ _ short.1 in
     (ltb-false _ _ short.0, ltb-false _ _ within.0)
 
+-- a submission's line
+submission_written : (sectors : ℕ) (name : ScriptId) (submission : Submission) → sectors ≤ 1048576 → IsName name → submission_answer sectors submission ≡ Ok tt → WritesByte submission
+    → IsWritten (submit name submission)
+submission_written sectors name (submits.Write first count byte) small is passes low =
+    let r = range_ok first count sectors passes in
+    write_written name first count byte is (omega (arith, r.1)) (omega (arith, r.0)) low
+submission_written sectors name submits.Flush small is passes low =
+    record { says = record { word = letters_of name; id = letters_id name is; spelled = refl }; visible = written_id (codes "f") name refl is }
+
+-- a line that names no request
+step_written : (sectors : ℕ) (it : Step) → sectors ≤ 1048576 → step_answer sectors it ≡ Ok tt → IsWritten (step it)
+step_written sectors steps.Close small passes = record { says = refl; visible = refl }
+
 -- a request's id is one
 id_at : (names : List ScriptId) (request : ℕ) → AllByRecursion IsName names → request < length names → IsName (name_at names request)
 id_at names request ids inside = All-from_recursion IsName names ids request (script_id []) inside
 
 -- a submission's id is one
-submission_id : (names : List ScriptId) (n : ℕ) (body : List Command) (command : Command) → AllByRecursion IsName names → length names ≡ n + submissions (command ∷ body) → submits command ≡ 1 → IsName (name_at names n)
-submission_id names n body command ids numbered one = id_at names n ids (omega (arith, numbered, submissions-cons command body, one))
+submission_id : (names : List ScriptId) (n : ℕ) (body : List Command) (submission : Submission) → AllByRecursion IsName names
+    → length names ≡ n + submissions (commands.Submit submission ∷ body) → IsName (name_at names n)
+submission_id names n body submission ids numbered = id_at names n ids (omega (arith, numbered, submissions-cons (commands.Submit submission) body))
+
+-- the line of a command can be written
+command_written : (sectors : ℕ) (names : List ScriptId) (done : List Command) (command : Command) (rest : List Command) → sectors ≤ 1048576 → AllByRecursion IsName names
+    → length names ≡ submissions done + submissions (command ∷ rest) → CanFollow sectors done command → IsWritten (parsed_lines.Body (line_at names (submissions done) command))
+command_written sectors names done (commands.Submit submission) rest small ids numbered may =
+    submission_written sectors (name_at names (submissions done)) submission small (submission_id names (submissions done) rest submission ids numbered) may.0 may.1
+command_written sectors names done (commands.Complete request) rest small ids numbered may =
+    complete_written (name_at names request) (id_at names request ids (omega (arith, numbered, may.0)))
+command_written sectors names done (commands.Step it) rest small ids numbered may = step_written sectors it small may
 
 -- each line of a body can be written
 body_written : (sectors : ℕ) (names : List ScriptId) (n : ℕ) (done body : List Command) → sectors ≤ 1048576 → AllByRecursion IsName names → n ≡ submissions done → length names ≡ n + submissions body →
     IsWellFormed sectors done body → AllByRecursion IsWritten (lines_of_body names n body)
 body_written sectors names n done [] small ids counted numbered well_formed = tt
-body_written sectors names n done (commands.Write first count byte ∷ body) small ids counted numbered well_formed =
-    let r = range_ok first count sectors well_formed.0.0 in (
-      write_written (name_at names n) first count byte (submission_id names n body (commands.Write first count byte) ids numbered refl) (omega (arith, r.1)) (omega (arith, r.0)) well_formed.0.1,
-      body_written sectors names (n + 1) (done ++ commands.Write first count byte ∷ []) body small ids (sym (submissions-push done (commands.Write first count byte) ∙ omega (arith, counted)))
-          (omega (arith, numbered, submissions-cons (commands.Write first count byte) body)) well_formed.1,
+body_written sectors names n done (command ∷ body) small ids counted numbered well_formed =
+    let count = count_after_command-is n command in (
+      subst (λ (k : ℕ). IsWritten (parsed_lines.Body (line_at names k command))) (sym counted)
+          (command_written sectors names done command body small ids (numbered ∙ ap (λ (k : ℕ). k + submissions (command ∷ body)) counted) well_formed.0),
+      body_written sectors names (count_after_command n command) (done ++ command ∷ []) body small ids (count ∙ sym (submissions-push done command ∙ omega (arith, counted)))
+          (omega (arith, numbered, count, submissions-cons command body)) well_formed.1,
     )
-body_written sectors names n done (commands.Flush ∷ body) small ids counted numbered well_formed = (
-  flush_written (name_at names n) (submission_id names n body commands.Flush ids numbered refl),
-  body_written sectors names (n + 1) (done ++ commands.Flush ∷ []) body small ids (sym (submissions-push done commands.Flush ∙ omega (arith, counted)))
-      (omega (arith, numbered, submissions-cons commands.Flush body)) well_formed.1,
-)
-body_written sectors names n done (commands.Complete request ∷ body) small ids counted numbered well_formed = (
-  complete_written (name_at names request) (id_at names request ids (omega (arith, numbered, well_formed.0.0, counted))),
-  body_written sectors names n (done ++ commands.Complete request ∷ []) body small ids (sym (submissions-push done (commands.Complete request) ∙ omega (arith, counted)))
-      (omega (arith, numbered, submissions-cons (commands.Complete request) body)) well_formed.1,
-)
-body_written sectors names n done (commands.Close ∷ body) small ids counted numbered well_formed = (
-  close_written,
-  body_written sectors names n (done ++ commands.Close ∷ []) body small ids (sym (submissions-push done commands.Close ∙ omega (arith, counted)))
-      (omega (arith, numbered, submissions-cons commands.Close body)) well_formed.1,
-)
 
 -- each sentence of a script can be written
 pub plan_written : (plan : Plan) → IsPlan plan → AllByRecursion IsWritten (lines_of_script plan)
@@ -256,7 +262,7 @@ plain_lines (s ∷ ss) written = (all_weaker _ _ visible_plain (line_text s) wri
 -- none of them is skipped
 kept_lines : (ss : List Line) → AllByRecursion IsWritten ss → unskipped (map line_text ss) ≡ map line_text ss
 kept_lines [] written = refl
-kept_lines (s ∷ ss) written = cond-true _ _ _ (ap not written.0.parse_words) ∙ ap (λ x. line_text s ∷ x) (kept_lines ss written.1)
+kept_lines (s ∷ ss) written = cond-true _ _ _ (ap not (said_kept (line_text s) s written.0.says)) ∙ ap (λ x. line_text s ∷ x) (kept_lines ss written.1)
 
 -- they say the sentences
 says_lines : (ss : List Line) → AllByRecursion IsWritten ss → AllZip ParsesAs (map line_text ss) ss

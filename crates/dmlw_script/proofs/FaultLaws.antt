@@ -1,10 +1,9 @@
-use Rattle.std.proofs.Common.{◌≡◌, ℕ, zero, suc, ◌+◌, Bool, true, false, not, cond, List, [], ◌∷◌, ◌++◌, length, Option, Some, None, Ok, Err, ◌⊎◌, inl, inr, ⊎_elim, refl, ap, ◌∙◌, sym, subst, arith, append_assoc}
+use Rattle.std.proofs.Common.{◌≡◌, ℕ, suc, ◌+◌, Bool, true, false, not, cond, List, [], ◌∷◌, ◌++◌, length, Option, Some, None, Ok, Err, ◌⊎◌, inl, inr, ⊎_elim, refl, ap, ◌∙◌, sym, subst, arith, append_assoc}
 use Rattle.std.specs.Prelude.{Result, codes}
 use Rattle.std.specs.List.{list_any, AllZip}
 use Rattle.std.proofs.lemmas.Bool.{cond-true, cond-false, cases_Bool}
 use Rattle.std.proofs.lemmas.List.{append-nil}
-use Rattle.bio.specs.Check.{range_answer}
-use Rattle.bio.specs.Refusals.{bad_bio_refusal}
+use Rattle.std.proofs.lemmas.Option.{cond_some}
 use Rattle.bio.specs.declared.request.BadBio.{BadBio}
 use Rattle.refusals.specs.declared.refusal.Refusal.{Refusal}
 use Rattle.refusals.specs.declared.refusal.Refusal.TheVariants.{BadLine, BadId}
@@ -14,19 +13,27 @@ use Rattle.dmlw_script.specs.declared.script_id.ScriptId.{ScriptId}
 use Rattle.dmlw_script.specs.declared.reader.Kind.{Kind}
 use Rattle.dmlw_script.specs.declared.reader.Kind.TheVariants as kinds
 use Rattle.dmlw_script.specs.declared.line.Line.{Line}
-use Rattle.dmlw_script.specs.declared.line.Line.TheVariants.{Data, Log, Write, Flush, Complete, Close}
-use Rattle.dmlw_script.specs.inside.Drafts.{◌>>=◌, body_step, ended_next, named_next, sectors_answer, as_refusal, with_command, Body}
+use Rattle.dmlw_script.specs.declared.line.Line.TheVariants as parsed_lines
+use Rattle.dmlw_script.specs.declared.line.HeadLine.{HeadLine}
+use Rattle.dmlw_script.specs.declared.line.HeadLine.TheVariants as head_lines
+use Rattle.dmlw_script.specs.declared.line.BodyLine.{BodyLine}
+use Rattle.dmlw_script.specs.declared.line.BodyLine.TheVariants as body_lines
+use Rattle.dmlw_script.specs.declared.command.Submission.{Submission}
+use Rattle.dmlw_script.specs.declared.head.Head.{Head}
+use Rattle.dmlw_script.specs.declared.head.Head.TheVariants as heads
+use Rattle.dmlw_script.specs.inside.Heads.{head_step}
+use Rattle.dmlw_script.specs.inside.Drafts.{◌>>=◌, body_step, ended_next, named_next, as_refusal, with_command, Body}
 use Rattle.dmlw_script.specs.Grammar.{ParsesAs, AreLinesOf}
 use Rattle.dmlw_script.specs.Lines.{is_ascii_line, is_skipped, unskipped}
 use Rattle.dmlw_script.specs.Ids.{same_name}
-use Rattle.dmlw_script.specs.Plans.{is_disk_size, is_ended, request_of, Plan}
-use Rattle.dmlw_script.specs.inside.Readers.{and_then, at_line, data_size, finish_step, finished, step_if_parsed, line_step, log_size, nothing, read_lines, parsed_step, with_body, with_data, with_log, Progress}
-use Rattle.dmlw_script.specs.Reading.{is_open, bad_id, bad_line, bad_request, BeginsScript, FaultAfter, IsFirstFault, IsLineAfter, IsLineFault, StandsAfter}
+use Rattle.dmlw_script.specs.Plans.{is_disk_size, is_ended, request_of, step_answer, submission_answer, Plan}
+use Rattle.dmlw_script.specs.inside.Readers.{and_then, at_line, body_line, finish_step, finished, step_if_parsed, line_step, nothing, read_lines, parsed_step, with_body, with_head, Progress}
+use Rattle.dmlw_script.specs.Reading.{bad_line, body_refusal, data_due, in_body, is_open, log_due, next_phase, phase_after, refused, test_refusal, BeginsScript, FaultAfter, IsFirstFault, IsLineAfter, IsLineFault, Phase, StandsAfter}
 use Rattle.dmlw_script.specs.inside.Parsing.{parse_line}
-use Rattle.dmlw_script.proofs.BodyLaws.{unlisted, run_body}
+use Rattle.dmlw_script.proofs.BodyLaws.{bind_ok, in_draft, run, unlisted}
 use Rattle.dmlw_script.proofs.DraftLemmas.{listed}
-use Rattle.dmlw_script.proofs.ReadingLaws.{body_run, go, go_heard, lines_go, lines_spell, no_body, plain_step, plan_of, run, said_step, skipped_step, spelled_lines, with_body_ok, with_head, GoneBy}
-use Rattle.dmlw_script.proofs.ParsingLaws.{parsed_again, parsed_read}
+use Rattle.dmlw_script.proofs.ReadingLaws.{go, go_heard, lines_go, lines_spell, plain_step, plan_of, said_step, skipped_step, spelled_lines, with_body_ok, with_head_ok, GoneBy}
+use Rattle.dmlw_script.proofs.ParsingLaws.{one_parsed, parsed_again, parsed_read}
 
 -- ---- where reading ends
 
@@ -97,16 +104,15 @@ pub record Completes (p : Progress) (number : ℕ) : Type 0 where
   pub read : read_lines kinds.Record p number more ≡ Ok plan
 
 -- the lines of the head that are missing complete a script
-completes : (data_size log_size : Option ℕ) (b : Body) (number : ℕ) → Completes (record { data_sectors = data_size; log_sectors = log_size; body = b }) number
-completes (Some d) (Some l) b number = record { more = []; plan = plan_of d l b; read = refl }
-completes (Some d) None b number = record { more = codes "log 1" ∷ []; plan = plan_of d 1 b; read = refl }
-completes None (Some l) b number = record { more = codes "data 1" ∷ []; plan = plan_of 1 l b; read = refl }
-completes None None b number = record { more = codes "data 1" ∷ codes "log 1" ∷ []; plan = plan_of 1 1 b; read = refl }
+completes : (h : Head) (b : Body) (number : ℕ) → Completes (record { head = h; body = b }) number
+completes (heads.Whole d l) b number = record { more = []; plan = plan_of d l b; read = refl }
+completes (heads.Data d) b number = record { more = codes "log 1" ∷ []; plan = plan_of d 1 b; read = refl }
+completes heads.Empty b number = record { more = codes "data 1" ∷ codes "log 1" ∷ []; plan = plan_of 1 1 b; read = refl }
 
 -- lines that lead somewhere begin a script
 pub gone_begins : (lines : List (List ℕ)) (q : Progress) → go kinds.Record nothing lines ≡ Ok q → BeginsScript lines
 gone_begins lines q gone =
-    let c = completes q.data_sectors q.log_sectors q.body (1 + length lines) in
+    let c = completes q.head q.body (1 + length lines) in
     record { more = c.more; plan = c.plan; spells = lines_spell (lines ++ c.more) 1 c.plan (lines_go kinds.Record nothing q 1 lines c.more gone ∙ c.read) }
 
 -- no script begins with lines of which the last is refused
@@ -125,101 +131,121 @@ unfinished before q refusal gone finish plan spells =
     cc
 
 -- a text that can't end yet is a bad line
-unfinished_is : (data_size log_size : Option ℕ) (b : Body) (refusal : Refusal) → finished kinds.Record data_size log_size b ≡ Err refusal → refusal ≡ BadLine
-unfinished_is (Some d) (Some l) b refusal e = absurd (cc)
-unfinished_is (Some d) None b refusal e = cc
-unfinished_is None log_size b refusal e = cc
+unfinished_is : (h : Head) (b : Body) (refusal : Refusal) → finished kinds.Record h b ≡ Err refusal → refusal ≡ BadLine
+unfinished_is (heads.Whole d l) b refusal e = absurd (cc)
+unfinished_is (heads.Data d) b refusal e = cc
+unfinished_is heads.Empty b refusal e = cc
+
+-- ---- what comes next
+
+-- what comes next after this much of a head
+abbrev pub phase_of : Head → Phase
+phase_of heads.Empty = data_due
+phase_of (heads.Data d) = log_due
+phase_of (heads.Whole d l) = in_body
+
+-- after one more line of the head
+head_phase : (h k : Head) (line : HeadLine) → head_step h line ≡ Some k → phase_of k ≡ next_phase (parsed_lines.Head line)
+head_phase heads.Empty k (head_lines.Data n) e = ap phase_of (sym (cond_some (is_disk_size n) (heads.Data n) k e).1)
+head_phase (heads.Data d) k (head_lines.Log n) e = ap phase_of (sym (cond_some (is_disk_size n) (heads.Whole d n) k e).1)
+head_phase heads.Empty k (head_lines.Log n) e = absurd (cc e)
+head_phase (heads.Data d) k (head_lines.Data n) e = absurd (cc e)
+head_phase (heads.Whole d l) k line e = absurd (cc e)
+
+-- after one more line of the body
+body_phase : (h : Head) (p q : Progress) (line : BodyLine) → p.head ≡ h → body_line kinds.Record h p line ≡ Ok q → phase_of q.head ≡ in_body
+body_phase heads.Empty p q line is e = absurd (cc e)
+body_phase (heads.Data d) p q line is e = absurd (cc e)
+body_phase (heads.Whole d l) p q line is e =
+    let r = with_body_ok p q (body_step d p.body line) e in
+    ap (λ (x : Progress). phase_of x.head) (sym r.2) ∙ ap phase_of is
+
+-- after one more line
+step_phase : (p q : Progress) (s : Line) → parsed_step kinds.Record p s ≡ Ok q → phase_of q.head ≡ next_phase s
+step_phase p q (parsed_lines.Head line) e =
+    let r = with_head_ok p q (head_step p.head line) e in
+    ap (λ (x : Progress). phase_of x.head) (sym r.2) ∙ head_phase p.head r.0 line r.1
+step_phase p q (parsed_lines.Body line) e = body_phase p.head p q line refl e
+
+-- after the lines that say this
+run_phase : (p q : Progress) (ss : List Line) → run kinds.Record p ss ≡ Ok q → phase_of q.head ≡ phase_after (phase_of p.head) ss
+run_phase p q [] e = let same : p ≡ q = cc in ap (λ (x : Progress). phase_of x.head) (sym same)
+run_phase p q (s ∷ ss) e =
+    let r = bind_ok (parsed_step kinds.Record p s) _ q e in
+    run_phase r.0 q ss r.2 ∙ ap (λ (phase : Phase). phase_after phase ss) (step_phase p r.0 s r.1)
 
 -- ---- why a line is refused
 
--- where the lines that say this lead to
-abbrev pub Reached : List Line → Progress → Type 0
-Reached [] q = q ≡ nothing
-Reached (t ∷ []) q = (d : ℕ) × (q ≡ record { data_sectors = Some d; log_sectors = None; body = no_body })
-Reached (t ∷ u ∷ ss) q = (d : ℕ) × (l : ℕ) × (b : Body) × (q ≡ with_head d l b) × (run_body d no_body ss ≡ Ok b)
-
--- where lines after the head lead to
-reached_body : (d : ℕ) (t u : Line) (ss : List Line) (q : Progress) (o : Option ℕ) →
-    (with_log (record { data_sectors = Some d; log_sectors = None; body = no_body }) o >>= λ p. run kinds.Record p ss) ≡ Ok q → Reached (t ∷ u ∷ ss) q
-reached_body d t u ss q None e = absurd (cc)
-reached_body d t u ss q (Some l) e =
-    let h = with_body_ok (with_head d l no_body) q (run_body d no_body ss) (sym (body_run d l no_body ss) ∙ e) in
-    (d, l, h.0, sym h.2, h.1)
-
--- where lines after the first lead to
-reached_head : (t : Line) (ss : List Line) (q : Progress) (o : Option ℕ) → (with_data nothing o >>= λ p. run kinds.Record p ss) ≡ Ok q → Reached (t ∷ ss) q
-reached_head t ss q None e = absurd (cc)
-reached_head t [] q (Some d) e = (d, cc)
-reached_head t (u ∷ ss) q (Some d) e = reached_body d t u ss q (log_size u) e
-
--- where lines lead to, by how many they are
-pub reached : (ss : List Line) (q : Progress) → run kinds.Record nothing ss ≡ Ok q → Reached ss q
-reached [] q e = cc
-reached (t ∷ ss) q e = reached_head t ss q (data_size t) e
-
--- as many lines as sentences
+-- as many lines as what they say
 pub as_many : (lines : List (List ℕ)) (ss : List Line) → AllZip ParsesAs lines ss → length lines ≡ length ss
 as_many [] [] says = refl
 as_many [] (s ∷ ss) says = absurd says
 as_many (line ∷ lines) [] says = absurd says
 as_many (line ∷ lines) (s ∷ ss) says = ap suc (as_many lines ss says.1)
 
--- a line says one thing
-one_parsed : (line : List ℕ) (s t : Line) → parse_line line ≡ Some s → ParsesAs line t → s ≡ t
-one_parsed line s t is says = let again = sym is ∙ parsed_again line t says in cc
+-- lines say one thing
+all_one : (lines : List (List ℕ)) (ss ts : List Line) → AllZip ParsesAs lines ss → AllZip ParsesAs lines ts → ss ≡ ts
+all_one [] [] [] says again = refl
+all_one [] (s ∷ ss) ts says again = absurd says
+all_one [] [] (t ∷ ts) says again = absurd again
+all_one (line ∷ lines) [] ts says again = absurd says
+all_one (line ∷ lines) (s ∷ ss) [] says again = absurd again
+all_one (line ∷ lines) (s ∷ ss) (t ∷ ts) says again =
+    ap (λ (x : Line). x ∷ ss) (one_parsed line s t says.0 again.0) ∙ ap (λ (xs : List Line). t ∷ xs) (all_one lines ss ts says.1 again.1)
 
--- a line of the grammar that says something else isn't there
-only_parsed : (before : List (List ℕ)) (line : List ℕ) (s : Line) (n : ℕ) → parse_line line ≡ Some s → length (unskipped before) ≡ n → (StandsAfter n s → ⊥) → (t : Line) → IsLineAfter before line t → ⊥
-only_parsed before line s n is many never t b =
-    never (subst (λ (x : Line). StandsAfter n x) (sym (one_parsed line s t is b.says)) (subst (λ (k : ℕ). StandsAfter k t) many b.stands))
+-- a line that says this, after lines that lead to q
+record Comes (before : List (List ℕ)) (q : Progress) (line : List ℕ) (s : Line) : Type 0 where
+  plain : is_ascii_line line ≡ true
+  says : ParsesAs line s
+  gone : go kinds.Record nothing before ≡ Ok q
+  said : List Line
+  before_says : AllZip ParsesAs (unskipped before) said
+  leads : run kinds.Record nothing said ≡ Ok q
 
--- what has no size of a data disk doesn't stand first
-no_data : (s : Line) → data_size s ≡ None → StandsAfter zero s → ⊥
-no_data (Data n) e stands = let some = cond-true (is_disk_size n) (Some n) None stands in cc
-no_data (Log n) e stands = stands
-no_data (Write name first count byte) e stands = stands
-no_data (Flush name) e stands = stands
-no_data (Complete name) e stands = stands
-no_data Close e stands = stands
+-- what may come after them stands there
+comes_after : (before : List (List ℕ)) (q : Progress) (line : List ℕ) (s : Line) → Comes before q line s → StandsAfter (phase_of q.head) s → IsLineAfter before line s
+comes_after before q line s c stands = record {
+  plain = c.plain;
+  says = c.says;
+  said = c.said;
+  before_says = c.before_says;
+  stands = subst (λ (phase : Phase). StandsAfter phase s) (run_phase nothing q c.said c.leads) stands;
+}
 
--- what has no size of a log disk doesn't stand second
-no_log : (s : Line) → log_size s ≡ None → StandsAfter (suc zero) s → ⊥
-no_log (Log n) e stands = let some = cond-true (is_disk_size n) (Some n) None stands in cc
-no_log (Data n) e stands = stands
-no_log (Write name first count byte) e stands = stands
-no_log (Flush name) e stands = stands
-no_log (Complete name) e stands = stands
-no_log Close e stands = stands
+-- what may not come after them doesn't
+never_after : (before : List (List ℕ)) (q : Progress) (line : List ℕ) (s : Line) → Comes before q line s → (StandsAfter (phase_of q.head) s → ⊥) → (t : Line) → IsLineAfter before line t → ⊥
+never_after before q line s c never t at =
+    let same : t ≡ s = one_parsed line t s at.says c.says in
+    let said : at.said ≡ c.said = all_one (unskipped before) at.said c.said at.before_says c.before_says in
+    let there : phase_after data_due at.said ≡ phase_of q.head = ap (phase_after data_due) said ∙ sym (run_phase nothing q c.said c.leads) in
+    never (subst (λ (x : Line). StandsAfter (phase_of q.head) x) same (subst (λ (phase : Phase). StandsAfter phase t) there at.stands))
 
--- the first line is refused for want of a size
-pub with_data_err : (p : Progress) (o : Option ℕ) (refusal : Refusal) → with_data p o ≡ Err refusal → (o ≡ None) × (BadLine ≡ refusal)
-with_data_err p None refusal e = (refl, cc)
-with_data_err p (Some n) refusal e = absurd (cc)
+-- a line that may not come is a bad one
+never_fault : (before : List (List ℕ)) (q : Progress) (line : List ℕ) (s : Line) (refusal : Refusal) → Comes before q line s → (StandsAfter (phase_of q.head) s → ⊥) → BadLine ≡ refusal → IsLineFault before line refusal
+never_fault before q line s refusal c never same = subst (λ (x : Refusal). IsLineFault before line x) same (bad_line (never_after before q line s c never))
 
--- the second line is refused for want of a size
-pub with_log_err : (p : Progress) (o : Option ℕ) (refusal : Refusal) → with_log p o ≡ Err refusal → (o ≡ None) × (BadLine ≡ refusal)
-with_log_err p None refusal e = (refl, cc)
-with_log_err p (Some n) refusal e = absurd (cc)
+-- a line of the head that adds nothing may not come
+no_head : (h : Head) (line : HeadLine) → head_step h line ≡ None → StandsAfter (phase_of h) (parsed_lines.Head line) → ⊥
+no_head heads.Empty (head_lines.Data n) e stands = let some = cond-true (is_disk_size n) (Some (heads.Data n)) None stands in cc
+no_head (heads.Data d) (head_lines.Log n) e stands = let some = cond-true (is_disk_size n) (Some (heads.Whole d n)) None stands in cc
+no_head heads.Empty (head_lines.Log n) e stands = stands
+no_head (heads.Data d) (head_lines.Data n) e stands = stands
+no_head (heads.Whole d l) line e stands = stands
+
+-- a line of the head is refused where it adds nothing
+pub with_head_err : (p : Progress) (o : Option Head) (refusal : Refusal) → with_head p o ≡ Err refusal → (o ≡ None) × (BadLine ≡ refusal)
+with_head_err p None refusal e = (refl, cc)
+with_head_err p (Some h) refusal e = absurd (cc)
 
 -- a body's line is refused for its own reason
 with_body_err : (p : Progress) (r : Result Body Refusal) (refusal : Refusal) → with_body p r ≡ Err refusal → r ≡ Err refusal
 with_body_err p (Ok b) refusal e = absurd (cc)
 with_body_err p (Err x) refusal e = cc
 
--- a line of the grammar after a head, where the lines before it are a script
-record InBody (before : List (List ℕ)) (line : List ℕ) (s : Line) (d l : ℕ) (b : Body) : Type 0 where
-  many : (n : ℕ) × (length (unskipped before) ≡ suc (suc n))
-  plain : is_ascii_line line ≡ true
-  is : parse_line line ≡ Some s
-  spells : AreLinesOf before (plan_of d l b)
-
--- a body's line stands after the head
-behind_body : (before : List (List ℕ)) (line : List ℕ) (s : Line) (d l : ℕ) (b : Body) → InBody before line s d l b → ((n : ℕ) → StandsAfter (suc (suc n)) s) → IsLineAfter before line s
-behind_body before line s d l b i stands = record {
-  plain = i.plain;
-  says = parsed_read line s i.is;
-  stands = subst (λ (k : ℕ). StandsAfter k s) (sym i.many.1) (stands i.many.0);
-}
+-- sectors that are refused didn't pass the test
+tested_err : {A : Type 0} (r : Result (Unit {0}) BadBio) (y : A) (refusal : Refusal) → (as_refusal r >>= λ fine. Ok y) ≡ Err refusal → test_refusal r ≡ Some refusal
+tested_err (Ok u) y refusal e = absurd (cc)
+tested_err (Err bad) y refusal e = cc
 
 -- an id with a request is among the names
 listed_place : (name : ScriptId) (names : List ScriptId) (request : ℕ) → request_of name names ≡ Some request → list_any (same_name name) names ≡ true
@@ -229,38 +255,14 @@ listed_place name names request e =
     (λ (none : list_any (same_name name) names ≡ false). absurd (let absent : request_of name names ≡ None = cond-false _ _ _ (listed (same_name name) names ∙ none) in cc))
     (cases_Bool (list_any (same_name name) names))
 
--- why a flush is refused
-flush_fault : (before : List (List ℕ)) (line : List ℕ) (name : ScriptId) (d l : ℕ) (b : Body) (refusal : Refusal) (o : Option ℕ) → request_of name b.names ≡ o →
-    (named_next o b name >>= λ submitted. Ok (with_command submitted commands.Flush)) ≡ Err refusal → InBody before line (Flush name) d l b → IsLineFault before line refusal
-flush_fault before line name d l b refusal None is e i = absurd (cc)
-flush_fault before line name d l b refusal (Some request) is e i =
-    let same : BadId ≡ refusal = cc in
-    subst (λ (x : Refusal). IsLineFault before line x) same
-    (bad_id (Flush name) (plan_of d l b) (behind_body before line (Flush name) d l b i (λ n. tt)) i.spells (ap not (listed_place name b.names request is)))
-
--- sectors that are refused didn't pass the test
-told_err : (r : Result (Unit {0}) BadBio) (refusal : Refusal) → as_refusal r ≡ Err refusal → (bad : BadBio) × (r ≡ Err bad) × (bad_bio_refusal bad ≡ refusal)
-told_err (Ok u) refusal e = absurd (cc)
-told_err (Err bad) refusal e = (bad, refl, cc)
-
--- what ends well is refused only before its end
-then_ok : {A : Type 0} (r : Result A Refusal) (y : Body) (refusal : Refusal) → (r >>= λ x. Ok y) ≡ Err refusal → r ≡ Err refusal
-then_ok (Ok x) y refusal e = absurd (cc)
-then_ok (Err z) y refusal e = cc
-
--- why a write is refused
-write_fault : (before : List (List ℕ)) (line : List ℕ) (name : ScriptId) (first count byte : ℕ) (d l : ℕ) (b : Body) (refusal : Refusal) (o : Option ℕ) → request_of name b.names ≡ o →
-    (named_next o b name >>= λ submitted. sectors_answer first count d >>= λ fine. Ok (with_command submitted (commands.Write first count byte))) ≡ Err refusal →
-    InBody before line (Write name first count byte) d l b → IsLineFault before line refusal
-write_fault before line name first count byte d l b refusal None is e i =
-    let t = told_err (range_answer first count d) refusal (then_ok (sectors_answer first count d) _ refusal e) in
-    subst (λ (x : Refusal). IsLineFault before line x) t.2
-    (bad_request name first count byte (plan_of d l b) t.0 (behind_body before line (Write name first count byte) d l b i (λ n. tt)) i.spells
-    (ap not (unlisted name b.names is)) t.1)
-write_fault before line name first count byte d l b refusal (Some request) is e i =
-    let same : BadId ≡ refusal = cc in
-    subst (λ (x : Refusal). IsLineFault before line x) same
-    (bad_id (Write name first count byte) (plan_of d l b) (behind_body before line (Write name first count byte) d l b i (λ n. tt)) i.spells (ap not (listed_place name b.names request is)))
+-- why a submission is refused
+submit_refused : (d l : ℕ) (b : Body) (name : ScriptId) (submission : Submission) (refusal : Refusal) (o : Option ℕ) → request_of name b.names ≡ o
+    → (named_next o b name >>= λ submitted. as_refusal (submission_answer d submission) >>= λ fine. Ok (with_command submitted (commands.Submit submission))) ≡ Err refusal
+    → body_refusal (plan_of d l b) (body_lines.Submit name submission) ≡ Some refusal
+submit_refused d l b name submission refusal None is e =
+    cond-false _ _ _ (unlisted name b.names is) ∙ tested_err (submission_answer d submission) _ refusal e
+submit_refused d l b name submission refusal (Some request) is e =
+    cond-true _ _ _ (listed_place name b.names request is) ∙ cc
 
 -- an end that is refused was of an ended request
 ended_err : (t : Bool) (c : Body) (refusal : Refusal) → cond t (Err BadId) (Ok c) ≡ Err refusal → (t ≡ true) × (BadId ≡ refusal)
@@ -268,52 +270,40 @@ ended_err true c refusal e = (refl, cc)
 ended_err false c refusal e = absurd (cc)
 
 -- why an end is refused
-end_fault : (before : List (List ℕ)) (line : List ℕ) (name : ScriptId) (d l : ℕ) (b : Body) (refusal : Refusal) (o : Option ℕ) → request_of name b.names ≡ o →
-    ended_next o b ≡ Err refusal → InBody before line (Complete name) d l b → IsLineFault before line refusal
-end_fault before line name d l b refusal None is e i =
-    let same : BadId ≡ refusal = cc in
-    subst (λ (x : Refusal). IsLineFault before line x) same
-    (bad_id (Complete name) (plan_of d l b) (behind_body before line (Complete name) d l b i (λ n. tt)) i.spells (ap (λ o. is_open o (plan_of d l b)) is))
-end_fault before line name d l b refusal (Some request) is e i =
+end_refused : (d l : ℕ) (b : Body) (name : ScriptId) (refusal : Refusal) (o : Option ℕ) → request_of name b.names ≡ o → ended_next o b ≡ Err refusal
+    → body_refusal (plan_of d l b) (body_lines.Complete name) ≡ Some refusal
+end_refused d l b name refusal None is e = cond-false _ _ _ (ap (λ (o : Option ℕ). is_open o (plan_of d l b)) is) ∙ cc
+end_refused d l b name refusal (Some request) is e =
     let h = ended_err (is_ended request b.body) (with_command b (commands.Complete request)) refusal e in
-    subst (λ (x : Refusal). IsLineFault before line x) h.1
-    (bad_id (Complete name) (plan_of d l b) (behind_body before line (Complete name) d l b i (λ n. tt)) i.spells (ap (λ o. is_open o (plan_of d l b)) is ∙ ap not h.0))
+    cond-false _ _ _ (ap (λ (o : Option ℕ). is_open o (plan_of d l b)) is ∙ ap not h.0) ∙ ap Some h.1
 
 -- why a line of the body is refused
-body_fault : (before : List (List ℕ)) (line : List ℕ) (s : Line) (d l : ℕ) (b : Body) (refusal : Refusal) → body_step d b s ≡ Err refusal → InBody before line s d l b → IsLineFault before line refusal
-body_fault before line (Write name first count byte) d l b refusal e i = write_fault before line name first count byte d l b refusal (request_of name b.names) refl e i
-body_fault before line (Flush name) d l b refusal e i = flush_fault before line name d l b refusal (request_of name b.names) refl e i
-body_fault before line (Complete name) d l b refusal e i = end_fault before line name d l b refusal (request_of name b.names) refl e i
-body_fault before line Close d l b refusal e i = absurd (cc)
-body_fault before line (Data n) d l b refusal e i =
-    let same : BadLine ≡ refusal = cc in
-    subst (λ (x : Refusal). IsLineFault before line x) same (bad_line (only_parsed before line (Data n) (suc (suc i.many.0)) i.is i.many.1 (λ stands. stands)))
-body_fault before line (Log n) d l b refusal e i =
-    let same : BadLine ≡ refusal = cc in
-    subst (λ (x : Refusal). IsLineFault before line x) same (bad_line (only_parsed before line (Log n) (suc (suc i.many.0)) i.is i.many.1 (λ stands. stands)))
+body_refused : (d l : ℕ) (b : Body) (line : BodyLine) (refusal : Refusal) → body_step d b line ≡ Err refusal → body_refusal (plan_of d l b) line ≡ Some refusal
+body_refused d l b (body_lines.Submit name submission) refusal e = submit_refused d l b name submission refusal (request_of name b.names) refl e
+body_refused d l b (body_lines.Complete name) refusal e = end_refused d l b name refusal (request_of name b.names) refl e
+body_refused d l b (body_lines.Step step) refusal e = tested_err (step_answer d step) _ refusal e
 
 -- lines after which a text may end
-gone_spells : (before : List (List ℕ)) (d l : ℕ) (b : Body) → go kinds.Record nothing before ≡ Ok (with_head d l b) → AreLinesOf before (plan_of d l b)
+gone_spells : (before : List (List ℕ)) (d l : ℕ) (b : Body) → go kinds.Record nothing before ≡ Ok (in_draft d l b) → AreLinesOf before (plan_of d l b)
 gone_spells before d l b gone =
     lines_spell before 1 (plan_of d l b)
-    (ap (λ x. read_lines kinds.Record nothing 1 x) (sym (append-nil before)) ∙ lines_go kinds.Record nothing (with_head d l b) 1 before [] gone)
+    (ap (λ x. read_lines kinds.Record nothing 1 x) (sym (append-nil before)) ∙ lines_go kinds.Record nothing (in_draft d l b) 1 before [] gone)
+
+-- why a line that says this is refused where this is read of the body
+body_fault : (before : List (List ℕ)) (h : Head) (b : Body) (line : List ℕ) (s : BodyLine) (refusal : Refusal) → Comes before (record { head = h; body = b }) line (parsed_lines.Body s)
+    → body_line kinds.Record h (record { head = h; body = b }) s ≡ Err refusal → IsLineFault before line refusal
+body_fault before heads.Empty b line s refusal c e = never_fault before (record { head = heads.Empty; body = b }) line (parsed_lines.Body s) refusal c (λ stands. stands) (cc)
+body_fault before (heads.Data d) b line s refusal c e = never_fault before (record { head = heads.Data d; body = b }) line (parsed_lines.Body s) refusal c (λ stands. stands) (cc)
+body_fault before (heads.Whole d l) b line s refusal c e =
+    refused (parsed_lines.Body s) (plan_of d l b) refusal (comes_after before (in_draft d l b) line (parsed_lines.Body s) c tt) (gone_spells before d l b c.gone)
+    (body_refused d l b s refusal (with_body_err (in_draft d l b) (body_step d b s) refusal e))
 
 -- why a line that says this is refused
-parsed_fault : (before : List (List ℕ)) (q : Progress) (line : List ℕ) (s : Line) (refusal : Refusal) (ss : List Line) → go kinds.Record nothing before ≡ Ok q → is_ascii_line line ≡ true →
-    parse_line line ≡ Some s → Reached ss q → length (unskipped before) ≡ length ss → parsed_step kinds.Record q.data_sectors q.log_sectors q s ≡ Err refusal → IsLineFault before line refusal
-parsed_fault before q line s refusal [] gone plain is there many e =
-    let h = with_data_err nothing (data_size s) refusal (subst (λ (x : Progress). parsed_step kinds.Record x.data_sectors x.log_sectors x s ≡ Err refusal) there e) in
-    subst (λ (x : Refusal). IsLineFault before line x) h.1 (bad_line (only_parsed before line s zero is many (no_data s h.0)))
-parsed_fault before q line s refusal (t ∷ []) gone plain is there many e =
-    let h = with_log_err (record { data_sectors = Some there.0; log_sectors = None; body = no_body }) (log_size s) refusal (subst (λ (x : Progress). parsed_step kinds.Record x.data_sectors x.log_sectors x s ≡ Err refusal) there.1 e) in
-    subst (λ (x : Refusal). IsLineFault before line x) h.1 (bad_line (only_parsed before line s (suc zero) is many (no_log s h.0)))
-parsed_fault before q line s refusal (t ∷ u ∷ ss) gone plain is there many e =
-    let d = there.0 in
-    let l = there.1 in
-    let b = there.2 in
-    let step = with_body_err (with_head d l b) (body_step d b s) refusal (subst (λ (x : Progress). parsed_step kinds.Record x.data_sectors x.log_sectors x s ≡ Err refusal) there.3 e) in
-    body_fault before line s d l b refusal step
-    (record { many = (length ss, many); plain = plain; is = is; spells = gone_spells before d l b (gone ∙ ap Ok there.3) })
+parsed_fault : (before : List (List ℕ)) (q : Progress) (line : List ℕ) (s : Line) (refusal : Refusal) → Comes before q line s → parsed_step kinds.Record q s ≡ Err refusal → IsLineFault before line refusal
+parsed_fault before q line (parsed_lines.Head s) refusal c e =
+    let h = with_head_err q (head_step q.head s) refusal e in
+    never_fault before q line (parsed_lines.Head s) refusal c (no_head q.head s h.0) h.1
+parsed_fault before q line (parsed_lines.Body s) refusal c e = body_fault before q.head q.body line s refusal c e
 
 -- why a line that isn't skipped is refused
 heard_fault : (before : List (List ℕ)) (q : Progress) (line : List ℕ) (refusal : Refusal) (g : GoneBy kinds.Record nothing q before) (o : Option Line) → go kinds.Record nothing before ≡ Ok q → is_ascii_line line ≡ true →
@@ -322,7 +312,8 @@ heard_fault before q line refusal g None gone plain is e =
     let same : BadLine ≡ refusal = cc in
     subst (λ (x : Refusal). IsLineFault before line x) same (bad_line (λ s b. let again = sym is ∙ parsed_again line s b.says in cc))
 heard_fault before q line refusal g (Some s) gone plain is e =
-    parsed_fault before q line s refusal g.ss gone plain is (reached g.ss q g.leads) (as_many (unskipped before) g.ss g.step_if_parsed.says) e
+    parsed_fault before q line s refusal
+    (record { plain = plain; says = parsed_read line s is; gone = gone; said = g.ss; before_says = g.step_if_parsed.says; leads = g.leads }) e
 
 -- why a line is refused after lines that lead somewhere
 pub line_fault : (before : List (List ℕ)) (q : Progress) (line : List ℕ) (refusal : Refusal) → go kinds.Record nothing before ≡ Ok q → line_step kinds.Record q line ≡ Err refusal → IsLineFault before line refusal
@@ -331,8 +322,8 @@ line_fault before q line refusal gone e =
     (λ (plain : is_ascii_line line ≡ true).
     ⊎_elim
     (λ (skipped : is_skipped line ≡ true). absurd (let bad = sym (skipped_step kinds.Record q line plain skipped) ∙ e in cc))
-    (λ (parse_words : is_skipped line ≡ false).
-    heard_fault before q line refusal (go_heard kinds.Record nothing q before gone) (parse_line line) gone plain refl (sym (said_step kinds.Record q line plain parse_words) ∙ e))
+    (λ (kept : is_skipped line ≡ false).
+    heard_fault before q line refusal (go_heard kinds.Record nothing q before gone) (parse_line line) gone plain refl (sym (said_step kinds.Record q line plain kept) ∙ e))
     (cases_Bool (is_skipped line)))
     (λ (strange : is_ascii_line line ≡ false).
     let same : BadLine ≡ refusal = (let bad = sym (plain_step kinds.Record q line strange) ∙ e in cc) in
@@ -341,7 +332,7 @@ line_fault before q line refusal gone e =
 
 -- what is wrong where reading ended
 fault_behind : (before more : List (List ℕ)) (q : Progress) (refusal : Refusal) → go kinds.Record nothing before ≡ Ok q → EndsAt kinds.Record q more refusal → FaultAfter before more refusal
-fault_behind before [] q refusal gone ends = (unfinished_is q.data_sectors q.log_sectors q.body refusal ends, unfinished before q refusal gone ends)
+fault_behind before [] q refusal gone ends = (unfinished_is q.head q.body refusal ends, unfinished before q refusal gone ends)
 fault_behind before (line ∷ more) q refusal gone ends = (refused_ends before q line refusal gone ends, line_fault before q line refusal gone ends)
 
 -- a fault is reported with the first line that is at fault

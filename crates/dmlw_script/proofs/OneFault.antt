@@ -1,60 +1,26 @@
-use Rattle.std.proofs.Common.{◌≡◌, ℕ, ◌+◌, ◌<◌, ◌≤◌, true, false, List, [], ◌∷◌, ◌++◌, length, Err, ⊎_elim, refl, ap, ◌∙◌, sym, subst, arith, append_assoc}
+use Rattle.std.proofs.Common.{◌≡◌, ℕ, ◌+◌, ◌<◌, ◌≤◌, List, [], ◌∷◌, ◌++◌, length, Some, ⊎_elim, refl, ap, ◌∙◌, sym, subst, arith, append_assoc}
 use Rattle.std.proofs.lemmas.Bool.{cases_lt}
 use Rattle.std.proofs.lemmas.List.{append-nil}
-use Rattle.bio.specs.Check.{range_answer}
-use Rattle.bio.specs.Refusals.{bad_bio_refusal}
 use Rattle.refusals.specs.declared.refusal.Refusal.{Refusal}
-use Rattle.bio.specs.declared.request.BadBio.{BadBio}
-use Rattle.dmlw_script.specs.declared.script_id.ScriptId.{ScriptId}
-use Rattle.dmlw_script.specs.declared.line.Line.{Line}
-use Rattle.dmlw_script.specs.declared.line.Line.TheVariants.{Write}
-use Rattle.dmlw_script.specs.Grammar.{ParsesAs, AreLinesOf}
+use Rattle.dmlw_script.specs.Grammar.{AreLinesOf}
 use Rattle.dmlw_script.specs.Plans.{Plan}
-use Rattle.dmlw_script.specs.Reading.{bad_id, bad_line, bad_request, id_fits, BeginsScript, FaultAfter, IsFirstFault, IsLineFault}
+use Rattle.dmlw_script.specs.Reading.{bad_line, line_refusal, refused, BeginsScript, FaultAfter, IsFirstFault, IsLineFault}
 use Rattle.dmlw_script.proofs.ReadingLaws.{spelled_lines}
-use Rattle.dmlw_script.proofs.ParsingLaws.{parsed_again}
-
--- a line says one thing
-one_parsed : (line : List ℕ) (s t : Line) → ParsesAs line s → ParsesAs line t → s ≡ t
-one_parsed line s t says_s says_t = let both = sym (parsed_again line s says_s) ∙ parsed_again line t says_t in cc
+use Rattle.dmlw_script.proofs.ParsingLaws.{one_parsed}
 
 -- lines are those of one script
 one_plan : (lines : List (List ℕ)) (p q : Plan) → AreLinesOf lines p → AreLinesOf lines q → p ≡ q
 one_plan lines p q spells again = let both = sym (spelled_lines lines 1 p spells) ∙ spelled_lines lines 1 q again in cc
 
--- a write that says the same has the same test of its sectors
-one_answer : (name other : ScriptId) (first count byte f c b : ℕ) (p q : Plan) (bad worse : BadBio) → Write name first count byte ≡ Write other f c b → p ≡ q
-    → range_answer first count p.data_sectors ≡ Err bad → range_answer f c q.data_sectors ≡ Err worse → bad ≡ worse
-one_answer name other first count byte f c b p q bad worse same plans is_bad is_worse =
-    let firsts : first ≡ f = cc in
-    let counts : count ≡ c = cc in
-    let answers : range_answer first count p.data_sectors ≡ range_answer f c q.data_sectors =
-    ap (λ (n : ℕ). range_answer n count p.data_sectors) firsts ∙ ap (λ (n : ℕ). range_answer f n p.data_sectors) counts
-    ∙ ap (λ (plan : Plan). range_answer f c plan.data_sectors) plans in
-    cc
-
--- an id that doesn't fit isn't one that fits
-one_fit : (s t : Line) (p q : Plan) → s ≡ t → p ≡ q → id_fits p s ≡ false → id_fits q t ≡ true → ⊥
-one_fit s t p q same plans unfit fits =
-    let both : id_fits p s ≡ id_fits q t = ap (λ (x : Line). id_fits p x) same ∙ ap (λ (plan : Plan). id_fits plan t) plans in
-    cc
-
 -- a line has one first reason why it can't stand there
 one_reason : (before : List (List ℕ)) (line : List ℕ) (r s : Refusal) → IsLineFault before line r → IsLineFault before line s → r ≡ s
 one_reason before line r s (bad_line f) (bad_line g) = refl
-one_reason before line r s (bad_line f) (bad_id t p after_byte spells unfit) = absurd (f t after_byte)
-one_reason before line r s (bad_line f) (bad_request name first count byte p bad after_byte spells fits is_bad) = absurd (f _ after_byte)
-one_reason before line r s (bad_id t p after_byte spells unfit) (bad_line g) = absurd (g t after_byte)
-one_reason before line r s (bad_id t p after_byte spells unfit) (bad_id u q there again not) = refl
-one_reason before line r s (bad_id t p after_byte spells unfit) (bad_request name first count byte q bad there again fits is_bad) =
-    absurd (one_fit t (Write name first count byte) p q (one_parsed line t (Write name first count byte) after_byte.says there.says) (one_plan before p q spells again) unfit fits)
-one_reason before line r s (bad_request name first count byte p bad after_byte spells fits is_bad) (bad_line g) = absurd (g _ after_byte)
-one_reason before line r s (bad_request name first count byte p bad after_byte spells fits is_bad) (bad_id u q there again unfit) =
-    absurd (one_fit u (Write name first count byte) q p (one_parsed line u (Write name first count byte) there.says after_byte.says) (one_plan before q p again spells) unfit fits)
-one_reason before line r s (bad_request name first count byte p bad after_byte spells fits is_bad) (bad_request other f c b q worse there again also is_worse) =
-    ap bad_bio_refusal
-    (one_answer name other first count byte f c b p q bad worse
-    (one_parsed line (Write name first count byte) (Write other f c b) after_byte.says there.says) (one_plan before p q spells again) is_bad is_worse)
+one_reason before line r s (bad_line f) (refused t p x there spells e) = absurd (f t there)
+one_reason before line r s (refused t p x there spells e) (bad_line g) = absurd (g t there)
+one_reason before line r s (refused t p x there spells e) (refused u q y here again f) =
+    let both : Some r ≡ Some s =
+    sym e ∙ ap (line_refusal p) (one_parsed line t u there.says here.says) ∙ ap (λ (plan : Plan). line_refusal plan u) (one_plan before p q spells again) ∙ f in
+    cc
 
 -- lines that begin a script begin by lines that do
 begins_before : (before more : List (List ℕ)) → BeginsScript (before ++ more) → BeginsScript before

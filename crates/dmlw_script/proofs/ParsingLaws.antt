@@ -4,16 +4,21 @@ use Rattle.std.specs.Char.{is_ascii_digit}
 use Rattle.std.specs.List.{list_all}
 use Rattle.std.specs.Option.{option_map}
 use Rattle.std.specs.Str.{bytes_eq}
-use Rattle.std.proofs.lemmas.Bool.{and_parts, and_from, cond-true, cond-false, eq-eqb, eqb-true, leb-true, lt-ltb, le-ltb}
+use Rattle.std.proofs.lemmas.Bool.{and_parts, and_from, cases_Bool, cond-true, cond-false, eq-eqb, eqb-true, leb-true, lt-ltb, le-ltb}
 use Rattle.std.proofs.lemmas.Bool.Decides.{nat_tests}
 use Rattle.std.proofs.lemmas.Slice.Eq.{bytes_eq-Decides}
 use Rattle.std.proofs.lemmas.Option.{cond_some}
 use Rattle.dmlw_script.specs.declared.script_id.ScriptId.{ScriptId}
 use Rattle.dmlw_script.specs.declared.line.Line.{Line}
-use Rattle.dmlw_script.specs.declared.line.Line.TheVariants.{Data, Log, Write, Flush, Complete, Close}
+use Rattle.dmlw_script.specs.declared.line.Line.TheVariants as parsed_lines
+use Rattle.dmlw_script.specs.declared.line.HeadLine.TheVariants as head_lines
+use Rattle.dmlw_script.specs.declared.line.BodyLine.TheVariants as body_lines
+use Rattle.dmlw_script.specs.declared.command.Submission.TheVariants as submits
+use Rattle.dmlw_script.specs.declared.command.Step.TheVariants as steps
 use Rattle.dmlw_script.specs.Grammar.{IsId, IsNumber, ParsesAs, ParsesAsId, ParsesAsNumber}
+use Rattle.dmlw_script.specs.Lines.{is_skipped}
 use Rattle.dmlw_script.specs.Ids.{is_id, is_name_byte, id_of_word}
-use Rattle.dmlw_script.specs.inside.Parsing.{◌>>=◌, parse_words, parse_line, write_of}
+use Rattle.dmlw_script.specs.inside.Parsing.{◌>>=◌, lone_word, parse_parts, parse_words, parse_line, step, submit, write_of}
 use Rattle.dmlw_script.specs.Words.{after_byte, byte_from, byte_of, byte_text, before_byte, half_of, hex_digit, is_number, number_of}
 
 -- ---- choices
@@ -192,7 +197,7 @@ record WriteParts (words : List ℕ) (s : Line) : Type 0 where
   is_first : number_of (before_byte 32 from_first) ≡ Some first
   is_count : number_of (before_byte 32 from_count) ≡ Some count
   is_byte : byte_of byte_word ≡ Some byte
-  is : s ≡ Write name first count byte
+  is : s ≡ submit name (submits.Write first count byte)
 
 -- a write was read by its parts
 write_parts : (words : List ℕ) (s : Line) → write_of words ≡ Some s → WriteParts words s
@@ -243,20 +248,6 @@ write_read words s e =
       spelled = ap (λ x. first_word (codes "w") x) whole;
     }
 
--- the parts of `parse_words` after its tests
-abbrev said_one_id : List ℕ → List ℕ → Option Line
-said_one_id verb words =
-    cond (bytes_eq verb (codes "f")) (option_map (λ name. Flush name) (id_of_word words))
-    (cond (bytes_eq verb (codes "c")) (option_map (λ name. Complete name) (id_of_word words)) None)
-
--- after the tests for the head
-abbrev said_no_size : List ℕ → List ℕ → Option Line
-said_no_size verb words = cond (bytes_eq verb (codes "w")) (write_of words) (said_one_id verb words)
-
--- after the first test
-abbrev said_no_data : List ℕ → List ℕ → Option Line
-said_no_data verb words = cond (bytes_eq verb (codes "log")) (option_map (λ n. Log n) (number_of words)) (said_no_size verb words)
-
 -- a first word and a number
 said_number : (verb words : List ℕ) (n : ℕ) → number_of words ≡ Some n → ParsesAsNumber verb (first_word verb words) n
 said_number verb words n e = record { word = words; number = number_read words n e; spelled = refl }
@@ -265,44 +256,71 @@ said_number verb words n e = record { word = words; number = number_read words n
 said_id : (verb words : List ℕ) (name : ScriptId) → id_of_word words ≡ Some name → ParsesAsId verb (first_word verb words) name
 said_id verb words name e = record { word = words; id = id_read words name e; spelled = refl }
 
+-- what is heard of a first word and others is said, where it is of this first word, or of the others
+verb_read : (verb word words : List ℕ) (x y : Option Line) (s : Line) → (x ≡ Some s → ParsesAs (first_word word words) s)
+    → (y ≡ Some s → ParsesAs (first_word verb words) s) → cond (bytes_eq verb word) x y ≡ Some s → ParsesAs (first_word verb words) s
+verb_read verb word words x y s here other e =
+    ⊎_elim
+    (λ (h : (bytes_eq verb word ≡ true) × (x ≡ Some s)). subst (λ (v : List ℕ). ParsesAs (first_word v words) s) (sym (same_bytes verb word h.0)) (here h.1))
+    (λ (h : (bytes_eq verb word ≡ false) × (y ≡ Some s)). other h.1)
+    (chosen (bytes_eq verb word) x y (Some s) e)
+
+-- a line of a first word and a number
+number_line : (verb words : List ℕ) (f : ℕ → Line) (s : Line) → ((n : ℕ) → ParsesAsNumber verb (first_word verb words) n → ParsesAs (first_word verb words) (f n))
+    → option_map f (number_of words) ≡ Some s → ParsesAs (first_word verb words) s
+number_line verb words f s says e =
+    let p = map_some f (number_of words) s e in
+    subst (λ (x : Line). ParsesAs (first_word verb words) x) p.2 (says p.0 (said_number verb words p.0 p.1))
+
+-- a line of a first word and an id
+id_line : (verb words : List ℕ) (f : ScriptId → Line) (s : Line) → ((name : ScriptId) → ParsesAsId verb (first_word verb words) name → ParsesAs (first_word verb words) (f name))
+    → option_map f (id_of_word words) ≡ Some s → ParsesAs (first_word verb words) s
+id_line verb words f s says e =
+    let p = map_some f (id_of_word words) s e in
+    subst (λ (x : Line). ParsesAs (first_word verb words) x) p.2 (says p.0 (said_id verb words p.0 p.1))
+
 -- what is heard of the words is said
 said_read : (verb words : List ℕ) (s : Line) → parse_words verb words ≡ Some s → ParsesAs (first_word verb words) s
-said_read verb words s e =
+said_read verb words s =
+    verb_read verb (codes "data") words _ _ s (number_line (codes "data") words (λ n. parsed_lines.Head (head_lines.Data n)) s (λ n says. says))
+    (verb_read verb (codes "log") words _ _ s (number_line (codes "log") words (λ n. parsed_lines.Head (head_lines.Log n)) s (λ n says. says))
+    (verb_read verb (codes "w") words _ _ s (write_read words s)
+    (verb_read verb (codes "f") words _ _ s (id_line (codes "f") words (λ name. submit name submits.Flush) s (λ name says. says))
+    (verb_read verb (codes "c") words _ _ s (id_line (codes "c") words (λ name. parsed_lines.Body (body_lines.Complete name)) s (λ name says. says))
+    (λ e. absurd (cc e))))))
+
+-- what is heard of one word is said
+word_read : (verb word : List ℕ) (x s : Line) (y : Option Line) → ParsesAs word x → (y ≡ Some s → ParsesAs verb s) → cond (bytes_eq verb word) (Some x) y ≡ Some s → ParsesAs verb s
+word_read verb word x s y here other e =
     ⊎_elim
-    (λ (h : (bytes_eq verb (codes "data") ≡ true) × (option_map (λ n. Data n) (number_of words) ≡ Some s)).
-    let p = map_some (λ n. Data n) (number_of words) s h.1 in rw (same_bytes verb _ h.0, ← p.2) (said_number (codes "data") words p.0 p.1))
-    (λ (not_data : (bytes_eq verb (codes "data") ≡ false) × (said_no_data verb words ≡ Some s)).
-    ⊎_elim
-    (λ (h : (bytes_eq verb (codes "log") ≡ true) × (option_map (λ n. Log n) (number_of words) ≡ Some s)).
-    let p = map_some (λ n. Log n) (number_of words) s h.1 in rw (same_bytes verb _ h.0, ← p.2) (said_number (codes "log") words p.0 p.1))
-    (λ (not_log : (bytes_eq verb (codes "log") ≡ false) × (said_no_size verb words ≡ Some s)).
-    ⊎_elim
-    (λ (h : (bytes_eq verb (codes "w") ≡ true) × (write_of words ≡ Some s)). rw (same_bytes verb _ h.0) (write_read words s h.1))
-    (λ (not_write : (bytes_eq verb (codes "w") ≡ false) × (said_one_id verb words ≡ Some s)).
-    ⊎_elim
-    (λ (h : (bytes_eq verb (codes "f") ≡ true) × (option_map (λ name. Flush name) (id_of_word words) ≡ Some s)).
-    let p = map_some (λ name. Flush name) (id_of_word words) s h.1 in rw (same_bytes verb _ h.0, ← p.2) (said_id (codes "f") words p.0 p.1))
-    (λ (not_flush : (bytes_eq verb (codes "f") ≡ false) × (cond (bytes_eq verb (codes "c")) (option_map (λ name. Complete name) (id_of_word words)) None ≡ Some s)).
-    ⊎_elim
-    (λ (h : (bytes_eq verb (codes "c") ≡ true) × (option_map (λ name. Complete name) (id_of_word words) ≡ Some s)).
-    let p = map_some (λ name. Complete name) (id_of_word words) s h.1 in rw (same_bytes verb _ h.0, ← p.2) (said_id (codes "c") words p.0 p.1))
-    (λ (none : (bytes_eq verb (codes "c") ≡ false) × (None ≡ Some s)). absurd (let bad = none.1 in cc))
-    (chosen _ _ _ _ not_flush.1))
-    (chosen _ _ _ _ not_write.1))
-    (chosen _ _ _ _ not_log.1))
-    (chosen _ _ _ _ not_data.1))
-    (chosen _ _ _ _ e)
+    (λ (h : (bytes_eq verb word ≡ true) × (Some x ≡ Some s)).
+    let same : x ≡ s = (let k = h.1 in cc) in
+    subst (λ (v : List ℕ). ParsesAs v s) (sym (same_bytes verb word h.0)) (subst (λ (t : Line). ParsesAs word t) same here))
+    (λ (h : (bytes_eq verb word ≡ false) × (y ≡ Some s)). other h.1)
+    (chosen (bytes_eq verb word) (Some x) y (Some s) e)
+
+-- what is heard of a line of one word is said
+lone_read : (verb : List ℕ) (s : Line) → lone_word verb ≡ Some s → ParsesAs verb s
+lone_read verb s = word_read verb (codes "close") (step steps.Close) s _ refl (λ e. absurd (cc e))
+
+-- one more byte that isn't the mark
+all_step : (t : Bool) (b : ℕ) (bytes front : List ℕ) (rest : Option (List ℕ)) → cond t (Some bytes) rest ≡ None → (rest ≡ None → front ≡ bytes) → cond t [] (b ∷ front) ≡ b ∷ bytes
+all_step true b bytes front rest e more = absurd (cc e)
+all_step false b bytes front rest e more = ap (λ x. b ∷ x) (more e)
+
+-- what stands before a byte that isn't there is all
+before_all : (mark : ℕ) (bytes : List ℕ) → after_byte mark bytes ≡ None → before_byte mark bytes ≡ bytes
+before_all mark [] none = refl
+before_all mark (b ∷ bytes) none = all_step (b == mark) b bytes _ _ none (before_all mark bytes)
+
+-- what is heard of the parts of a line is said
+parts_read : (line : List ℕ) (rest : Option (List ℕ)) (s : Line) → after_byte 32 line ≡ rest → parse_parts (before_byte 32 line) rest ≡ Some s → ParsesAs line s
+parts_read line (Some words) s cut e = subst (λ (x : List ℕ). ParsesAs x s) (sym (cut_joined 32 line words cut)) (said_read (before_byte 32 line) words s e)
+parts_read line None s cut e = subst (λ (x : List ℕ). ParsesAs x s) (before_all 32 line cut) (lone_read (before_byte 32 line) s e)
 
 -- what is heard is said
 pub parsed_read : (line : List ℕ) (s : Line) → parse_line line ≡ Some s → ParsesAs line s
-parsed_read line s e =
-    ⊎_elim
-    (λ (h : (bytes_eq line (codes "close") ≡ true) × (Some Close ≡ Some s)).
-    let is : Close ≡ s = (let k = h.1 in cc) in rw (← is) (same_bytes line _ h.0))
-    (λ (h : (bytes_eq line (codes "close") ≡ false) × ((after_byte 32 line >>= parse_words (before_byte 32 line)) ≡ Some s)).
-    let p = bind_some (after_byte 32 line) (parse_words (before_byte 32 line)) s h.1 in
-    subst (λ (x : List ℕ). ParsesAs x s) (sym (cut_joined 32 line p.0 p.1)) (said_read (before_byte 32 line) p.0 s p.2))
-    (chosen _ _ _ _ e)
+parsed_read line s e = parts_read line (after_byte 32 line) s refl e
 
 -- what has this value goes on from it
 bind_at : {A B : Type 0} (o : Option A) (f : A → Option B) (x : A) (y : Option B) → o ≡ Some x → f x ≡ y → (o >>= f) ≡ y
@@ -311,7 +329,7 @@ bind_at (Some z) f x y e g = let same : z ≡ x = cc in ap f same ∙ g
 
 -- a write is heard as it is
 write_again : (id fw cw : List ℕ) (name : ScriptId) (first count byte : ℕ) → IsId id name → IsNumber fw first → IsNumber cw count → byte < 256 →
-    write_of (id ++ 32 ∷ (fw ++ 32 ∷ (cw ++ 32 ∷ byte_text byte))) ≡ Some (Write name first count byte)
+    write_of (id ++ 32 ∷ (fw ++ 32 ∷ (cw ++ 32 ∷ byte_text byte))) ≡ Some (submit name (submits.Write first count byte))
 write_again id fw cw name first count byte is_id is_first is_count low =
     let a = cut_at 32 id (fw ++ 32 ∷ (cw ++ 32 ∷ byte_text byte)) (id_lacks_space id is_id.0) in
     let b = cut_at 32 fw (cw ++ 32 ∷ byte_text byte) (number_lacks_space fw is_first.0) in
@@ -326,10 +344,37 @@ write_again id fw cw name first count byte is_id is_first is_count low =
 
 -- what is said is heard
 pub parsed_again : (line : List ℕ) (s : Line) → ParsesAs line s → parse_line line ≡ Some s
-parsed_again line (Data n) says = rw says.spelled (ap (option_map (λ k. Data k)) (number_again says.word n says.number))
-parsed_again line (Log n) says = rw says.spelled (ap (option_map (λ k. Log k)) (number_again says.word n says.number))
-parsed_again line (Write name first count byte) says =
+parsed_again line (parsed_lines.Head (head_lines.Data n)) says =
+    rw says.spelled (ap (option_map (λ k. parsed_lines.Head (head_lines.Data k))) (number_again says.word n says.number))
+parsed_again line (parsed_lines.Head (head_lines.Log n)) says =
+    rw says.spelled (ap (option_map (λ k. parsed_lines.Head (head_lines.Log k))) (number_again says.word n says.number))
+parsed_again line (parsed_lines.Body (body_lines.Submit name (submits.Write first count byte))) says =
     rw says.spelled (write_again says.id_word says.first_word says.count_word name first count byte says.id says.first_number says.count_number says.is_byte)
-parsed_again line (Flush name) says = rw says.spelled (ap (option_map (λ k. Flush k)) (id_again says.word name says.id))
-parsed_again line (Complete name) says = rw says.spelled (ap (option_map (λ k. Complete k)) (id_again says.word name says.id))
-parsed_again line Close says = rw says refl
+parsed_again line (parsed_lines.Body (body_lines.Submit name submits.Flush)) says =
+    rw says.spelled (ap (option_map (λ k. submit k submits.Flush)) (id_again says.word name says.id))
+parsed_again line (parsed_lines.Body (body_lines.Complete name)) says =
+    rw says.spelled (ap (option_map (λ k. parsed_lines.Body (body_lines.Complete k))) (id_again says.word name says.id))
+parsed_again line (parsed_lines.Body (body_lines.Step steps.Close)) says = rw says refl
+
+-- a line says one thing
+pub one_parsed : (line : List ℕ) (s t : Line) → ParsesAs line s → ParsesAs line t → s ≡ t
+one_parsed line s t says_s says_t = let both = sym (parsed_again line s says_s) ∙ parsed_again line t says_t in cc
+
+-- nothing is heard of a comment
+comment_parts : (word : List ℕ) (rest : Option (List ℕ)) → parse_parts (35 ∷ word) rest ≡ None
+comment_parts word None = refl
+comment_parts word (Some words) = refl
+
+-- nothing is heard of a line that is skipped
+skipped_unheard : (line : List ℕ) → is_skipped line ≡ true → parse_line line ≡ None
+skipped_unheard [] skipped = refl
+skipped_unheard (b ∷ line) skipped =
+    subst (λ (x : ℕ). parse_line (x ∷ line) ≡ None) (sym (eqb-true b 35 skipped)) (comment_parts (before_byte 32 line) (after_byte 32 line))
+
+-- a line that says something isn't skipped
+pub said_kept : (line : List ℕ) (s : Line) → ParsesAs line s → is_skipped line ≡ false
+said_kept line s says =
+    ⊎_elim
+    (λ (skipped : is_skipped line ≡ true). absurd (let both = sym (parsed_again line s says) ∙ skipped_unheard line skipped in cc))
+    (λ (kept : is_skipped line ≡ false). kept)
+    (cases_Bool (is_skipped line))

@@ -1,4 +1,4 @@
-use Rattle.std.proofs.Common.{◌≡◌, ℕ, ◌+◌, true, false, not, List, [], ◌∷◌, ◌++◌, length, Option, Some, None, Ok, Err, ⊎_elim, refl, ap, ◌∙◌, sym, subst, arith}
+use Rattle.std.proofs.Common.{◌≡◌, ℕ, ◌+◌, true, false, not, List, [], ◌∷◌, ◌++◌, length, append_assoc, Option, Some, None, Ok, Err, ⊎_elim, refl, ap, ◌∙◌, sym, subst, arith}
 use Rattle.std.specs.Prelude.{Result, IfOk}
 use Rattle.std.specs.List.{AllByRecursion, AllZip, IsDistinct}
 use Rattle.std.proofs.lemmas.Bool.{cond-true, cond-false, cases_Bool}
@@ -10,83 +10,47 @@ use Rattle.refusals.specs.declared.fault.Fault.{Fault}
 use Rattle.dmlw_script.specs.declared.reader.Kind.{Kind}
 use Rattle.dmlw_script.specs.declared.reader.Kind.TheVariants as kinds
 use Rattle.dmlw_script.specs.declared.line.Line.{Line}
-use Rattle.dmlw_script.specs.declared.line.Line.TheVariants.{Data, Log, Write, Flush, Complete, Close}
+use Rattle.dmlw_script.specs.declared.line.Line.TheVariants as parsed_lines
+use Rattle.dmlw_script.specs.declared.line.HeadLine.{HeadLine}
+use Rattle.dmlw_script.specs.declared.line.HeadLine.TheVariants as head_lines
+use Rattle.dmlw_script.specs.declared.line.BodyLine.{BodyLine}
+use Rattle.dmlw_script.specs.declared.line.BodyLine.TheVariants as body_lines
+use Rattle.dmlw_script.specs.declared.command.Submission.TheVariants as submits
+use Rattle.dmlw_script.specs.declared.head.Head.{Head}
+use Rattle.dmlw_script.specs.declared.head.Head.TheVariants as heads
+use Rattle.dmlw_script.specs.inside.Heads.{head_step}
 use Rattle.dmlw_script.specs.inside.Drafts.{◌>>=◌, body_step, Body}
 use Rattle.dmlw_script.specs.Grammar.{ParsesAs, AreLinesOf}
 use Rattle.dmlw_script.specs.Lines.{is_ascii_line, is_skipped, unskipped, lines_of}
 use Rattle.dmlw_script.specs.Plans.{lines_of_body, is_disk_size, lines_of_script, IsPlan, Plan}
-use Rattle.dmlw_script.specs.inside.Readers.{and_then, at_line, data_size, finish_step, finished, step_if_parsed, line_step, log_size, nothing, read_lines, read_text, parsed_step, with_body, with_data, with_log, Progress}
+use Rattle.dmlw_script.specs.inside.Readers.{and_then, at_line, body_line, finish_step, finished, step_if_parsed, line_step, nothing, read_lines, read_text, parsed_step, with_body, with_head, Progress}
 use Rattle.dmlw_script.specs.inside.Parsing.{parse_line}
-use Rattle.dmlw_script.proofs.BodyLaws.{bind_at, bind_ok, run_again, run_body, run_grows, IsFine, IsSound, Told}
+use Rattle.dmlw_script.proofs.BodyLaws.{bind_at, bind_ok, in_draft, lines_grow, lines_of_draft, run, run_again, step_grows, IsFine, IsSound}
 use Rattle.dmlw_script.proofs.ParsingLaws.{parsed_again, parsed_read}
 
 -- ---- what is heard of single lines
 
+-- what is known of a line from its words alone
+abbrev pub IsFineLine : Line → Type 0
+IsFineLine (parsed_lines.Head line) = Unit {0}
+IsFineLine (parsed_lines.Body line) = IsFine line
+
 -- what a line says is fine
-pub fine_said : (line : List ℕ) (s : Line) → ParsesAs line s → IsFine s
-fine_said line (Data n) says = tt
-fine_said line (Log n) says = tt
-fine_said line (Write name first count byte) says = ((says.id_word, says.id.0, says.id.1), says.is_byte)
-fine_said line (Flush name) says = (says.word, says.id.0, says.id.1)
-fine_said line (Complete name) says = tt
-fine_said line Close says = tt
+pub fine_said : (line : List ℕ) (s : Line) → ParsesAs line s → IsFineLine s
+fine_said line (parsed_lines.Head head) says = tt
+fine_said line (parsed_lines.Body (body_lines.Submit name (submits.Write first count byte))) says = ((says.id_word, says.id.0, says.id.1), says.is_byte)
+fine_said line (parsed_lines.Body (body_lines.Submit name submits.Flush)) says = ((says.word, says.id.0, says.id.1), tt)
+fine_said line (parsed_lines.Body (body_lines.Complete name)) says = tt
+fine_said line (parsed_lines.Body (body_lines.Step step)) says = tt
 
 -- what lines say is fine
-pub all_fine : (lines : List (List ℕ)) (ss : List Line) → AllZip ParsesAs lines ss → AllByRecursion IsFine ss
+pub all_fine : (lines : List (List ℕ)) (ss : List Line) → AllZip ParsesAs lines ss → AllByRecursion IsFineLine ss
 all_fine [] [] says = tt
 all_fine [] (s ∷ ss) says = absurd says
 all_fine (line ∷ lines) [] says = absurd says
 all_fine (line ∷ lines) (s ∷ ss) says = (fine_said line s says.0, all_fine lines ss says.1)
 
--- a size of a data disk is said by a line of the head
-pub data_size_is : (s : Line) (n : ℕ) → data_size s ≡ Some n → (s ≡ Data n) × (is_disk_size n ≡ true)
-data_size_is (Data sectors) n e = let p = cond_some (is_disk_size sectors) sectors n e in (ap (λ k. Data k) p.1, subst (λ (k : ℕ). is_disk_size k ≡ true) p.1 p.0)
-data_size_is (Log sectors) n e = absurd (cc)
-data_size_is (Write name first count byte) n e = absurd (cc)
-data_size_is (Flush name) n e = absurd (cc)
-data_size_is (Complete name) n e = absurd (cc)
-data_size_is Close n e = absurd (cc)
-
--- a size of a log disk is said by a line of the head
-pub log_size_is : (s : Line) (n : ℕ) → log_size s ≡ Some n → (s ≡ Log n) × (is_disk_size n ≡ true)
-log_size_is (Log sectors) n e = let p = cond_some (is_disk_size sectors) sectors n e in (ap (λ k. Log k) p.1, subst (λ (k : ℕ). is_disk_size k ≡ true) p.1 p.0)
-log_size_is (Data sectors) n e = absurd (cc)
-log_size_is (Write name first count byte) n e = absurd (cc)
-log_size_is (Flush name) n e = absurd (cc)
-log_size_is (Complete name) n e = absurd (cc)
-log_size_is Close n e = absurd (cc)
-
--- ---- runs over sentences
-
--- what was read after the lines that say this
-abbrev pub run : Kind → Progress → List Line → Result Progress Refusal
-run kind p [] = Ok p
-run kind p (s ∷ ss) = parsed_step kind p.data_sectors p.log_sectors p s >>= λ q. run kind q ss
-
--- both disks' lines were read, and this body
-abbrev pub with_head : ℕ → ℕ → Body → Progress
-with_head data_sectors log_sectors b = record { data_sectors = Some data_sectors; log_sectors = Some log_sectors; body = b }
-
--- one line of the body
-body_run_step : (d l : ℕ) (b : Body) (ss : List Line) (r : Result Body Refusal) →
-    ((c : Body) → run kinds.Record (with_head d l c) ss ≡ with_body (with_head d l c) (run_body d c ss)) →
-    (with_body (with_head d l b) r >>= λ q. run kinds.Record q ss) ≡ with_body (with_head d l b) (r >>= λ c. run_body d c ss)
-body_run_step d l b ss (Err refusal) others = refl
-body_run_step d l b ss (Ok c) others = others c ∙ same_body (run_body d c ss)
-  where
-    same_body : (r : Result Body Refusal) → with_body (with_head d l c) r ≡ with_body (with_head d l b) r
-    same_body (Ok x) = refl
-    same_body (Err x) = refl
-
--- after a head a run is one of the body
-pub body_run : (d l : ℕ) (b : Body) (ss : List Line) → run kinds.Record (with_head d l b) ss ≡ with_body (with_head d l b) (run_body d b ss)
-body_run d l b [] = refl
-body_run d l b (s ∷ ss) = body_run_step d l b ss (body_step d b s) (λ c. body_run d l c ss)
-
--- a body that was read
-pub with_body_ok : (p q : Progress) (r : Result Body Refusal) → with_body p r ≡ Ok q → (b : Body) × (r ≡ Ok b) × (record p { body = b } ≡ q)
-with_body_ok p q (Ok b) e = (b, refl, cc)
-with_body_ok p q (Err refusal) e = absurd (cc)
+-- ---- runs over what lines say
 
 -- nothing was read of the body
 abbrev pub no_body : Body
@@ -101,69 +65,123 @@ no_body_sound sectors = record { ids = tt; distinct = tt; numbered = refl; well_
 abbrev pub plan_of : ℕ → ℕ → Body → Plan
 plan_of d l b = record { data_sectors = d; log_sectors = l; names = b.names; commands = b.body }
 
--- a sound body and two sizes are a script
-sound_plan : (d l : ℕ) (b : Body) → is_disk_size d ≡ true → is_disk_size l ≡ true → IsSound d b → IsPlan (plan_of d l b)
-sound_plan d l b data_size log_size sound = record {
-  data_size = data_size;
-  log_size = log_size;
-  ids = sound.ids;
-  distinct = sound.distinct;
-  numbered = sound.numbered;
-  well_formed = sound.well_formed;
-}
+-- what was read is the beginning of a script
+abbrev pub IsBegun : Head → Body → Type 0
+IsBegun heads.Empty b = b ≡ no_body
+IsBegun (heads.Data d) b = (is_disk_size d ≡ true) × (b ≡ no_body)
+IsBegun (heads.Whole d l) b = (is_disk_size d ≡ true) × (is_disk_size l ≡ true) × IsSound d b
 
--- what a body's lines say
-told_parsed_lines : (d l : ℕ) (b : Body) (ss : List Line) → Told no_body b ss → lines_of_script (plan_of d l b) ≡ Data d ∷ Log l ∷ ss
-told_parsed_lines d l b ss as_refusal =
-    let names : b.names ≡ b.names ++ [] = sym (append-nil b.names) in
-    let all : lines_of_body b.names 0 b.body ≡ ss = ap (λ ns. lines_of_body ns 0 b.body) names ∙ ap (λ cs. lines_of_body (b.names ++ []) 0 cs) as_refusal.grown_body ∙ as_refusal.says [] in
-    ap (λ x. Data d ∷ Log l ∷ x) all
+-- the lines of the head, as far as it was read
+abbrev pub lines_of_head : Head → List Line
+lines_of_head heads.Empty = []
+lines_of_head (heads.Data d) = parsed_lines.Head (head_lines.Data d) ∷ []
+lines_of_head (heads.Whole d l) = parsed_lines.Head (head_lines.Data d) ∷ parsed_lines.Head (head_lines.Log l) ∷ []
 
--- the head and the body of a run that gives a plan
-body_read : (d l : ℕ) (ss : List Line) (plan : Plan) → is_disk_size d ≡ true → is_disk_size l ≡ true → AllByRecursion IsFine ss →
-    (run kinds.Record (with_head d l no_body) ss >>= finish_step kinds.Record) ≡ Ok plan → (Data d ∷ Log l ∷ ss ≡ lines_of_script plan) × IsPlan plan
-body_read d l ss plan data_size log_size fine e =
-    let p = bind_ok (run kinds.Record (with_head d l no_body) ss) (finish_step kinds.Record) plan e in
-    let q = with_body_ok (with_head d l no_body) p.0 (run_body d no_body ss) (sym (body_run d l no_body ss) ∙ p.1) in
-    let g = run_grows d no_body q.0 ss q.1 fine (no_body_sound d) in
-    let same : plan_of d l q.0 ≡ plan = (let last = ap (finish_step kinds.Record) q.2 ∙ p.2 in cc) in
-    subst (λ (x : Plan). (Data d ∷ Log l ∷ ss ≡ lines_of_script x) × IsPlan x) same (sym (told_parsed_lines d l q.0 ss g.1), sound_plan d l q.0 data_size log_size g.0)
+-- the lines that were read
+abbrev pub lines_of_progress : Progress → List Line
+lines_of_progress p = lines_of_head p.head ++ lines_of_draft p.body
 
--- the second line of a script is the log disk's
-second_read : (d : ℕ) (s : Line) (ss : List Line) (plan : Plan) (o : Option ℕ) → log_size s ≡ o → is_disk_size d ≡ true → AllByRecursion IsFine ss →
-    ((with_log (record { data_sectors = Some d; log_sectors = None; body = no_body }) o >>= λ q. run kinds.Record q ss) >>= finish_step kinds.Record) ≡ Ok plan →
-    (Data d ∷ s ∷ ss ≡ lines_of_script plan) × IsPlan plan
-second_read d s ss plan None is data_size fine e = absurd (cc)
-second_read d s ss plan (Some l) is data_size fine e =
-    let h = log_size_is s l is in
-    let b = body_read d l ss plan data_size h.1 fine e in
-    (ap (λ x. Data d ∷ x ∷ ss) h.0 ∙ b.0, b.1)
+-- what was read is the beginning of a script, and its lines are these and one more
+abbrev pub GrowsBy : Progress → Progress → List Line → Type 0
+GrowsBy p q ss = IsBegun q.head q.body × (lines_of_progress q ≡ lines_of_progress p ++ ss)
 
--- the first line of a script is the data disk's
-first_read : (s : Line) (ss : List Line) (plan : Plan) (o : Option ℕ) → data_size s ≡ o → AllByRecursion IsFine ss →
-    ((with_data nothing o >>= λ q. run kinds.Record q ss) >>= finish_step kinds.Record) ≡ Ok plan → (s ∷ ss ≡ lines_of_script plan) × IsPlan plan
-first_read s ss plan None is fine e = absurd (cc)
-first_read s [] plan (Some d) is fine e = absurd (cc)
-first_read s (t ∷ ss) plan (Some d) is fine e =
-    let h = data_size_is s d is in
-    let b = second_read d t ss plan (log_size t) refl h.1 fine.1 e in
-    (ap (λ x. x ∷ t ∷ ss) h.0 ∙ b.0, b.1)
+-- one more line of the head
+head_grows : (h k : Head) (b : Body) (line : HeadLine) → head_step h line ≡ Some k → IsBegun h b
+    → GrowsBy (record { head = h; body = b }) (record { head = k; body = b }) (parsed_lines.Head line ∷ [])
+head_grows heads.Empty k b (head_lines.Data n) e begun =
+    let p = cond_some (is_disk_size n) (heads.Data n) k e in
+    subst (λ (x : Head). GrowsBy (record { head = heads.Empty; body = b }) (record { head = x; body = b }) (parsed_lines.Head (head_lines.Data n) ∷ [])) p.1
+    ((p.0, begun), rw begun refl)
+head_grows (heads.Data d) k b (head_lines.Log n) e begun =
+    let p = cond_some (is_disk_size n) (heads.Whole d n) k e in
+    subst (λ (x : Head). GrowsBy (record { head = heads.Data d; body = b }) (record { head = x; body = b }) (parsed_lines.Head (head_lines.Log n) ∷ [])) p.1
+    ((begun.0, p.0, subst (IsSound d) (sym begun.1) (no_body_sound d)), rw begun.1 refl)
+head_grows heads.Empty k b (head_lines.Log n) e begun = absurd (cc e)
+head_grows (heads.Data d) k b (head_lines.Data n) e begun = absurd (cc e)
+head_grows (heads.Whole d l) k b line e begun = absurd (cc e)
+
+-- a head that was read
+pub with_head_ok : (p q : Progress) (o : Option Head) → with_head p o ≡ Ok q → (h : Head) × (o ≡ Some h) × (record p { head = h } ≡ q)
+with_head_ok p q (Some h) e = (h, refl, cc)
+with_head_ok p q None e = absurd (cc)
+
+-- a body that was read
+pub with_body_ok : (p q : Progress) (r : Result Body Refusal) → with_body p r ≡ Ok q → (b : Body) × (r ≡ Ok b) × (record p { body = b } ≡ q)
+with_body_ok p q (Ok b) e = (b, refl, cc)
+with_body_ok p q (Err refusal) e = absurd (cc)
+
+-- one more line of the body
+body_grows : (h : Head) (b : Body) (q : Progress) (line : BodyLine) → body_line kinds.Record h (record { head = h; body = b }) line ≡ Ok q → IsFine line → IsBegun h b
+    → GrowsBy (record { head = h; body = b }) q (parsed_lines.Body line ∷ [])
+body_grows heads.Empty b q line e fine begun = absurd (cc e)
+body_grows (heads.Data d) b q line e fine begun = absurd (cc e)
+body_grows (heads.Whole d l) b q line e fine begun =
+    let p : Progress = in_draft d l b in
+    let r = with_body_ok p q (body_step d b line) e in
+    let g = step_grows d b r.0 line r.1 fine begun.2 in
+    subst (λ (x : Progress). GrowsBy p x (parsed_lines.Body line ∷ [])) r.2
+    ((begun.0, begun.1, g.0), ap (λ (ls : List Line). lines_of_head (heads.Whole d l) ++ ls) (lines_grow d b r.0 line begun.2 g.1))
+
+-- one more line
+step_more : (p q : Progress) (s : Line) → parsed_step kinds.Record p s ≡ Ok q → IsFineLine s → IsBegun p.head p.body → GrowsBy p q (s ∷ [])
+step_more p q (parsed_lines.Head line) e fine begun =
+    let r = with_head_ok p q (head_step p.head line) e in
+    subst (λ (x : Progress). GrowsBy p x (parsed_lines.Head line ∷ [])) r.2 (head_grows p.head r.0 p.body line r.1 begun)
+step_more p q (parsed_lines.Body line) e fine begun = body_grows p.head p.body q line e fine begun
+
+-- the lines that are read are those of what was read
+pub run_more : (p q : Progress) (ss : List Line) → run kinds.Record p ss ≡ Ok q → AllByRecursion IsFineLine ss → IsBegun p.head p.body → GrowsBy p q ss
+run_more p q [] e fine begun =
+    let same : p ≡ q = cc in
+    subst (λ (x : Progress). GrowsBy p x []) same (begun, sym (append-nil (lines_of_progress p)))
+run_more p q (s ∷ ss) e fine begun =
+    let r = bind_ok (parsed_step kinds.Record p s) _ q e in
+    let first = step_more p r.0 s r.1 fine.0 begun in
+    let others = run_more r.0 q ss r.2 fine.1 first.0 in
+    (others.0, others.1 ∙ ap (λ (ls : List Line). ls ++ ss) first.1 ∙ append_assoc (lines_of_progress p) (s ∷ []) ss)
+
+-- the lines that were read from the start
+pub run_lines : (q : Progress) (ss : List Line) → run kinds.Record nothing ss ≡ Ok q → AllByRecursion IsFineLine ss → GrowsBy nothing q ss
+run_lines q ss e fine = run_more nothing q ss e fine refl
+
+-- what was read, at the end of a text
+finished_read : (h : Head) (b : Body) (plan : Plan) → finished kinds.Record h b ≡ Ok plan → IsBegun h b → (lines_of_head h ++ lines_of_draft b ≡ lines_of_script plan) × IsPlan plan
+finished_read heads.Empty b plan e begun = absurd (cc e)
+finished_read (heads.Data d) b plan e begun = absurd (cc e)
+finished_read (heads.Whole d l) b plan e begun =
+    let same : plan_of d l b ≡ plan = cc in
+    subst (λ (x : Plan). (lines_of_script (plan_of d l b) ≡ lines_of_script x) × IsPlan x) same (
+      refl,
+      record {
+        data_size = begun.0;
+        log_size = begun.1;
+        ids = begun.2.ids;
+        distinct = begun.2.distinct;
+        numbered = begun.2.numbered;
+        well_formed = begun.2.well_formed;
+      },
+    )
 
 -- the lines that are read as a plan are those of the plan
-pub plan_read : (ss : List Line) (plan : Plan) → AllByRecursion IsFine ss → (run kinds.Record nothing ss >>= finish_step kinds.Record) ≡ Ok plan → (ss ≡ lines_of_script plan) × IsPlan plan
-plan_read [] plan fine e = absurd (cc)
-plan_read (s ∷ ss) plan fine e = first_read s ss plan (data_size s) refl fine.1 e
+pub plan_read : (ss : List Line) (plan : Plan) → AllByRecursion IsFineLine ss → (run kinds.Record nothing ss >>= finish_step kinds.Record) ≡ Ok plan → (ss ≡ lines_of_script plan) × IsPlan plan
+plan_read ss plan fine e =
+    let r = bind_ok (run kinds.Record nothing ss) (finish_step kinds.Record) plan e in
+    let g = run_lines r.0 ss r.1 fine in
+    let f = finished_read r.0.head r.0.body plan r.2 g.0 in
+    (sym g.1 ∙ f.0, f.1)
 
 -- the lines of a plan are read as it
 pub plan_again : (plan : Plan) → IsPlan plan → (run kinds.Record nothing (lines_of_script plan) >>= finish_step kinds.Record) ≡ Ok plan
 plan_again plan is =
     let d = plan.data_sectors in
     let l = plan.log_sectors in
-    let body : run_body d no_body (lines_of_body plan.names 0 plan.commands) ≡ Ok (record { names = plan.names; body = plan.commands }) =
-    run_again d plan.names [] plan.names [] plan.commands refl is.distinct refl is.numbered is.well_formed in
-    let head : run kinds.Record (with_head d l no_body) (lines_of_body plan.names 0 plan.commands) ≡ Ok (with_head d l (record { names = plan.names; body = plan.commands })) =
-    body_run d l no_body (lines_of_body plan.names 0 plan.commands) ∙ ap (with_body (with_head d l no_body)) body in
-    rw (cond-true _ _ _ is.data_size, cond-true _ _ _ is.log_size, head) refl
+    let start : Progress = in_draft d l no_body in
+    let first : Progress = record { head = heads.Data d; body = no_body } in
+    let body : run kinds.Record start (lines_of_body plan.names 0 plan.commands) ≡ Ok (in_draft d l (record { names = plan.names; body = plan.commands })) =
+    run_again d l plan.names [] plan.names [] plan.commands refl is.distinct refl is.numbered is.well_formed in
+    let one : parsed_step kinds.Record nothing (parsed_lines.Head (head_lines.Data d)) ≡ Ok first = ap (with_head nothing) (cond-true _ _ _ is.data_size) in
+    let two : parsed_step kinds.Record first (parsed_lines.Head (head_lines.Log l)) ≡ Ok start = ap (with_head first) (cond-true _ _ _ is.log_size) in
+    bind_at _ _ _ _ (bind_at _ _ _ _ one (bind_at _ _ _ _ two body)) refl
 
 -- ---- lines
 
@@ -209,7 +227,7 @@ said_step kind p line plain skipped = cond-false _ _ _ (ap not plain) ∙ cond-f
 -- what a line's step that goes on has heard
 pub data LineHeard (kind : Kind) (p q : Progress) (line : List ℕ) : Type 0 where
   nothing_heard : is_ascii_line line ≡ true → is_skipped line ≡ true → p ≡ q → LineHeard kind p q line
-  one_heard : (s : Line) → is_ascii_line line ≡ true → is_skipped line ≡ false → ParsesAs line s → parsed_step kind p.data_sectors p.log_sectors p s ≡ Ok q → LineHeard kind p q line
+  one_heard : (s : Line) → is_ascii_line line ≡ true → is_skipped line ≡ false → ParsesAs line s → parsed_step kind p s ≡ Ok q → LineHeard kind p q line
 
 -- what was heard of a line that isn't skipped
 parsed_heard : (kind : Kind) (p q : Progress) (line : List ℕ) (o : Option Line) → is_ascii_line line ≡ true → is_skipped line ≡ false → parse_line line ≡ o → step_if_parsed kind p o ≡ Ok q → LineHeard kind p q line
@@ -264,7 +282,7 @@ said_go : (kind : Kind) (p q : Progress) (line : List ℕ) (lines : List (List �
     ((r : Progress) (more : List Line) → AllZip ParsesAs (unskipped lines) more → run kind r more ≡ Ok q → go kind r lines ≡ Ok q) → go kind p (line ∷ lines) ≡ Ok q
 said_go kind p q line lines [] plain skipped says e others = absurd says
 said_go kind p q line lines (s ∷ ss) plain skipped says e others =
-    let step = bind_ok (parsed_step kind p.data_sectors p.log_sectors p s) _ q e in
+    let step = bind_ok (parsed_step kind p s) _ q e in
     let is : line_step kind p line ≡ Ok step.0 = said_step kind p line plain skipped ∙ ap (step_if_parsed kind p) (parsed_again line s says.0) ∙ step.1 in
     bind_at _ _ _ _ is (others step.0 ss says.1 step.2)
 
@@ -341,14 +359,14 @@ spelled_lines lines number plan spells =
     (bind_at _ _ _ _ (heard_go kinds.Record nothing s.0 lines (lines_of_script plan) spells.plain spells.says s.1) s.2)
 
 -- a run's text doesn't end well
-no_run : (data_size log_size : Option ℕ) (b : Body) (plan : Plan) → finished kinds.Run data_size log_size b ≡ Ok plan → ⊥
-no_run data_size log_size b plan e = cc
+no_run : (h : Head) (b : Body) (plan : Plan) → finished kinds.Run h b ≡ Ok plan → ⊥
+no_run h b plan e = cc
 
 -- no text of a run is a script yet
 pub no_run_text : (p : Progress) (number : ℕ) (lines : List (List ℕ)) (plan : Plan) → read_lines kinds.Run p number lines ≡ Ok plan → ⊥
 no_run_text p number lines plan e =
     let s = bind_ok (go kinds.Run p lines) (finish_step kinds.Run) plan (lines_read kinds.Run p number lines plan e) in
-    no_run s.0.data_sectors s.0.log_sectors s.0.body plan s.2
+    no_run s.0.head s.0.body plan s.2
 
 -- what is read of a text is a script
 pub text_is_plan : (kind : Kind) (text : List ℕ) (plan : Plan) → read_text kind text ≡ Ok plan → IsPlan plan

@@ -10,7 +10,6 @@ use Rattle.dmlw_script.specs.declared.command.Command.{Command}
 use Rattle.dmlw_script.specs.declared.command.Command.TheVariants as commands
 use Rattle.dmlw_script.specs.declared.script_id.ScriptId.{ScriptId}
 use Rattle.dmlw_script.specs.declared.line.Line.{Line}
-use Rattle.dmlw_script.specs.declared.line.Line.TheVariants.{Data, Log, Write, Flush, Complete, Close}
 use Rattle.dmlw_script.specs.Grammar.{IsLineOf, IsNumber, ParsesAs, IsTextOf, AreLinesOf}
 use Rattle.dmlw_script.specs.Lines.{command_line, is_ascii_line, is_skipped, unskipped, unskipped_numbers, lines_of}
 use Rattle.dmlw_script.specs.Plans.{count_after_command, lines_of_body, is_end_of, is_ended, lines_of_script, IsWellFormed, IsPlan, CanFollow, Plan}
@@ -20,6 +19,7 @@ use Rattle.dmlw_script.proofs.CanonicalTextLaws.{spelling_spells}
 use Rattle.dmlw_script.proofs.TextLaws.{one_script_of}
 use Rattle.dmlw_script.proofs.FaultLaws.{as_many}
 use Rattle.dmlw_script.proofs.OneFault.{longer}
+use Rattle.dmlw_script.proofs.ParsingLaws.{said_kept}
 
 -- ---- spellings
 
@@ -201,15 +201,6 @@ pub lined : (text : List ℕ) (plan : Plan) (place : ℕ) → IsTextOf text plan
 lined text plan place spells past =
     let all = length-unskipped text plan spells in
     slice_get_past (unskipped_numbers 1 (lines_of text)) (place + 2) (omega arith)
-
--- a line that says something isn't skipped
-said_kept : (line : List ℕ) (s : Line) → ParsesAs line s → is_skipped line ≡ false
-said_kept line (Data n) says = ap is_skipped says.spelled
-said_kept line (Log n) says = ap is_skipped says.spelled
-said_kept line (Write name first count byte) says = ap is_skipped says.spelled
-said_kept line (Flush name) says = ap is_skipped says.spelled
-said_kept line (Complete name) says = ap is_skipped says.spelled
-said_kept line Close says = ap is_skipped says
 
 -- more lines are kept after one that isn't skipped
 kept_more : (before between : List (List ℕ)) (line : List ℕ) → is_skipped line ≡ false → length (unskipped before) < length (unskipped (before ++ line ∷ between))

@@ -7,16 +7,23 @@ use Rattle.refusals.specs.declared.fault.Fault.{Fault}
 use Rattle.dmlw_script.specs.declared.reader.Kind.{Kind}
 use Rattle.dmlw_script.specs.declared.reader.Kind.TheVariants as kinds
 use Rattle.dmlw_script.specs.declared.line.Line.{Line}
-use Rattle.dmlw_script.specs.inside.Drafts.{◌>>=◌, Body}
+use Rattle.dmlw_script.specs.declared.line.Line.TheVariants as parsed_lines
+use Rattle.dmlw_script.specs.declared.line.BodyLine.{BodyLine}
+use Rattle.dmlw_script.specs.declared.head.Head.{Head}
+use Rattle.dmlw_script.specs.declared.head.Head.TheVariants as heads
+use Rattle.dmlw_script.specs.inside.Heads.{head_step}
+use Rattle.std.specs.List.{AllByRecursion}
+use Rattle.std.proofs.lemmas.List.{append-nil}
+use Rattle.dmlw_script.specs.inside.Drafts.{Body}
 use Rattle.dmlw_script.specs.Grammar.{IsTextOf}
 use Rattle.dmlw_script.specs.Lines.{is_ascii_line, is_skipped, unskipped, lines_of}
 use Rattle.dmlw_script.specs.Plans.{Plan}
-use Rattle.dmlw_script.specs.inside.Readers.{data_size, finished, step_if_parsed, line_step, log_size, nothing, read_text, parsed_step, with_data, with_log, IsFault, Progress, Reads}
+use Rattle.dmlw_script.specs.inside.Readers.{body_line, finished, step_if_parsed, line_step, nothing, read_text, parsed_step, IsFault, Progress, Reads}
 use Rattle.dmlw_script.specs.Reading.{is_memory, BeginsScript, IsFaultOf, IsReadAs, IsRunFaultOf, RunFaultAfter}
 use Rattle.dmlw_script.specs.inside.Parsing.{parse_line}
-use Rattle.dmlw_script.proofs.BodyLaws.{bind_at, bind_ok}
-use Rattle.dmlw_script.proofs.FaultLaws.{as_many, faulted, first_fault, gone_begins, refused_ends, with_data_err, with_log_err, EndsAt}
-use Rattle.dmlw_script.proofs.ReadingLaws.{go, go_heard, lines_spell, no_body, no_run_text, plain_step, run, said_step, skipped_step, spelled_lines, with_head}
+use Rattle.dmlw_script.proofs.BodyLaws.{bind_at, bind_ok, lines_of_draft, run}
+use Rattle.dmlw_script.proofs.FaultLaws.{as_many, faulted, first_fault, gone_begins, refused_ends, with_head_err, EndsAt}
+use Rattle.dmlw_script.proofs.ReadingLaws.{all_fine, go, go_heard, lines_of_head, lines_spell, no_run_text, plain_step, run_lines, said_step, skipped_step, spelled_lines, with_head_ok, IsFineLine}
 
 -- ---- a recorder's texts
 
@@ -56,55 +63,43 @@ reads_fault kinds.Run text (Err fault) reads = λ is. absurd (cc)
 
 -- ---- a run's texts
 
--- where the lines of a run's head that say this lead to
-abbrev ReachedRun : List Line → Progress → Type 0
-ReachedRun [] q = q ≡ nothing
-ReachedRun (t ∷ []) q = (d : ℕ) × (q ≡ record { data_sectors = Some d; log_sectors = None; body = no_body })
-ReachedRun (t ∷ u ∷ []) q = (d : ℕ) × (l : ℕ) × (q ≡ with_head d l no_body)
-ReachedRun (t ∷ u ∷ v ∷ ss) q = ⊥
+-- a line of a run's body leads nowhere
+run_body_step : (h : Head) (p q : Progress) (line : BodyLine) → body_line kinds.Run h p line ≡ Ok q → ⊥
+run_body_step h p q line e = cc
 
--- after the first line
-reached_second : (d : ℕ) (t u : Line) (ss : List Line) (q : Progress) (o : Option ℕ) →
-    (with_log (record { data_sectors = Some d; log_sectors = None; body = no_body }) o >>= λ p. run kinds.Run p ss) ≡ Ok q → ReachedRun (t ∷ u ∷ ss) q
-reached_second d t u ss q None e = absurd (cc)
-reached_second d t u [] q (Some l) e = (d, l, cc)
-reached_second d t u (v ∷ ss) q (Some l) e = cc
+-- what a run's line says is read as a recorder's, and nothing of a body
+head_parsed : (p q : Progress) (s : Line) → parsed_step kinds.Run p s ≡ Ok q → (parsed_step kinds.Record p s ≡ Ok q) × (q.body ≡ p.body)
+head_parsed p q (parsed_lines.Head line) e =
+    let r = with_head_ok p q (head_step p.head line) e in
+    (e, ap (λ (x : Progress). x.body) (sym r.2))
+head_parsed p q (parsed_lines.Body line) e = absurd (run_body_step p.head p q line e)
 
--- after nothing
-reached_first : (t : Line) (ss : List Line) (q : Progress) (o : Option ℕ) → (with_data nothing o >>= λ p. run kinds.Run p ss) ≡ Ok q → ReachedRun (t ∷ ss) q
-reached_first t ss q None e = absurd (cc)
-reached_first t [] q (Some d) e = (d, cc)
-reached_first t (u ∷ ss) q (Some d) e = reached_second d t u ss q (log_size u) e
+-- so is what its lines say
+head_run : (p q : Progress) (ss : List Line) → run kinds.Run p ss ≡ Ok q → (run kinds.Record p ss ≡ Ok q) × (q.body ≡ p.body)
+head_run p q [] e = let same : p ≡ q = cc in (e, ap (λ (x : Progress). x.body) (sym same))
+head_run p q (s ∷ ss) e =
+    let r = bind_ok (parsed_step kinds.Run p s) _ q e in
+    let first = head_parsed p r.0 s r.1 in
+    let others = head_run r.0 q ss r.2 in
+    (bind_at _ _ _ _ first.0 others.0, others.1 ∙ first.1)
 
--- where a run's lines lead to
-reached_run : (ss : List Line) (q : Progress) → run kinds.Run nothing ss ≡ Ok q → ReachedRun ss q
-reached_run [] q e = cc
-reached_run (t ∷ ss) q e = reached_first t ss q (data_size t) e
+-- a head has two lines at most
+at_most_two : (h : Head) → length (lines_of_head h) ≤ 2
+at_most_two heads.Empty = omega arith
+at_most_two (heads.Data d) = omega arith
+at_most_two (heads.Whole d l) = omega arith
 
--- they are two at most
-at_most_two : (ss : List Line) (q : Progress) → ReachedRun ss q → length ss ≤ 2
-at_most_two [] q there = omega arith
-at_most_two (t ∷ []) q there = omega arith
-at_most_two (t ∷ u ∷ []) q there = omega arith
-at_most_two (t ∷ u ∷ v ∷ ss) q there = absurd there
-
--- both sizes take two lines
-both_sizes : (ss : List Line) (q : Progress) (d l : ℕ) → ReachedRun ss q → q.data_sectors ≡ Some d → q.log_sectors ≡ Some l → length ss ≡ 2
-both_sizes [] q d l there has_data has_log = absurd (let none = sym has_data ∙ ap (λ (p : Progress). p.data_sectors) there in cc)
-both_sizes (t ∷ []) q d l there has_data has_log = absurd (let none = sym has_log ∙ ap (λ (p : Progress). p.log_sectors) there.1 in cc)
-both_sizes (t ∷ u ∷ []) q d l there has_data has_log = refl
-both_sizes (t ∷ u ∷ v ∷ ss) q d l there has_data has_log = absurd there
-
--- what a run's head reads, a recorder's does
-head_parsed : (data_size log_size : Option ℕ) (p q : Progress) (s : Line) → parsed_step kinds.Run data_size log_size p s ≡ Ok q → parsed_step kinds.Record data_size log_size p s ≡ Ok q
-head_parsed None log_size p q s e = e
-head_parsed (Some d) None p q s e = e
-head_parsed (Some d) (Some l) p q s e = absurd (cc)
+-- as many lines as the head has were read of a run
+run_count : (q : Progress) (ss : List Line) → run kinds.Run nothing ss ≡ Ok q → AllByRecursion IsFineLine ss → length ss ≡ length (lines_of_head q.head)
+run_count q ss e fine =
+    let r = head_run nothing q ss e in
+    let g = run_lines q ss r.0 fine in
+    ap length (sym g.1 ∙ ap (λ (b : Body). lines_of_head q.head ++ lines_of_draft b) r.1 ∙ append-nil (lines_of_head q.head))
 
 -- what a run's head hears, a recorder's does
 head_heard : (p q : Progress) (o : Option Line) → step_if_parsed kinds.Run p o ≡ Ok q → step_if_parsed kinds.Record p o ≡ Ok q
 head_heard p q None e = absurd (cc)
-head_heard p q (Some s) e = head_parsed p.data_sectors p.log_sectors p q s e
+head_heard p q (Some s) e = (head_parsed p q s e).0
 
 -- a line of a run's head is one of a recorder's
 head_line : (p q : Progress) (line : List ℕ) → line_step kinds.Run p line ≡ Ok q → line_step kinds.Record p line ≡ Ok q
@@ -131,47 +126,56 @@ record RunRefused (before : List (List ℕ)) (line : List ℕ) (refusal : Refusa
   bad : refusal ≡ BadLine
   fault : ((length (unskipped before) ≡ 2) × (is_skipped line ≡ false)) ⊎ (BeginsScript (before ++ line ∷ []) → ⊥)
 
+-- why a line of a run's body is refused
+run_body_refused : (before : List (List ℕ)) (q : Progress) (line : List ℕ) (s : BodyLine) (refusal : Refusal) (h : Head) → is_skipped line ≡ false
+    → length (unskipped before) ≡ length (lines_of_head h)
+    → ((x : Refusal) → body_line kinds.Record h q s ≡ Err x → BeginsScript (before ++ line ∷ []) → ⊥)
+    → body_line kinds.Run h q s ≡ Err refusal → RunRefused before line refusal
+run_body_refused before q line s refusal heads.Empty kept many ends e = record { bad = cc; fault = inr (ends BadLine refl) }
+run_body_refused before q line s refusal (heads.Data d) kept many ends e = record { bad = cc; fault = inr (ends BadLine refl) }
+run_body_refused before q line s refusal (heads.Whole d l) kept many ends e = record { bad = cc; fault = inl (many, kept) }
+
 -- why a run's line that says this is refused
-run_parsed : (before : List (List ℕ)) (q : Progress) (line : List ℕ) (s : Line) (refusal : Refusal) (data_size log_size : Option ℕ) → is_skipped line ≡ false → q.data_sectors ≡ data_size → q.log_sectors ≡ log_size →
-    ((d l : ℕ) → q.data_sectors ≡ Some d → q.log_sectors ≡ Some l → length (unskipped before) ≡ 2) →
-    ((x : Refusal) → parsed_step kinds.Record data_size log_size q s ≡ Err x → BeginsScript (before ++ line ∷ []) → ⊥) →
-    parsed_step kinds.Run data_size log_size q s ≡ Err refusal → RunRefused before line refusal
-run_parsed before q line s refusal None log_size parse_words has_data has_log two ends e = record { bad = sym (with_data_err q _ refusal e).1; fault = inr (ends refusal e) }
-run_parsed before q line s refusal (Some d) None parse_words has_data has_log two ends e = record { bad = sym (with_log_err q _ refusal e).1; fault = inr (ends refusal e) }
-run_parsed before q line s refusal (Some d) (Some l) parse_words has_data has_log two ends e = record { bad = cc; fault = inl (two d l has_data has_log, parse_words) }
+run_parsed : (before : List (List ℕ)) (q : Progress) (line : List ℕ) (s : Line) (refusal : Refusal) → is_skipped line ≡ false
+    → length (unskipped before) ≡ length (lines_of_head q.head)
+    → ((x : Refusal) → parsed_step kinds.Record q s ≡ Err x → BeginsScript (before ++ line ∷ []) → ⊥)
+    → parsed_step kinds.Run q s ≡ Err refusal → RunRefused before line refusal
+run_parsed before q line (parsed_lines.Head s) refusal kept many ends e =
+    record { bad = sym (with_head_err q (head_step q.head s) refusal e).1; fault = inr (ends refusal e) }
+run_parsed before q line (parsed_lines.Body s) refusal kept many ends e = run_body_refused before q line s refusal q.head kept many ends e
 
 -- why a run's line that isn't skipped is refused
 run_heard : (before : List (List ℕ)) (q : Progress) (line : List ℕ) (refusal : Refusal) (o : Option Line) → go kinds.Record nothing before ≡ Ok q → is_ascii_line line ≡ true → is_skipped line ≡ false →
-    parse_line line ≡ o → ((d l : ℕ) → q.data_sectors ≡ Some d → q.log_sectors ≡ Some l → length (unskipped before) ≡ 2) → step_if_parsed kinds.Run q o ≡ Err refusal → RunRefused before line refusal
-run_heard before q line refusal None gone plain parse_words is two e =
-    record { bad = cc; fault = inr (refused_ends before q line BadLine gone (said_step kinds.Record q line plain parse_words ∙ ap (step_if_parsed kinds.Record q) is)) }
-run_heard before q line refusal (Some s) gone plain parse_words is two e =
-    run_parsed before q line s refusal q.data_sectors q.log_sectors parse_words refl refl two
-    (λ x f. refused_ends before q line x gone (said_step kinds.Record q line plain parse_words ∙ ap (step_if_parsed kinds.Record q) is ∙ f)) e
+    parse_line line ≡ o → length (unskipped before) ≡ length (lines_of_head q.head) → step_if_parsed kinds.Run q o ≡ Err refusal → RunRefused before line refusal
+run_heard before q line refusal None gone plain kept is many e =
+    record { bad = cc; fault = inr (refused_ends before q line BadLine gone (said_step kinds.Record q line plain kept ∙ ap (step_if_parsed kinds.Record q) is)) }
+run_heard before q line refusal (Some s) gone plain kept is many e =
+    run_parsed before q line s refusal kept many
+    (λ x f. refused_ends before q line x gone (said_step kinds.Record q line plain kept ∙ ap (step_if_parsed kinds.Record q) is ∙ f)) e
 
 -- why a run's line is refused
-run_refused : (before : List (List ℕ)) (q : Progress) (line : List ℕ) (refusal : Refusal) → go kinds.Record nothing before ≡ Ok q → ((d l : ℕ) → q.data_sectors ≡ Some d → q.log_sectors ≡ Some l → length (unskipped before) ≡ 2) →
+run_refused : (before : List (List ℕ)) (q : Progress) (line : List ℕ) (refusal : Refusal) → go kinds.Record nothing before ≡ Ok q → length (unskipped before) ≡ length (lines_of_head q.head) →
     line_step kinds.Run q line ≡ Err refusal → RunRefused before line refusal
-run_refused before q line refusal gone two e =
+run_refused before q line refusal gone many e =
     ⊎_elim
     (λ (plain : is_ascii_line line ≡ true).
     ⊎_elim
     (λ (skipped : is_skipped line ≡ true). absurd (let bad = sym (skipped_step kinds.Run q line plain skipped) ∙ e in cc))
-    (λ (parse_words : is_skipped line ≡ false). run_heard before q line refusal (parse_line line) gone plain parse_words refl two (sym (said_step kinds.Run q line plain parse_words) ∙ e))
+    (λ (kept : is_skipped line ≡ false). run_heard before q line refusal (parse_line line) gone plain kept refl many (sym (said_step kinds.Run q line plain kept) ∙ e))
     (cases_Bool (is_skipped line)))
     (λ (strange : is_ascii_line line ≡ false).
     record { bad = (let bad = sym (plain_step kinds.Run q line strange) ∙ e in cc); fault = inr (refused_ends before q line BadLine gone (plain_step kinds.Record q line strange)) })
     (cases_Bool (is_ascii_line line))
 
 -- a run's text is a bad line at its end
-run_finish : (data_size log_size : Option ℕ) (b : Body) (refusal : Refusal) → finished kinds.Run data_size log_size b ≡ Err refusal → refusal ≡ BadLine
-run_finish data_size log_size b refusal e = cc
+run_finish : (h : Head) (b : Body) (refusal : Refusal) → finished kinds.Run h b ≡ Err refusal → refusal ≡ BadLine
+run_finish h b refusal e = cc
 
 -- what is wrong where reading of a run ended
-run_behind : (before more : List (List ℕ)) (q : Progress) (refusal : Refusal) → go kinds.Record nothing before ≡ Ok q → ((d l : ℕ) → q.data_sectors ≡ Some d → q.log_sectors ≡ Some l → length (unskipped before) ≡ 2) →
+run_behind : (before more : List (List ℕ)) (q : Progress) (refusal : Refusal) → go kinds.Record nothing before ≡ Ok q → length (unskipped before) ≡ length (lines_of_head q.head) →
     EndsAt kinds.Run q more refusal → (refusal ≡ BadLine) × RunFaultAfter before more
-run_behind before [] q refusal gone two ends = (run_finish q.data_sectors q.log_sectors q.body refusal ends, tt)
-run_behind before (line ∷ more) q refusal gone two ends = let r = run_refused before q line refusal gone two ends in (r.bad, r.fault)
+run_behind before [] q refusal gone many ends = (run_finish q.head q.body refusal ends, tt)
+run_behind before (line ∷ more) q refusal gone many ends = let r = run_refused before q line refusal gone many ends in (r.bad, r.fault)
 
 -- where a run's text is refused
 run_line : (text : List ℕ) (fault : Fault) (line : Option ℕ) → fault.line ≡ line → IsFault line fault (read_text kinds.Run text) → IsRunFaultOf text fault line
@@ -179,10 +183,10 @@ run_line text fault None is reads = memory_is fault None is refl reads
 run_line text fault (Some number) is reads =
     let f = faulted kinds.Run nothing 1 (lines_of text) fault reads in
     let g = go_heard kinds.Run nothing f.q f.before f.gone in
-    let there = reached_run g.ss f.q g.leads in
-    let many = as_many (unskipped f.before) g.ss g.step_if_parsed.says in
+    let said = as_many (unskipped f.before) g.ss g.step_if_parsed.says in
+    let many : length (unskipped f.before) ≡ length (lines_of_head f.q.head) = said ∙ run_count f.q g.ss g.leads (all_fine (unskipped f.before) g.ss g.step_if_parsed.says) in
     let gone = head_lines nothing f.q f.before f.gone in
-    let r = run_behind f.before f.more f.q fault.refusal gone (λ d l has_data has_log. many ∙ both_sizes g.ss f.q d l there has_data has_log) f.ends in
+    let r = run_behind f.before f.more f.q fault.refusal gone many f.ends in
     let place : number ≡ 1 + length f.before = (let both = sym is ∙ f.place in cc) in (
       r.0,
       record {
@@ -191,7 +195,7 @@ run_line text fault (Some number) is reads =
         split = f.split;
         place = place ∙ omega arith;
         begins = gone_begins f.before f.q gone;
-        head = omega (arith, many, at_most_two g.ss f.q there);
+        head = omega (arith, many, at_most_two f.q.head);
         fault = r.1;
       },
     )

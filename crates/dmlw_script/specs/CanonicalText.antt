@@ -1,20 +1,35 @@
 -- The one text of a script.
 use Rattle.std.specs.Prelude.{ℕ, List, [], ◌∷◌, ◌++◌, codes, decimal, flat_map}
 use Rattle.dmlw_script.specs.declared.line.Line.{Line}
-use Rattle.dmlw_script.specs.declared.line.Line.TheVariants.{Data, Log, Write, Flush, Complete, Close}
+use Rattle.dmlw_script.specs.declared.line.Line.TheVariants as parsed_lines
+use Rattle.dmlw_script.specs.declared.line.HeadLine.TheVariants as head_lines
+use Rattle.dmlw_script.specs.declared.line.BodyLine.TheVariants as body_lines
+use Rattle.dmlw_script.specs.declared.command.Submission.{Submission}
+use Rattle.dmlw_script.specs.declared.command.Submission.TheVariants as submits
+use Rattle.dmlw_script.specs.declared.command.Step.{Step}
+use Rattle.dmlw_script.specs.declared.command.Step.TheVariants as steps
+use Rattle.dmlw_script.specs.declared.script_id.ScriptId.{ScriptId}
 use Rattle.dmlw_script.specs.Grammar.{spaced}
 use Rattle.dmlw_script.specs.Ids.{letters_of}
 use Rattle.dmlw_script.specs.Plans.{lines_of_script, Plan}
 use Rattle.dmlw_script.specs.Words.{byte_text}
 
--- the line that says this, with no leading zeroes
+-- the line of a submission, with no leading zeroes
+abbrev pub submission_text : ScriptId → Submission → List ℕ
+submission_text name (submits.Write first count byte) = spaced (codes "w" ∷ letters_of name ∷ decimal first ∷ decimal count ∷ byte_text byte ∷ [])
+submission_text name submits.Flush = spaced (codes "f" ∷ letters_of name ∷ [])
+
+-- a line that names no request
+abbrev pub step_text : Step → List ℕ
+step_text steps.Close = codes "close"
+
+-- the line that says this
 abbrev pub line_text : Line → List ℕ
-line_text (Data sectors) = spaced (codes "data" ∷ decimal sectors ∷ [])
-line_text (Log sectors) = spaced (codes "log" ∷ decimal sectors ∷ [])
-line_text (Write name first count byte) = spaced (codes "w" ∷ letters_of name ∷ decimal first ∷ decimal count ∷ byte_text byte ∷ [])
-line_text (Flush name) = spaced (codes "f" ∷ letters_of name ∷ [])
-line_text (Complete name) = spaced (codes "c" ∷ letters_of name ∷ [])
-line_text Close = codes "close"
+line_text (parsed_lines.Head (head_lines.Data sectors)) = spaced (codes "data" ∷ decimal sectors ∷ [])
+line_text (parsed_lines.Head (head_lines.Log sectors)) = spaced (codes "log" ∷ decimal sectors ∷ [])
+line_text (parsed_lines.Body (body_lines.Submit name submission)) = submission_text name submission
+line_text (parsed_lines.Body (body_lines.Complete name)) = spaced (codes "c" ∷ letters_of name ∷ [])
+line_text (parsed_lines.Body (body_lines.Step step)) = step_text step
 
 -- the same, ended by a line feed
 abbrev pub ended_line : Line → List ℕ

@@ -3,7 +3,11 @@ use Rattle.std.specs.Prelude.{◌≡◌, ℕ, ◌<◌, true, ◌+◌, List, [], 
 use Rattle.std.specs.List.{join_with_byte, AllByRecursion, AllZip}
 use Rattle.dmlw_script.specs.declared.script_id.ScriptId.{ScriptId}
 use Rattle.dmlw_script.specs.declared.line.Line.{Line}
-use Rattle.dmlw_script.specs.declared.line.Line.TheVariants.{Data, Log, Write, Flush, Complete, Close}
+use Rattle.dmlw_script.specs.declared.line.Line.TheVariants as parsed_lines
+use Rattle.dmlw_script.specs.declared.line.HeadLine.TheVariants as head_lines
+use Rattle.dmlw_script.specs.declared.line.BodyLine.TheVariants as body_lines
+use Rattle.dmlw_script.specs.declared.command.Submission.TheVariants as submits
+use Rattle.dmlw_script.specs.declared.command.Step.TheVariants as steps
 use Rattle.dmlw_script.specs.Lines.{is_ascii_line, unskipped, lines_of}
 use Rattle.dmlw_script.specs.Ids.{is_id, script_id}
 use Rattle.dmlw_script.specs.Plans.{lines_of_body, lines_of_script, IsPlan, Plan}
@@ -46,12 +50,12 @@ pub record ParsesAsWrite (line : List ℕ) (name : ScriptId) (first count byte :
 
 -- what a line says by its words
 abbrev pub ParsesAs : List ℕ → Line → Type 0
-ParsesAs line (Data sectors) = ParsesAsNumber (codes "data") line sectors
-ParsesAs line (Log sectors) = ParsesAsNumber (codes "log") line sectors
-ParsesAs line (Write name first count byte) = ParsesAsWrite line name first count byte
-ParsesAs line (Flush name) = ParsesAsId (codes "f") line name
-ParsesAs line (Complete name) = ParsesAsId (codes "c") line name
-ParsesAs line Close = line ≡ codes "close"
+ParsesAs line (parsed_lines.Head (head_lines.Data sectors)) = ParsesAsNumber (codes "data") line sectors
+ParsesAs line (parsed_lines.Head (head_lines.Log sectors)) = ParsesAsNumber (codes "log") line sectors
+ParsesAs line (parsed_lines.Body (body_lines.Submit name (submits.Write first count byte))) = ParsesAsWrite line name first count byte
+ParsesAs line (parsed_lines.Body (body_lines.Submit name submits.Flush)) = ParsesAsId (codes "f") line name
+ParsesAs line (parsed_lines.Body (body_lines.Complete name)) = ParsesAsId (codes "c") line name
+ParsesAs line (parsed_lines.Body (body_lines.Step steps.Close)) = line ≡ codes "close"
 
 -- the lines are those of a script of a recorder: plain ones, of which those that aren't skipped say what the script's
 -- lines say, one after the other

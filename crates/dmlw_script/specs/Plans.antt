@@ -1,12 +1,20 @@
 -- What a script is, apart from any text, and what its lines say.
-use Rattle.std.specs.Prelude.{◌≡◌, ℕ, ◌+◌, ◌<◌, ◌==◌, nat_le, Bool, true, false, ◌&&◌, List, [], ◌∷◌, ◌++◌, Option, Ok, length, position, slice_index_or, count_by}
+use Rattle.std.specs.Prelude.{◌≡◌, ℕ, ◌+◌, ◌<◌, ◌==◌, nat_le, Bool, true, false, ◌&&◌, List, [], ◌∷◌, ◌++◌, Option, Result, Ok, length, position, slice_index_or, count_by}
 use Rattle.std.specs.List.{list_any, AllByRecursion, IsDistinct}
 use Rattle.bio.specs.Check.{range_answer}
+use Rattle.bio.specs.declared.request.BadBio.{BadBio}
 use Rattle.dmlw_script.specs.declared.command.Command.{Command}
 use Rattle.dmlw_script.specs.declared.command.Command.TheVariants as commands
+use Rattle.dmlw_script.specs.declared.command.Submission.{Submission}
+use Rattle.dmlw_script.specs.declared.command.Submission.TheVariants as submits
+use Rattle.dmlw_script.specs.declared.command.Step.{Step}
+use Rattle.dmlw_script.specs.declared.command.Step.TheVariants as steps
 use Rattle.dmlw_script.specs.declared.script_id.ScriptId.{ScriptId}
 use Rattle.dmlw_script.specs.declared.line.Line.{Line}
 use Rattle.dmlw_script.specs.declared.line.Line.TheVariants as parsed_lines
+use Rattle.dmlw_script.specs.declared.line.HeadLine.TheVariants as head_lines
+use Rattle.dmlw_script.specs.declared.line.BodyLine.{BodyLine}
+use Rattle.dmlw_script.specs.declared.line.BodyLine.TheVariants as body_lines
 use Rattle.dmlw_script.specs.Ids.{is_id, script_id, same_name}
 
 -- what a script holds: the sizes of the disks, the ids of its requests in the order of their submissions, and the
@@ -31,9 +39,9 @@ IsName name = (word : List ℕ) × (is_id word ≡ true) × (name ≡ script_id 
 
 -- the command submits a request
 abbrev pub is_submission : Command → Bool
+is_submission (commands.Submit submission) = true
 is_submission (commands.Complete request) = false
-is_submission commands.Close = false
-is_submission _ = true
+is_submission (commands.Step step) = false
 
 -- the requests that these commands submit
 abbrev pub submissions : List Command → ℕ
@@ -41,19 +49,34 @@ submissions body = count_by is_submission body
 
 -- the command ends this request
 abbrev pub is_end_of : ℕ → Command → Bool
+is_end_of request (commands.Submit submission) = false
 is_end_of request (commands.Complete ended) = ended == request
-is_end_of request _ = false
+is_end_of request (commands.Step step) = false
 
 -- a command ends this request
 abbrev pub is_ended : ℕ → List Command → Bool
 is_ended request body = list_any (is_end_of request) body
 
--- the command may come after these, for a data disk of so many sectors: a write passes the test of its sectors and
--- writes a byte, and an end is that of a request that was submitted and hasn't ended
+-- what a test of the sectors that a submission covers answers, on a data disk of so many
+abbrev pub submission_answer : ℕ → Submission → Result (Unit {0}) BadBio
+submission_answer sectors (submits.Write first count byte) = range_answer first count sectors
+submission_answer sectors submits.Flush = Ok tt
+
+-- the same of a line that names no request
+abbrev pub step_answer : ℕ → Step → Result (Unit {0}) BadBio
+step_answer sectors steps.Close = Ok tt
+
+-- what a submission writes is a byte
+abbrev pub WritesByte : Submission → Type 0
+WritesByte (submits.Write first count byte) = byte < 256
+WritesByte submits.Flush = Unit {0}
+
+-- the command may come after these, for a data disk of so many sectors: what it covers passes the test of its sectors, a
+-- write writes a byte, and an end is that of a request that was submitted and hasn't ended
 abbrev pub CanFollow : ℕ → List Command → Command → Type 0
-CanFollow sectors before (commands.Write first count byte) = (range_answer first count sectors ≡ Ok tt) × (byte < 256)
+CanFollow sectors before (commands.Submit submission) = (submission_answer sectors submission ≡ Ok tt) × WritesByte submission
 CanFollow sectors before (commands.Complete request) = (request < submissions before) × (is_ended request before ≡ false)
-CanFollow sectors before _ = Unit {0}
+CanFollow sectors before (commands.Step step) = step_answer sectors step ≡ Ok tt
 
 -- each command may come after those before it
 abbrev pub IsWellFormed : ℕ → List Command → List Command → Type 0
@@ -76,32 +99,30 @@ name_at names request = slice_index_or names request (script_id [])
 
 -- a request that the command submits or ends is one of so many, where so many were submitted before it
 abbrev pub HasName : ℕ → ℕ → Command → Type 0
-HasName requests before (commands.Write first count byte) = before < requests
-HasName requests before commands.Flush = before < requests
+HasName requests before (commands.Submit submission) = before < requests
 HasName requests before (commands.Complete request) = request < requests
-HasName requests before commands.Close = Unit {0}
+HasName requests before (commands.Step step) = Unit {0}
 
 -- what the line of a command says, before which so many requests were submitted
-abbrev pub line_at : List ScriptId → ℕ → Command → Line
-line_at names before (commands.Write first count byte) = parsed_lines.Write (name_at names before) first count byte
-line_at names before commands.Flush = parsed_lines.Flush (name_at names before)
-line_at names before (commands.Complete request) = parsed_lines.Complete (name_at names request)
-line_at names before commands.Close = parsed_lines.Close
+abbrev pub line_at : List ScriptId → ℕ → Command → BodyLine
+line_at names before (commands.Submit submission) = body_lines.Submit (name_at names before) submission
+line_at names before (commands.Complete request) = body_lines.Complete (name_at names request)
+line_at names before (commands.Step step) = body_lines.Step step
 
 -- the requests that were submitted after a command, before which there were so many
 abbrev pub count_after_command : ℕ → Command → ℕ
-count_after_command before (commands.Write first count byte) = before + 1
-count_after_command before commands.Flush = before + 1
+count_after_command before (commands.Submit submission) = before + 1
 count_after_command before (commands.Complete request) = before
-count_after_command before commands.Close = before
+count_after_command before (commands.Step step) = before
 
 -- what the lines of a body say
 abbrev pub lines_of_body : List ScriptId → ℕ → List Command → List Line
 lines_of_body names before [] = []
 lines_of_body names before (command ∷ body) =
-    line_at names before command ∷ lines_of_body names (count_after_command before command) body
+    parsed_lines.Body (line_at names before command) ∷ lines_of_body names (count_after_command before command) body
 
 -- what the lines of a script say, in their order
 abbrev pub lines_of_script : Plan → List Line
 lines_of_script plan =
-    parsed_lines.Data plan.data_sectors ∷ parsed_lines.Log plan.log_sectors ∷ lines_of_body plan.names 0 plan.commands
+    parsed_lines.Head (head_lines.Data plan.data_sectors) ∷ parsed_lines.Head (head_lines.Log plan.log_sectors)
+    ∷ lines_of_body plan.names 0 plan.commands

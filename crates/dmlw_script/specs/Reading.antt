@@ -1,19 +1,20 @@
 -- What reading answers to a text that is no script: the first line that is at fault, and why.
-use Rattle.std.specs.Prelude.{◌≡◌, ℕ, zero, suc, ◌+◌, ◌≤◌, ◌⊎◌, Bool, true, false, not, List, [], ◌∷◌, ◌++◌, Option, Some, None, Err, Result, Ok, length}
-use Rattle.std.specs.List.{list_any}
-use Rattle.bio.specs.Check.{range_answer}
+use Rattle.std.specs.Prelude.{◌≡◌, ℕ, ◌+◌, ◌≤◌, ◌⊎◌, Bool, true, false, not, List, [], ◌∷◌, ◌++◌, Option, Some, None, Err, Result, Ok, length, if◌then◌else◌}
+use Rattle.std.specs.List.{list_any, AllZip}
 use Rattle.bio.specs.Refusals.{bad_bio_refusal}
 use Rattle.refusals.specs.declared.refusal.Refusal.{Refusal}
 use Rattle.refusals.specs.declared.refusal.Refusal.TheVariants.{BadLine, BadId, Memory}
 use Rattle.bio.specs.declared.request.BadBio.{BadBio}
 use Rattle.refusals.specs.declared.fault.Fault.{Fault}
-use Rattle.dmlw_script.specs.declared.script_id.ScriptId.{ScriptId}
 use Rattle.dmlw_script.specs.declared.line.Line.{Line}
-use Rattle.dmlw_script.specs.declared.line.Line.TheVariants.{Data, Log, Write, Flush, Complete, Close}
+use Rattle.dmlw_script.specs.declared.line.Line.TheVariants as parsed_lines
+use Rattle.dmlw_script.specs.declared.line.HeadLine.TheVariants as head_lines
+use Rattle.dmlw_script.specs.declared.line.BodyLine.{BodyLine}
+use Rattle.dmlw_script.specs.declared.line.BodyLine.TheVariants as body_lines
 use Rattle.dmlw_script.specs.Grammar.{ParsesAs, AreLinesOf}
 use Rattle.dmlw_script.specs.Lines.{is_ascii_line, is_skipped, unskipped, lines_of}
 use Rattle.dmlw_script.specs.Ids.{same_name}
-use Rattle.dmlw_script.specs.Plans.{is_disk_size, is_ended, request_of, Plan}
+use Rattle.dmlw_script.specs.Plans.{is_disk_size, is_ended, request_of, step_answer, submission_answer, Plan}
 
 -- some lines after these make a script of them
 pub record BeginsScript (lines : List (List ℕ)) : Type 0 where
@@ -21,53 +22,67 @@ pub record BeginsScript (lines : List (List ℕ)) : Type 0 where
   pub plan : Plan
   pub spells : AreLinesOf (lines ++ more) plan
 
--- what a line says may stand after so many lines that aren't skipped, as far as its words say: first the size of the
--- data disk, then that of the log disk, then the body
-abbrev pub StandsAfter : ℕ → Line → Type 0
-StandsAfter zero (Data sectors) = is_disk_size sectors ≡ true
-StandsAfter zero (Log sectors) = ⊥
-StandsAfter zero (Write name first count byte) = ⊥
-StandsAfter zero (Flush name) = ⊥
-StandsAfter zero (Complete name) = ⊥
-StandsAfter zero Close = ⊥
-StandsAfter (suc zero) (Log sectors) = is_disk_size sectors ≡ true
-StandsAfter (suc zero) (Data sectors) = ⊥
-StandsAfter (suc zero) (Write name first count byte) = ⊥
-StandsAfter (suc zero) (Flush name) = ⊥
-StandsAfter (suc zero) (Complete name) = ⊥
-StandsAfter (suc zero) Close = ⊥
-StandsAfter (suc (suc n)) (Data sectors) = ⊥
-StandsAfter (suc (suc n)) (Log sectors) = ⊥
-StandsAfter (suc (suc n)) (Write name first count byte) = Unit {0}
-StandsAfter (suc (suc n)) (Flush name) = Unit {0}
-StandsAfter (suc (suc n)) (Complete name) = Unit {0}
-StandsAfter (suc (suc n)) Close = Unit {0}
+-- what comes next in a script
+pub data Phase : Type 0 where
+  data_due : Phase
+  log_due : Phase
+  in_body : Phase
 
--- the line is of the grammar after these, and says this
+-- what comes next after a line that says this
+abbrev pub next_phase : Line → Phase
+next_phase (parsed_lines.Head (head_lines.Data sectors)) = log_due
+next_phase (parsed_lines.Head (head_lines.Log sectors)) = in_body
+next_phase (parsed_lines.Body line) = in_body
+
+-- what comes next after lines that say this, before which this came next
+abbrev pub phase_after : Phase → List Line → Phase
+phase_after phase [] = phase
+phase_after phase (s ∷ ss) = phase_after (next_phase s) ss
+
+-- what a line says may stand where this comes next, as far as its words say: first the size of the data disk, then that of
+-- the log disk, then the body
+abbrev pub StandsAfter : Phase → Line → Type 0
+StandsAfter data_due (parsed_lines.Head (head_lines.Data sectors)) = is_disk_size sectors ≡ true
+StandsAfter log_due (parsed_lines.Head (head_lines.Log sectors)) = is_disk_size sectors ≡ true
+StandsAfter in_body (parsed_lines.Body line) = Unit {0}
+StandsAfter _ _ = ⊥
+
+-- the line is of the grammar after these, which say this, and says s
 pub record IsLineAfter (before : List (List ℕ)) (line : List ℕ) (s : Line) : Type 0 where
   pub plain : is_ascii_line line ≡ true
   pub says : ParsesAs line s
-  pub stands : StandsAfter (length (unskipped before)) s
+  pub said : List Line
+  pub before_says : AllZip ParsesAs (unskipped before) said
+  pub stands : StandsAfter (phase_after data_due said) s
 
--- a request was submitted and hasn't ended
+-- the request was submitted and hasn't ended
 abbrev pub is_open : Option ℕ → Plan → Bool
 is_open None plan = false
 is_open (Some request) plan = not (is_ended request plan.commands)
 
--- the id of a submission is new, and that of an end is one of a request that hasn't ended
-abbrev pub id_fits : Plan → Line → Bool
-id_fits plan (Write name first count byte) = not (list_any (same_name name) plan.names)
-id_fits plan (Flush name) = not (list_any (same_name name) plan.names)
-id_fits plan (Complete name) = is_open (request_of name plan.names) plan
-id_fits plan _ = true
+-- why a test of sectors refuses, if it does
+abbrev pub test_refusal : Result (Unit {0}) BadBio → Option Refusal
+test_refusal (Ok fine) = None
+test_refusal (Err bad) = Some (bad_bio_refusal bad)
 
--- why a line can't stand after these: it isn't of the grammar there; or else these are a script, and its id doesn't
--- fit; or else it is a write whose sectors don't pass the test
+-- why a line of the body is refused after a script, if it is: the id of a submission isn't new, or that of an end isn't one
+-- of a request that is open; or else its sectors don't pass the test
+abbrev pub body_refusal : Plan → BodyLine → Option Refusal
+body_refusal plan (body_lines.Submit name submission) =
+    if list_any (same_name name) plan.names then Some BadId else test_refusal (submission_answer plan.data_sectors submission)
+body_refusal plan (body_lines.Complete name) = if is_open (request_of name plan.names) plan then None else Some BadId
+body_refusal plan (body_lines.Step step) = test_refusal (step_answer plan.data_sectors step)
+
+-- why a line is refused after a script, if it is
+abbrev pub line_refusal : Plan → Line → Option Refusal
+line_refusal plan (parsed_lines.Head line) = None
+line_refusal plan (parsed_lines.Body line) = body_refusal plan line
+
+-- why a line can't stand after these: it isn't of the grammar there; or else these are a script, after which it is refused
 pub data IsLineFault (before : List (List ℕ)) (line : List ℕ) : Refusal → Type 0 where
   bad_line : ((s : Line) → IsLineAfter before line s → ⊥) → IsLineFault before line BadLine
-  bad_id : (s : Line) (plan : Plan) → IsLineAfter before line s → AreLinesOf before plan → id_fits plan s ≡ false → IsLineFault before line BadId
-  bad_request : (name : ScriptId) (first count byte : ℕ) (plan : Plan) (bad : BadBio) → IsLineAfter before line (Write name first count byte) → AreLinesOf before plan →
-      id_fits plan (Write name first count byte) ≡ true → range_answer first count plan.data_sectors ≡ Err bad → IsLineFault before line (bad_bio_refusal bad)
+  refused : (s : Line) (plan : Plan) (refusal : Refusal) → IsLineAfter before line s → AreLinesOf before plan → line_refusal plan s ≡ Some refusal →
+      IsLineFault before line refusal
 
 -- what is wrong after lines that begin a script: the text ends inside its head, or no script begins with the next line too
 abbrev pub FaultAfter : List (List ℕ) → List (List ℕ) → Refusal → Type 0

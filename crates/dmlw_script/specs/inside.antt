@@ -1,3 +1,4 @@
 pub mod Parsing
+pub mod Heads
 pub mod Drafts
 pub mod Readers

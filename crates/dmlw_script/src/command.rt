@@ -1,14 +1,27 @@
-/// One line of a script's body. Sectors are of 512 bytes. The fields are narrow, as the ranges
-/// allow, so that a long script takes little memory.
+/// What a line of a script submits. Sectors are of 512 bytes.
 #[derive(Clone, Copy, Debug, PartialEq, Eq)]
-pub enum Command {
-    /// Submits the next request: a write of `count` sectors of `byte` from sector `first` on. It
-    /// covers 1 to 2,048 sectors, all of them on the data disk.
-    Write { first: u32, count: u16, byte: u8 },
-    /// Submits the next request: an empty flush.
+pub enum Submission {
+    /// A write of `count` sectors of `byte` from sector `first` on. In a script it covers 1 to 2,048
+    /// sectors, all of them on the data disk.
+    Write { first: u64, count: u64, byte: u8 },
+    /// An empty flush.
     Flush,
-    /// Ends the request of this number. It was submitted before, and hasn't ended.
-    Complete { request: usize },
+}
+
+/// What a line of a script does that names no request.
+#[derive(Clone, Copy, Debug, PartialEq, Eq)]
+pub enum Step {
     /// Ends the recording.
     Close,
+}
+
+/// One line of a script's body.
+#[derive(Clone, Copy, Debug, PartialEq, Eq)]
+pub enum Command {
+    /// Submits the next request.
+    Submit(Submission),
+    /// Ends the request of this number. It was submitted before, and hasn't ended.
+    Complete { request: usize },
+    /// A line that names no request.
+    Step(Step),
 }

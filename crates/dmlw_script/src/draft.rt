@@ -1,8 +1,9 @@
-ghost use Rattle.std.specs.Prelude.{◌≡◌, ◌<◌, ◌≤◌, ◌+◌, ℕ, [], Ok, OnOk, false, length};
-ghost use Rattle.dmlw_script.specs.inside.Drafts.{sectors_answer, Follows};
+ghost use Rattle.std.specs.Prelude.{◌≡◌, ◌<◌, ◌+◌, ℕ, [], Ok, OnOk, false, length};
+ghost use Rattle.dmlw_script.specs.Plans.{step_answer, submission_answer};
+ghost use Rattle.dmlw_script.specs.inside.Drafts.{as_refusal, Follows};
 
-use crate::command::Command;
-use crate::line::Line;
+use crate::command::{Command, Step, Submission};
+use crate::line::BodyLine;
 use crate::line_error::LineError;
 use crate::script::Script;
 use crate::script_id::ScriptId;
@@ -37,70 +38,55 @@ impl Draft {
     }
 
     /// Reads the next line, for a data disk of so many sectors.
-    pub(crate) fn read(&mut self, parsed: Line, sectors: u64) -> Result<(), LineError>
-        requires disk { sectors ≤ 1048576 }
-        requires draft { IsDraft self.old }
+    pub(crate) fn read(&mut self, parsed: BodyLine, sectors: u64) -> Result<(), LineError>
+        requires { IsDraft self.old }
         ensures draft { OnOk result (IsDraft self.new) }
         ensures step { Follows result (body_of self.new) (body_step sectors (body_of self.old) parsed) }
     {
         match parsed {
-            Line::Write {
-                name,
-                first,
-                count,
-                byte,
-            } => self.write(name, first, count, byte, sectors),
-            Line::Flush { name } => self.flush(name),
-            Line::Complete { name } => self.complete(name),
-            Line::Close => self.say(Command::Close),
-            Line::Data { .. } | Line::Log { .. } => Err(LineError::Refused(Refusal::BadLine)),
+            BodyLine::Submit { name, submission } => self.submit(name, submission, sectors),
+            BodyLine::Complete { name } => self.complete(name),
+            BodyLine::Step(step) => self.step(step, sectors),
         }
     }
 
-    // A write to a data disk of so many sectors is submitted.
-    fn write(
+    // A request is submitted.
+    fn submit(
         &mut self,
         name: ScriptId,
-        first: u64,
-        count: u64,
-        byte: u8,
+        submission: Submission,
         sectors: u64,
     ) -> Result<(), LineError>
-        requires disk { sectors ≤ 1048576 }
-        requires draft { IsDraft self.old }
-        ensures draft { OnOk result (IsDraft self.new) }
-        ensures step { Follows result (body_of self.new) (body_step sectors (body_of self.old) (Line.Write name first count byte)) }
-    {
-        self.submit(name)?;
-        check_range(first, count, sectors)?;
-        self.say(Command::Write {
-            first: first as u32,
-            count: count as u16,
-            byte,
-        })
-    }
-
-    // A flush is submitted.
-    fn flush(&mut self, name: ScriptId) -> Result<(), LineError>
         requires { IsDraft self.old }
         ensures draft { OnOk result (IsDraft self.new) }
-        ensures step { Follows result (body_of self.new) (body_step 0 (body_of self.old) (Line.Flush name)) }
+        ensures step { Follows result (body_of self.new) (body_step sectors (body_of self.old) (BodyLine.Submit name submission)) }
     {
-        self.submit(name)?;
-        self.say(Command::Flush)
+        self.name_next(name)?;
+        check_submission(submission, sectors)?;
+        self.say(Command::Submit(submission))
     }
 
     // A request ends.
     fn complete(&mut self, name: ScriptId) -> Result<(), LineError>
         requires { IsDraft self.old }
         ensures draft { OnOk result (IsDraft self.new) }
-        ensures step { Follows result (body_of self.new) (body_step 0 (body_of self.old) (Line.Complete name)) }
+        ensures step { Follows result (body_of self.new) (body_step 0 (body_of self.old) (BodyLine.Complete name)) }
     {
         let request = self.names.get_index_of(&name).ok_or(Refusal::BadId)?;
         if self.has_ended[request] {
             return Err(LineError::Refused(Refusal::BadId));
         }
         self.end(request)
+    }
+
+    // A line that names no request.
+    fn step(&mut self, step: Step, sectors: u64) -> Result<(), LineError>
+        requires { IsDraft self.old }
+        ensures draft { OnOk result (IsDraft self.new) }
+        ensures step { Follows result (body_of self.new) (body_step sectors (body_of self.old) (BodyLine.Step step)) }
+    {
+        check_step(step, sectors)?;
+        self.say(Command::Step(step))
     }
 
     /// The script, with disks of these sizes.
@@ -117,7 +103,7 @@ impl Draft {
     }
 
     // The next request has this id.
-    fn submit(&mut self, name: ScriptId) -> Result<(), LineError>
+    fn name_next(&mut self, name: ScriptId) -> Result<(), LineError>
         requires { IsDraft self.old }
         ensures draft { OnOk result (IsDraft self.new) }
         ensures step { Follows result (body_of self.new) (with_name (body_of self.old) name) }
@@ -155,11 +141,21 @@ impl Draft {
     }
 }
 
-// What is asked of a request's sectors, which is the same for a read and for a write.
-fn check_range(first: u64, count: u64, sectors: u64) -> Result<(), LineError>
-    ensures within { OnOk result ((count ≤ 2048) × (first + count ≤ sectors)) }
-    ensures step { Follows result tt (sectors_answer first count sectors) }
+// What is asked of the sectors that a submission covers, on a disk of so many.
+fn check_submission(submission: Submission, sectors: u64) -> Result<(), LineError>
+    ensures { Follows result tt (as_refusal (submission_answer sectors submission)) }
 {
-    check(&Bio::Read { first, count }, sectors)?;
-    Ok(())
+    match submission {
+        Submission::Write { first, count, .. } => Ok(check(&Bio::Read { first, count }, sectors)?),
+        Submission::Flush => Ok(()),
+    }
+}
+
+// The same for a line that names no request.
+fn check_step(step: Step, _sectors: u64) -> Result<(), LineError>
+    ensures { Follows result tt (as_refusal (step_answer _sectors step)) }
+{
+    match step {
+        Step::Close => Ok(()),
+    }
 }

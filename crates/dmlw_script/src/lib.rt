@@ -7,10 +7,10 @@
 //!
 //! `specs/Grammar` is the grammar, a relation between texts and scripts, and `specs/Plans` says what
 //! a script is, `specs/Texts` what is shown of an id and of a fault. A new kind of line is a case of
-//! `Line`, of `ParsesAs` and of `Command`.
+//! `Submission` or of `Step`, and of `ParsesAs`.
 #![tactic(auto)]
 
-pub use command::Command;
+pub use command::{Command, Step, Submission};
 pub use printer::print_script;
 pub use reader::{Kind, line_of, read_script};
 pub use script::Script;
@@ -18,6 +18,7 @@ pub use script_id::ScriptId;
 
 mod command;
 mod draft;
+mod head;
 pub mod laws;
 mod line;
 mod line_error;

@@ -1,48 +1,63 @@
 ghost use Rattle.std.specs.Prelude.{◌≡◌};
-ghost use Rattle.dmlw_script.specs.inside.Parsing.{parse_words, parse_line as the_line, write_of as the_write};
+ghost use Rattle.dmlw_script.specs.inside.Parsing.{lone_word, parse_words, parse_line as the_line, write_of as the_write};
 
+use crate::command::{Step, Submission};
 use crate::script_id::ScriptId;
 use crate::words::{byte_of, cut, number_of};
 
 /// What a line says by its words alone.
-#[derive(Clone, Copy, Debug, PartialEq, Eq)]
+#[derive(Clone, Copy)]
 pub(crate) enum Line {
+    /// A line of the head.
+    Head(HeadLine),
+    /// A line of the body.
+    Body(BodyLine),
+}
+
+/// What a line of a head says.
+#[derive(Clone, Copy)]
+pub(crate) enum HeadLine {
     /// `data <sectors>`
-    Data {
-        sectors: u64,
-    },
+    Data { sectors: u64 },
     /// `log <sectors>`
-    Log {
-        sectors: u64,
-    },
-    /// `w <id> <first> <count> <byte>`
-    Write {
+    Log { sectors: u64 },
+}
+
+/// What a line of a body says.
+#[derive(Clone, Copy)]
+pub(crate) enum BodyLine {
+    /// `w <id> <first> <count> <byte>`, or `f <id>`
+    Submit {
         name: ScriptId,
-        first: u64,
-        count: u64,
-        byte: u8,
-    },
-    /// `f <id>`
-    Flush {
-        name: ScriptId,
+        submission: Submission,
     },
     /// `c <id>`
     Complete {
         name: ScriptId,
     },
     /// `close`
-    Close,
+    Step(Step),
 }
 
 /// What a line says, if it is of the grammar.
 pub(crate) fn parse_line(line: &[u8]) -> Option<Line>
     ensures { result ≡ the_line line.now }
 {
-    if line == b"close".as_slice() {
-        return Some(Line::Close);
-    }
     let (verb, words) = cut(line, b' ');
-    parse_words(verb, words?)
+    match words {
+        Some(words) => parse_words(verb, words),
+        None => lone_word(verb),
+    }
+}
+
+// What a line of this one word says.
+fn lone_word(verb: &[u8]) -> Option<Line>
+    ensures { result ≡ lone_word verb.now }
+{
+    match verb {
+        b"close" => Some(Line::Body(BodyLine::Step(Step::Close))),
+        _ => None,
+    }
 }
 
 // What a line of this first word says, whose other words are these.
@@ -50,19 +65,20 @@ fn parse_words(verb: &[u8], words: &[u8]) -> Option<Line>
     ensures { result ≡ parse_words verb.now words.now }
 {
     match verb {
-        b"data" => Some(Line::Data {
+        b"data" => Some(Line::Head(HeadLine::Data {
             sectors: number_of(words)?,
-        }),
-        b"log" => Some(Line::Log {
+        })),
+        b"log" => Some(Line::Head(HeadLine::Log {
             sectors: number_of(words)?,
-        }),
+        })),
         b"w" => write_of(words),
-        b"f" => Some(Line::Flush {
+        b"f" => Some(Line::Body(BodyLine::Submit {
             name: ScriptId::of_word(words)?,
-        }),
-        b"c" => Some(Line::Complete {
+            submission: Submission::Flush,
+        })),
+        b"c" => Some(Line::Body(BodyLine::Complete {
             name: ScriptId::of_word(words)?,
-        }),
+        })),
         _ => None,
     }
 }
@@ -74,10 +90,12 @@ fn write_of(words: &[u8]) -> Option<Line>
     let (name, rest) = cut(words, b' ');
     let (first, rest) = cut(rest?, b' ');
     let (count, byte) = cut(rest?, b' ');
-    Some(Line::Write {
+    Some(Line::Body(BodyLine::Submit {
         name: ScriptId::of_word(name)?,
-        first: number_of(first)?,
-        count: number_of(count)?,
-        byte: byte_of(byte?)?,
-    })
+        submission: Submission::Write {
+            first: number_of(first)?,
+            count: number_of(count)?,
+            byte: byte_of(byte?)?,
+        },
+    }))
 }

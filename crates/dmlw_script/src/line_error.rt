@@ -8,7 +8,7 @@ use refusals::Refusal;
 use std::alloc::AllocFailed;
 
 /// Why reading ends at a line.
-#[derive(Clone, Copy, Debug, PartialEq, Eq)]
+#[derive(Clone, Copy)]
 pub(crate) enum LineError {
     /// A growth was refused.
     Memory,

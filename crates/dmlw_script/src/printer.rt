@@ -2,11 +2,11 @@ ghost use Rattle.std.specs.Prelude.{◌≡◌, ◌<◌, ◌+◌, ◌^◌, ◌++�
 ghost use Rattle.dmlw_script.specs.Grammar.{IsTextOf};
 ghost use Rattle.dmlw_script.specs.Ids.{letters_of};
 ghost use Rattle.dmlw_script.specs.Plans.{count_after_command, lines_of_body, line_at as the_parsed_at, HasName};
-ghost use Rattle.dmlw_script.specs.CanonicalText.{ended_line, line_text, canonical_text};
+ghost use Rattle.dmlw_script.specs.CanonicalText.{ended_line, line_text, step_text, submission_text, canonical_text};
 ghost use Rattle.dmlw_script.specs.Words.{byte_text, hex_digit as the_hex_digit};
 
-use crate::command::Command;
-use crate::line::Line;
+use crate::command::{Command, Step, Submission};
+use crate::line::{BodyLine, HeadLine, Line};
 use crate::script::Script;
 use crate::script_id::ScriptId;
 use std::alloc::{AllocError, Global};
@@ -19,17 +19,19 @@ pub fn print_script(alloc: Global, script: &Script) -> Result<Vec<u8>, AllocErro
     ensures again { IfOk result (λ text. IsTextOf text.items script.now) }
 {
     let mut out = Vec::new(alloc);
+    let data_sectors = script.data_sectors();
     push_line(
         &mut out,
-        Line::Data {
-            sectors: script.data_sectors(),
-        },
+        Line::Head(HeadLine::Data {
+            sectors: data_sectors,
+        }),
     )?;
+    let log_sectors = script.log_sectors();
     push_line(
         &mut out,
-        Line::Log {
-            sectors: script.log_sectors(),
-        },
+        Line::Head(HeadLine::Log {
+            sectors: log_sectors,
+        }),
     )?;
     push_body(&mut out, script)?;
     Ok(out)
@@ -42,31 +44,26 @@ fn push_body(out: &mut Vec<u8>, script: &Script) -> Result<(), AllocError>
     let names = script.names();
     let mut before = 0;
     for command in script.commands() {
-        push_line(out, line_at(names, before, *command))?;
+        push_line(out, Line::Body(line_at(names, before, *command)))?;
         before = submitted_after(before, *command);
     }
     Ok(())
 }
 
 // What the line of a command says, before which so many requests were submitted.
-fn line_at(names: &[ScriptId], before: usize, command: Command) -> Line
+fn line_at(names: &[ScriptId], before: usize, command: Command) -> BodyLine
     requires { HasName (length names.now) before command }
     ensures { result ≡ the_parsed_at names.now before command }
 {
     match command {
-        Command::Write { first, count, byte } => Line::Write {
+        Command::Submit(submission) => BodyLine::Submit {
             name: names[before],
-            first: u64::from(first),
-            count: u64::from(count),
-            byte,
+            submission,
         },
-        Command::Flush => Line::Flush {
-            name: names[before],
-        },
-        Command::Complete { request } => Line::Complete {
+        Command::Complete { request } => BodyLine::Complete {
             name: names[request],
         },
-        Command::Close => Line::Close,
+        Command::Step(step) => BodyLine::Step(step),
     }
 }
 
@@ -75,20 +72,55 @@ fn push_line(out: &mut Vec<u8>, parsed: Line) -> Result<(), AllocError>
     ensures { OnOk result (out.new.items ≡ out.old.items ++ ended_line parsed) }
 {
     match parsed {
-        Line::Data { sectors } => push_size(out, b"data ", sectors)?,
-        Line::Log { sectors } => push_size(out, b"log ", sectors)?,
-        Line::Write {
-            name,
-            first,
-            count,
-            byte,
-        } => push_write(out, name, first, count, byte)?,
-        Line::Flush { name } => push_name(out, b"f ", name)?,
-        Line::Complete { name } => push_name(out, b"c ", name)?,
-        Line::Close => out.extend_from_slice(b"close")?,
+        Line::Head(line) => push_head_line(out, line)?,
+        Line::Body(line) => push_body_line(out, line)?,
     }
     out.push(b'\n')?;
     Ok(())
+}
+
+// A line of the head, but for its line feed.
+fn push_head_line(out: &mut Vec<u8>, line: HeadLine) -> Result<(), AllocError>
+    ensures { OnOk result (out.new.items ≡ out.old.items ++ line_text (Line.Head line)) }
+{
+    match line {
+        HeadLine::Data { sectors } => push_size(out, b"data ", sectors),
+        HeadLine::Log { sectors } => push_size(out, b"log ", sectors),
+    }
+}
+
+// A line of the body, but for its line feed.
+fn push_body_line(out: &mut Vec<u8>, line: BodyLine) -> Result<(), AllocError>
+    ensures { OnOk result (out.new.items ≡ out.old.items ++ line_text (Line.Body line)) }
+{
+    match line {
+        BodyLine::Submit { name, submission } => push_submission(out, name, submission),
+        BodyLine::Complete { name } => push_name(out, b"c ", name),
+        BodyLine::Step(step) => push_step(out, step),
+    }
+}
+
+// The line of a submission, but for its line feed.
+fn push_submission(
+    out: &mut Vec<u8>,
+    name: ScriptId,
+    submission: Submission,
+) -> Result<(), AllocError>
+    ensures { OnOk result (out.new.items ≡ out.old.items ++ submission_text name submission) }
+{
+    match submission {
+        Submission::Write { first, count, byte } => push_write(out, name, first, count, byte),
+        Submission::Flush => push_name(out, b"f ", name),
+    }
+}
+
+// A line that names no request, but for its line feed.
+fn push_step(out: &mut Vec<u8>, step: Step) -> Result<(), AllocError>
+    ensures { OnOk result (out.new.items ≡ out.old.items ++ step_text step) }
+{
+    match step {
+        Step::Close => out.extend_from_slice(b"close"),
+    }
 }
 
 // A line's first word and space, and a number.
@@ -115,7 +147,7 @@ fn push_write(
     count: u64,
     byte: u8,
 ) -> Result<(), AllocError>
-    ensures { OnOk result (out.new.items ≡ out.old.items ++ line_text (Line.Write name first count byte)) }
+    ensures { OnOk result (out.new.items ≡ out.old.items ++ submission_text name (Submission.Write first count byte)) }
 {
     push_name(out, b"w ", name)?;
     out.push(b' ')?;
@@ -174,7 +206,7 @@ fn submitted_after(before: usize, command: Command) -> usize
     ensures { result ≡ count_after_command before command }
 {
     match command {
-        Command::Write { .. } | Command::Flush => before + 1,
-        Command::Complete { .. } | Command::Close => before,
+        Command::Submit(_) => before + 1,
+        Command::Complete { .. } | Command::Step(_) => before,
     }
 }

@@ -1,17 +1,17 @@
 ghost use Rattle.std.specs.Prelude.{◌≡◌, ◌<◌, ◌≤◌, ◌∷◌, [], None, IfErr, IfOk, MatchOption, OnOk, length};
 ghost use Rattle.dmlw_script.specs.Lines.{command_line, lines_of, is_ascii_line as is_plain_line, is_skipped as is_a_skipped_line};
 ghost use Rattle.dmlw_script.specs.Grammar.{IsTextOf};
-ghost use Rattle.dmlw_script.specs.Plans.{is_disk_size as is_a_disk_size, Plan};
+ghost use Rattle.dmlw_script.specs.Plans.{Plan};
 ghost use Rattle.dmlw_script.specs.Reading.{IsFaultOf, IsReadAs, IsRunFaultOf};
-ghost use Rattle.dmlw_script.specs.inside.Readers.{data_size as the_data_size, fault_of, log_size as the_log_size, read_text, Reads};
+ghost use Rattle.dmlw_script.specs.inside.Readers.{fault_of, read_text, Reads};
 
 use crate::draft::Draft;
-use crate::line::{Line, parse_line};
+use crate::head::Head;
+use crate::line::{BodyLine, HeadLine, Line, parse_line};
 use crate::line_error::LineError;
 use crate::script::Script;
 use crate::words::cut;
 use refusals::{Fault, Refusal};
-use sectors::MAX_DEVICE_SECTORS;
 use std::alloc::Global;
 
 // The lines of a head.
@@ -30,25 +30,24 @@ pub enum Kind {
 #[derive(Drop)]
 struct Reader {
     kind: Kind,
-    data_sectors: Option<u64>,
-    log_sectors: Option<u64>,
+    head: Head,
     draft: Draft,
 }
 
 impl Reader {
     ghost use Rattle.dmlw_script.specs.inside.Drafts.{Follows};
-    ghost use Rattle.dmlw_script.specs.inside.Readers.{body_line, finish_step, line_step, progress_of, parsed_step, Finishes, IsReader};
+    ghost use Rattle.dmlw_script.specs.inside.Readers.{body_line, finish_step, line_step, progress_of, parsed_step, with_head, Finishes, IsReader};
+    ghost use Rattle.dmlw_script.specs.inside.Heads.{head_step};
     ghost use Rattle.dmlw_script.specs.Plans.{IsPlan};
 
     fn new(alloc: Global, kind: Kind) -> Reader
         ensures reader { IsReader result }
         ensures kind { result.kind ≡ kind }
-        ensures empty { progress_of result ≡ record { data_sectors = None; log_sectors = None; body = record { names = []; body = [] } } }
+        ensures empty { progress_of result ≡ record { head = Head.Empty; body = record { names = []; body = [] } } }
     {
         Reader {
             kind,
-            data_sectors: None,
-            log_sectors: None,
+            head: Head::Empty,
             draft: Draft::new(alloc),
         }
     }
@@ -75,33 +74,35 @@ impl Reader {
         requires { IsReader self.old }
         ensures reader { OnOk result (IsReader self.new) }
         ensures kind { OnOk result (self.new.kind ≡ self.old.kind) }
-        ensures step { Follows result (progress_of self.new)
-            (parsed_step self.old.kind self.old.data_sectors self.old.log_sectors (progress_of self.old) parsed) }
+        ensures step { Follows result (progress_of self.new) (parsed_step self.old.kind (progress_of self.old) parsed) }
     {
-        match (self.data_sectors, self.log_sectors) {
-            (None, _) => {
-                self.data_sectors = Some(data_size(parsed).ok_or(Refusal::BadLine)?);
-                Ok(())
-            }
-            (Some(_), None) => {
-                self.log_sectors = Some(log_size(parsed).ok_or(Refusal::BadLine)?);
-                Ok(())
-            }
-            (Some(sectors), Some(_)) => self.read_body(parsed, sectors),
+        match parsed {
+            Line::Head(line) => self.read_head(line),
+            Line::Body(line) => self.read_body(line),
         }
     }
 
-    // Reads the next line of the body.
-    fn read_body(&mut self, parsed: Line, sectors: u64) -> Result<(), LineError>
-        requires disk { sectors ≤ 1048576 }
-        requires reader { IsReader self.old }
+    // Reads the next line of the head.
+    fn read_head(&mut self, line: HeadLine) -> Result<(), LineError>
+        requires { IsReader self.old }
         ensures reader { OnOk result (IsReader self.new) }
         ensures kind { OnOk result (self.new.kind ≡ self.old.kind) }
-        ensures step { Follows result (progress_of self.new) (body_line self.old.kind sectors (progress_of self.old) parsed) }
+        ensures step { Follows result (progress_of self.new) (with_head (progress_of self.old) (head_step self.old.head line)) }
     {
-        match self.kind {
-            Kind::Record => self.draft.read(parsed, sectors),
-            Kind::Run => Err(LineError::Refused(Refusal::BadLine)),
+        self.head = self.head.with_line(line).ok_or(Refusal::BadLine)?;
+        Ok(())
+    }
+
+    // Reads the next line of the body.
+    fn read_body(&mut self, line: BodyLine) -> Result<(), LineError>
+        requires { IsReader self.old }
+        ensures reader { OnOk result (IsReader self.new) }
+        ensures kind { OnOk result (self.new.kind ≡ self.old.kind) }
+        ensures step { Follows result (progress_of self.new) (body_line self.old.kind self.old.head (progress_of self.old) line) }
+    {
+        match (self.kind, self.head) {
+            (Kind::Record, Head::Whole { data_sectors, .. }) => self.draft.read(line, data_sectors),
+            _ => Err(LineError::Refused(Refusal::BadLine)),
         }
     }
 
@@ -110,16 +111,15 @@ impl Reader {
         requires { IfOk (finish_step self.kind (progress_of self)) IsPlan }
         ensures { Finishes result (finish_step self.kind (progress_of self)) }
     {
-        let Reader {
-            kind,
-            data_sectors,
-            log_sectors,
-            draft,
-        } = self;
-        match (kind, data_sectors, log_sectors) {
-            (Kind::Record, Some(data_sectors), Some(log_sectors)) => {
-                Ok(draft.into_script(data_sectors, log_sectors))
-            }
+        let Reader { kind, head, draft } = self;
+        match (kind, head) {
+            (
+                Kind::Record,
+                Head::Whole {
+                    data_sectors,
+                    log_sectors,
+                },
+            ) => Ok(draft.into_script(data_sectors, log_sectors)),
             _ => Err(LineError::Refused(Refusal::BadLine)),
         }
     }
@@ -194,33 +194,6 @@ fn fault_at(line: u64, error: LineError) -> Fault
             refusal,
         },
     }
-}
-
-// The size of the data disk that a line says.
-fn data_size(parsed: Line) -> Option<u64>
-    ensures { result ≡ the_data_size parsed }
-{
-    match parsed {
-        Line::Data { sectors } if is_disk_size(sectors) => Some(sectors),
-        _ => None,
-    }
-}
-
-// The size of the log disk that a line says.
-fn log_size(parsed: Line) -> Option<u64>
-    ensures { result ≡ the_log_size parsed }
-{
-    match parsed {
-        Line::Log { sectors } if is_disk_size(sectors) => Some(sectors),
-        _ => None,
-    }
-}
-
-// A disk may have so many sectors.
-fn is_disk_size(sectors: u64) -> bool
-    ensures { result ≡ is_a_disk_size sectors }
-{
-    0 < sectors && sectors <= MAX_DEVICE_SECTORS
 }
 
 // A line of bytes that a script's text may hold.

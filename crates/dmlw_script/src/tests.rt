@@ -345,5 +345,5 @@ fn long_scripts_are_read(rt: HostRuntime) -> Result<(), Fail> {
 #[test]
 fn others_differ(rt: HostRuntime) {
     assert!(rt; Kind::Record != Kind::Run);
-    assert!(rt; Command::Flush != Command::Close);
+    assert!(rt; Command::Submit(Submission::Flush) != Command::Step(Step::Close));
 }

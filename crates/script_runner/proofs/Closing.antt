@@ -5,7 +5,6 @@ use Rattle.bio.specs.declared.outcome.End.{End}
 use Rattle.bio.specs.declared.outcome.End.TheVariants as ends
 use Rattle.dmlw_script.specs.Plans.{submissions}
 use Rattle.dmlw_script.specs.declared.command.Command.{Command}
-use Rattle.dmlw_script.specs.declared.command.Command.TheVariants.{Close}
 use Rattle.log_format.specs.declared.entry.Entry.{Entry}
 use Rattle.std.proofs.lemmas.Bool.{true_from_ne_false}
 use Rattle.pending.specs.CoreState.{CoreState}
@@ -19,7 +18,7 @@ use Rattle.script_runner.specs.declared.recording.StepError.{StepError}
 use Rattle.script_runner.specs.declared.recording.StepError.TheVariants.{AtLine, Whole}
 use Rattle.script_runner.specs.declared.error.RunError.TheVariants.{LoggingEnded}
 use Rattle.log_format.specs.Placing.{fits}
-use Rattle.script_runner.specs.Recorded.{ClosesQuietly, HasOpen, entries_of}
+use Rattle.script_runner.specs.Recorded.{Close, ClosesQuietly, HasOpen, entries_of}
 use Rattle.script_runner.specs.inside.Recordings.{GoesOn, IsFollowing, IsTracing, failed_from}
 use Rattle.script_runner.specs.RunFaults.{IsLoggingEnd, StopsAtClose, busy, full, no_memory, unclosed}
 use Rattle.script_runner.proofs.Running.{before_first}

@@ -15,7 +15,9 @@ use Rattle.sectors.specs.PlaceLaws.{bool_cases, length-snoc, slice_get-append_fr
 use Rattle.bio.specs.Requests.{is_tracked}
 use Rattle.dmlw_script.specs.Plans.{is_end_of, is_ended, is_submission}
 use Rattle.dmlw_script.specs.declared.command.Command.{Command}
-use Rattle.dmlw_script.specs.declared.command.Command.TheVariants.{Write, Flush, Complete, Close}
+use Rattle.dmlw_script.specs.declared.command.Command.TheVariants.{Complete}
+use Rattle.dmlw_script.specs.declared.command.Command.TheVariants as commands
+use Rattle.script_runner.specs.Recorded.{Close}
 use Rattle.pending.specs.GrowthLaws.{none-grown, open-grown, open-submitted}
 use Rattle.pending.specs.CoreState.{CoreState, added_to, closed_by, records, stopped_by}
 use Rattle.pending.specs.declared.recording.Submitted.{Submitted}
@@ -199,10 +201,9 @@ pushed front command es requests request is_short now_short filled has news fail
 
 -- a command that submits a request is no Close
 no_close : (command : Command) → is_submission command ≡ true → ends_recording command ≡ false
-no_close (Write first count byte) submits = refl
-no_close Flush submits = refl
+no_close (commands.Submit submission) submits = refl
 no_close (Complete request) submits = absurd (cc submits)
-no_close Close submits = absurd (cc submits)
+no_close (commands.Step step) submits = absurd (cc submits)
 
 -- a request found no memory
 pub short : (front : List Command) (command : Command) (core new : CoreState) (cause : End) (requests after : List Request) (is_short : Bool)

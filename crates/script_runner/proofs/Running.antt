@@ -14,7 +14,10 @@ use Rattle.bio.specs.Events.{first_place, is_close, is_stop}
 use Rattle.bio.specs.Lawful.{has_no_close, has_no_stop, is_recording}
 use Rattle.bio.specs.Requests.{is_tracked}
 use Rattle.dmlw_script.specs.declared.command.Command.{Command}
-use Rattle.dmlw_script.specs.declared.command.Command.TheVariants.{Write, Flush, Complete, Close}
+use Rattle.dmlw_script.specs.declared.command.Command.TheVariants.{Complete}
+use Rattle.dmlw_script.specs.declared.command.Command.TheVariants as commands
+use Rattle.dmlw_script.specs.declared.command.Submission.TheVariants as submits
+use Rattle.dmlw_script.specs.declared.command.Step.TheVariants as steps
 use Rattle.dmlw_script.specs.Plans.{IsWellFormed, IsPlan, CanFollow, Plan, is_disk_size, is_submission}
 use Rattle.bio.specs.Check.{range_answer}
 use Rattle.pending.specs.CompletionList.{Item, dm_log_writes, completion_list}
@@ -26,7 +29,7 @@ use Rattle.script_runner.specs.declared.recording.Request.{Request}
 use Rattle.script_runner.specs.declared.recording.Request.TheVariants.{Tracked}
 use Rattle.script_runner.specs.Image.{MakesLog, entries_left}
 use Rattle.log_format.specs.Placing.{fits}
-use Rattle.script_runner.specs.Recorded.{IsWithin, before_close, entries_of, event_of, events_of, has_close, ids_of, submitted_from, until_close, is_close as ends}
+use Rattle.script_runner.specs.Recorded.{Close, IsWithin, before_close, entries_of, event_of, events_of, has_close, ids_of, submitted_from, until_close, is_close as ends}
 use Rattle.script_runner.specs.inside.Recordings.{GoesOn, HasRun, IsRecording, Stands}
 
 -- ids
@@ -35,15 +38,12 @@ use Rattle.script_runner.specs.inside.Recordings.{GoesOn, HasRun, IsRecording, S
 submitted_append : (place : ℕ) (front rest : List Command)
     → submitted_from place (front ++ rest) ≡ submitted_from place front ++ submitted_from (place + length front) rest
 submitted_append place [] rest = ap (λ (n : ℕ). submitted_from n rest) (omega arith)
-submitted_append place (Write first count byte ∷ front) rest =
-    ap (λ (ids : List ℕ). place ∷ ids) (submitted_append (place + 1) front rest
-    ∙ ap (λ (n : ℕ). submitted_from (place + 1) front ++ submitted_from n rest) (omega arith))
-submitted_append place (Flush ∷ front) rest =
+submitted_append place (commands.Submit submission ∷ front) rest =
     ap (λ (ids : List ℕ). place ∷ ids) (submitted_append (place + 1) front rest
     ∙ ap (λ (n : ℕ). submitted_from (place + 1) front ++ submitted_from n rest) (omega arith))
 submitted_append place (Complete request ∷ front) rest =
     submitted_append (place + 1) front rest ∙ ap (λ (n : ℕ). submitted_from (place + 1) front ++ submitted_from n rest) (omega arith)
-submitted_append place (Close ∷ front) rest =
+submitted_append place (commands.Step step ∷ front) rest =
     submitted_append (place + 1) front rest ∙ ap (λ (n : ℕ). submitted_from (place + 1) front ++ submitted_from n rest) (omega arith)
 
 -- the ids of commands and of those after them
@@ -90,10 +90,10 @@ tracked_by events.Close = false
 submits_tracked : (ids : List ℕ) (command : Command) (bio : Bio) → event_of ids command ≡ events.Submit bio
     → (is_tracked bio ≡ true) × (is_submission command ≡ true) × (ends command ≡ false)
 unfolding tracked_by
-submits_tracked ids (Write first count byte) bio same = (sym (ap tracked_by same), refl, refl)
-submits_tracked ids Flush bio same = (sym (ap tracked_by same), refl, refl)
+submits_tracked ids (commands.Submit (submits.Write first count byte)) bio same = (sym (ap tracked_by same), refl, refl)
+submits_tracked ids (commands.Submit submits.Flush) bio same = (sym (ap tracked_by same), refl, refl)
 submits_tracked ids (Complete request) bio same = absurd (cc same)
-submits_tracked ids Close bio same = absurd (cc same)
+submits_tracked ids (commands.Step steps.Close) bio same = absurd (cc same)
 
 -- a search that found nothing finds nothing in one more event that fails the test
 still_none : (test : Option CoreEvent → Bool) (es : List CoreEvent) (event : CoreEvent)
@@ -302,10 +302,10 @@ within_larger first count sectors less fine = grind arith
 -- a command that may come is within the largest disk
 comes_within : (sectors : ℕ) (before : List Command) (command : Command) → sectors ≤ 1048576 → CanFollow sectors before command
     → IsWithin command
-comes_within sectors before (Write first count byte) less comes = within_larger first count sectors less comes.0
-comes_within sectors before Flush less comes = tt
+comes_within sectors before (commands.Submit (submits.Write first count byte)) less comes = within_larger first count sectors less comes.0
+comes_within sectors before (commands.Submit submits.Flush) less comes = refl
 comes_within sectors before (Complete request) less comes = tt
-comes_within sectors before Close less comes = tt
+comes_within sectors before (commands.Step step) less comes = tt
 
 -- each command of a well-formed script may be run
 each_within : (sectors : ℕ) (before body : List Command) (place : ℕ) (command : Command) → sectors ≤ 1048576

@@ -10,7 +10,8 @@ use Rattle.bio.specs.declared.outcome.End.{End}
 use Rattle.bio.specs.declared.outcome.End.TheVariants.{Memory}
 use Rattle.refusals.specs.declared.refusal.Refusal.{Refusal}
 use Rattle.dmlw_script.specs.declared.command.Command.{Command}
-use Rattle.dmlw_script.specs.declared.command.Command.TheVariants.{Write, Flush, Complete, Close}
+use Rattle.dmlw_script.specs.declared.command.Command.TheVariants.{Complete}
+use Rattle.dmlw_script.specs.declared.command.Command.TheVariants as commands
 use Rattle.dmlw_script.specs.declared.script_id.ScriptId.{ScriptId}
 use Rattle.dmlw_script.specs.Lines.{command_line}
 use Rattle.dmlw_script.specs.Plans.{HasName, IsPlan, CanFollow, Plan, submissions}
@@ -44,16 +45,13 @@ pub record ComesNext (plan : Plan) (place : ℕ) (command : Command) : Type 0 wh
 -- a request of a script has a name
 has_name : (sectors names : ℕ) (front : List Command) (command : Command) (rest : List Command) → CanFollow sectors front command
     → names ≡ submissions (front ++ command ∷ rest) → HasName names (submissions front) command
-has_name sectors names front (Write first count byte) rest comes numbered =
-    let all = sum_by-append count_of front (Write first count byte ∷ rest) in
-    let here = submissions_cons (Write first count byte) rest in omega (arith, all, here, numbered)
-has_name sectors names front Flush rest comes numbered =
-    let all = sum_by-append count_of front (Flush ∷ rest) in
-    let here = submissions_cons Flush rest in omega (arith, all, here, numbered)
+has_name sectors names front (commands.Submit submission) rest comes numbered =
+    let all = sum_by-append count_of front (commands.Submit submission ∷ rest) in
+    let here = submissions_cons (commands.Submit submission) rest in omega (arith, all, here, numbered)
 has_name sectors names front (Complete request) rest comes numbered =
     let all = sum_by-append count_of front (Complete request ∷ rest) in
     let before = comes.0 in omega (arith, all, before, numbered)
-has_name sectors names front Close rest comes numbered = tt
+has_name sectors names front (commands.Step step) rest comes numbered = tt
 
 -- the command at a place of a script comes next there
 command_next : (plan : Plan) (place : ℕ) (other : Command) → IsPlan plan → IsOrderlyScript plan → place < length plan.commands

@@ -12,7 +12,9 @@ use Rattle.std.proofs.lemmas.Str.{encodes-IsAscii}
 use Rattle.std.proofs.lemmas.Str.Ascii.{IsAscii-from_all}
 use Rattle.sectors.specs.PlaceLaws.{slice_get-append_front, slice_get-append_here}
 use Rattle.dmlw_script.specs.declared.command.Command.{Command}
-use Rattle.dmlw_script.specs.declared.command.Command.TheVariants.{Write, Flush, Complete, Close}
+use Rattle.dmlw_script.specs.declared.command.Command.TheVariants.{Complete}
+use Rattle.dmlw_script.specs.declared.command.Command.TheVariants as commands
+use Rattle.script_runner.specs.Recorded.{Close}
 use Rattle.dmlw_script.specs.declared.script_id.ScriptId.{ScriptId}
 use Rattle.dmlw_script.specs.Ids.{is_name_byte, letters_of, script_id}
 use Rattle.dmlw_script.specs.Plans.{IsName, Plan, count_after_command, is_submission, name_at, submissions}
@@ -45,10 +47,9 @@ submissions_push front command = sum_by-append count_of front (command ∷ []) �
 
 -- a command adds the requests that it submits
 after_is : (before : ℕ) (command : Command) → count_after_command before command ≡ before + count_of command
-after_is before (Write first count byte) = refl
-after_is before Flush = refl
+after_is before (commands.Submit submission) = refl
 after_is before (Complete request) = omega arith
-after_is before Close = omega arith
+after_is before (commands.Step step) = omega arith
 
 -- what is printed
 
@@ -245,10 +246,9 @@ late_kept front command requests (Some log) late = (
 -- what a submission prints
 submission_prints : (names : List ScriptId) (failed : List ℕ) (before : ℕ) (command : Command) → is_submission command ≡ true
     → command_text names failed before command ≡ submission_text names failed before
-submission_prints names failed before (Write first count byte) submits = refl
-submission_prints names failed before Flush submits = refl
+submission_prints names failed before (commands.Submit submission) submits = refl
 submission_prints names failed before (Complete request) submits = absurd (cc submits)
-submission_prints names failed before Close submits = absurd (cc submits)
+submission_prints names failed before (commands.Step step) submits = absurd (cc submits)
 
 -- a request was submitted, and printed of where it failed
 printed_submission : (names : List ScriptId) (front : List Command) (before after now : Option (List ℕ)) (old new : Recording)

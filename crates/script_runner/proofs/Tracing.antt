@@ -17,7 +17,9 @@ use Rattle.sectors.specs.Places.{all_below}
 use Rattle.sectors.specs.PlaceLaws.{all_below-each, bool_cases, length-snoc, slice_get-append_front, slice_get-append_here}
 use Rattle.dmlw_script.specs.Plans.{is_end_of, is_ended, is_submission, submissions}
 use Rattle.dmlw_script.specs.declared.command.Command.{Command}
-use Rattle.dmlw_script.specs.declared.command.Command.TheVariants.{Write, Flush, Complete, Close}
+use Rattle.dmlw_script.specs.declared.command.Command.TheVariants.{Complete}
+use Rattle.dmlw_script.specs.declared.command.Command.TheVariants as commands
+use Rattle.script_runner.specs.Recorded.{Close}
 use Rattle.pending.specs.GrowthLaws.{none-grown, open-grown}
 use Rattle.pending.specs.CoreState.{CoreState, added_to, closed_by, records, stopped_by}
 use Rattle.pending.specs.declared.recording.Submitted.{Submitted}
@@ -82,10 +84,9 @@ one_below test (suc n) some = elim (bool_cases (test n)) [
 
 -- a command that submits a request ends none
 ends_none : (number : ℕ) (command : Command) → is_submission command ≡ true → is_end_of number command ≡ false
-ends_none number (Write first count byte) submits = refl
-ends_none number Flush submits = refl
+ends_none number (commands.Submit submission) submits = refl
 ends_none number (Complete request) submits = absurd (cc submits)
-ends_none number Close submits = absurd (cc submits)
+ends_none number (commands.Step step) submits = absurd (cc submits)
 
 -- what has ended by one more command
 ended_push : (number : ℕ) (front : List Command) (command : Command)

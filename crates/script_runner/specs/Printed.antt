@@ -3,7 +3,8 @@ use Rattle.std.specs.Prelude.{◌≡◌, ◌≤◌, ◌==◌, ℕ, All, Bool, tr
 use Rattle.std.specs.Io.KnownBytes.{Appends}
 use Rattle.std.specs.List.{list_any}
 use Rattle.dmlw_script.specs.declared.command.Command.{Command}
-use Rattle.dmlw_script.specs.declared.command.Command.TheVariants.{Write, Flush, Complete, Close}
+use Rattle.dmlw_script.specs.declared.command.Command.TheVariants as commands
+use Rattle.dmlw_script.specs.declared.command.Step.TheVariants as steps
 use Rattle.dmlw_script.specs.declared.script_id.ScriptId.{ScriptId}
 use Rattle.dmlw_script.specs.Ids.{letters_of}
 use Rattle.dmlw_script.specs.Plans.{count_after_command, name_at, submissions}
@@ -27,10 +28,9 @@ end_text names failed request = if is_one_of failed request then [] else outcome
 
 -- what a command prints, where these requests failed, before which so many were submitted
 abbrev pub command_text : List ScriptId → List ℕ → ℕ → Command → List ℕ
-command_text names failed before (Write first count byte) = submission_text names failed before
-command_text names failed before Flush = submission_text names failed before
-command_text names failed before (Complete request) = end_text names failed request
-command_text names failed before Close = []
+command_text names failed before (commands.Submit submission) = submission_text names failed before
+command_text names failed before (commands.Complete request) = end_text names failed request
+command_text names failed before (commands.Step steps.Close) = []
 
 -- what commands print one after another, before which so many requests were submitted
 abbrev pub body_text : List ScriptId → List ℕ → ℕ → List Command → List ℕ

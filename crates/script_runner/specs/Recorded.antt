@@ -3,27 +3,36 @@ use Rattle.std.specs.Prelude.{◌≡◌, ◌<◌, ℕ, ◌+◌, ◌*◌, All, Bo
 use Rattle.std.specs.List.{list_any}
 use Rattle.bio.specs.declared.event.CoreEvent.{CoreEvent}
 use Rattle.bio.specs.declared.event.CoreEvent.TheVariants as events
+use Rattle.bio.specs.declared.request.Bio.{Bio}
 use Rattle.bio.specs.declared.request.Bio.TheVariants as bios
-use Rattle.bio.specs.Check.{range_answer}
 use Rattle.dmlw_script.specs.declared.command.Command.{Command}
-use Rattle.dmlw_script.specs.declared.command.Command.TheVariants.{Write, Flush, Complete, Close}
-use Rattle.dmlw_script.specs.Plans.{is_ended, is_submission, submissions}
+use Rattle.dmlw_script.specs.declared.command.Command.TheVariants.{Complete}
+use Rattle.dmlw_script.specs.declared.command.Command.TheVariants as commands
+use Rattle.dmlw_script.specs.declared.command.Submission.{Submission}
+use Rattle.dmlw_script.specs.declared.command.Submission.TheVariants as submits
+use Rattle.dmlw_script.specs.declared.command.Step.TheVariants as steps
+use Rattle.dmlw_script.specs.Plans.{is_ended, is_submission, submission_answer, submissions}
 use Rattle.log_format.specs.declared.entry.Entry.{Entry}
 use Rattle.pending.specs.CompletionList.{dm_log_writes, completion_list}
 
--- a write passes the test of its sectors, for the largest disk
+-- what a command covers passes the test of its sectors, for the largest disk
 abbrev pub IsWithin : Command → Type 0
-IsWithin (Write first count byte) = range_answer first count 1048576 ≡ Ok tt
-IsWithin _ = Unit {0}
+IsWithin (commands.Submit submission) = submission_answer 1048576 submission ≡ Ok tt
+IsWithin (Complete request) = Unit {0}
+IsWithin (commands.Step step) = Unit {0}
+
+-- the command that ends the recording
+abbrev pub Close : Command
+Close = commands.Step steps.Close
 
 -- the command ends the recording
 abbrev pub is_close : Command → Bool
-is_close Close = true
+is_close (commands.Step steps.Close) = true
 is_close _ = false
 
 -- the command submits a write
 abbrev pub is_write : Command → Bool
-is_write (Write first count byte) = true
+is_write (commands.Submit (submits.Write first count byte)) = true
 is_write _ = false
 
 -- a command ends the recording
@@ -51,12 +60,16 @@ submitted_from place (command ∷ body) =
 abbrev pub ids_of : List Command → List ℕ
 ids_of body = submitted_from 0 body
 
+-- the request of a submission
+abbrev pub bio_of : Submission → Bio
+bio_of (submits.Write first count byte) = bios.Write first (replicate (count * 512) byte) false false false
+bio_of submits.Flush = bios.Flush
+
 -- the event that a command records, in a script with these ids
 abbrev pub event_of : List ℕ → Command → CoreEvent
-event_of ids (Write first count byte) = events.Submit (bios.Write first (replicate (count * 512) byte) false false false)
-event_of ids Flush = events.Submit bios.Flush
+event_of ids (commands.Submit submission) = events.Submit (bio_of submission)
 event_of ids (Complete request) = events.Complete (slice_index ids request) true
-event_of ids Close = events.Close
+event_of ids (commands.Step steps.Close) = events.Close
 
 -- the events that a script records
 abbrev pub events_of : List Command → List CoreEvent

@@ -6,7 +6,6 @@ use Rattle.bio.specs.declared.outcome.End.TheVariants as ends
 use Rattle.refusals.specs.declared.refusal.Refusal.{Refusal}
 use Rattle.refusals.specs.declared.refusal.Refusal.TheVariants as refusals
 use Rattle.dmlw_script.specs.declared.command.Command.{Command}
-use Rattle.dmlw_script.specs.declared.command.Command.TheVariants.{Close}
 use Rattle.dmlw_script.specs.Lines.{command_line}
 use Rattle.dmlw_script.specs.Plans.{Plan, submissions}
 use Rattle.script_runner.specs.declared.error.RunError.{RunError}
@@ -16,7 +15,7 @@ use Rattle.script_runner.specs.declared.recording.StepError.TheVariants.{AtLine,
 use Rattle.script_runner.specs.Errors.{IsFileError}
 use Rattle.log_format.specs.Placing.{fits}
 use Rattle.script_runner.specs.Printed.{printed}
-use Rattle.script_runner.specs.Recorded.{ClosesQuietly, HasOpen, before_close, entries_of, has_close}
+use Rattle.script_runner.specs.Recorded.{Close, ClosesQuietly, HasOpen, before_close, entries_of, has_close}
 
 -- Why the Close after these commands is refused, where these requests failed: a request is open, or else there is no
 -- memory for it.

@@ -13,13 +13,13 @@ ghost use Rattle.script_runner.specs.Errors.{io_refusal, memory_error, refused_b
 ghost use Rattle.script_runner.specs.declared.error.RunError.TheVariants.{LoggingEnded};
 ghost use Rattle.script_runner.specs.Image.{HasEntries, MakesLog};
 ghost use Rattle.script_runner.specs.Printed.{Prints, outcome_line};
-ghost use Rattle.script_runner.specs.Recorded.{IsWithin, entries_of, event_of, ids_of, is_write};
+ghost use Rattle.script_runner.specs.Recorded.{Close, IsWithin, entries_of, event_of, ids_of, is_write};
 ghost use Rattle.script_runner.specs.RunFaults.{EndsRun, StopsAt, StopsAtClose, StopsForFile, StopsQuietly};
 
 use crate::error::RunError;
 use crate::fill::{Filled, empty_log, fill_log};
 use bio::{Bio, Bytes, End, Id};
-use dmlw_script::{Command, Script, ScriptId, laws, line_of};
+use dmlw_script::{Command, Script, ScriptId, Step, Submission, laws, line_of};
 use pending::{CloseError, Core, Submitted};
 use refusals::{Fault, Refusal};
 use sectors::SECTOR_BYTES;
@@ -171,33 +171,33 @@ impl Recording {
     // Submits a write of sectors of one byte.
     fn submit_write<O: Write>(
         &mut self,
-        first: u32,
-        count: u16,
+        first: u64,
+        count: u64,
         byte: u8,
         names: &[ScriptId],
         out: &mut O,
     ) -> Result<(), StepError>
         requires { range_answer first count 1048576 ≡ Ok tt }
         ensures stands { (script front : List Command) → Stands script front self.old →
-            OnOk result (Stands script (front ++ Command.Write first count byte ∷ []) self.new) }
+            OnOk result (Stands script (front ++ Command.Submit (Submission.Write first count byte) ∷ []) self.new) }
         ensures output { (front : List Command) (before : Option (List ℕ)) → Follows front self.old →
             HasPrinted names.now front before (O.contents out.old) self.old →
-            OnOk result (HasPrinted names.now (front ++ Command.Write first count byte ∷ []) before
+            OnOk result (HasPrinted names.now (front ++ Command.Submit (Submission.Write first count byte) ∷ []) before
             (O.contents out.new) self.new) }
         ensures refused { IfErr result (StopsQuietly (O.contents out.old) (O.contents out.new)) }
         ensures faults { length self.old.requests.items < length names.now → IfErr result StopsForFile }
         ensures follows { (front : List Command) → Follows front self.old →
-            OnOk result (Follows (front ++ Command.Write first count byte ∷ []) self.new) }
+            OnOk result (Follows (front ++ Command.Submit (Submission.Write first count byte) ∷ []) self.new) }
         ensures traces { (script front : List Command) →
             Stands script front self.old → Follows front self.old → Traces front self.old →
-            OnOk result (Traces (front ++ Command.Write first count byte ∷ []) self.new) }
+            OnOk result (Traces (front ++ Command.Submit (Submission.Write first count byte) ∷ []) self.new) }
         ensures log { self.new.log_sectors ≡ self.old.log_sectors }
     {
         let Ok(bytes) = sectors_of(self.alloc, count, byte) else {
             return self.fail(names, out);
         };
         let write = Bio::Write {
-            first: u64::from(first),
+            first,
             bytes,
             flush: false,
             fua: false,
@@ -272,22 +272,22 @@ impl Recording {
     // Ends the recording, and fills the log at the first time.
     fn close(&mut self) -> Result<(), StepError>
         ensures stands { (script front : List Command) →
-            GoesOn script front Command.Close → Stands script front self.old → Follows front self.old →
+            GoesOn script front Close → Stands script front self.old → Follows front self.old →
             Traces front self.old → length self.old.requests.items ≡ submissions front →
-            OnOk result (Stands script (front ++ Command.Close ∷ []) self.new) }
+            OnOk result (Stands script (front ++ Close ∷ []) self.new) }
         ensures output { (names : List ScriptId) (script front : List Command) (before after : Option (List ℕ)) →
             Stands script front self.old → HasPrinted names front before after self.old →
-            OnOk result (HasPrinted names (front ++ Command.Close ∷ []) before after self.new) }
+            OnOk result (HasPrinted names (front ++ Close ∷ []) before after self.new) }
         ensures refused { (bytes : Option (List ℕ)) → IfErr result (StopsQuietly bytes bytes) }
         ensures faults { (script front : List Command) →
-            GoesOn script front Command.Close → Stands script front self.old → Follows front self.old →
+            GoesOn script front Close → Stands script front self.old → Follows front self.old →
             Traces front self.old → length self.old.requests.items ≡ submissions front →
             IfErr result (StopsAtClose self.old.log_sectors script front
             (failed_from 0 self.old.requests.items)) }
         ensures follows { (front : List Command) → Follows front self.old →
-            OnOk result (Follows (front ++ Command.Close ∷ []) self.new) }
+            OnOk result (Follows (front ++ Close ∷ []) self.new) }
         ensures traces { (front : List Command) → Follows front self.old → Traces front self.old →
-            OnOk result (Traces (front ++ Command.Close ∷ []) self.new) }
+            OnOk result (Traces (front ++ Close ∷ []) self.new) }
         ensures log { self.new.log_sectors ≡ self.old.log_sectors }
     {
         self.core.close()?;
@@ -332,12 +332,16 @@ impl Recording {
         ensures log { self.new.log_sectors ≡ self.old.log_sectors }
     {
         match command {
-            Command::Write { first, count, byte } => {
-                self.submit_write(first, count, byte, names, out)
-            }
-            Command::Flush => self.submit(&Bio::Flush, names, out),
+            Command::Submit(submission) => match submission {
+                Submission::Write { first, count, byte } => {
+                    self.submit_write(first, count, byte, names, out)
+                }
+                Submission::Flush => self.submit(&Bio::Flush, names, out),
+            },
             Command::Complete { request } => self.complete(request, names, out),
-            Command::Close => self.close(),
+            Command::Step(step) => match step {
+                Step::Close => self.close(),
+            },
         }
     }
 
@@ -369,10 +373,11 @@ impl Recording {
 }
 
 // So many sectors of a byte, which lie in memory once however many hold them.
-fn sectors_of(alloc: Global, count: u16, byte: u8) -> Result<Bytes, AllocError>
+fn sectors_of(alloc: Global, count: u64, byte: u8) -> Result<Bytes, AllocError>
+    requires { count ≤ 2048 }
     ensures { IfOk result (λ bytes. bytes ≡ replicate (count * 512) byte) }
 {
-    let bytes = vec![in alloc; byte; usize::from(count) * SECTOR]?;
+    let bytes = vec![in alloc; byte; count as usize * SECTOR]?;
     Bytes::from_vec(bytes).into_shared()
 }
 

@@ -1,19 +1,18 @@
 -- The steps of the reader over a body. `Grammar` and `Reading` say in the grammar's words what they come to.
 use Rattle.std.specs.Prelude.{◌≡◌, ℕ, Bool, false, List, [], ◌∷◌, ◌++◌, Option, Some, None, Result, Ok, Err, length, slice_index_or, if◌then◌else◌}
 use Rattle.refusals.specs.declared.refusal.Refusal.{Refusal}
-use Rattle.refusals.specs.declared.refusal.Refusal.TheVariants.{BadLine, BadId}
+use Rattle.refusals.specs.declared.refusal.Refusal.TheVariants.{BadId}
 use Rattle.bio.specs.declared.request.BadBio.{BadBio}
-use Rattle.bio.specs.Check.{range_answer}
 use Rattle.bio.specs.Refusals.{bad_bio_refusal}
 use Rattle.dmlw_script.specs.declared.command.Command.{Command}
 use Rattle.dmlw_script.specs.declared.command.Command.TheVariants as commands
 use Rattle.dmlw_script.specs.declared.draft.Draft.{Draft}
 use Rattle.dmlw_script.specs.declared.script_id.ScriptId.{ScriptId}
-use Rattle.dmlw_script.specs.declared.line.Line.{Line}
-use Rattle.dmlw_script.specs.declared.line.Line.TheVariants as parsed_lines
+use Rattle.dmlw_script.specs.declared.line.BodyLine.{BodyLine}
+use Rattle.dmlw_script.specs.declared.line.BodyLine.TheVariants as body_lines
 use Rattle.dmlw_script.specs.declared.line_error.LineError.{LineError}
 use Rattle.dmlw_script.specs.declared.line_error.LineError.TheVariants as line_errors
-use Rattle.dmlw_script.specs.Plans.{is_ended, request_of}
+use Rattle.dmlw_script.specs.Plans.{is_ended, request_of, step_answer, submission_answer}
 
 -- a script's body, as far as it was read: the ids that were submitted, and the commands
 pub record Body : Type 0 where
@@ -52,14 +51,10 @@ named_next None b name = Ok (record b { names = b.names ++ name ∷ [] })
 abbrev pub with_name : Body → ScriptId → Result Body Refusal
 with_name b name = named_next (request_of name b.names) b name
 
--- what is asked of a request's sectors
+-- what a test of sectors answers, as a refusal
 abbrev pub as_refusal : Result (Unit {0}) BadBio → Result (Unit {0}) Refusal
 as_refusal (Ok fine) = Ok tt
 as_refusal (Err bad) = Err (bad_bio_refusal bad)
-
--- what is asked of a request's sectors, as a refusal
-abbrev pub sectors_answer : ℕ → ℕ → ℕ → Result (Unit {0}) Refusal
-sectors_answer first count sectors = as_refusal (range_answer first count sectors)
 
 -- an end, whose request must be open
 abbrev pub ended_next : Option ℕ → Body → Result Body Refusal
@@ -67,18 +62,15 @@ ended_next None b = Err BadId
 ended_next (Some request) b = if is_ended request b.body then Err BadId else Ok (with_command b (commands.Complete request))
 
 -- the body after one more line, for a data disk of so many sectors
-abbrev pub body_step : ℕ → Body → Line → Result Body Refusal
-body_step sectors b (parsed_lines.Write name first count byte) = do
+abbrev pub body_step : ℕ → Body → BodyLine → Result Body Refusal
+body_step sectors b (body_lines.Submit name submission) = do
   submitted ← with_name b name
-  fine ← sectors_answer first count sectors
-  Ok (with_command submitted (commands.Write first count byte))
-body_step sectors b (parsed_lines.Flush name) = do
-  submitted ← with_name b name
-  Ok (with_command submitted commands.Flush)
-body_step sectors b (parsed_lines.Complete name) = ended_next (request_of name b.names) b
-body_step sectors b parsed_lines.Close = Ok (with_command b commands.Close)
-body_step sectors b (parsed_lines.Data n) = Err BadLine
-body_step sectors b (parsed_lines.Log n) = Err BadLine
+  fine ← as_refusal (submission_answer sectors submission)
+  Ok (with_command submitted (commands.Submit submission))
+body_step sectors b (body_lines.Complete name) = ended_next (request_of name b.names) b
+body_step sectors b (body_lines.Step step) = do
+  fine ← as_refusal (step_answer sectors step)
+  Ok (with_command b (commands.Step step))
 
 -- what a call answers that leaves this value, where a step says what it should come to
 abbrev pub Follows : {A : Type 0} → Result (Unit {0}) LineError → A → Result A Refusal → Type 0

@@ -3,7 +3,14 @@ use Rattle.std.specs.Prelude.{ℕ, List, Option, Some, None, codes, if◌then◌
 use Rattle.std.specs.Option.{option_map}
 use Rattle.std.specs.Str.{bytes_eq}
 use Rattle.dmlw_script.specs.declared.line.Line.{Line}
-use Rattle.dmlw_script.specs.declared.line.Line.TheVariants.{Data, Log, Write, Flush, Complete, Close}
+use Rattle.dmlw_script.specs.declared.line.Line.TheVariants as parsed_lines
+use Rattle.dmlw_script.specs.declared.line.HeadLine.TheVariants as head_lines
+use Rattle.dmlw_script.specs.declared.line.BodyLine.TheVariants as body_lines
+use Rattle.dmlw_script.specs.declared.command.Submission.{Submission}
+use Rattle.dmlw_script.specs.declared.command.Submission.TheVariants as submits
+use Rattle.dmlw_script.specs.declared.command.Step.{Step}
+use Rattle.dmlw_script.specs.declared.command.Step.TheVariants as steps
+use Rattle.dmlw_script.specs.declared.script_id.ScriptId.{ScriptId}
 use Rattle.dmlw_script.specs.Words.{before_byte, after_byte, number_of, byte_of}
 use Rattle.dmlw_script.specs.Ids.{id_of_word}
 
@@ -12,6 +19,14 @@ infixl 10 ◌>>=◌
 abbrev pub ◌>>=◌ : {A B : Type 0} → Option A → (A → Option B) → Option B
 (Some x) >>= f = f x
 None >>= f = None
+
+-- a line that submits a request
+abbrev pub submit : ScriptId → Submission → Line
+submit name submission = parsed_lines.Body (body_lines.Submit name submission)
+
+-- a line that names no request
+abbrev pub step : Step → Line
+step it = parsed_lines.Body (body_lines.Step it)
 
 -- the write that these words say: an id, the first sector, the number of sectors and the byte
 abbrev pub write_of : List ℕ → Option Line
@@ -23,20 +38,27 @@ write_of words = do
   count ← number_of (before_byte 32 from_count)
   byte_word ← after_byte 32 from_count
   byte ← byte_of byte_word
-  Some (Write name first count byte)
+  Some (submit name (submits.Write first count byte))
+
+-- what a line of this one word says
+abbrev pub lone_word : List ℕ → Option Line
+lone_word verb = if bytes_eq verb (codes "close") then Some (step steps.Close) else None
 
 -- what a line of this first word says, whose other words are these
 abbrev pub parse_words : List ℕ → List ℕ → Option Line
 parse_words verb words =
-    if bytes_eq verb (codes "data") then option_map (λ n. Data n) (number_of words)
-    else if bytes_eq verb (codes "log") then option_map (λ n. Log n) (number_of words)
+    if bytes_eq verb (codes "data") then option_map (λ n. parsed_lines.Head (head_lines.Data n)) (number_of words)
+    else if bytes_eq verb (codes "log") then option_map (λ n. parsed_lines.Head (head_lines.Log n)) (number_of words)
     else if bytes_eq verb (codes "w") then write_of words
-    else if bytes_eq verb (codes "f") then option_map (λ name. Flush name) (id_of_word words)
-    else if bytes_eq verb (codes "c") then option_map (λ name. Complete name) (id_of_word words)
+    else if bytes_eq verb (codes "f") then option_map (λ name. submit name submits.Flush) (id_of_word words)
+    else if bytes_eq verb (codes "c") then option_map (λ name. parsed_lines.Body (body_lines.Complete name)) (id_of_word words)
     else None
+
+-- what a line of this first word says, whose other words are these, if it has any
+abbrev pub parse_parts : List ℕ → Option (List ℕ) → Option Line
+parse_parts verb (Some words) = parse_words verb words
+parse_parts verb None = lone_word verb
 
 -- what a line says, if it is of the grammar
 abbrev pub parse_line : List ℕ → Option Line
-parse_line line =
-    if bytes_eq line (codes "close") then Some Close
-    else after_byte 32 line >>= parse_words (before_byte 32 line)
+parse_line line = parse_parts (before_byte 32 line) (after_byte 32 line)

@@ -7,4 +7,4 @@ use Rattle.dmlw_script.proofs.printer.print_script.Goals as goal
 pub returns-clause-again : goal.returns-clause-again
 returns-clause-again c =
     let spelled : c.push_body.new.out.items ≡ canonical_text c.args.script.now = search (rules, append_assoc) in
-    subst (λ (x : List ℕ). IsTextOf x c.args.script.now) (sym spelled) (spelling_spells c.args.script.now c.data_sectors.ensures.script)
+    subst (λ (x : List ℕ). IsTextOf x c.args.script.now) (sym spelled) (spelling_spells c.args.script.now c.data_sectors-data_sectors.ensures.script)

@@ -1,7 +1,7 @@
 use Rattle.std.proofs.Common.{[], ◌∷◌, ◌++◌, ◌≡◌, ◌∙◌, Err, List, ap, is_none, refl, rules, subst, sym, true}
 use Rattle.std.proofs.lemmas.Bool.{true_from_ne_false}
 use Rattle.bio.specs.declared.outcome.End.TheVariants.{Memory}
-use Rattle.dmlw_script.specs.declared.command.Command.TheVariants.{Close}
+use Rattle.script_runner.specs.Recorded.{Close}
 use Rattle.log_format.specs.declared.entry.Entry.{Entry}
 use Rattle.script_runner.specs.Image.{HasEntries}
 use Rattle.log_format.specs.Placing.{fits}

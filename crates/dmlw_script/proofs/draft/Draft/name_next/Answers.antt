@@ -6,7 +6,7 @@ use Rattle.dmlw_script.specs.declared.script_id.ScriptId.{ScriptId}
 use Rattle.dmlw_script.specs.inside.Drafts.{body_of, Body}
 use Rattle.dmlw_script.specs.Ids.{same_name}
 use Rattle.dmlw_script.proofs.DraftLemmas.{flags_submit, with_new_name, with_old_name}
-use Rattle.dmlw_script.proofs.draft.Draft.submit.Goals as goal
+use Rattle.dmlw_script.proofs.draft.Draft.name_next.Goals as goal
 
 pub returns-then-not-branch-clause-step : goal.returns-then-not-branch-clause-step
 returns-then-not-branch-clause-step c =

@@ -1,15 +1,24 @@
 -- How every task ends.
-use Rattle.std.proofs.Common.{◌≡◌, ◌≤◌, ◌∙◌, ℕ, ap, refl, List, Option, Result, Ok, Err, arith, inl, inr, subst, sym}
+use Rattle.std.proofs.Common.{◌≡◌, ◌≤◌, ◌++◌, ℕ, [], append-nil, Bool, false, true, List, Option, Result, Ok, Err, arith, inl, inr, subst, sym}
 use Rattle.bio.specs.declared.outcome.End.{End}
 use Rattle.script_runner.specs.declared.error.RunError.{RunError}
 use Rattle.script_runner.specs.declared.error.RunError.TheVariants as faults
-use Rattle.script_runner.specs.Errors.{IsFileError}
+use Rattle.script_runner.specs.Errors.{IsFileError, memory_error}
 use Rattle.dmlw_commands.specs.declared.exit.Exit.{Exit}
 use Rattle.dmlw_commands.specs.declared.exit.Exit.TheVariants.{Done, LoggingEnded, Refused, Usage}
-use Rattle.dmlw_commands.specs.Exits.{exit_by, status_of}
+use Rattle.dmlw_commands.specs.Exits.{exit_by, status_of, told_line}
+use Rattle.dmlw_commands.specs.declared.ending.Ended.{Ended}
+use Rattle.dmlw_commands.specs.Endings.{Telling, Tells}
 use Rattle.dmlw_commands.specs.Files.{Write}
 use Rattle.dmlw_commands.specs.Records.{Records, WritesLog}
-use Rattle.dmlw.specs.Commands.{EndsCommand, EndsTask}
+use Rattle.dmlw.specs.Commands.{EndsCommand, EndsTask, EndsUntasked, IsFaulty, TellsOneLine, TellsUntasked}
+use Rattle.clap.specs.Words.{Text, kind_of}
+use Rattle.clap.specs.declared.error.Error.{Error}
+use Rattle.dmlw.specs.CommandLine.{is_formats}
+use Rattle.dmlw.specs.Tasks.{IsRead, IsReadAs, memory}
+use Rattle.clap.specs.declared.error.kind.ErrorKind.{ErrorKind}
+use Rattle.clap.specs.declared.error.kind.ErrorKind.TheVariants.{DisplayHelp, DisplayVersion, OutOfMemory}
+use Rattle.std.specs.Io.KnownBytes.{Appends}
 use Rattle.dmlw.specs.declared.command_line.Task.{Task}
 use Rattle.dmlw.specs.declared.command_line.Task.TheVariants as tasks
 
@@ -55,31 +64,56 @@ ends_recorded contents log writes_old writes_new old new (Err (faults.LoggingEnd
 ends_recorded contents log writes_old writes_new old new (Err (faults.LoggingEnded end)) (inr (file, asked), fails) = absurd (not_file end file)
 
 -- every task ends so
-ends_task : (task : Task) (contents : List ℕ → Option (List ℕ)) (writes_old writes_new : Option (List Write)) (old new : Option (List ℕ))
-    (exit : Exit) → EndsTask task contents writes_old writes_new old new exit → EndsCommand writes_old writes_new (status_of exit)
-ends_task (tasks.Record script log) contents writes_old writes_new old new exit ends =
-    subst (λ (e : Exit). EndsCommand writes_old writes_new (status_of e)) (sym ends.exits)
+pub ends_task : (task : Task) (contents : List ℕ → Option (List ℕ)) (writes_old writes_new : Option (List Write)) (old new : Option (List ℕ))
+    (t : Telling) (ended : Ended) → EndsTask task contents writes_old writes_new old new t ended → EndsCommand writes_old writes_new (status_of ended.exit)
+ends_task (tasks.Record script log) contents writes_old writes_new old new t ended ends =
+    subst (λ (e : Exit). EndsCommand writes_old writes_new (status_of e)) (sym ends.tells.exits)
     (ends_recorded (contents script.now) log.now writes_old writes_new old new ends.done ends.recorded)
-ends_task (tasks.List log) contents writes_old writes_new old new exit ends = ends_silently writes_old writes_new exit ends.unwritten
-ends_task (tasks.Status log) contents writes_old writes_new old new exit ends = ends_silently writes_old writes_new exit ends.unwritten
-ends_task (tasks.Show error) contents writes_old writes_new old new exit ends = ends_silently writes_old writes_new exit ends.unwritten
+ends_task (tasks.List log) contents writes_old writes_new old new t ended ends = ends_silently writes_old writes_new ended.exit ends.unwritten
+ends_task (tasks.Status log) contents writes_old writes_new old new t ended ends = ends_silently writes_old writes_new ended.exit ends.unwritten
+ends_task (tasks.Formats page) contents writes_old writes_new old new t ended ends = ends_silently writes_old writes_new ended.exit ends.unwritten
+ends_task (tasks.Show error) contents writes_old writes_new old new t ended ends = ends_silently writes_old writes_new ended.exit ends.unwritten
 
--- every task ends so, with its status
-pub ends_with : (task : Task) (contents : List ℕ → Option (List ℕ)) (writes_old writes_new : Option (List Write)) (old new : Option (List ℕ))
-    (exit : Exit) (status : ℕ) → EndsTask task contents writes_old writes_new old new exit → status ≡ status_of exit
-    → EndsCommand writes_old writes_new status
-ends_with task contents writes_old writes_new old new exit status ends is =
-    subst (EndsCommand writes_old writes_new) (sym is) (ends_task task contents writes_old writes_new old new exit ends)
+-- a line with nothing behind it
+nothing_behind : (old new : Option (List ℕ)) (line more : List ℕ) → more ≡ [] → Appends old new (line ++ more) → Appends old new line
+nothing_behind old new line more none grew =
+    subst (Appends old new) (append-nil line) (subst (λ (l : List ℕ). Appends old new (line ++ l)) none grew)
 
--- a status of 1 and more isn't that of a done command
-pub not_done : (exit : Exit) (status : ℕ) → status ≡ status_of exit → 1 ≤ status → exit ≡ Done → ⊥
-not_done exit status is least done =
-    let zero : status ≡ 0 = is ∙ ap status_of done in
-    absurd (omega arith)
+-- a command that ends by a fault, and doesn't explain itself, has told its line
+told_one_line : (t : Telling) (done : Result (Unit {0}) RunError) (ended : Ended) → t.explains ≡ false → IsFaulty ended.exit → Tells t done ended
+    → TellsOneLine ended t.before t.after
+told_one_line t (Ok u) ended off faulty tells = absurd (subst IsFaulty tells.exits faulty)
+told_one_line t (Err fault) ended off faulty tells = record {
+  fault = fault;
+  exits = tells.exits;
+  line = λ yes.
+      let (more, silent, grew) = tells.told yes in
+      nothing_behind t.before t.after (told_line (Err fault)) more (silent off) grew;
+}
 
--- a status of 0 is that of a done command
-pub is_done : (exit : Exit) (status : ℕ) → status ≡ status_of exit → status ≡ 0 → exit ≡ Done
-is_done Done status is zero = refl
-is_done Refused status is zero = absurd (omega arith)
-is_done Usage status is zero = absurd (omega arith)
-is_done LoggingEnded status is zero = absurd (omega arith)
+-- a text that ends by a fault has told its line
+text_tells : (kind : ErrorKind) (t : Telling) (ended : Ended) → EndsUntasked kind ended.exit → TellsUntasked kind t ended → t.explains ≡ false
+    → IsFaulty ended.exit → TellsOneLine ended t.before t.after
+text_tells OutOfMemory t ended ends tells off faulty = told_one_line t (Err memory_error) ended off faulty tells
+text_tells DisplayHelp t ended ends (done, fault, tells) off faulty = told_one_line t done ended off faulty tells
+text_tells DisplayVersion t ended ends (done, fault, tells) off faulty = told_one_line t done ended off faulty tells
+text_tells _ t ended ends tells off faulty = absurd (subst IsFaulty ends faulty)
+
+-- every task that ends by a fault, and doesn't explain itself, has told its line
+pub task_tells : (task : Task) (contents : List ℕ → Option (List ℕ)) (writes_old writes_new : Option (List Write)) (old new : Option (List ℕ))
+    (t : Telling) (ended : Ended) → EndsTask task contents writes_old writes_new old new t ended → t.explains ≡ false → IsFaulty ended.exit
+    → TellsOneLine ended t.before t.after
+task_tells (tasks.Record script log) contents writes_old writes_new old new t ended ends off faulty = told_one_line t ends.done ended off faulty ends.tells
+task_tells (tasks.List log) contents writes_old writes_new old new t ended ends off faulty = told_one_line t ends.done ended off faulty ends.tells
+task_tells (tasks.Status log) contents writes_old writes_new old new t ended ends off faulty = told_one_line t ends.done ended off faulty ends.tells
+task_tells (tasks.Formats page) contents writes_old writes_new old new t ended ends off faulty = told_one_line t ends.told.done ended off faulty ends.told.tells
+task_tells (tasks.Show error) contents writes_old writes_new old new t ended ends off faulty =
+    text_tells (kind_of error) t ended ends.ends ends.tells off faulty
+
+-- where there was no memory to read words, that is what they are read as
+pub memory_read : (words : List Text) (error : Error) → kind_of error ≡ OutOfMemory → IsRead words (tasks.Show error)
+memory_read words error is = read_as (is_formats words) words error is
+  where
+    read_as : (formats : Bool) (words : List Text) (error : Error) → kind_of error ≡ OutOfMemory → IsReadAs formats words (tasks.Show error)
+    read_as true words error is = is
+    read_as false words error is = memory is

@@ -1,16 +1,17 @@
-use Rattle.std.proofs.Common.{◌∙◌, ◌<◌, subst, ap, arith, inl, inr, refl, slice_index, sym, codes, ℕ, ◌==◌, true, false, not, List, [], ◌∷◌, Option, Some, None, option_map, ◌≡◌}
+use Rattle.std.proofs.Common.{◌∙◌, drop, map, ◌<◌, subst, ap, arith, inl, inr, refl, slice_index, sym, codes, ℕ, ◌==◌, true, false, not, List, [], ◌∷◌, Option, Some, None, option_map, ◌≡◌}
 use Rattle.clap.specs.Words.{IsAmong, Kinds, Row, Text, fault_of, kind_of, first_of, is_simple, is_simple_and_free, subcommand_of}
 use Rattle.clap.specs.Words.{first_value, rows_of}
 use Rattle.clap.specs.declared.parser.matches.Found.{Found}
-use Rattle.clap.proofs.WalkLemmas.{first_value-rows}
+use Rattle.clap.proofs.WalkLemmas.{first_value-rows, list_any-map}
+use Rattle.std.specs.List.{list_any}
 use Rattle.clap.proofs.OnLiterals.{clap_on_literals}
-use Rattle.dmlw.specs.Tasks.{Asks, IsComplete, IsRead, fault, memory, missing}
+use Rattle.dmlw.specs.Tasks.{Asks, IsComplete, IsReadByClap, fault, memory, missing}
 use Rattle.dmlw.specs.declared.command_line.Task.{Task}
 use Rattle.dmlw.specs.declared.command_line.Task.TheVariants as tasks
-use Rattle.dmlw.specs.CommandLine.{Entered, Enters, entered_of, is_positional, log_words, program_app, record_words}
+use Rattle.dmlw.specs.CommandLine.{Entered, Enters, entered_of, has_explain, is_explain, is_positional, log_words, program_app, record_words}
 
 -- a word that begins with another byte than a hyphen
-is_other : (x : ℕ) → not (x == 45) ≡ true → (x == 45) ≡ false
+pub is_other : (x : ℕ) → not (x == 45) ≡ true → (x == 45) ≡ false
 is_other x plain = grind arith
 
 faultless_plain : (p s l : List ℕ) → is_positional s ≡ true → is_positional l ≡ true → fault_of program_app (record_words p s l) ≡ []
@@ -144,7 +145,7 @@ has_script entered None text_of complete name is none = elim complete.1 [
 has_script entered (Some x) text_of complete name is none = cc
 
 -- what words are read as is what they ask for
-pub read_asks : (words : List Text) (task : Task) (entered : Entered) → IsRead words task → Enters words entered → IsComplete entered
+pub read_asks : (words : List Text) (task : Task) (entered : Entered) → IsReadByClap words task → Enters words entered → IsComplete entered
     → Asks entered task
 read_asks words (tasks.Record script log) entered read enters complete =
     subst (λ (e : Entered). Asks e (tasks.Record script log)) (same_some _ _ (sym read.1.1 ∙ enters.enters)) read.1.2
@@ -152,7 +153,14 @@ read_asks words (tasks.List log) entered read enters complete =
     subst (λ (e : Entered). Asks e (tasks.List log)) (same_some _ _ (sym read.1.1 ∙ enters.enters)) read.1.2
 read_asks words (tasks.Status log) entered read enters complete =
     subst (λ (e : Entered). Asks e (tasks.Status log)) (same_some _ _ (sym read.1.1 ∙ enters.enters)) read.1.2
+read_asks words (tasks.Formats page) entered read enters complete = absurd read
 read_asks words (tasks.Show error) entered (memory is) enters complete = is
 read_asks words (tasks.Show error) entered (fault among) enters complete =
     absurd (subst (λ (kinds : Kinds). IsAmong (kind_of error) kinds) enters.faultless among)
 read_asks words (tasks.Show error) entered (missing faultless incomplete is) enters complete = absurd (incomplete entered enters complete)
+
+-- whether the words after the first ask for an explanation
+pub explains_of : {X : Type 0} (text_of : X → List ℕ) (words rest : List X) → rest ≡ drop 1 words
+    → list_any (λ word. is_explain (text_of word)) rest ≡ has_explain (map text_of words)
+explains_of text_of [] rest is = ap (list_any (λ word. is_explain (text_of word))) is
+explains_of text_of (x ∷ xs) rest is = ap (list_any (λ word. is_explain (text_of word))) is ∙ list_any-map is_explain text_of xs

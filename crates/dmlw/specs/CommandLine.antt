@@ -1,4 +1,6 @@
-use Rattle.std.specs.Prelude.{◌≡◌, ℕ, ◌==◌, Bool, true, false, not, List, [], ◌∷◌, Option, Some, option_map, codes}
+use Rattle.std.specs.Prelude.{◌≡◌, ℕ, ◌==◌, ◌&&◌, Bool, true, false, not, List, [], ◌∷◌, Option, Some, option_map, codes, nat_eq}
+use Rattle.std.specs.List.{filter, list_any}
+use Rattle.std.specs.Cmp.Lexicographic.{pointwise}
 use Rattle.clap.specs.declared.builder.command.Command.{Command}
 use Rattle.clap.specs.declared.builder.command.Command.TheViews.{out-Command as fields_of}
 use Rattle.clap.specs.Words.{App, Row, Rule, Text, app_of, fault_of, first_of, new_app, new_rule, subcommand_of, with_rule, with_subcommand}
@@ -16,6 +18,29 @@ record_words program script log = program ∷ codes "record" ∷ script ∷ log 
 -- a command line that asks something of a log by the name of a command; its first word is the program's name
 abbrev pub log_words : List ℕ → List ℕ → List ℕ → List (List ℕ)
 log_words program command log = program ∷ command ∷ log ∷ []
+
+-- both words are one
+abbrev pub is_same : List ℕ → List ℕ → Bool
+is_same = pointwise nat_eq
+
+-- the word that asks a command to explain itself
+abbrev pub is_explain : List ℕ → Bool
+is_explain word = is_same word (codes "--explain")
+
+-- whether a command line asks the command to explain itself; its first word is the program's name
+abbrev pub has_explain : List (List ℕ) → Bool
+has_explain [] = false
+has_explain (program ∷ words) = list_any is_explain words
+
+-- a command line without the words that ask for that
+abbrev pub without_explain : List (List ℕ) → List (List ℕ)
+without_explain [] = []
+without_explain (program ∷ words) = program ∷ filter (λ word. not (is_explain word)) words
+
+-- a command line that asks for the page of the formats
+abbrev pub is_formats : List (List ℕ) → Bool
+is_formats (program ∷ first ∷ second ∷ []) = is_same first (codes "help") && is_same second (codes "formats")
+is_formats _ = false
 
 -- a word that a command's line has to have
 abbrev pub file_rule : Text → Rule

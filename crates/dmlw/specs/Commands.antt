@@ -1,19 +1,23 @@
 -- What a command line comes to.
-use Rattle.std.specs.Prelude.{◌≡◌, ◌≤◌, ◌⊎◌, ℕ, Bool, true, false, List, Option}
+use Rattle.std.specs.Prelude.{◌≡◌, ◌≤◌, ◌⊎◌, ℕ, Bool, true, false, Err, IfErr, List, MatchResult, Option, Result}
 use Rattle.std.specs.declared.io.ErrorKind.{ErrorKind as IoErrorKind}
 use Rattle.std.specs.declared.io.ErrorKind.TheVariants.{InvalidData}
-use Rattle.std.specs.Io.KnownBytes.{Keeps}
+use Rattle.std.specs.Io.KnownBytes.{Appends, Keeps}
+use Rattle.script_runner.specs.declared.error.RunError.{RunError}
+use Rattle.script_runner.specs.Errors.{IsFileError, memory_error}
 use Rattle.clap.specs.declared.error.kind.ErrorKind.{ErrorKind}
 use Rattle.clap.specs.declared.error.kind.ErrorKind.TheVariants.{DisplayHelp, DisplayVersion, OutOfMemory}
 use Rattle.clap.specs.Words.{kind_of}
 use Rattle.dmlw.specs.declared.command_line.Task.{Task}
 use Rattle.dmlw.specs.declared.command_line.Task.TheVariants as tasks
 use Rattle.dmlw_commands.specs.declared.exit.Exit.{Exit}
-use Rattle.dmlw_commands.specs.declared.exit.Exit.TheVariants.{Done, Refused, Usage}
-use Rattle.dmlw_commands.specs.Endings.{EndsRecording, EndsShowing}
-use Rattle.dmlw_commands.specs.Exits.{status_of}
+use Rattle.dmlw_commands.specs.declared.exit.Exit.TheVariants.{Done, LoggingEnded, Refused, Usage}
+use Rattle.dmlw_commands.specs.declared.ending.Ended.{Ended}
+use Rattle.dmlw_commands.specs.Endings.{EndsRecording, EndsShowing, Telling, Tells, telling}
+use Rattle.dmlw_commands.specs.Exits.{exit_of, told_line}
 use Rattle.dmlw_commands.specs.Files.{Write, one_more}
 use Rattle.dmlw_commands.specs.Lists.{ListsImage, ShowsStatus}
+use Rattle.dmlw.specs.CommandLine.{has_explain, without_explain}
 use Rattle.dmlw.specs.Tasks.{IsRead}
 
 -- How a command line ends that has no task, by what clap makes of it: memory running out is a refusal, help and the
@@ -30,6 +34,10 @@ is_asked_for DisplayHelp = true
 is_asked_for DisplayVersion = true
 is_asked_for _ = false
 
+-- help or the version was printed, or the output can't be written
+abbrev pub TellsPrinting : Telling → Ended → Type 0
+TellsPrinting t ended = (done : Result (Unit {0}) RunError) × IfErr done IsFileError × Tells t done ended
+
 -- how a command line ends that couldn't be read: a word that is no text is a usage fault, and the rest is refused
 abbrev pub unread_exit : IoErrorKind → Exit
 unread_exit InvalidData = Usage
@@ -42,27 +50,59 @@ pub record EndsCommand (old new : Option (List Write)) (status : ℕ) : Type 0 w
   pub once : (new ≡ old) ⊎ ((name bytes : List ℕ) × (new ≡ one_more old name bytes))
   pub unwritten : 2 ≤ status → new ≡ old
 
+-- What is told on the error stream of a text that is shown, as one of this kind: of a want of memory its line, of help and the
+-- version the line of the file's error where they can't be printed; the others are told themselves.
+abbrev pub TellsUntasked : ErrorKind → Telling → Ended → Type 0
+TellsUntasked OutOfMemory t ended = Tells t (Err memory_error) ended
+TellsUntasked DisplayHelp t ended = TellsPrinting t ended
+TellsUntasked DisplayVersion t ended = TellsPrinting t ended
+TellsUntasked _ t ended = Unit {0}
+
 -- How a text ends that is shown, as one of this kind: no file was asked to be written, it ends as its kind has it,
 -- and nothing was printed on the output unless it was asked for.
-pub record EndsText (kind : ErrorKind) (writes_old writes_new : Option (List Write)) (old new : Option (List ℕ)) (exit : Exit) : Type 0 where
+pub record EndsText (kind : ErrorKind) (writes_old writes_new : Option (List Write)) (old new : Option (List ℕ)) (t : Telling) (ended : Ended) : Type 0 where
   pub unwritten : writes_new ≡ writes_old
-  pub ends : EndsUntasked kind exit
+  pub ends : EndsUntasked kind ended.exit
   pub silent : is_asked_for kind ≡ false → Keeps old new
+  pub tells : TellsUntasked kind t ended
+
+-- How the printing of a page ends: it was printed, or the output can't be written.
+pub record TellsPage (page : List ℕ) (old new : Option (List ℕ)) (t : Telling) (ended : Ended) : Type 0 where
+  pub done : Result (Unit {0}) RunError
+  pub printed : MatchResult done (λ _. Appends old new page) IsFileError
+  pub tells : Tells t done ended
+
+-- a page is printed, and no file was asked to be written
+pub record EndsPage (page : List ℕ) (writes_old writes_new : Option (List Write)) (old new : Option (List ℕ)) (t : Telling) (ended : Ended) : Type 0 where
+  pub unwritten : writes_new ≡ writes_old
+  pub told : TellsPage page old new t ended
 
 -- how a task ends, over files that hold this
-abbrev pub EndsTask : Task → (List ℕ → Option (List ℕ)) → Option (List Write) → Option (List Write) → Option (List ℕ) → Option (List ℕ) → Exit → Type 0
-EndsTask (tasks.Record script log) contents writes_old writes_new old new exit =
-    EndsRecording (contents script.now) log.now writes_old writes_new old new exit
-EndsTask (tasks.List log) contents writes_old writes_new old new exit = EndsShowing ListsImage (contents log.now) writes_old writes_new old new exit
-EndsTask (tasks.Status log) contents writes_old writes_new old new exit = EndsShowing ShowsStatus (contents log.now) writes_old writes_new old new exit
-EndsTask (tasks.Show error) contents writes_old writes_new old new exit = EndsText (kind_of error) writes_old writes_new old new exit
+abbrev pub EndsTask : Task → (List ℕ → Option (List ℕ)) → Option (List Write) → Option (List Write) → Option (List ℕ) → Option (List ℕ) → Telling → Ended → Type 0
+EndsTask (tasks.Record script log) contents writes_old writes_new old new t ended =
+    EndsRecording (contents script.now) log.now writes_old writes_new old new t ended
+EndsTask (tasks.List log) contents writes_old writes_new old new t ended = EndsShowing ListsImage (contents log.now) writes_old writes_new old new t ended
+EndsTask (tasks.Status log) contents writes_old writes_new old new t ended = EndsShowing ShowsStatus (contents log.now) writes_old writes_new old new t ended
+EndsTask (tasks.Formats page) contents writes_old writes_new old new t ended = EndsPage page.now writes_old writes_new old new t ended
+EndsTask (tasks.Show error) contents writes_old writes_new old new t ended = EndsText (kind_of error) writes_old writes_new old new t ended
 
--- What doing a command line comes to, over files that hold this: its words are read as a task, that task ends, and the
--- status is that of how it ends.
+-- What doing a command line comes to, over files that hold this: its words but `--explain` are read as a task, and that task
+-- ends, explaining itself where that word stands among them.
 pub record DoesWords (words : List (List ℕ)) (contents : List ℕ → Option (List ℕ)) (writes_old writes_new : Option (List Write)) (old new : Option (List ℕ))
-    (status : ℕ) : Type 0 where
+    (errors_old errors_new : Option (List ℕ)) (ended : Ended) : Type 0 where
   pub task : Task
-  pub read : IsRead words task
-  pub exit : Exit
-  pub ends : EndsTask task contents writes_old writes_new old new exit
-  pub exits : status ≡ status_of exit
+  pub read : IsRead (without_explain words) task
+  pub ends : EndsTask task contents writes_old writes_new old new (telling (has_explain words) errors_old errors_new) ended
+
+-- it ends by a fault that is told by its line: refused, or since logging ended
+abbrev pub IsFaulty : Exit → Type 0
+IsFaulty Done = ⊥
+IsFaulty Refused = Unit {0}
+IsFaulty Usage = ⊥
+IsFaulty LoggingEnded = Unit {0}
+
+-- One line was told, of a fault by which the command ends so, and nothing else, where the error stream took it.
+pub record TellsOneLine (ended : Ended) (old new : Option (List ℕ)) : Type 0 where
+  pub fault : RunError
+  pub exits : ended.exit ≡ exit_of fault
+  pub line : ended.is_told ≡ true → Appends old new (told_line (Err fault))

@@ -1,8 +1,8 @@
-use Rattle.std.specs.Prelude.{◌≡◌, ◌⊎◌, List, [], Option, Some, codes, is_some, true}
+use Rattle.std.specs.Prelude.{◌≡◌, ◌⊎◌, Bool, List, [], Option, Some, codes, false, is_some, true}
 use Rattle.clap.specs.Words.{IsAmong, Text, fault_of, kind_of, subcommand_of}
 use Rattle.clap.specs.declared.error.kind.ErrorKind.{ErrorKind}
 use Rattle.clap.specs.declared.error.kind.ErrorKind.TheVariants.{MissingRequiredArgument, OutOfMemory}
-use Rattle.dmlw.specs.CommandLine.{Entered, Enters, entered_of, program_app}
+use Rattle.dmlw.specs.CommandLine.{Entered, Enters, entered_of, is_formats, program_app}
 use Rattle.dmlw.specs.declared.command_line.Task.{Task}
 use Rattle.dmlw.specs.declared.command_line.Task.TheVariants as tasks
 
@@ -17,6 +17,7 @@ abbrev pub Asks : Entered → Task → Type 0
 Asks entered (tasks.Record script log) = (entered.0 ≡ codes "record") × (entered.1 ≡ Some script.now) × (entered.2 ≡ Some log.now)
 Asks entered (tasks.List log) = (entered.0 ≡ codes "list") × (entered.2 ≡ Some log.now)
 Asks entered (tasks.Status log) = (entered.0 ≡ codes "status") × (entered.2 ≡ Some log.now)
+Asks entered (tasks.Formats page) = ⊥
 Asks entered (tasks.Show error) = kind_of error ≡ OutOfMemory
 
 -- the task is what the entered command asks for, if one was entered
@@ -36,8 +37,27 @@ pub data IsUntasked (words : List Text) (kind : ErrorKind) : Type 0 where
       → kind ≡ MissingRequiredArgument → IsUntasked words kind
 
 -- The task is what clap makes of these words: what they ask for where it finds no fault in them, else to show why not.
+abbrev pub IsReadByClap : List Text → Task → Type 0
+IsReadByClap words (tasks.Record script log) = IsAsked words (tasks.Record script log)
+IsReadByClap words (tasks.List log) = IsAsked words (tasks.List log)
+IsReadByClap words (tasks.Status log) = IsAsked words (tasks.Status log)
+IsReadByClap words (tasks.Formats page) = ⊥
+IsReadByClap words (tasks.Show error) = IsUntasked words (kind_of error)
+
+-- the task is to print the page of the formats; or there was no memory to read the command line
+abbrev pub IsFormats : Task → Type 0
+IsFormats (tasks.Record script log) = ⊥
+IsFormats (tasks.List log) = ⊥
+IsFormats (tasks.Status log) = ⊥
+IsFormats (tasks.Formats page) = Unit {0}
+IsFormats (tasks.Show error) = kind_of error ≡ OutOfMemory
+
+-- the task is what words are read as that ask for the page of the formats, or that don't
+abbrev pub IsReadAs : Bool → List Text → Task → Type 0
+IsReadAs true words task = IsFormats task
+IsReadAs false words task = IsReadByClap words task
+
+-- The task is what these words are read as: `help formats` asks for the page of the formats, and of other words it is what
+-- clap makes of them.
 abbrev pub IsRead : List Text → Task → Type 0
-IsRead words (tasks.Record script log) = IsAsked words (tasks.Record script log)
-IsRead words (tasks.List log) = IsAsked words (tasks.List log)
-IsRead words (tasks.Status log) = IsAsked words (tasks.Status log)
-IsRead words (tasks.Show error) = IsUntasked words (kind_of error)
+IsRead words task = IsReadAs (is_formats words) words task

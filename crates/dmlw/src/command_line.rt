@@ -1,8 +1,10 @@
-ghost use Rattle.std.specs.Prelude.{◌≡◌, ◌⊎◌, IfOk, IfSome, Some, false, is_some, map, true};
+ghost use Rattle.std.specs.Prelude.{◌≡◌, ◌⊎◌, ℕ, List, ◌++◌, IfOk, IfSome, OnOk, Some, false, is_some, map, not, true};
+ghost use Rattle.std.specs.List.{filter, list_any};
 ghost use Rattle.clap.specs.Words.{App, FailsBy, app_of, fault_of, kind_of, rule_of, subcommand_of, subcommand_rows_of, with_subcommand};
-ghost use Rattle.dmlw.specs.CommandLine.{Entered, IsCommandOf, bare_app, entered_of, file_rule, log_app, program_app, record_app};
-ghost use Rattle.dmlw.specs.Tasks.{IsAskedBy, IsComplete, IsRead};
+ghost use Rattle.dmlw.specs.CommandLine.{Entered, IsCommandOf, bare_app, entered_of, file_rule, has_explain, is_explain, is_formats, log_app, program_app, record_app, without_explain};
+ghost use Rattle.dmlw.specs.Tasks.{IsAskedBy, IsComplete, IsRead, IsReadByClap};
 
+use crate::formats::FORMATS;
 use clap::error::ErrorKind;
 use clap::{Arg, ArgMatches, Command, Error};
 use std::alloc::{AllocError, Global};
@@ -12,7 +14,8 @@ use std::convert::AsStr;
 const AFTER_HELP: &str = "\
 Exit status: 0 done, 1 refused, 2 usage, 3 logging ended before its time.
 A status such as 3 4 says: 3 entries, of which the last uses sector 4.
-The grammar of scripts, the faults and the limits are in docs/FORMATS.md.";
+With --explain, in any place: what helps stands behind a fault's line.
+dmlw help formats: the grammar of scripts, the faults and the limits.";
 
 /// What a command line asks for.
 #[derive(Debug, Drop)]
@@ -23,6 +26,8 @@ pub enum Task<'a> {
     List { log: &'a str },
     /// To print the status of the log in the file of this name.
     Status { log: &'a str },
+    /// To print this page: what is read and printed.
+    Formats(&'static str),
     /// To show a text: help, the version, or why the line isn't one of the program's.
     Show(Error),
 }
@@ -132,10 +137,92 @@ fn missing_word(alloc: Global) -> Result<Error, AllocError>
     program_command(alloc)?.error(ErrorKind::MissingRequiredArgument, "a word is missing")
 }
 
-/// Reads the command line as clap does; the first word is the program's name. A name of a file is
-/// taken as it stands where it doesn't begin with a hyphen.
-pub fn read_words<'a, S: AsStr>(alloc: Global, words: &'a [S]) -> Task<'a>
-    ensures { IsRead (map S.text words.entry.now) result }
+// Whether a word asks a command to explain itself.
+fn is_explain(word: &str) -> bool
+    ensures { result ≡ is_explain word.now }
+{
+    word == "--explain"
+}
+
+/// Whether a command line asks the command to explain itself: by the word `--explain`, in any place after
+/// the program's name.
+pub fn has_explain<S: AsStr>(words: &[S]) -> bool
+    ensures { result ≡ has_explain (map S.text words.now) }
+{
+    match words {
+        [_, rest @ ..] => are_explaining(rest),
+        [] => false,
+    }
+}
+
+// Whether one of the words after the program's name asks for that.
+fn are_explaining<S: AsStr>(words: &[S]) -> bool
+    ensures { result ≡ list_any (λ word. is_explain (S.text word)) words.now }
+{
+    words.iter().any(|word| is_explain(word.as_str()))
+}
+
+/// A command line without the words that ask for that.
+pub fn without_explain<'a, S: AsStr>(
+    alloc: Global,
+    words: &'a [S],
+) -> Result<Vec<&'a str>, AllocError>
+    ensures { IfOk result (λ plain. map (λ word. word.now) plain.items ≡ without_explain (map S.text words.entry.now)) }
+{
+    let mut plain = Vec::new(alloc);
+    if let [program, rest @ ..] = words {
+        plain.push(program.as_str())?;
+        push_plain(rest, &mut plain)?;
+    }
+    Ok(plain)
+}
+
+// Appends the words after the program's name but those that ask for that.
+fn push_plain<'a, S: AsStr>(words: &'a [S], plain: &mut Vec<&'a str>) -> Result<(), AllocError>
+    ensures { OnOk result (map (λ word. word.now) plain.new.items ≡
+        map (λ word. word.now) plain.old.items ++ filter (λ word. not (is_explain word)) (map S.text words.entry.now)) }
+{
+    for word in words {
+        let word = word.as_str();
+        if !is_explain(word) {
+            plain.push(word)?;
+        }
+    }
+    Ok(())
+}
+
+// Whether a command line asks for the page of the formats.
+fn is_formats(words: &[&str]) -> bool
+    ensures { result ≡ is_formats (map (λ word. word.now) words.now) }
+{
+    match words {
+        [_, first, second] => *first == "help" && *second == "formats",
+        _ => false,
+    }
+}
+
+/// Reads a command line without `--explain`; the first word is the program's name. `help formats` asks for
+/// the page of the formats, and other words are read as clap does: a name of a file is taken as it stands
+/// where it doesn't begin with a hyphen.
+pub fn read_words<'a>(alloc: Global, words: &'a [&'a str]) -> Task<'a>
+    ensures { IsRead (map (λ word. word.now) words.entry.now) result }
+{
+    if is_formats(words) {
+        return Task::Formats(FORMATS);
+    }
+    read_commands(alloc, words)
+}
+
+/// The task of a command line for which there was no memory.
+pub fn unread<'a>(error: AllocError) -> Task<'a>
+    ensures { (words : List (List ℕ)) → IsRead words result }
+{
+    Task::Show(Error::from(error))
+}
+
+// Reads a command line as clap does.
+fn read_commands<'a, S: AsStr>(alloc: Global, words: &'a [S]) -> Task<'a>
+    ensures { IsReadByClap (map S.text words.entry.now) result }
 {
     match parse(alloc, words) {
         Ok(matches) => match task_of(&matches) {

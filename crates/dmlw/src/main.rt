@@ -11,6 +11,7 @@
 
 mod command_line;
 mod execute;
+mod formats;
 mod laws;
 #[cfg(test)]
 mod tests;
@@ -36,5 +37,9 @@ fn run<R: Files + Env + Print + AllocGlobal, E: Write>(rt: &R, err: &mut E) -> i
     let words: Vec<String> = env::args(rt)?.collect(rt.alloc())?;
     let mut files = HostFiles::new(rt);
     let mut out = BufWriter::new(rt.alloc(), Output::new(io::writer(rt)))?;
-    Ok(execute(rt.alloc(), &words, &mut files, &mut out, err))
+    Ok(
+        execute(rt.alloc(), &words, &mut files, &mut out, err)
+            .exit
+            .status(),
+    )
 }

@@ -1,7 +1,8 @@
 ghost use Rattle.std.specs.Prelude.{None};
 
 use crate::execute::{execute, refuse};
-use dmlw_commands::{FileError, Files};
+use crate::formats::FORMATS;
+use dmlw_commands::{FileError, Files, Trouble};
 use std::alloc::Global;
 use std::io;
 use std::test::Fail;
@@ -47,6 +48,10 @@ impl Files for FakeFiles<'_> {
         Ok(())
     }
 
+    fn trouble(&self) -> Option<&Trouble> {
+        None
+    }
+
     fn is_same(&self, first: &str, second: &str) -> bool {
         first == second
     }
@@ -74,7 +79,8 @@ fn run(alloc: Global, words: &[&str], bytes: &[u8]) -> Ran {
     let mut files = FakeFiles::new(bytes);
     let mut out = Vec::new(alloc);
     let mut err = Vec::new(alloc);
-    let status = execute(alloc, words, &mut files, &mut out, &mut err);
+    let ended = execute(alloc, words, &mut files, &mut out, &mut err);
+    let status = ended.exit.status();
     let log = files.log.take();
     Ran {
         status,
@@ -106,84 +112,79 @@ fn does_what_words_ask_for(rt: HostRuntime) -> Result<(), Fail> {
     Ok(())
 }
 
+// The command line after the program's name, the status, and a part of the text that is shown: on the output
+// at status 0, on the error stream at 2.
+const LINES: &str = "--help|0|Usage: dmlw <COMMAND>
+help|0|record  Records the requests of a script in a new log
+record --help|0|Usage: dmlw record <SCRIPT> <LOG>
+help|0|list    Lists the entries of a log
+help|0|status  Tells how far a log has come
+list --help|0|Usage: dmlw list <LOG>
+help status|0|Usage: dmlw status <LOG>
+--version|0|dmlw 0.1 (log format version 1)
+--help|0|Exit status: 0 done
+--help|0|With --explain
+frob|2|unrecognized subcommand 'frob'
+help frob|2|unrecognized subcommand 'frob'
+record a|2|<LOG>
+record a b c|2|unexpected argument 'c'
+record -x b|2|unexpected argument '-x'
+--explain frob|2|unrecognized subcommand 'frob'
+list|2|<LOG>
+status|2|<LOG>
+list a b|2|unexpected argument 'b'";
+
 #[test]
-fn reads_command_lines(rt: HostRuntime) {
-    let table = [
-        (["dmlw", "--help"].as_slice(), 0, "Usage: dmlw <COMMAND>"),
-        (
-            ["dmlw", "help"].as_slice(),
-            0,
-            "record  Records the requests of a script in a new log",
-        ),
-        (
-            ["dmlw", "record", "--help"].as_slice(),
-            0,
-            "Usage: dmlw record <SCRIPT> <LOG>",
-        ),
-        (
-            ["dmlw", "help"].as_slice(),
-            0,
-            "list    Lists the entries of a log",
-        ),
-        (
-            ["dmlw", "help"].as_slice(),
-            0,
-            "status  Tells how far a log has come",
-        ),
-        (
-            ["dmlw", "list", "--help"].as_slice(),
-            0,
-            "Usage: dmlw list <LOG>",
-        ),
-        (
-            ["dmlw", "status", "--help"].as_slice(),
-            0,
-            "Usage: dmlw status <LOG>",
-        ),
-        (
-            ["dmlw", "--version"].as_slice(),
-            0,
-            "dmlw 0.1 (log format version 1)",
-        ),
-        (["dmlw", "--help"].as_slice(), 0, "Exit status: 0 done"),
-        (["dmlw"].as_slice(), 2, "Usage: dmlw <COMMAND>"),
-        ([].as_slice(), 2, "Usage: dmlw <COMMAND>"),
-        (
-            ["dmlw", "frob"].as_slice(),
-            2,
-            "unrecognized subcommand 'frob'",
-        ),
-        (["dmlw", "record", "a"].as_slice(), 2, "<LOG>"),
-        (
-            ["dmlw", "record", "a", "b", "c"].as_slice(),
-            2,
-            "unexpected argument 'c'",
-        ),
-        (
-            ["dmlw", "record", "-x", "b"].as_slice(),
-            2,
-            "unexpected argument '-x'",
-        ),
-        (["dmlw", "list"].as_slice(), 2, "<LOG>"),
-        (["dmlw", "status"].as_slice(), 2, "<LOG>"),
-        (
-            ["dmlw", "list", "a", "b"].as_slice(),
-            2,
-            "unexpected argument 'b'",
-        ),
-    ];
-    for (words, status, part) in table {
-        let ran = run(rt.alloc(), words, b"");
-        assert_eq!(rt; ran.status, status, "status of {words:?}");
-        let (text, other) = if status == 0 {
-            (&ran.out, &ran.err)
+fn reads_command_lines(rt: HostRuntime) -> Result<(), Fail> {
+    let alloc = rt.alloc();
+    for line in LINES.split('\n') {
+        let (line, rest) = line.split_once('|').unwrap_or_default();
+        let (status, part) = rest.split_once('|').unwrap_or_default();
+        let mut words = vec![in alloc; "dmlw"]?;
+        for word in line.split(' ') {
+            words.push(word)?;
+        }
+        let ran = run(alloc, &words, b"");
+        let (code, text, other) = if status == "0" {
+            (0, &ran.out, &ran.err)
         } else {
-            (&ran.err, &ran.out)
+            (2, &ran.err, &ran.out)
         };
-        assert!(rt; other.is_empty(), "texts of {words:?}");
-        let text = std::str::from_utf8(text).expect(&rt, "UTF-8 text");
-        assert!(rt; text.contains(part), "text of {words:?}: {text}");
+        assert!(rt; ran.status == code && other.is_empty(), "{line}");
+        let text = str::from_utf8(text).unwrap_or_default();
+        assert!(rt; text.contains(part), "{line}: {text}");
     }
+    let ran = run(alloc, [].as_slice(), b"");
+    assert!(rt; ran.status == 2 && run(alloc, &["dmlw"], b"").status == 2);
+    Ok(())
+}
+
+// The page of the formats is printed as it is.
+#[test]
+fn prints_the_formats(rt: HostRuntime) {
+    let ran = run(rt.alloc(), &["dmlw", "help", "formats"], b"");
+    assert!(rt; ran.is(0, FORMATS, "") && FORMATS.starts_with("# Formats\n"));
+}
+
+// `--explain` may stand anywhere after the program's name.
+#[test]
+fn explains_itself_where_it_is_asked(rt: HostRuntime) {
+    let alloc = rt.alloc();
+    let shown =
+        "dmlw: line 1: 30 BadLine\n  script ends before its line 1; a script begins with the lines `data` and `log`:\n";
+    for words in [
+        ["dmlw", "--explain", "record", "script", "log"],
+        ["dmlw", "record", "--explain", "script", "log"],
+        ["dmlw", "record", "script", "log", "--explain"],
+    ] {
+        let ran = run(alloc, &words, b"");
+        assert!(rt;
+            ran.status == 1 && ran.err.as_slice().starts_with(shown.as_bytes()),
+            "{ran:?}"
+        );
+    }
+    let ran = run(alloc, &["--explain", "record", "script", "log"], b"");
+    assert!(rt; ran.is(1, "", "dmlw: line 1: 30 BadLine\n"));
 }
 
 #[test]

@@ -1,10 +1,11 @@
-use Rattle.std.proofs.Common.{◌≡◌, ℕ, List, Option, Result, Ok, Err, IfErr, inl, inr}
-use Rattle.std.specs.Io.KnownBytes.{Keeps}
-use Rattle.dmlw_commands.specs.declared.exit.Exit.{Exit}
+use Rattle.std.proofs.Common.{◌≡◌, ℕ, Bool, true, false, List, [], ◌++◌, Option, Result, Ok, Err, IfErr, inl, inr, subst, sym}
+use Rattle.std.specs.Io.KnownBytes.{Appends, Keeps}
+use Rattle.dmlw_commands.specs.declared.ending.Ended.{Ended}
+use Rattle.dmlw_commands.specs.declared.exit.Exit.TheVariants.{Done}
 use Rattle.script_runner.specs.declared.error.RunError.{RunError}
 use Rattle.script_runner.specs.RunFaults.{EndsRun, close, file as by_file, logging}
-use Rattle.dmlw_commands.specs.Endings.{EndsRecording, EndsShowing}
-use Rattle.dmlw_commands.specs.Exits.{exit_by}
+use Rattle.dmlw_commands.specs.Endings.{EndsRecording, EndsShowing, Telling, Tells}
+use Rattle.dmlw_commands.specs.Exits.{exit_by, told_line}
 use Rattle.dmlw_commands.specs.Files.{Write}
 use Rattle.dmlw_commands.specs.Lists.{Shows, ShowsFile}
 use Rattle.dmlw_commands.specs.Records.{FailsRecording, Records, PrintsLog, WritesLog, file, run as ran, text as unread}
@@ -80,22 +81,25 @@ records_all contents log writes_old writes_new old new (Ok u) writes fails = wri
 records_all contents log writes_old writes_new old new (Err fault) writes fails = (writes, fails)
 
 -- how a recording ends
-pub recording_ends : (contents : Option (List ℕ)) (log : List ℕ) (writes_old writes_new : Option (List Write)) (old middle new : Option (List ℕ))
-    (done : Result (Unit {0}) RunError) (exit : Exit) → Records contents log writes_old writes_new old middle done → Keeps middle new
-    → exit ≡ exit_by done → EndsRecording contents log writes_old writes_new old new exit
-recording_ends contents log writes_old writes_new old middle new done exit records kept exits = record {
+pub recording_ends : (contents : Option (List ℕ)) (log : List ℕ) (writes_old writes_middle writes_new : Option (List Write)) (old middle new : Option (List ℕ))
+    (t : Telling) (done : Result (Unit {0}) RunError) (ended : Ended)
+    → Records contents log writes_old writes_middle old middle done → Keeps middle new → writes_new ≡ writes_middle
+    → Tells t done ended → EndsRecording contents log writes_old writes_new old new t ended
+recording_ends contents log writes_old writes_middle writes_new old middle new t done ended records kept same tells = record {
   done = done;
-  recorded = records_kept contents log writes_old writes_new old middle new done records kept;
-  exits = exits;
+  recorded = records_kept contents log writes_old writes_new old middle new done
+      (subst (λ (writes : Option (List Write)). Records contents log writes_old writes old middle done) (sym same) records) kept;
+  tells = tells;
 }
 
 -- how a command on the image in a file ends
 pub showing_ends : (shows : Shows) (stable : IsKept shows) (contents : Option (List ℕ)) (writes_old writes_new : Option (List Write))
-    (old middle new : Option (List ℕ)) (done : Result (Unit {0}) RunError) (exit : Exit) → ShowsFile shows contents old middle done
-    → Keeps middle new → writes_new ≡ writes_old → exit ≡ exit_by done → EndsShowing shows contents writes_old writes_new old new exit
-showing_ends shows stable contents writes_old writes_new old middle new done exit shown kept unwritten exits = record {
+    (old middle new : Option (List ℕ)) (t : Telling) (done : Result (Unit {0}) RunError) (ended : Ended)
+    → ShowsFile shows contents old middle done → Keeps middle new → writes_new ≡ writes_old
+    → Tells t done ended → EndsShowing shows contents writes_old writes_new old new t ended
+showing_ends shows stable contents writes_old writes_new old middle new t done ended shown kept unwritten tells = record {
   unwritten = unwritten;
   done = done;
   shown = shows_kept shows stable contents old middle new done shown kept;
-  exits = exits;
+  tells = tells;
 }

@@ -1,6 +1,7 @@
-use Rattle.std.specs.Prelude.{ℕ, Result, Ok, Err}
+use Rattle.std.specs.Prelude.{ℕ, List, [], ◌++◌, Result, Ok, Err, codes}
 use Rattle.script_runner.specs.declared.error.RunError.{RunError}
 use Rattle.script_runner.specs.declared.error.RunError.TheVariants as errors
+use Rattle.script_runner.specs.Errors.{error_text}
 use Rattle.dmlw_commands.specs.declared.exit.Exit.{Exit}
 use Rattle.dmlw_commands.specs.declared.exit.Exit.TheVariants.{Done, Refused, Usage, LoggingEnded}
 
@@ -20,3 +21,8 @@ exit_of (errors.LoggingEnded end) = LoggingEnded
 abbrev pub exit_by : Result (Unit {0}) RunError → Exit
 exit_by (Ok done) = Done
 exit_by (Err fault) = exit_of fault
+
+-- the line that a user is told who did this: of a fault, or none
+abbrev pub told_line : Result (Unit {0}) RunError → List ℕ
+told_line (Ok done) = []
+told_line (Err fault) = codes "dmlw: " ++ error_text fault ++ codes "\n"

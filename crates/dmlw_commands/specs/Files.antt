@@ -1,4 +1,4 @@
-use Rattle.std.specs.Prelude.{◌≡◌, ◌≤◌, ℕ, length, List, [], ◌∷◌, ◌++◌, Option, Some, None, option_map}
+use Rattle.std.specs.Prelude.{◌≡◌, ◌≤◌, ◌<◌, ℕ, length, List, [], ◌∷◌, ◌++◌, Option, Some, None, option_map}
 
 -- a write that was asked for: the file's name, and the bytes that it is to hold
 pub record Write : Type 0 where
@@ -22,3 +22,8 @@ IsWithin limit (Some known) = length known ≤ limit
 -- each file holds what it held
 abbrev pub KeepsFiles : (List ℕ → Option (List ℕ)) → (List ℕ → Option (List ℕ)) → Type 0
 KeepsFiles old new = (name : List ℕ) → new name ≡ old name
+
+-- what a file holds is known, and is longer than a limit
+abbrev pub IsTooLong : ℕ → Option (List ℕ) → Type 0
+IsTooLong limit None = ⊥
+IsTooLong limit (Some known) = limit < length known

@@ -4,3 +4,4 @@ pub mod FileErrors
 pub mod Lists
 pub mod Records
 pub mod Endings
+pub mod EndingLaws

@@ -1,6 +1,6 @@
-ghost use Rattle.std.specs.Prelude.{◌≡◌};
-ghost use Rattle.std.specs.Io.KnownBytes.{Keeps};
-ghost use Rattle.dmlw_commands.specs.Exits.{exit_by, exit_of};
+ghost use Rattle.std.specs.Prelude.{◌≡◌, ◌++◌, [], Err, OnOk, true};
+ghost use Rattle.std.specs.Io.KnownBytes.{Appends, Keeps};
+ghost use Rattle.dmlw_commands.specs.Exits.{exit_by, exit_of, told_line};
 
 use crate::exit::Exit;
 use script_runner::RunError;
@@ -8,40 +8,67 @@ use std::alloc::Global;
 use std::io;
 use std::io::Write;
 
-/// How a command ends that did this. A fault is reported, after what was printed before it; where there is
-/// none, nothing goes to `err`.
+/// How a command ended, and whether the error stream took all that it was told.
+#[derive(Clone, Copy, Debug, PartialEq, Eq)]
+pub struct Ended {
+    pub exit: Exit,
+    pub is_told: bool,
+}
+
+/// How a command ends that did this. A fault is reported by one line, after what was printed before it, and
+/// `more` stands behind it; where there is no fault and no more, nothing goes to `err`.
 pub fn end<O: Write, E: Write>(
     alloc: Global,
     done: Result<(), RunError>,
+    more: &str,
     out: &mut O,
     err: &mut E,
-) -> Exit
-    ensures exit { result ≡ exit_by done }
+) -> Ended
+    ensures exit { result.exit ≡ exit_by done }
     ensures kept { Keeps (O.contents out.old) (O.contents out.new) }
-    ensures quiet { result ≡ Exit.Done → E.contents err.new ≡ E.contents err.old }
+    ensures quiet { result.exit ≡ Exit.Done → more.now ≡ [] → E.contents err.new ≡ E.contents err.old }
+    ensures told { result.is_told ≡ true → Appends (E.contents err.old) (E.contents err.new) (told_line done ++ more.now) }
 {
     match done {
-        Ok(()) => Exit::Done,
+        Ok(()) => Ended {
+            exit: Exit::Done,
+            is_told: more.is_empty() || tell(more, err).is_ok(),
+        },
         Err(fault) => {
             let _ = out.flush();
-            report(alloc, fault, err)
+            report(alloc, fault, more, err)
         }
     }
 }
 
-/// Reports a fault, as one line in one write. Where that fails nobody is left to hear of it.
-pub fn report<E: Write>(alloc: Global, fault: RunError, err: &mut E) -> Exit
-    ensures { result ≡ exit_of fault }
+/// Reports a fault, by one line, and `more` behind it, all in one write where there is memory for it.
+pub fn report<E: Write>(alloc: Global, fault: RunError, more: &str, err: &mut E) -> Ended
+    ensures exit { result.exit ≡ exit_of fault }
+    ensures told { result.is_told ≡ true → Appends (E.contents err.old) (E.contents err.new) (told_line (Err fault) ++ more.now) }
 {
-    let _ = tell(alloc, fault, err);
-    Exit::from(fault)
+    Ended {
+        exit: Exit::from(fault),
+        is_told: tell_fault(alloc, fault, more, err).is_ok(),
+    }
 }
 
-// Writes the line of a fault: in parts where there is no memory to make it whole.
-fn tell<E: Write>(alloc: Global, fault: RunError, err: &mut E) -> io::Result<()> {
-    match format!(in alloc; "dmlw: {fault}\n") {
-        Ok(line) => err.write_all(line.as_bytes())?,
-        Err(_) => writeln!(err, "dmlw: {fault}")?,
+// Writes the line of a fault and what stands behind it: in parts where there is no memory to make them whole.
+fn tell_fault<E: Write>(alloc: Global, fault: RunError, more: &str, err: &mut E) -> io::Result<()>
+    ensures { OnOk result (Appends (E.contents err.old) (E.contents err.new) (told_line (Err fault) ++ more.now)) }
+{
+    match format!(in alloc; "dmlw: {fault}\n{more}") {
+        Ok(text) => tell(&text, err),
+        Err(_) => {
+            write!(err, "dmlw: {fault}\n{more}")?;
+            err.flush()
+        }
     }
+}
+
+// Writes a text, and sees it written.
+fn tell<E: Write>(text: &str, err: &mut E) -> io::Result<()>
+    ensures { OnOk result (Appends (E.contents err.old) (E.contents err.new) text.now) }
+{
+    err.write_all(text.as_bytes())?;
     err.flush()
 }

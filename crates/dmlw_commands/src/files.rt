@@ -1,5 +1,4 @@
 ghost use Rattle.std.specs.Prelude.{◌≡◌, ◌≤◌, IfErr, IfOk, List, OnErr, OnOk, Option, true, vec_len, ℕ};
-ghost use Rattle.std.specs.IoError.{error_kind};
 ghost use Rattle.script_runner.specs.Errors.{refused_by};
 ghost use Rattle.dmlw_commands.specs.Files.{IsWithin, KeepsFiles, MatchesContents, Write, one_more};
 ghost use Rattle.dmlw_commands.specs.FileErrors.{file_error, file_refusal};
@@ -21,11 +20,11 @@ pub enum FileError {
     Memory,
 }
 
-impl From<io::Error> for FileError {
-    ghost from_gives = { λ io_error error. error ≡ file_error (error_kind io_error) };
+impl From<io::ErrorKind> for FileError {
+    ghost from_gives = { λ kind error. error ≡ file_error kind };
 
-    fn from(error: io::Error) -> FileError {
-        match error.kind() {
+    fn from(kind: io::ErrorKind) -> FileError {
+        match kind {
             io::ErrorKind::OutOfMemory => FileError::Memory,
             _ => FileError::Unusable,
         }
@@ -51,6 +50,17 @@ impl From<FileError> for RunError {
     }
 }
 
+/// Why a file wasn't read or written, as the system has it.
+#[derive(Debug, Drop)]
+pub enum Trouble {
+    /// It can't be read.
+    Read(io::Error),
+    /// It is longer than it may be.
+    TooLong,
+    /// It can't be written.
+    Write(io::Error),
+}
+
 /// The files that a command reads and writes, by name.
 pub trait Files {
     /// What the file of a name holds, where it is known.
@@ -73,6 +83,9 @@ pub trait Files {
         ensures holds { OnOk result (MatchesContents (contents self.new name.now) bytes.now) }
         ensures kept { OnErr result (KeepsFiles (contents self.old) (contents self.new)) }
         ensures writes { writes self.new ≡ one_more (writes self.old) name.now bytes.now };
+
+    /// Why the last read or write that failed did so, where that is known.
+    fn trouble(&self) -> Option<&Trouble>;
 
     /// Whether both names are those of one file.
     fn is_same(&self, first: &str, second: &str) -> bool

@@ -1,6 +1,6 @@
-ghost use Rattle.std.specs.Prelude.{None};
+ghost use Rattle.std.specs.Prelude.{◌≤◌, IfOk, IfSome, None, vec_len};
 
-use crate::files::{FileError, Files};
+use crate::files::{FileError, Files, Trouble};
 use std::alloc::Global;
 use std::fs::{File, OpenFile, OpenOptions, Permissions};
 use std::io::{Read, Write};
@@ -18,11 +18,25 @@ const MAX_BESIDE: u32 = 1000;
 #[derive(Drop)]
 pub struct HostFiles<'a, R: std::rt::Files> {
     runtime: &'a R,
+    trouble: Option<Trouble>,
 }
 
 impl<'a, R: std::rt::Files> HostFiles<'a, R> {
     pub fn new(runtime: &'a R) -> HostFiles<'a, R> {
-        HostFiles { runtime }
+        HostFiles {
+            runtime,
+            trouble: None,
+        }
+    }
+
+    // Keeps why a call failed.
+    fn keep(&mut self, trouble: Trouble) -> FileError {
+        let error = match &trouble {
+            Trouble::Read(error) | Trouble::Write(error) => FileError::from(error.kind()),
+            Trouble::TooLong => FileError::Unusable,
+        };
+        self.trouble = Some(trouble);
+        error
     }
 }
 
@@ -32,19 +46,22 @@ impl<R: std::rt::Files> Files for HostFiles<'_, R> {
     ghost writes = { λ _. None };
 
     fn read(&mut self, alloc: Global, name: &str, limit: u64) -> Result<Vec<u8>, FileError> {
-        let file = fs::open(self.runtime, name)?;
-        let room = file.metadata()?.len().min(limit);
-        let mut bytes = Vec::with_capacity(alloc, room as usize).map_err(io::Error::from)?;
-        // One byte more than the limit says a file that is too long.
-        file.take(limit.saturating_add(1)).read_to_end(&mut bytes)?;
-        if bytes.len() as u64 > limit {
-            return Err(FileError::Unusable);
+        match read_file(self.runtime, alloc, name, limit) {
+            Ok(Some(bytes)) => Ok(bytes),
+            Ok(None) => Err(self.keep(Trouble::TooLong)),
+            Err(error) => Err(self.keep(Trouble::Read(error))),
         }
-        Ok(bytes)
     }
 
     fn write(&mut self, alloc: Global, name: &str, bytes: &[u8]) -> Result<(), FileError> {
-        Ok(write_file(self.runtime, alloc, name, bytes)?)
+        match write_file(self.runtime, alloc, name, bytes) {
+            Ok(()) => Ok(()),
+            Err(error) => Err(self.keep(Trouble::Write(error))),
+        }
+    }
+
+    fn trouble(&self) -> Option<&Trouble> {
+        self.trouble.as_ref()
     }
 
     fn is_same(&self, first: &str, second: &str) -> bool {
@@ -59,6 +76,26 @@ impl<R: std::rt::Files> Files for HostFiles<'_, R> {
             _ => false,
         }
     }
+}
+
+// The whole of a file, where it isn't longer than this.
+fn read_file<R: std::rt::Files>(
+    runtime: &R,
+    alloc: Global,
+    name: &str,
+    limit: u64,
+) -> io::Result<Option<Vec<u8>>>
+    ensures { IfOk result (λ found. IfSome found (λ bytes. vec_len bytes ≤ limit)) }
+{
+    let file = fs::open(runtime, name)?;
+    let room = file.metadata()?.len().min(limit);
+    let mut bytes = Vec::with_capacity(alloc, room as usize)?;
+    // One byte more than the limit says a file that is too long.
+    file.take(limit.saturating_add(1)).read_to_end(&mut bytes)?;
+    if bytes.len() as u64 > limit {
+        return Ok(None);
+    }
+    Ok(Some(bytes))
 }
 
 // Writes the file of a name, as what stands there asks for.

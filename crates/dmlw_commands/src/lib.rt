@@ -6,15 +6,16 @@
 //! which no clause knows what it holds.
 #![tactic(auto)]
 
-pub use ending::{end, report};
+pub use ending::{Ended, end, report};
 pub use exit::Exit;
-pub use files::{FileError, Files};
+pub use files::{FileError, Files, Trouble};
 pub use host_files::HostFiles;
 pub use image::MAX_IMAGE_BYTES;
 pub use output::Output;
 
 mod ending;
 mod exit;
+mod explain;
 mod files;
 mod host_files;
 mod image;

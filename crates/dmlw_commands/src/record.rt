@@ -2,12 +2,15 @@ ghost use Rattle.std.specs.Prelude.{◌≡◌, ◌≤◌, IfErr, IfOk, OnErr, On
 ghost use Rattle.std.specs.Io.KnownBytes.{Appends};
 ghost use Rattle.script_runner.specs.Errors.{IsFileError};
 ghost use Rattle.dmlw_script.specs.Grammar.{IsTextOf};
-ghost use Rattle.dmlw_commands.specs.Endings.{EndsRecording};
-ghost use Rattle.dmlw_commands.specs.Files.{IsWithin, KeepsFiles, MatchesContents};
+ghost use Rattle.dmlw_commands.specs.Endings.{EndsRecording, telling};
+ghost use Rattle.dmlw_commands.specs.declared.exit.Exit.{Exit};
+ghost use Rattle.dmlw_commands.specs.Exits.{exit_by, exit_of};
+ghost use Rattle.std.specs.Result.{IsErrAnd};
+ghost use Rattle.dmlw_commands.specs.Files.{IsTooLong, IsWithin, KeepsFiles, MatchesContents};
 ghost use Rattle.dmlw_commands.specs.Records.{FailsRecording, IsScriptLog, IsPrintedLog, WritesLog, status_line};
 
-use crate::ending::end;
-use crate::exit::Exit;
+use crate::ending::{Ended, end};
+use crate::explain::explain_recording;
 use crate::files::{FileError, Files};
 use bio::Status;
 use dmlw_script::{Kind, Script, read_script};
@@ -21,24 +24,27 @@ pub const MAX_SCRIPT_BYTES: u64 = 4_194_304;
 
 /// Does `record SCRIPT LOG`: records the requests of a script in a new log, and answers how it ended.
 /// `script` and `log` are names of files. What there is to print goes to `out` before the log is
-/// written; a fault is reported to `err`.
+/// written; a fault is reported to `err`, with what helps where it `explains`.
 pub fn record<F: Files, O: Write, E: Write>(
     alloc: Global,
+    explains: bool,
     script: &str,
     log: &str,
     files: &mut F,
     out: &mut O,
     err: &mut E,
-) -> Exit
+) -> Ended
     ensures ends { EndsRecording (F.contents files.old script.now) log.now (F.writes files.old) (F.writes files.new)
-        (O.contents out.old) (O.contents out.new) result }
+        (O.contents out.old) (O.contents out.new) (telling explains (E.contents err.old) (E.contents err.new)) result }
     // Unless it is done each file holds what it held, and a script isn't written over.
-    ensures kept { (result ≡ Exit.Done → ⊥) → KeepsFiles (F.contents files.old) (F.contents files.new) }
+    ensures kept { (result.exit ≡ Exit.Done → ⊥) → KeepsFiles (F.contents files.old) (F.contents files.new) }
     ensures apart { script.now ≡ log.now → F.writes files.new ≡ F.writes files.old }
-    ensures quiet { result ≡ Exit.Done → E.contents err.new ≡ E.contents err.old }
+    // A script whose bytes are known, and too many, is refused as a file, and nothing is printed.
+    ensures within { IsTooLong 4194304 (F.contents files.old script.now) → result.exit ≡ Exit.Refused }
 {
     let recorded = record_script(alloc, script, log, files, out);
-    end(alloc, recorded, out, err)
+    let more = explain_recording(alloc, explains, recorded, script, log, files);
+    end(alloc, recorded, more.as_str(), out, err)
 }
 
 // Runs the script in a file, and writes its log.
@@ -55,6 +61,7 @@ fn record_script<F: Files, O: Write>(
         (FailsRecording (F.contents files.old script.now) (O.contents out.old) (O.contents out.new)) }
     ensures kept { OnErr result (KeepsFiles (F.contents files.old) (F.contents files.new)) }
     ensures apart { script.now ≡ log.now → F.writes files.new ≡ F.writes files.old }
+    ensures within { IsTooLong 4194304 (F.contents files.old script.now) → exit_by result ≡ Exit.Refused }
 {
     if files.is_same(script, log) {
         return Err(RunError::from(Refusal::File));
@@ -78,6 +85,7 @@ fn run_file<F: Files, O: Write>(
         (FailsRecording (F.contents files.old script.now) (O.contents out.old) (O.contents out.new)) }
     ensures kept { KeepsFiles (F.contents files.old) (F.contents files.new) }
     ensures unwritten { F.writes files.new ≡ F.writes files.old }
+    ensures within { IsTooLong 4194304 (F.contents files.old script.now) → IsErrAnd result (λ fault. exit_of fault ≡ Exit.Refused) }
 {
     let text = read_text(alloc, script, files)?;
     run_text(alloc, &text, out)

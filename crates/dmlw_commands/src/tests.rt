@@ -3,12 +3,13 @@ ghost use Rattle.std.specs.Prelude.{None};
 use crate::list::list;
 use crate::record::record;
 use crate::status::status;
-use crate::{FileError, Files, Output};
+use crate::{FileError, Files, Output, Trouble};
 use std::alloc::{AllocError, Global};
 use std::io;
 use std::io::Write;
 use std::test::Fail;
 
+mod explain;
 mod host;
 mod reading;
 
@@ -51,6 +52,10 @@ impl Files for FakeFiles<'_> {
         let bytes = Vec::from_slice(alloc, bytes).map_err(|_| FileError::Memory)?;
         self.log = Some(bytes);
         Ok(())
+    }
+
+    fn trouble(&self) -> Option<&Trouble> {
+        None
     }
 
     fn is_same(&self, first: &str, second: &str) -> bool {
@@ -129,25 +134,27 @@ impl Write for Counted {
     }
 }
 
-// The command that words name, after the program's name, with its status.
-fn execute<O: Write, E: Write>(
+// The command that words name, after the program's name, with its status. It explains itself where the
+// program is named `explained`.
+fn execute<F: Files, O: Write, E: Write>(
     alloc: Global,
     words: &[&str],
-    files: &mut FakeFiles<'_>,
+    files: &mut F,
     out: &mut O,
     err: &mut E,
 ) -> u8 {
+    let explains = words.first().copied() == Some("explained");
     let command = words.get(1).copied().unwrap_or_default();
     let first = words.get(2).copied().unwrap_or_default();
-    let exit = if command == "record" {
+    let ended = if command == "record" {
         let log = words.get(3).copied().unwrap_or_default();
-        record(alloc, first, log, files, out, err)
+        record(alloc, explains, first, log, files, out, err)
     } else if command == "list" {
-        list(alloc, first, files, out, err)
+        list(alloc, explains, first, files, out, err)
     } else {
-        status(alloc, first, files, out, err)
+        status(alloc, explains, first, files, out, err)
     };
-    exit.status()
+    ended.exit.status()
 }
 
 // What a command did.

@@ -1,20 +1,11 @@
-use Rattle.dmlw.proofs.Ends.{ends_with, is_done, not_done}
+use Rattle.std.proofs.Common.{◌∙◌}
+use Rattle.dmlw.proofs.Ends.{task_tells}
 use Rattle.dmlw.proofs.execute.execute.Goals as goal
 
-pub returns-clause-does : goal.returns-clause-does
-returns-clause-does g c = record {
-  task = c.read_words-task.result;
-  read = c.read_words-task.ensures;
-  exit = c.perform.result;
-  ends = c.perform.ensures.ends;
-  exits = c.status.ensures;
-}
+pub returns-in-Ok-clause-told : goal.returns-in-Ok-clause-told
+returns-in-Ok-clause-told g c = λ off faulty.
+    task_tells c.read_words-task.result _ _ _ _ _ _ c.perform.result c.perform.ensures.ends (c.has_explain-explains.ensures ∙ off) faulty
 
-pub returns-clause-command : goal.returns-clause-command
-returns-clause-command g c = ends_with c.read_words-task.result _ _ _ _ _ c.perform.result _ c.perform.ensures.ends c.status.ensures
-
-pub returns-clause-kept : goal.returns-clause-kept
-returns-clause-kept g c = λ least. c.perform.ensures.kept (not_done c.perform.result _ c.status.ensures least)
-
-pub returns-clause-quiet : goal.returns-clause-quiet
-returns-clause-quiet g c = λ zero. c.perform.ensures.quiet (is_done c.perform.result _ c.status.ensures zero)
+pub returns-in-Err-clause-told : goal.returns-in-Err-clause-told
+returns-in-Err-clause-told g c = λ off faulty.
+    task_tells c.unread-task.result _ _ _ _ _ _ c.perform-in-Err.result c.perform-in-Err.ensures.ends (c.has_explain-explains.ensures ∙ off) faulty

@@ -1,0 +1,64 @@
+/// The page that `dmlw help formats` prints: what is read and printed. docs/FORMATS.md has the same text.
+pub const FORMATS: &str = r#"# Formats
+
+What dmlw reads and prints. Every line ends with a line feed. The log's own bytes are those of the kernel's dm-log-writes, version 1
+(`crates/log_format`, docs/KERNEL.md).
+
+## A script
+
+A script is ASCII text without zero bytes, at most 4,194,304 bytes long. Lines end with a line feed; the last may lack it. Empty lines and
+lines that begin with `#` are skipped. One space stands between words. So these are refused as 30 BadLine at their line: a carriage return at
+a line's end, a byte order mark, a tab, two spaces, an upper case letter in a word.
+
+| Line | Meaning | Range |
+|---|---|---|
+| `data <sectors>` | the data disk's size; the first line | 1 to 1,048,576 |
+| `log <sectors>` | the log's size; the second line | 1 to 1,048,576 |
+| `w <id> <first> <count> <byte>` | submits a write of that byte | 1 to 2,048 sectors, two lower case hexadecimal digits |
+| `f <id>` | submits a flush | |
+| `c <id>` | ends that request | an open one |
+| `close` | ends recording: the log gets its end mark | no request is open |
+
+Sizes and places are in sectors of 512 bytes. An id is 1 to 16 of `a` to `z` and `0` to `9`, and is submitted once. A script without `close`
+leaves an empty log, and that is no fault: the status is `0 0`.
+
+## What is printed
+
+| Command | Prints |
+|---|---|
+| `record` | at `c`: `<id> ok`, or `<id> failed` at a submission that found no memory; at the end the status |
+| `list` | `super version 1 entries <n> sectorsize <S>`, then a line of each entry: `<number> @<log sector>`, and `mark <text>`, `discard <sector>+<sectors>`, `flush` or `write <sector>+<sectors>`, the last two with ` flush` (of a write), ` fua`, ` meta` where set |
+| `status` | `<entries> <sector>`: how many entries the log counts, and the highest sector of 512 bytes that they use; `0 0` of an empty log |
+
+`3 4` is a status: three entries, of which the last uses sector 4. A mark's bytes outside 20 to 7e, and the backslash, stand as a backslash
+and two lower case hexadecimal digits.
+
+## Exit status
+
+| Status | Meaning |
+|---|---|
+| 0 | done |
+| 1 | refused: a line on standard error says by which number and name |
+| 2 | the command line isn't one of the program's |
+| 3 | logging ended before its time, with its cause on standard error |
+
+## Faults
+
+A fault is one line on standard error: `dmlw: <number> <name>`, or `dmlw: line <n>: <number> <name>` of a script's line.
+
+| No | Name | When a command tells it |
+|---|---|---|
+| 2 | Memory | there is no memory; of a `close`, with its line |
+| 3, 4, 5 | PastEnd, TooLong, NotWhole | a request past the disk's end, of over 2,048 sectors, of none |
+| 13, 14, 15 | BadMagic, BadVersion, BadSectorSize | the image isn't a log, or is of another version, or has log sectors that aren't 512, 1024, 2048 or 4096 bytes |
+| 16, 17 | BadMark, TooLarge | an entry that no log can have |
+| 18, 20 | Full, Memory | logging ended (status 3): the log has no room, or memory ran out |
+| 21 | CutShort | the log is shorter than it says |
+| 24 | Busy | a `close` where a request is open |
+| 30 | BadLine | a line that isn't one of a script's, or isn't in its place |
+| 31 | BadId | an id that is submitted twice, or ended where it isn't open |
+| 32 | File | a file or the output can't be read or written; a script that is too long; an image that isn't 512 to 536,870,912 bytes in whole sectors; a log that is its own script |
+
+`crates/refusals` has the whole table; the other numbers are for commands that aren't there yet. Names of files are UTF-8 text; a word that
+isn't is a usage fault (2).
+"#;

@@ -1,0 +1,31 @@
+use refusals::Refusal;
+
+/// What helps where a command is refused so: one sentence, or none where its name says it all.
+pub(crate) fn advice(refusal: Refusal) -> &'static str {
+    match refusal {
+        Refusal::Memory | Refusal::EndMemory =>
+            "there was no memory for it: try a smaller script or image",
+        Refusal::PastEnd =>
+            "the request ends past the data disk: its first sector and its count come to more than `data` says",
+        Refusal::TooLong => "a request has at most 2048 sectors",
+        Refusal::NotWhole => "a request has at least one sector",
+        Refusal::BadMagic =>
+            "it doesn't begin with the 8 bytes of a log, 72 68 77 66 73 6a 73 00: it isn't a log",
+        Refusal::BadVersion => "the log is of another format version than 1",
+        Refusal::BadSectorSize =>
+            "the log's sectors aren't of 512, 1024, 2048 or 4096 bytes: its first sector is damaged",
+        Refusal::BadMark =>
+            "a mark has sectors, or a text that its sector has no room for: the entry is damaged",
+        Refusal::TooLarge => "an entry reaches past what a device can have: the entry is damaged",
+        Refusal::Full =>
+            "the entries don't fit the log: give it more sectors, in the script's line `log <sectors>`",
+        Refusal::Device => "the log's device failed",
+        Refusal::CutShort =>
+            "the log is shorter than it says: it was cut, or wasn't written to its end; what stands before the fault is whole",
+        Refusal::Busy =>
+            "a request is still open here: end each by a line `c <id>` before the `close`",
+        Refusal::BadId =>
+            "an id is submitted once in a script, and `c <id>` ends one that was submitted and hasn't ended",
+        _ => "",
+    }
+}

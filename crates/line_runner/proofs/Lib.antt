@@ -1,0 +1,4 @@
+mod Printing
+mod Stepping
+mod Chaining
+mod Scripts

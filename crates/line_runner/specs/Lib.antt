@@ -1,0 +1,13 @@
+pub use Rattle.script_runner.specs.Errors
+pub use Rattle.script_runner.specs.CallLaws
+pub use Rattle.bio.specs.Check
+pub use Rattle.blockdev.specs.Calls
+pub use Rattle.dmlw_script.specs.Plans
+pub use Rattle.recorder.specs.Calls as RecorderCalls
+pub use Rattle.recorder.specs.Growth
+pub use Rattle.refusals.specs.Texts as RefusalTexts
+pub mod Submitted
+pub mod HandOver
+pub mod Texts
+pub mod Lines
+pub mod Runs

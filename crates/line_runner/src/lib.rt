@@ -1,0 +1,18 @@
+//! Runs a script of `dmlw record`: its requests go through the recorder and to the data device, and a line says what became of each.
+//!
+//! `Running` is a script's run so far: the recorder over the log's device, the data device, and the requests that were submitted. `run` runs
+//! the lines of a script one after another. `specs/Lines` says what each line does and prints, in one case for each kind of line, and `specs/Runs` what
+//! all lines come to.
+#![tactic(auto)]
+
+pub use request::Request;
+pub use run_script::run;
+pub use running::Running;
+
+mod asking;
+mod handing;
+mod print;
+mod request;
+mod run_script;
+mod running;
+mod step_error;

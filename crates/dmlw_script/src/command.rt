@@ -1,5 +1,5 @@
 /// What a line of a script submits. Sectors are of 512 bytes.
-#[derive(Clone, Copy, Debug, PartialEq, Eq)]
+#[derive(Clone, Copy, Debug)]
 pub enum Submission {
     /// A write of `count` sectors of `byte` from sector `first` on. In a script it covers 1 to 2,048
     /// sectors, all of them on the data disk.
@@ -9,14 +9,14 @@ pub enum Submission {
 }
 
 /// What a line of a script does that names no request.
-#[derive(Clone, Copy, Debug, PartialEq, Eq)]
+#[derive(Clone, Copy, Debug)]
 pub enum Step {
     /// Ends the recording.
     Close,
 }
 
 /// One line of a script's body.
-#[derive(Clone, Copy, Debug, PartialEq, Eq)]
+#[derive(Clone, Copy, Debug)]
 pub enum Command {
     /// Submits the next request.
     Submit(Submission),

@@ -18,7 +18,7 @@ use std::alloc::Global;
 const HEAD_LINES: usize = 2;
 
 /// What a script is for.
-#[derive(Clone, Copy, Debug, PartialEq, Eq)]
+#[derive(Clone, Copy, Debug)]
 pub enum Kind {
     /// One recorder, whose calls come in the order of the lines.
     Record,

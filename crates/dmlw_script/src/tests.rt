@@ -341,9 +341,3 @@ fn long_scripts_are_read(rt: HostRuntime) -> Result<(), Fail> {
     assert!(rt; answer(alloc, text.as_bytes(), Kind::Record)?.as_str() == text.as_str());
     Ok(())
 }
-
-#[test]
-fn others_differ(rt: HostRuntime) {
-    assert!(rt; Kind::Record != Kind::Run);
-    assert!(rt; Command::Submit(Submission::Flush) != Command::Step(Step::Close));
-}

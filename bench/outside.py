@@ -63,6 +63,19 @@ def files(room):
     script.write_bytes(FIRST)
 
 
+def texts(room):
+    page = (pathlib.Path(__file__).resolve().parent.parent / "docs/FORMATS.md").read_bytes()
+    ran = run("help", "formats")
+    trial("help formats prints docs/FORMATS.md", (ran.returncode, ran.stdout, ran.stderr) == (0, page, b""))
+    script = room / "script"
+    script.write_bytes(FIRST)
+    ran = run("--explain", "record", script, room / "none" / "log")
+    trial("--explain has the system's reason", ran.returncode == 1 and b"dmlw: 32 File\n" in ran.stderr and b"No such file" in ran.stderr, ran)
+    with open("/dev/full", "wb") as full:
+        ran = subprocess.run([PROGRAM, "record", "--explain", script, room / "log"], stdout=full, stderr=subprocess.PIPE)
+    trial("--explain names the output", ran.returncode == 1 and b"standard output" in ran.stderr, ran)
+
+
 def pipes(room):
     script, log = room / "script", room / "log"
     script.write_bytes(FIRST)
@@ -124,6 +137,6 @@ def killed(room):
 
 
 with tempfile.TemporaryDirectory() as at:
-    for part in (files, pipes, full_disk, killed):
+    for part in (files, texts, pipes, full_disk, killed):
         part(pathlib.Path(at))
 sys.exit(1 if failed else 0)

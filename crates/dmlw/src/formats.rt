@@ -30,6 +30,8 @@ leaves an empty log, and that is no fault: the status is `0 0`.
 | `list` | `super version 1 entries <n> sectorsize <S>`, then a line of each entry: `<number> @<log sector>`, and `mark <text>`, `discard <sector>+<sectors>`, `flush` or `write <sector>+<sectors>`, the last two with ` flush` (of a write), ` fua`, ` meta` where set |
 | `status` | `<entries> <sector>`: how many entries the log counts, and the highest sector of 512 bytes that they use; `0 0` of an empty log |
 
+`help formats` prints this page.
+
 `3 4` is a status: three entries, of which the last uses sector 4. A mark's bytes outside 20 to 7e, and the backslash, stand as a backslash
 and two lower case hexadecimal digits.
 
@@ -61,4 +63,12 @@ A fault is one line on standard error: `dmlw: <number> <name>`, or `dmlw: line <
 
 `crates/refusals` has the whole table; the other numbers are for commands that aren't there yet. Names of files are UTF-8 text; a word that
 isn't is a usage fault (2).
+
+## With `--explain`
+
+The word `--explain`, in any place after the program's name, changes no other line. It adds to standard error, behind the fault's line, lines that
+each begin with two spaces: of a script's line the line itself, its number, the usual cause where it is seen (a carriage return, a byte order
+mark, a tab, an upper case letter), the first word that doesn't fit, and the form that the line is to have; of a file its name and the system's
+reason. At status 0 it says where a script has no `close`. Their wording may change; the other lines' doesn't. A file of that very name is
+given as `./--explain`.
 "#;

@@ -1,11 +1,9 @@
-use Rattle.std.proofs.Common.{◌≡◌, ℕ, Bool, true, false, List, [], ◌++◌, Option, Result, Ok, Err, IfErr, inl, inr, subst, sym}
-use Rattle.std.specs.Io.KnownBytes.{Appends, Keeps}
+use Rattle.std.proofs.Common.{◌≡◌, ℕ, List, Option, Result, Ok, Err, IfErr, inl, inr, subst, sym}
+use Rattle.std.specs.Io.KnownBytes.{Keeps}
 use Rattle.dmlw_commands.specs.declared.ending.Ended.{Ended}
-use Rattle.dmlw_commands.specs.declared.exit.Exit.TheVariants.{Done}
 use Rattle.script_runner.specs.declared.error.RunError.{RunError}
 use Rattle.script_runner.specs.RunFaults.{EndsRun, close, file as by_file, logging}
 use Rattle.dmlw_commands.specs.Endings.{EndsRecording, EndsShowing, Telling, Tells}
-use Rattle.dmlw_commands.specs.Exits.{exit_by, told_line}
 use Rattle.dmlw_commands.specs.Files.{Write}
 use Rattle.dmlw_commands.specs.Lists.{Shows, ShowsFile}
 use Rattle.dmlw_commands.specs.Records.{FailsRecording, Records, PrintsLog, WritesLog, file, run as ran, text as unread}

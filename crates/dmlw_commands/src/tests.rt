@@ -256,80 +256,37 @@ fn splices_in_the_order_of_ends(rt: HostRuntime) -> Result<(), Fail> {
     Ok(())
 }
 
+// Scripts, each after a `~`, with the status, what is printed and the fault: logs of an end mark alone, of nothing
+// and of nothing placed; a close with an open request; texts that are no scripts; logs that are one sector too
+// short, and that aren't; more than one close, of which the first counts; lines after a close.
+const SCRIPTS: &str = "data 16\nlog 32\nclose;0;1 1\n;
+~data 16\nlog 32\nw a 5 1 41\nc a\n;0;a ok\n0 0\n;
+~data 16\nlog 1\n# comment\n\nw a 0 1 00\n;0;0 0\n;
+~data 16\nlog 32\nw a 5 1 41\nclose\n;1;;dmlw: line 4: 24 Busy\n
+~data 16\nlog 32\nw a 5 1 41\nc a\n#\n\nf b\nclose\n;1;a ok\n;dmlw: line 8: 24 Busy\n
+~data 16\nlog 32\nw a 16 1 41\n;1;;dmlw: line 3: 3 PastEnd\n
+~data 16\nlog 32\nno a 1 1\n;1;;dmlw: line 3: 30 BadLine\n
+~data 16\nlog 32\nw a 5 1 41\nc a\nc a\n;1;;dmlw: line 5: 31 BadId\n
+~;1;;dmlw: line 1: 30 BadLine\n
+~data 16\nlog 5\nw a 5 1 41\nc a\nf b\nc b\nclose\nf z\nc z\n;3;a ok\nb ok\n;dmlw: 18 Full\n
+~data 16\nlog 6\nw a 5 1 41\nc a\nf b\nc b\nclose\n;0;a ok\nb ok\n3 4\n;
+~data 16\nlog 2\nclose\n;3;;dmlw: 18 Full\n
+~data 16\nlog 32\nclose\nf a\nclose\n;0;1 1\n;
+~data 16\nlog 32\nf a\nclose\nc a\nclose\n;1;;dmlw: line 4: 24 Busy\n
+~data 16\nlog 32\nclose\nw a 5 1 41\nc a\nclose\nf b\n;0;a ok\n1 1\n;";
+
 #[test]
 fn answers_scripts(rt: HostRuntime) {
-    let table = [
-        // A log of an end mark alone, of nothing, and of nothing placed.
-        ("data 16\nlog 32\nclose", 0, "1 1\n", ""),
-        ("data 16\nlog 32\nw a 5 1 41\nc a\n", 0, "a ok\n0 0\n", ""),
-        ("data 16\nlog 1\n# comment\n\nw a 0 1 00\n", 0, "0 0\n", ""),
-        // A close with an open request.
-        (
-            "data 16\nlog 32\nw a 5 1 41\nclose\n",
-            1,
-            "",
-            "dmlw: line 4: 24 Busy\n",
-        ),
-        (
-            "data 16\nlog 32\nw a 5 1 41\nc a\n#\n\nf b\nclose\n",
-            1,
-            "a ok\n",
-            "dmlw: line 8: 24 Busy\n",
-        ),
-        // Texts that are no scripts.
-        (
-            "data 16\nlog 32\nw a 16 1 41\n",
-            1,
-            "",
-            "dmlw: line 3: 3 PastEnd\n",
-        ),
-        (
-            "data 16\nlog 32\nd a 1 1\n",
-            1,
-            "",
-            "dmlw: line 3: 30 BadLine\n",
-        ),
-        (
-            "data 16\nlog 32\nw a 5 1 41\nc a\nc a\n",
-            1,
-            "",
-            "dmlw: line 5: 31 BadId\n",
-        ),
-        ("", 1, "", "dmlw: line 1: 30 BadLine\n"),
-        // A log that is one sector too short, and one that isn't.
-        (
-            "data 16\nlog 5\nw a 5 1 41\nc a\nf b\nc b\nclose\nf z\nc z\n",
-            3,
-            "a ok\nb ok\n",
-            "dmlw: 18 Full\n",
-        ),
-        (
-            "data 16\nlog 6\nw a 5 1 41\nc a\nf b\nc b\nclose\n",
-            0,
-            "a ok\nb ok\n3 4\n",
-            "",
-        ),
-        ("data 16\nlog 2\nclose\n", 3, "", "dmlw: 18 Full\n"),
-        // More than one close: the first counts.
-        ("data 16\nlog 32\nclose\nf a\nclose\n", 0, "1 1\n", ""),
-        (
-            "data 16\nlog 32\nf a\nclose\nc a\nclose\n",
-            1,
-            "",
-            "dmlw: line 4: 24 Busy\n",
-        ),
-        // Lines after a close.
-        (
-            "data 16\nlog 32\nclose\nw a 5 1 41\nc a\nclose\nf b\n",
-            0,
-            "a ok\n1 1\n",
-            "",
-        ),
-    ];
-    for (script, status, out, err) in table {
-        let ran = recorded(rt.alloc(), script.as_bytes());
-        assert!(rt; ran.is(status, out, err), "{script}: {ran:?}");
-        assert_eq!(rt; ran.log.is_some(), status == 0, "log of {script}");
+    for row in SCRIPTS.split("\n~") {
+        let mut fields = row.split(';');
+        let ran = recorded(rt.alloc(), fields.next().unwrap_or_default().as_bytes());
+        let status = fields.next().unwrap_or_default().parse::<u8>().unwrap_or(9);
+        let out = fields.next().unwrap_or_default();
+        assert!(rt;
+            ran.is(status, out, fields.next().unwrap_or_default()),
+            "{row}: {ran:?}"
+        );
+        assert!(rt; ran.log.is_some() == (status == 0), "log of {row}");
     }
 }
 

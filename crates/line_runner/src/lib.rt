@@ -16,3 +16,5 @@ mod request;
 mod run_script;
 mod running;
 mod step_error;
+#[cfg(test)]
+mod tests;

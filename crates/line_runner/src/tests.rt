@@ -1,0 +1,83 @@
+use super::*;
+use dmlw_script::{Kind, read_script};
+use log_store::LogStore;
+use recorder::Recorder;
+use script_runner::RunError;
+use sector_disk::SectorDisk;
+use std::alloc::{AllocError, Global};
+use std::test::Fail;
+
+// Scripts, a line each, whose lines stand between commas; after `=` stands what the run prints, and the recorder's status or the fault.
+const SCRIPTS: &str = "log 32,w a 5 1 41,c a,f b,c b,close=a ok;b ok;3 4
+log 32,close,close=1 1
+log 5,w a 5 1 41,c a,f b,c b,close=a ok;b ok;2 3 logging_disabled
+log 32,w a 5 1 41,c a=a ok;0 0
+log 32,close,w a 5 1 41,f b,c b,c a=b ok;a ok;1 1
+log 32,w a 5 1 41,c a,w b 6 1 42,close=a ok;line 6: 24 Busy
+log 2,f a,close=line 4: 24 Busy";
+
+// The text of a script of these lines.
+fn text_of(alloc: Global, lines: &str) -> Result<String, AllocError> {
+    let mut text = String::from_str(alloc, "data 16\n")?;
+    for line in lines.split(",") {
+        text.push_str(line)?;
+        text.push_str("\n")?;
+    }
+    Ok(text)
+}
+
+// What a run of the script prints, its lines joined, and how it ended.
+fn shown(alloc: Global, text: &str) -> Result<String, Fail> {
+    let script = read_script(alloc, text.as_bytes(), Kind::Record)?;
+    let data = SectorDisk::new(alloc, script.data_sectors())?;
+    let log = SectorDisk::new(alloc, script.log_sectors())?;
+    let mut out = Vec::new(alloc);
+    let ended = match LogStore::create(log) {
+        Ok(store) => match Recorder::new(alloc, store) {
+            Ok(recorder) => {
+                let mut running = Running::new(alloc, recorder, data, script.names().len())?;
+                match run(text.as_bytes(), &script, &mut running, &mut out) {
+                    Ok(()) => format!(in alloc; "{}", running.recorder().status())?,
+                    Err(error) => format!(in alloc; "{error}")?,
+                }
+            }
+            Err(_) => String::from_str(alloc, "no memory")?,
+        },
+        Err((_, end)) => format!(in alloc; "{}", RunError::from(end))?,
+    };
+    let mut shown = String::new(alloc);
+    for byte in out {
+        shown.push(if byte == b'\n' { ';' } else { char::from(byte) })?;
+    }
+    shown.push_str(ended.as_str())?;
+    Ok(shown)
+}
+
+#[test]
+fn scripts_are_run(rt: HostRuntime) -> Result<(), Fail> {
+    let alloc = rt.alloc();
+    for row in SCRIPTS.lines() {
+        let mut parts = row.split("=");
+        let text = text_of(alloc, parts.next().unwrap_or_default())?;
+        let shown = shown(alloc, text.as_str())?;
+        assert_eq!(rt; Some(shown.as_str()), parts.next(), "{row}");
+    }
+    Ok(())
+}
+
+// A long script finds memory for all that it asks.
+#[test]
+fn long_scripts_are_run(rt: HostRuntime) -> Result<(), Fail> {
+    let alloc = rt.alloc();
+    let mut lines = String::from_str(alloc, "log 20000")?;
+    for number in 0..3000 {
+        lines.push_str(format!(in alloc;
+            ",w a{number} 7 2 41,c a{number},f b{number},c b{number}"
+        )?.as_str())?;
+    }
+    lines.push_str(",close")?;
+    let text = text_of(alloc, lines.as_str())?;
+    let shown = shown(alloc, text.as_str())?;
+    assert!(rt; shown.as_str().ends_with("b2999 ok;6001 12001"));
+    Ok(())
+}

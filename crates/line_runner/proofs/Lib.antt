@@ -2,3 +2,4 @@ mod Printing
 mod Stepping
 mod Chaining
 mod Scripts
+mod Reading

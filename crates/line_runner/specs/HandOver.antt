@@ -1,9 +1,9 @@
 -- What handing a request over to the data device comes to.
-use Rattle.std.specs.Prelude.{◌≡◌, ◌⊎◌, ℕ, Bool, true, false, Result, is_ok}
+use Rattle.std.specs.Prelude.{List, Option, ◌≡◌, ◌⊎◌, ℕ, Bool, true, false, Result, is_ok, Some, None, Ok, Err, ◌*◌, length}
 use Rattle.bio.specs.declared.outcome.DevError.{DevError}
 use Rattle.bio.specs.declared.request.Bio.{Bio}
 use Rattle.bio.specs.declared.request.Bio.TheVariants as bios
-use Rattle.blockdev.specs.Calls.{Call, Discards, Flushes, Writes}
+use Rattle.blockdev.specs.Calls.{Call, Discards, Flushes, Writes, Reads}
 
 -- whether a device, before a call and after it, can have done this call at this moment with this answer
 abbrev pub Deeds : Type 0 → Type 1
@@ -25,3 +25,10 @@ HandsOver does (bios.Write first bytes false fua meta) ok old new = DoesCall doe
 HandsOver does bios.Flush ok old new = DoesCall does Flushes ok old new
 HandsOver does (bios.Discard first count) ok old new = DoesCall does (Discards first count) ok old new
 HandsOver does (bios.Read first count) ok old new = (ok ≡ true) × (new ≡ old)
+
+-- So many sectors were read from the device: these bytes. Or nothing was: there was no memory for them, and the device wasn't called; or its read failed.
+abbrev pub ReadsSectors : {D : Type 0} → Deeds D → ℕ → ℕ → Option (List ℕ) → D → D → Type 0
+ReadsSectors does first count (Some bytes) old new =
+    (before : List ℕ) × (end : ℕ) × (length before ≡ count * 512) × does old (Reads first before bytes) 0 (Ok end) new
+ReadsSectors does first count None old new = (new ≡ old)
+    ⊎ ((before after : List ℕ) × (error : DevError) × (length before ≡ count * 512) × does old (Reads first before after) 0 (Err error) new)

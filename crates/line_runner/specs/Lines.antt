@@ -1,4 +1,5 @@
 -- What each line of a script does, from the run before it (old) to the run after it (new), and what it prints.
+use Rattle.recorder.specs.declared.reply.Turn.{Turn}
 use Rattle.std.specs.Prelude.{◌≡◌, ◌⊎◌, ℕ, ◌<◌, Bool, true, false, List, [], ◌∷◌, ◌++◌, Option, Some, None, Result, Ok, length, slice_get, if◌then◌else◌}
 use Rattle.std.specs.Io.KnownBytes.{Appends, Keeps}
 use Rattle.bio.specs.declared.request.Bio.{Bio}
@@ -16,7 +17,7 @@ use Rattle.dmlw_script.specs.Plans.{is_submission, name_at, step_answer, submiss
 use Rattle.recorder.specs.declared.recorder.Recorder.{Recorder}
 use Rattle.recorder.specs.declared.reply.Reply.{Reply}
 use Rattle.recorder.specs.declared.reply.Reply.TheVariants as replies
-use Rattle.recorder.specs.Calls.{Closes, Completes, Drains, Submits}
+use Rattle.recorder.specs.Calls.{Turns, Closes, Completes, Drains, Submits}
 use Rattle.recorder.specs.Growth.{RecorderGoes}
 use Rattle.recorder.specs.Shown.{recording_of}
 use Rattle.line_runner.specs.declared.request.Request.{Request}
@@ -25,9 +26,9 @@ use Rattle.line_runner.specs.declared.running.Running.{Running}
 use Rattle.line_runner.specs.declared.step_error.StepError.{StepError}
 use Rattle.line_runner.specs.declared.step_error.StepError.TheVariants.{AtLine, Whole}
 use Rattle.script_runner.specs.Errors.{IsFileError}
-use Rattle.line_runner.specs.HandOver.{HandsOver}
+use Rattle.line_runner.specs.HandOver.{ReadsSectors, HandsOver}
 use Rattle.line_runner.specs.Submitted.{bio_of}
-use Rattle.line_runner.specs.Texts.{outcome_line}
+use Rattle.line_runner.specs.Texts.{read_line, outcome_line}
 
 -- what the recorder answers to a submission that it doesn't refuse
 abbrev pub reply_of : Option ℕ → Reply
@@ -85,6 +86,20 @@ pub record EndsRecording {D L : Type 0} {d : Ghosts D} {l : Ghosts L} (text : Li
   pub closes : Closes replies.Closed old.recorder closed
   pub answer : Result Unit End
   pub drains : Drains answer closed new.recorder
+
+-- A line reads from the data device; the recorder isn't asked.
+pub record ReadsData {D L : Type 0} {d : Ghosts D} {l : Ghosts L} (first count : ℕ) (text : List ℕ) (old new : Running D L d l) : Type 0 where
+  pub log : new.recorder ≡ old.recorder
+  pub kept : new.requests.items ≡ old.requests.items
+  pub bytes : Option (List ℕ)
+  pub reads : ReadsSectors d.does first count bytes old.disk new.disk
+  pub prints : text ≡ read_line first count bytes
+
+-- A line gives the writer a turn.
+pub record GivesTurn {D L : Type 0} {d : Ghosts D} {l : Ghosts L} (text : List ℕ) (old new : Running D L d l) : Type 0 where
+  pub keeps : KeepsData text old new
+  pub turn : Turn
+  pub turns : Turns turn old.recorder new.recorder
 
 -- A line that names no request.
 abbrev pub TakesStep : {D L : Type 0} {d : Ghosts D} {l : Ghosts L} → Step → List ℕ → Running D L d l → Running D L d l → Type 0

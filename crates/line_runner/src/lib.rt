@@ -8,6 +8,7 @@
 pub use request::Request;
 pub use run_script::run;
 pub use running::Running;
+pub use step_error::StepError;
 
 mod asking;
 mod handing;

@@ -3,8 +3,8 @@ ghost use Rattle.std.specs.List.{list_all};
 ghost use Rattle.line_runner.specs.Submitted.{fits_device};
 
 use crate::asking::{ask, tell_end};
-use crate::handing::hand_over;
-use crate::print::{name_of, print_outcome, print_submission};
+use crate::handing::{hand_over, read_sectors};
+use crate::print::{name_of, print_outcome, print_read, print_submission};
 use crate::request::Request;
 use crate::step_error::StepError;
 use bio::Event;
@@ -28,14 +28,15 @@ pub struct Running<D: BlockDev + Drop, L: BlockDev + Drop> {
 impl<D: BlockDev + Drop, L: BlockDev + Drop> Running<D, L> {
     ghost use Rattle.std.specs.Prelude.{◌≡◌, ◌+◌, ◌<◌, IfErr, IfOk, List, Ok, OnOk, [], length, ℕ};
     ghost use Rattle.std.specs.List.{AllByRecursion};
-    ghost use Rattle.std.specs.Io.KnownBytes.{Keeps};
+    ghost use Rattle.std.specs.Io.KnownBytes.{Appends, Keeps};
+    ghost use Rattle.bio.specs.Check.{range_answer};
     ghost use Rattle.dmlw_script.specs.Plans.{HasName, IsName, submission_answer};
     ghost use Rattle.recorder.specs.declared.reply.Reply.TheVariants as replies;
     ghost use Rattle.recorder.specs.Calls.{Closes};
     ghost use Rattle.recorder.specs.Growth.{RecorderGoes};
     ghost use Rattle.recorder.specs.Shown.{recording_of};
     ghost use Rattle.line_runner.specs.declared.step_error.StepError.TheVariants.{AtLine};
-    ghost use Rattle.line_runner.specs.Lines.{EndsRecording, EndsSubmitted, FitsDevice, PrintsLine, StopsForFile, StopsLine, count_of};
+    ghost use Rattle.line_runner.specs.Lines.{EndsRecording, EndsSubmitted, FitsDevice, GivesTurn, PrintsLine, ReadsData, StopsForFile, StopsLine, count_of};
 
     /// The run of a script before its first line, with room for so many requests.
     pub fn new(
@@ -118,6 +119,31 @@ impl<D: BlockDev + Drop, L: BlockDev + Drop> Running<D, L> {
         }
     }
 
+    /// Reads `count` sectors from sector `first` on from the data device, and prints the first byte of each, or that the read failed.
+    pub fn read<O: Write>(&mut self, first: u64, count: u64, out: &mut O) -> Result<(), StepError>
+        requires { range_answer first count (D.shown self.old.disk).size ≡ Ok tt }
+        ensures runs { OnOk result ((text : List ℕ) × ReadsData first count text self.old self.new
+            × Appends (O.contents out.old) (O.contents out.new) text) }
+        ensures faults { IfErr result StopsForFile }
+        ensures goes { RecorderGoes (recording_of self.old.recorder) (recording_of self.new.recorder) }
+        ensures size { (D.shown self.new.disk).size ≡ (D.shown self.old.disk).size }
+        ensures count { length self.new.requests.items ≡ length self.old.requests.items }
+    {
+        laws::several_calls_go_as_one::<L>();
+        let bytes = read_sectors(&mut self.disk, self.alloc, first, count);
+        print_read(first, count, &bytes, out)
+    }
+
+    /// Gives the writer a turn.
+    pub fn turn(&mut self)
+        ensures turns { GivesTurn [] self.old self.new }
+        ensures goes { RecorderGoes (recording_of self.old.recorder) (recording_of self.new.recorder) }
+        ensures size { (D.shown self.new.disk).size ≡ (D.shown self.old.disk).size }
+        ensures count { length self.new.requests.items ≡ length self.old.requests.items }
+    {
+        let _turn = self.recorder.turn();
+    }
+
     // Ends the recording, and writes the log to its end.
     fn close(&mut self) -> Result<(), StepError>
         ensures ends { OnOk result (EndsRecording [] self.old self.new) }
@@ -135,8 +161,8 @@ impl<D: BlockDev + Drop, L: BlockDev + Drop> Running<D, L> {
         Ok(())
     }
 
-    // Runs a line.
-    pub(crate) fn run_line<O: Write>(
+    /// Runs a line: it does what its kind does, and what it prints is written to `out`.
+    pub fn run_line<O: Write>(
         &mut self,
         command: Command,
         names: &[ScriptId],

@@ -8,12 +8,12 @@ use script_runner::RunError;
 use std::alloc::AllocFailed;
 use std::io;
 
-// Why a script's run ends before its last line.
+/// Why a line stops the run of its script.
 #[derive(Clone, Copy, Debug, PartialEq, Eq)]
-pub(crate) enum StepError {
-    // The line that is run is refused.
+pub enum StepError {
+    /// The line itself is refused.
     AtLine(Refusal),
-    // Something else, for which no line is named.
+    /// Something else, for which no line is named.
     Whole(RunError),
 }
 

@@ -3,3 +3,4 @@ mod Stepping
 mod Chaining
 mod Scripts
 mod Reading
+mod Logs

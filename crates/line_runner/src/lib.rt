@@ -12,6 +12,7 @@ pub use step_error::StepError;
 
 mod asking;
 mod handing;
+pub mod laws;
 mod print;
 mod request;
 mod run_script;

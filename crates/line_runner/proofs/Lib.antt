@@ -3,4 +3,5 @@ mod Stepping
 mod Chaining
 mod Scripts
 mod Reading
+mod Writing
 mod Logs

@@ -11,3 +11,4 @@ pub mod HandOver
 pub mod Texts
 pub mod Lines
 pub mod Runs
+pub mod Written

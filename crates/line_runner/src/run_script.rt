@@ -21,6 +21,7 @@ pub fn run<D: BlockDev + Drop, L: BlockDev + Drop, O: Write>(
     requires size { (D.shown running.old.disk).size ≡ script.now.data_sectors }
     requires first { running.old.requests.items ≡ [] }
     ensures runs { OnOk result (PrintsLines script.now.names script.now.commands (O.contents out.old) (O.contents out.new) running.old running.new) }
+    ensures size { (D.shown running.new.disk).size ≡ (D.shown running.old.disk).size }
     ensures faults { IfErr result (EndsRun text.now script.now (O.contents out.old) (O.contents out.new) running.old) }
 {
     laws::requests_end_once();

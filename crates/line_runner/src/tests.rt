@@ -1,10 +1,12 @@
 use super::*;
+use bio::{Event, Ms};
+use blockdev::BlockDev;
 use dmlw_script::{Kind, read_script};
 use log_store::LogStore;
-use recorder::Recorder;
-use script_runner::RunError;
+use recorder::{Recorder, Reply};
 use sector_disk::SectorDisk;
 use std::alloc::{AllocError, Global};
+use std::process::Abort;
 use std::test::Fail;
 
 // Scripts, a line each, whose lines stand between commas; after `=` stands what the run prints, and the recorder's status or the fault.
@@ -26,24 +28,25 @@ fn text_of(alloc: Global, lines: &str) -> Result<String, AllocError> {
     Ok(text)
 }
 
-// What a run of the script prints, its lines joined, and how it ended.
-fn shown(alloc: Global, text: &str) -> Result<String, Fail> {
+// A recorder over a log of so many sectors.
+fn recorder_over(alloc: Global, sectors: u64) -> Result<Option<Recorder<SectorDisk>>, AllocError> {
+    let disk = SectorDisk::new(alloc, sectors.clamp(1, 65_536))?;
+    Ok(match LogStore::create(disk) {
+        Ok(store) => Recorder::new(alloc, store).ok(),
+        Err(_) => None,
+    })
+}
+
+// What a run of the script prints, and how it ended.
+fn shown(rt: &impl Abort, alloc: Global, text: &str) -> Result<String, Fail> {
     let script = read_script(alloc, text.as_bytes(), Kind::Record)?;
     let data = SectorDisk::new(alloc, script.data_sectors())?;
-    let log = SectorDisk::new(alloc, script.log_sectors())?;
+    let recorder = recorder_over(alloc, script.log_sectors())?.expect(rt, "a disk never fails");
+    let mut running = Running::new(alloc, recorder, data, script.names().len())?;
     let mut out = Vec::new(alloc);
-    let ended = match LogStore::create(log) {
-        Ok(store) => match Recorder::new(alloc, store) {
-            Ok(recorder) => {
-                let mut running = Running::new(alloc, recorder, data, script.names().len())?;
-                match run(text.as_bytes(), &script, &mut running, &mut out) {
-                    Ok(()) => format!(in alloc; "{}", running.recorder().status())?,
-                    Err(error) => format!(in alloc; "{error}")?,
-                }
-            }
-            Err(_) => String::from_str(alloc, "no memory")?,
-        },
-        Err((_, end)) => format!(in alloc; "{}", RunError::from(end))?,
+    let ended = match run(text.as_bytes(), &script, &mut running, &mut out) {
+        Ok(()) => running.recorder().status().to_string(alloc)?,
+        Err(error) => error.to_string(alloc)?,
     };
     let mut shown = String::new(alloc);
     for byte in out {
@@ -59,7 +62,7 @@ fn scripts_are_run(rt: HostRuntime) -> Result<(), Fail> {
     for row in SCRIPTS.lines() {
         let mut parts = row.split("=");
         let text = text_of(alloc, parts.next().unwrap_or_default())?;
-        let shown = shown(alloc, text.as_str())?;
+        let shown = shown(&rt, alloc, text.as_str())?;
         assert_eq!(rt; Some(shown.as_str()), parts.next(), "{row}");
     }
     Ok(())
@@ -77,7 +80,33 @@ fn long_scripts_are_run(rt: HostRuntime) -> Result<(), Fail> {
     }
     lines.push_str(",close")?;
     let text = text_of(alloc, lines.as_str())?;
-    let shown = shown(alloc, text.as_str())?;
+    let shown = shown(&rt, alloc, text.as_str())?;
     assert!(rt; shown.as_str().ends_with("b2999 ok;6001 12001"));
+    Ok(())
+}
+
+// Reads of one sector, of those around it, and of as many as a request may have; and a turn.
+#[test]
+fn reads_and_turns_are_taken(rt: HostRuntime) -> Result<(), Fail> {
+    let alloc = rt.alloc();
+    let mut data = SectorDisk::new(alloc, 4096)?;
+    let bytes = [0x4f; 1024];
+    assert!(rt; data.write(Ms::new(0), 5, &bytes, false).is_ok());
+    let mut recorder = recorder_over(alloc, 32)?.expect(&rt, "a disk never fails");
+    assert!(rt; recorder.event(Event::Close) == Reply::Closed);
+    let mut running = Running::new(alloc, recorder, data, 0)?;
+    let mut out = Vec::new(alloc);
+    assert!(rt; running.read(5, 1, &mut out).is_ok());
+    assert!(rt; running.read(4, 4, &mut out).is_ok());
+    assert_eq!(rt;
+        out.as_slice(),
+        b"read 5+1 ok 4f\nread 4+4 ok 004f4f00\n".as_slice()
+    );
+    assert!(rt; running.read(2048, 2048, &mut out).is_ok());
+    assert_eq!(rt; out.len(), 36 + 4096 + 19);
+    running.turn();
+    running.turn();
+    let status = running.recorder().status().to_string(alloc)?;
+    assert_eq!(rt; status.as_str(), "1 1");
     Ok(())
 }

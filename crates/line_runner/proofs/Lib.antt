@@ -5,3 +5,4 @@ mod Scripts
 mod Reading
 mod Writing
 mod Logs
+mod OnDisks

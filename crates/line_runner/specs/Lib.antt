@@ -6,9 +6,15 @@ pub use Rattle.dmlw_script.specs.Plans
 pub use Rattle.recorder.specs.Calls as RecorderCalls
 pub use Rattle.recorder.specs.Growth
 pub use Rattle.refusals.specs.Texts as RefusalTexts
+pub use Rattle.log_format.specs.LogOf
+pub use Rattle.recorder.specs.Recording
+pub use Rattle.sector_disk.specs.Candidates
+pub use Rattle.sector_disk.specs.Shown as DiskShown
+pub use Rattle.sector_disk.specs.Sizes
 pub mod Submitted
 pub mod HandOver
 pub mod Texts
 pub mod Lines
 pub mod Runs
 pub mod Written
+pub mod OnDisks

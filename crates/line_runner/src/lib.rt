@@ -5,6 +5,7 @@
 //! all lines come to.
 #![tactic(auto)]
 
+pub use recording::{Recorded, record};
 pub use request::Request;
 pub use run_script::run;
 pub use running::Running;
@@ -14,6 +15,7 @@ mod asking;
 mod handing;
 pub mod laws;
 mod print;
+mod recording;
 mod request;
 mod run_script;
 mod running;

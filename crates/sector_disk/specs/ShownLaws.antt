@@ -1,7 +1,7 @@
 -- A disk keeps the law of a device.
-use Rattle.std.proofs.Common.{◌≡◌, ℕ, suc, zero, ◌+◌, ◌-◌, Bool, true, false, Some, None, List, length, replicate, refl}
+use Rattle.std.proofs.Common.{arith, ◌≡◌, ℕ, suc, zero, ◌+◌, ◌-◌, Bool, true, false, Some, None, List, length, replicate, refl}
 use Rattle.std.specs.Prelude.{Option, slice_get, unwrap_or}
-use Rattle.sectors.specs.Content.{HasWholeValues}
+use Rattle.sectors.specs.Content.{HasWholeSectors, HasWholeValues}
 use Rattle.sectors.specs.ContentLaws.{discards-whole, writes-whole}
 use Rattle.blockdev.specs.View.{IsLawful}
 use Rattle.sector_disk.specs.declared.call.Call.{Call}
@@ -53,3 +53,10 @@ disk_lawful disk =
     view-lawful disk.sectors (start_of disk) (shown.steps_of disk) disk.kept.some disk.kept.few
     (λ sector h. value_at-whole disk.calls.items _ sector)
     (flushed-whole disk.flushed _ (steps-whole disk.calls.items disk.begun (length disk.calls.items - disk.begun)))
+
+-- its sectors are whole
+pub content_whole : (disk : SectorDisk) → HasWholeSectors disk.sectors (shown_of disk).content
+content_whole disk =
+    let lawful = disk_lawful disk in
+    let view = shown_of disk in
+    lawful.whole view.moment view.content (omega arith) (lawful.nested view.moment view.content (omega arith) lawful.current)

@@ -3,7 +3,7 @@ ghost use Rattle.sector_disk.specs.Shown.{shown_of};
 ghost use Rattle.sector_disk.specs.Sizes.{Begins, IsDiskSize, IsImageSize};
 ghost use Rattle.sector_disk.specs.inside.Added.{count_of};
 ghost use Rattle.sector_disk.specs.inside.Storage.{change_values, content_at};
-ghost use Rattle.sectors.specs.Content.{gather, put, sector_of};
+ghost use Rattle.sectors.specs.Content.{AgreeBelow, gather, put, sector_of};
 
 use crate::call::{Call, Change, SECTOR, read_places};
 use crate::disk::SectorDisk;
@@ -67,8 +67,10 @@ impl SectorDisk {
 
     /// The image of the disk: the bytes of all its sectors. Want of memory is an error.
     pub fn bytes(&self) -> Result<Vec<u8>, AllocError>
-        ensures { IfOk result (λ image.
+        ensures content { IfOk result (λ image.
             image.items ≡ gather (shown_of self.now).content 0 (shown_of self.now).size) }
+        ensures sectors { IfOk result (λ image. AgreeBelow (shown_of self.now).size (shown_of self.now).content (sector_of image.items)) }
+        ensures length { IfOk result (λ image. length image.items ≡ 512 * (shown_of self.now).size) }
     {
         let mut image = vec![in self.alloc; 0; self.sectors as usize * SECTOR]?;
         read_all(&self.calls, &self.newest, &mut image);

@@ -1,0 +1,98 @@
+ghost use Rattle.std.specs.Prelude.{◌≡◌, ◌*◌, ◌⊎◌, IfErr, IfOk, List, length, option_map, ℕ};
+ghost use Rattle.std.specs.Io.KnownBytes.{Appends};
+ghost use Rattle.bio.specs.declared.outcome.End.TheVariants as ends;
+ghost use Rattle.sectors.specs.Content.{AgreeBelow, sector_of};
+ghost use Rattle.sector_disk.specs.Shown.{shown_of};
+ghost use Rattle.sector_disk.specs.Sizes.{IsDiskSize};
+ghost use Rattle.script_runner.specs.declared.error.RunError.TheVariants.{LoggingEnded};
+ghost use Rattle.script_runner.specs.Errors.{IsFileError};
+ghost use Rattle.line_runner.specs.OnDisks.{FailsRecording, IsNew, IsRecorded, Starts, left_on};
+
+use crate::laws::{closed_runs_leave_whole_logs, lines_go_as_one_call};
+use crate::run_script::run;
+use crate::running::Running;
+use bio::Status;
+use dmlw_script::Script;
+use log_store::LogStore;
+use recorder::Recorder;
+use refusals::Refusal;
+use script_runner::RunError;
+use sector_disk::SectorDisk;
+use std::alloc::{AllocError, Global};
+use std::io::Write;
+
+/// What recording a script left.
+#[derive(Debug, Drop)]
+pub struct Recorded {
+    /// The bytes of the log's disk.
+    pub image: Vec<u8>,
+    /// How far the log has come.
+    pub status: Status,
+}
+
+/// Records a script, which was read from `text`, on two disks in memory of the sizes that it names. What its lines print is written to
+/// `out`. The log is handed over also where logging ended before the script did. A close that is refused fails at its line; so do want of memory
+/// and an output that can't be written, for which no line is named.
+pub fn record<O: Write>(
+    alloc: Global,
+    text: &[u8],
+    script: &Script,
+    out: &mut O,
+) -> Result<Recorded, RunError>
+    ensures recorded { IfOk result (λ recorded. (printed : List ℕ) × IsRecorded script.now printed recorded.status recorded.image.items
+        × Appends (O.contents out.old) (O.contents out.new) printed) }
+    ensures faults { IfErr result (FailsRecording text.now script.now (O.contents out.old) (O.contents out.new)) }
+{
+    lines_go_as_one_call::<SectorDisk, SectorDisk>();
+    closed_runs_leave_whole_logs::<SectorDisk, SectorDisk>();
+    let mut running = start(alloc, script)?;
+    run(text, script, &mut running, out)?;
+    let _events = running.recorder().events();
+    let status = running.recorder().status();
+    let (recorder, _data) = running.into_parts();
+    let image = read_log(recorder, None)?;
+    Ok(Recorded { image, status })
+}
+
+// A script's run before its first line.
+fn start(
+    alloc: Global,
+    script: &Script,
+) -> Result<Running<SectorDisk, SectorDisk>, RunError>
+    ensures starts { IfOk result (Starts script.now) }
+    ensures faults { IfErr result (λ fault. IsFileError fault ⊎ (fault ≡ LoggingEnded ends.Memory)) }
+{
+    let recorder = new_recorder(alloc, script.log_sectors())?;
+    let data = SectorDisk::new(alloc, script.data_sectors())?;
+    let running = Running::new(alloc, recorder, data, script.names().len())?;
+    Ok(running)
+}
+
+// A recorder over a new log, on a disk of so many sectors.
+fn new_recorder(alloc: Global, sectors: u64) -> Result<Recorder<SectorDisk>, RunError>
+    requires { IsDiskSize sectors }
+    ensures made { IfOk result (IsNew sectors) }
+    ensures faults { IfErr result (λ fault. IsFileError fault ⊎ (fault ≡ LoggingEnded ends.Memory)) }
+{
+    let disk = SectorDisk::new(alloc, sectors)?;
+    match LogStore::create(disk) {
+        Ok(store) => match Recorder::new(alloc, store) {
+            Ok(recorder) => Ok(recorder),
+            Err(_store) => Err(RunError::from(Refusal::Memory)),
+        },
+        Err((_disk, end)) => Err(RunError::LoggingEnded(end)),
+    }
+}
+
+// The bytes of the log's disk; where its power fails, after that.
+fn read_log(recorder: Recorder<SectorDisk>, picks: Option<&[u64]>) -> Result<Vec<u8>, AllocError>
+    ensures size { IfOk result (λ image. length image.items ≡ 512 * (shown_of recorder.store.device).size) }
+    ensures bytes { IfOk result (λ image. AgreeBelow (shown_of recorder.store.device).size
+        (left_on (option_map (λ p. p.now) picks.entry) recorder.store.device) (sector_of image.items)) }
+{
+    let mut disk = recorder.into_device();
+    if let Some(picks) = picks {
+        disk.crash(picks);
+    }
+    disk.bytes()
+}

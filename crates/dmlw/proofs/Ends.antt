@@ -1,17 +1,18 @@
 -- How every task ends.
-use Rattle.std.proofs.Common.{◌≡◌, ◌≤◌, ◌++◌, ℕ, [], append-nil, Bool, false, true, List, Option, Result, Ok, Err, arith, inl, inr, subst, sym}
+use Rattle.std.proofs.Common.{◌≡◌, ◌≤◌, ◌++◌, ℕ, [], append-nil, Bool, false, true, List, Option, Some, None, Result, Ok, Err, arith, inl, inr, refl, subst, sym}
 use Rattle.bio.specs.declared.outcome.End.{End}
+use Rattle.bio.specs.declared.outcome.Status.{Status}
 use Rattle.script_runner.specs.declared.error.RunError.{RunError}
 use Rattle.script_runner.specs.declared.error.RunError.TheVariants as faults
 use Rattle.script_runner.specs.Errors.{IsFileError, memory_error}
 use Rattle.dmlw_commands.specs.declared.exit.Exit.{Exit}
 use Rattle.dmlw_commands.specs.declared.exit.Exit.TheVariants.{Done, LoggingEnded, Refused, Usage}
-use Rattle.dmlw_commands.specs.Exits.{exit_by, status_of, told_line}
+use Rattle.dmlw_commands.specs.Exits.{exit_after, exit_at, exit_by, exit_of, fault_line, status_of, told_line}
 use Rattle.dmlw_commands.specs.declared.ending.Ended.{Ended}
-use Rattle.dmlw_commands.specs.Endings.{Telling, Tells}
-use Rattle.dmlw_commands.specs.Files.{Write}
+use Rattle.dmlw_commands.specs.Endings.{Telling, Tells, TellsLine}
+use Rattle.dmlw_commands.specs.Files.{Write, one_more}
 use Rattle.dmlw_commands.specs.Records.{Records, WritesLog}
-use Rattle.dmlw.specs.Commands.{EndsCommand, EndsTask, EndsUntasked, IsFaulty, TellsOneLine, TellsUntasked}
+use Rattle.dmlw.specs.Commands.{EndsCommand, EndsTask, EndsUntasked, TellsBy, TellsOneLine, TellsUntasked}
 use Rattle.clap.specs.Words.{Text, kind_of}
 use Rattle.clap.specs.declared.error.Error.{Error}
 use Rattle.dmlw.specs.CommandLine.{is_formats}
@@ -30,7 +31,7 @@ not_file end (inr is) = cc
 -- where nothing was asked to be written, a command ends as any may
 pub ends_silently : (writes_old writes_new : Option (List Write)) (exit : Exit) → writes_new ≡ writes_old
     → EndsCommand writes_old writes_new (status_of exit)
-ends_silently writes_old writes_new exit same = record { known = at_most exit; once = inl same; unwritten = λ two. same }
+ends_silently writes_old writes_new exit same = record { known = at_most exit; once = inl same; unwritten = λ usage. same }
   where
     at_most : (e : Exit) → status_of e ≤ 3
     at_most Done = omega arith
@@ -42,26 +43,28 @@ ends_silently writes_old writes_new exit same = record { known = at_most exit; o
 refused_recording : (contents : Option (List ℕ)) (log : List ℕ) (writes_old writes_new : Option (List Write)) (old new : Option (List ℕ))
     (fault : RunError) → WritesLog contents log writes_old writes_new old new (Err fault) → EndsCommand writes_old writes_new 1
 refused_recording contents log writes_old writes_new old new fault (inl same) = ends_silently writes_old writes_new Refused same
-refused_recording contents log writes_old writes_new old new fault (inr (file, asked)) = record {
+refused_recording contents log writes_old writes_new old new fault (inr (file, status, asked)) = record {
   known = omega arith;
   once = inr (log, asked.0, asked.2);
-  unwritten = λ two. absurd (omega arith);
+  unwritten = λ usage. absurd (omega arith);
 }
+
+-- a recording that came so far has asked for its log
+ends_logged : (end : Option End) (writes_old writes_new : Option (List Write)) → (name : List ℕ) × (bytes : List ℕ) × (writes_new ≡ one_more writes_old name bytes)
+    → EndsCommand writes_old writes_new (status_of (exit_at end))
+ends_logged None writes_old writes_new asked = record { known = omega arith; once = inr asked; unwritten = λ usage. absurd (omega arith) }
+ends_logged (Some cause) writes_old writes_new asked = record { known = omega arith; once = inr asked; unwritten = λ usage. absurd (omega arith) }
 
 -- every recording ends so
 ends_recorded : (contents : Option (List ℕ)) (log : List ℕ) (writes_old writes_new : Option (List Write)) (old new : Option (List ℕ))
-    (done : Result (Unit {0}) RunError) → Records contents log writes_old writes_new old new done
-    → EndsCommand writes_old writes_new (status_of (exit_by done))
-ends_recorded contents log writes_old writes_new old new (Ok u) asked = record {
-  known = omega arith;
-  once = inr (log, asked.0, asked.2);
-  unwritten = λ two. absurd (omega arith);
-}
+    (done : Result Status RunError) → Records contents log writes_old writes_new old new done
+    → EndsCommand writes_old writes_new (status_of (exit_after done))
+ends_recorded contents log writes_old writes_new old new (Ok status) asked = ends_logged status.end writes_old writes_new (log, asked.0, asked.2)
 ends_recorded contents log writes_old writes_new old new (Err (faults.Refused fault)) (writes, fails) =
     refused_recording contents log writes_old writes_new old new (faults.Refused fault) writes
 ends_recorded contents log writes_old writes_new old new (Err (faults.LoggingEnded end)) (inl same, fails) =
     ends_silently writes_old writes_new LoggingEnded same
-ends_recorded contents log writes_old writes_new old new (Err (faults.LoggingEnded end)) (inr (file, asked), fails) = absurd (not_file end file)
+ends_recorded contents log writes_old writes_new old new (Err (faults.LoggingEnded end)) (inr (file, status, asked), fails) = absurd (not_file end file)
 
 -- every task ends so
 pub ends_task : (task : Task) (contents : List ℕ → Option (List ℕ)) (writes_old writes_new : Option (List Write)) (old new : Option (List ℕ))
@@ -80,35 +83,59 @@ nothing_behind old new line more none grew =
     subst (Appends old new) (append-nil line) (subst (λ (l : List ℕ). Appends old new (line ++ l)) none grew)
 
 -- a command that ends by a fault, and doesn't explain itself, has told its line
-told_one_line : (t : Telling) (done : Result (Unit {0}) RunError) (ended : Ended) → t.explains ≡ false → IsFaulty ended.exit → Tells t done ended
+told_one_line : (t : Telling) (fault : RunError) (ended : Ended) → t.explains ≡ false → TellsLine t (exit_of fault) (fault_line fault) ended
     → TellsOneLine ended t.before t.after
-told_one_line t (Ok u) ended off faulty tells = absurd (subst IsFaulty tells.exits faulty)
-told_one_line t (Err fault) ended off faulty tells = record {
+told_one_line t fault ended off tells = record {
   fault = fault;
   exits = tells.exits;
   line = λ yes.
       let (more, silent, grew) = tells.told yes in
-      nothing_behind t.before t.after (told_line (Err fault)) more (silent off) grew;
+      nothing_behind t.before t.after (fault_line fault) more (silent off) grew;
 }
 
--- a text that ends by a fault has told its line
-text_tells : (kind : ErrorKind) (t : Telling) (ended : Ended) → EndsUntasked kind ended.exit → TellsUntasked kind t ended → t.explains ≡ false
-    → IsFaulty ended.exit → TellsOneLine ended t.before t.after
-text_tells OutOfMemory t ended ends tells off faulty = told_one_line t (Err memory_error) ended off faulty tells
-text_tells DisplayHelp t ended ends (done, fault, tells) off faulty = told_one_line t done ended off faulty tells
-text_tells DisplayVersion t ended ends (done, fault, tells) off faulty = told_one_line t done ended off faulty tells
-text_tells _ t ended ends tells off faulty = absurd (subst IsFaulty ends faulty)
+-- what a fault tells, by how it ends
+told_fault : (t : Telling) (fault : RunError) (ended : Ended) → t.explains ≡ false → TellsLine t (exit_of fault) (fault_line fault) ended
+    → TellsBy ended.exit ended t.before t.after
+told_fault t fault ended off tells =
+    subst (λ (e : Exit). TellsBy e ended t.before t.after) (sym tells.exits) (by_fault fault (told_one_line t fault ended off tells))
+  where
+    by_fault : (fault : RunError) → TellsOneLine ended t.before t.after → TellsBy (exit_of fault) ended t.before t.after
+    by_fault (faults.Refused f) line = line
+    by_fault (faults.LoggingEnded end) line = inr line
 
--- every task that ends by a fault, and doesn't explain itself, has told its line
+-- what a command tells that did this
+told_by : (t : Telling) (done : Result (Unit {0}) RunError) (ended : Ended) → t.explains ≡ false → Tells t done ended → TellsBy ended.exit ended t.before t.after
+told_by t (Ok u) ended off tells = subst (λ (e : Exit). TellsBy e ended t.before t.after) (sym tells.exits) (tells.quiet off refl)
+told_by t (Err fault) ended off tells = told_fault t fault ended off tells
+
+-- what a recording tells
+told_recording : (t : Telling) (done : Result Status RunError) (ended : Ended) → t.explains ≡ false → TellsLine t (exit_after done) (told_line done) ended
+    → TellsBy ended.exit ended t.before t.after
+told_recording t (Ok status) ended off tells =
+    subst (λ (e : Exit). TellsBy e ended t.before t.after) (sym tells.exits) (by_end status.end (tells.quiet off refl))
+  where
+    by_end : (end : Option End) → t.after ≡ t.before → TellsBy (exit_at end) ended t.before t.after
+    by_end None same = same
+    by_end (Some cause) same = inl same
+told_recording t (Err fault) ended off tells = told_fault t fault ended off tells
+
+-- what a text tells
+text_tells : (kind : ErrorKind) (t : Telling) (ended : Ended) → EndsUntasked kind ended.exit → TellsUntasked kind t ended → t.explains ≡ false
+    → TellsBy ended.exit ended t.before t.after
+text_tells OutOfMemory t ended ends tells off = told_by t (Err memory_error) ended off tells
+text_tells DisplayHelp t ended ends (done, fault, tells) off = told_by t done ended off tells
+text_tells DisplayVersion t ended ends (done, fault, tells) off = told_by t done ended off tells
+text_tells _ t ended ends tells off = subst (λ (e : Exit). TellsBy e ended t.before t.after) (sym ends) tt
+
+-- what every task tells that doesn't explain itself
 pub task_tells : (task : Task) (contents : List ℕ → Option (List ℕ)) (writes_old writes_new : Option (List Write)) (old new : Option (List ℕ))
-    (t : Telling) (ended : Ended) → EndsTask task contents writes_old writes_new old new t ended → t.explains ≡ false → IsFaulty ended.exit
-    → TellsOneLine ended t.before t.after
-task_tells (tasks.Record script log) contents writes_old writes_new old new t ended ends off faulty = told_one_line t ends.done ended off faulty ends.tells
-task_tells (tasks.List log) contents writes_old writes_new old new t ended ends off faulty = told_one_line t ends.done ended off faulty ends.tells
-task_tells (tasks.Status log) contents writes_old writes_new old new t ended ends off faulty = told_one_line t ends.done ended off faulty ends.tells
-task_tells (tasks.Formats page) contents writes_old writes_new old new t ended ends off faulty = told_one_line t ends.told.done ended off faulty ends.told.tells
-task_tells (tasks.Show error) contents writes_old writes_new old new t ended ends off faulty =
-    text_tells (kind_of error) t ended ends.ends ends.tells off faulty
+    (t : Telling) (ended : Ended) → EndsTask task contents writes_old writes_new old new t ended → t.explains ≡ false
+    → TellsBy ended.exit ended t.before t.after
+task_tells (tasks.Record script log) contents writes_old writes_new old new t ended ends off = told_recording t ends.done ended off ends.tells
+task_tells (tasks.List log) contents writes_old writes_new old new t ended ends off = told_by t ends.done ended off ends.tells
+task_tells (tasks.Status log) contents writes_old writes_new old new t ended ends off = told_by t ends.done ended off ends.tells
+task_tells (tasks.Formats page) contents writes_old writes_new old new t ended ends off = told_by t ends.told.done ended off ends.told.tells
+task_tells (tasks.Show error) contents writes_old writes_new old new t ended ends off = text_tells (kind_of error) t ended ends.ends ends.tells off
 
 -- where there was no memory to read words, that is what they are read as
 pub memory_read : (words : List Text) (error : Error) → kind_of error ≡ OutOfMemory → IsRead words (tasks.Show error)

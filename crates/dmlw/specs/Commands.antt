@@ -14,7 +14,7 @@ use Rattle.dmlw_commands.specs.declared.exit.Exit.{Exit}
 use Rattle.dmlw_commands.specs.declared.exit.Exit.TheVariants.{Done, LoggingEnded, Refused, Usage}
 use Rattle.dmlw_commands.specs.declared.ending.Ended.{Ended}
 use Rattle.dmlw_commands.specs.Endings.{EndsRecording, EndsShowing, Telling, Tells, telling}
-use Rattle.dmlw_commands.specs.Exits.{exit_of, told_line}
+use Rattle.dmlw_commands.specs.Exits.{exit_of, fault_line}
 use Rattle.dmlw_commands.specs.Files.{Write, one_more}
 use Rattle.dmlw_commands.specs.Lists.{ListsImage, ShowsStatus}
 use Rattle.dmlw.specs.CommandLine.{has_explain, without_explain}
@@ -44,11 +44,11 @@ unread_exit InvalidData = Usage
 unread_exit _ = Refused
 
 -- How every command line ends: with a status from 0 to 3, and it has asked for one file at most to be written, and
--- for none where the status is 2 or 3.
+-- for none where the status is 2.
 pub record EndsCommand (old new : Option (List Write)) (status : ℕ) : Type 0 where
   pub known : status ≤ 3
   pub once : (new ≡ old) ⊎ ((name bytes : List ℕ) × (new ≡ one_more old name bytes))
-  pub unwritten : 2 ≤ status → new ≡ old
+  pub unwritten : status ≡ 2 → new ≡ old
 
 -- What is told on the error stream of a text that is shown, as one of this kind: of a want of memory its line, of help and the
 -- version the line of the file's error where they can't be printed; the others are told themselves.
@@ -94,15 +94,16 @@ pub record DoesWords (words : List (List ℕ)) (contents : List ℕ → Option (
   pub read : IsRead (without_explain words) task
   pub ends : EndsTask task contents writes_old writes_new old new (telling (has_explain words) errors_old errors_new) ended
 
--- it ends by a fault that is told by its line: refused, or since logging ended
-abbrev pub IsFaulty : Exit → Type 0
-IsFaulty Done = ⊥
-IsFaulty Refused = Unit {0}
-IsFaulty Usage = ⊥
-IsFaulty LoggingEnded = Unit {0}
-
 -- One line was told, of a fault by which the command ends so, and nothing else, where the error stream took it.
 pub record TellsOneLine (ended : Ended) (old new : Option (List ℕ)) : Type 0 where
   pub fault : RunError
   pub exits : ended.exit ≡ exit_of fault
-  pub line : ended.is_told ≡ true → Appends old new (told_line (Err fault))
+  pub line : ended.is_told ≡ true → Appends old new (fault_line fault)
+
+-- What is told of how a command ends so, which doesn't explain itself: of a refusal one line, and nothing where it is done. Where logging
+-- ended, a line where no log could be made, and nothing where the log came as far as it did.
+abbrev pub TellsBy : Exit → Ended → Option (List ℕ) → Option (List ℕ) → Type 0
+TellsBy Done ended old new = new ≡ old
+TellsBy Refused ended old new = TellsOneLine ended old new
+TellsBy Usage ended old new = Unit {0}
+TellsBy LoggingEnded ended old new = (new ≡ old) ⊎ TellsOneLine ended old new

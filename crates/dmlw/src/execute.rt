@@ -3,11 +3,11 @@ ghost use Rattle.std.specs.Io.KnownBytes.{Appends, Keeps};
 ghost use Rattle.std.specs.IoError.{error_kind};
 ghost use Rattle.clap.specs.Words.{kind_of};
 ghost use Rattle.dmlw.specs.CommandLine.{has_explain};
-ghost use Rattle.dmlw.specs.Commands.{DoesWords, EndsCommand, EndsTask, EndsUntasked, IsFaulty, TellsOneLine, TellsPage, TellsUntasked, is_asked_for, unread_exit};
+ghost use Rattle.dmlw.specs.Commands.{DoesWords, EndsCommand, EndsTask, EndsUntasked, TellsBy, TellsPage, TellsUntasked, is_asked_for, unread_exit};
 ghost use Rattle.dmlw_commands.specs.Endings.{telling};
 ghost use Rattle.script_runner.specs.Errors.{IsFileError};
 ghost use Rattle.dmlw_commands.specs.Files.{KeepsFiles};
-ghost use Rattle.dmlw_commands.specs.Exits.{status_of};
+ghost use Rattle.dmlw_commands.specs.Exits.{IsRefusal, status_of};
 
 use crate::command_line::{Task, has_explain, read_words, unread, without_explain};
 use clap::Error;
@@ -42,13 +42,11 @@ pub fn execute<'a, S: AsStr, F: Files, O: Write, E: Write>(
         (O.contents out.old) (O.contents out.new) (E.contents err.old) (E.contents err.new) result }
     ensures command { EndsCommand (F.writes files.old) (F.writes files.new) (status_of result.exit) }
 
-    // Unless it is done each file holds what it held.
-    ensures kept { (result.exit ≡ Exit.Done → ⊥) → KeepsFiles (F.contents files.old) (F.contents files.new) }
+    // Where it is refused each file holds what it held.
+    ensures kept { IsRefusal result.exit → KeepsFiles (F.contents files.old) (F.contents files.new) }
 
-    // Without `--explain` nothing goes to `err` where it is done, and of a fault its one line, as far as `err` takes it.
-    ensures quiet { has_explain (map S.text words.entry.now) ≡ false → result.exit ≡ Exit.Done → E.contents err.new ≡ E.contents err.old }
-    ensures told { has_explain (map S.text words.entry.now) ≡ false → IsFaulty result.exit →
-        TellsOneLine result (E.contents err.old) (E.contents err.new) }
+    // Without `--explain` nothing goes to `err` where it is done, and of a refusal its one line, as far as `err` takes it.
+    ensures told { has_explain (map S.text words.entry.now) ≡ false → TellsBy result.exit result (E.contents err.old) (E.contents err.new) }
 {
     let explains = has_explain(words);
     match without_explain(alloc, words) {
@@ -74,7 +72,7 @@ fn perform<F: Files, O: Write, E: Write>(
 ) -> Ended
     ensures ends { EndsTask task.entry (F.contents files.old) (F.writes files.old) (F.writes files.new)
         (O.contents out.old) (O.contents out.new) (telling explains (E.contents err.old) (E.contents err.new)) result }
-    ensures kept { (result.exit ≡ Exit.Done → ⊥) → KeepsFiles (F.contents files.old) (F.contents files.new) }
+    ensures kept { IsRefusal result.exit → KeepsFiles (F.contents files.old) (F.contents files.new) }
 {
     match task {
         Task::Record { script, log } => record(alloc, explains, script, log, files, out, err),

@@ -17,16 +17,16 @@ a line's end, a byte order mark, a tab, two spaces, an upper case letter in a wo
 | `w <id> <first> <count> <byte>` | submits a write of that byte | 1 to 2,048 sectors, two lower case hexadecimal digits |
 | `f <id>` | submits a flush | |
 | `c <id>` | ends that request | an open one |
-| `close` | ends recording: the log gets its end mark | no request is open |
+| `close` | ends recording, and writes the log to its end, with its end mark | no request is open |
 
 Sizes and places are in sectors of 512 bytes. An id is 1 to 16 of `a` to `z` and `0` to `9`, and is submitted once. A script without `close`
-leaves an empty log, and that is no fault: the status is `0 0`.
+ends as it stands, and that is no fault: what wasn't written to the log by then isn't in it.
 
 ## What is printed
 
 | Command | Prints |
 |---|---|
-| `record` | at `c`: `<id> ok`, or `<id> failed` at a submission that found no memory; at the end the status |
+| `record` | at `c`: `<id> ok` or `<id> failed`; `<id> failed` at a submission that found no memory; at the end the status, with ` logging_disabled` behind it where logging ended before its time |
 | `list` | `super version 1 entries <n> sectorsize <S>`, then a line of each entry: `<number> @<log sector>`, and `mark <text>`, `discard <sector>+<sectors>`, `flush` or `write <sector>+<sectors>`, the last two with ` flush` (of a write), ` fua`, ` meta` where set |
 | `status` | `<entries> <sector>`: how many entries the log counts, and the highest sector of 512 bytes that they use; `0 0` of an empty log |
 
@@ -42,7 +42,7 @@ and two lower case hexadecimal digits.
 | 0 | done |
 | 1 | refused: a line on standard error says by which number and name |
 | 2 | the command line isn't one of the program's |
-| 3 | logging ended before its time, with its cause on standard error |
+| 3 | logging ended before its time: the log is full, or memory ran out; it is written as far as it came |
 
 ## Faults
 
@@ -54,7 +54,7 @@ A fault is one line on standard error: `dmlw: <number> <name>`, or `dmlw: line <
 | 3, 4, 5 | PastEnd, TooLong, NotWhole | a request past the disk's end, of over 2,048 sectors, of none |
 | 13, 14, 15 | BadMagic, BadVersion, BadSectorSize | the image isn't a log, or is of another version, or has log sectors that aren't 512, 1024, 2048 or 4096 bytes |
 | 16, 17 | BadMark, TooLarge | an entry that no log can have |
-| 18, 20 | Full, Memory | logging ended (status 3): the log has no room, or memory ran out |
+| 20 | Memory | no log could be made, for want of memory (status 3) |
 | 21 | CutShort | the log is shorter than it says |
 | 24 | Busy | a `close` where a request is open |
 | 30 | BadLine | a line that isn't one of a script's, or isn't in its place |

@@ -2,8 +2,11 @@ use Rattle.std.proofs.Common.{◌≡◌, ℕ, List, Option, Result, Ok, Err, IfE
 use Rattle.std.specs.Io.KnownBytes.{Keeps}
 use Rattle.dmlw_commands.specs.declared.ending.Ended.{Ended}
 use Rattle.script_runner.specs.declared.error.RunError.{RunError}
-use Rattle.script_runner.specs.RunFaults.{EndsRun, close, file as by_file, logging}
-use Rattle.dmlw_commands.specs.Endings.{EndsRecording, EndsShowing, Telling, Tells}
+use Rattle.script_runner.specs.OnDisks.{DiskRun, FailsOnDisks, file as no_file, run as no_run, unmade}
+use Rattle.script_runner.specs.Runs.{EndsRun, close, file as by_file}
+use Rattle.bio.specs.declared.outcome.Status.{Status}
+use Rattle.dmlw_commands.specs.Endings.{EndsRecording, EndsShowing, Telling, Tells, TellsLine}
+use Rattle.dmlw_commands.specs.Exits.{exit_after, told_line}
 use Rattle.dmlw_commands.specs.Files.{Write}
 use Rattle.dmlw_commands.specs.Lists.{Shows, ShowsFile}
 use Rattle.dmlw_commands.specs.Records.{FailsRecording, Records, PrintsLog, WritesLog, file, run as ran, text as unread}
@@ -12,25 +15,18 @@ use Rattle.dmlw_commands.proofs.Listing.{IsKept, shows_kept}
 use Rattle.script_runner.specs.CallLaws.{appends_kept, keeps_twice}
 
 -- why a run ended is kept
-run_kept : (text : List ℕ) (script : Plan) (old middle new : Option (List ℕ)) (fault : RunError) → EndsRun text script old middle fault
-    → Keeps middle new → EndsRun text script old new fault
-run_kept text script old middle new fault (by_file f is) kept = by_file f is
-run_kept text script old middle new fault (logging end is) kept = logging end (record {
-  failed = is.failed;
-  submitted = is.submitted;
-  output = appends_kept old middle new _ is.output kept;
-  cause = is.cause;
-})
-run_kept text script old middle new fault (close line refusal is) kept = close line refusal (record {
-  place = is.place;
-  failed = is.failed;
-  closes = is.closes;
-  first = is.first;
-  here = is.here;
-  submitted = is.submitted;
-  output = appends_kept old middle new _ is.output kept;
-  cause = is.cause;
-})
+run_kept : (text : List ℕ) (script : Plan) (old middle new : Option (List ℕ)) (start : DiskRun) (fault : RunError) → EndsRun text script old middle start fault
+    → Keeps middle new → EndsRun text script old new start fault
+run_kept text script old middle new start fault (by_file f is) kept = by_file f is
+run_kept text script old middle new start fault (close place refusal printed is output) kept =
+    close place refusal printed is (appends_kept old middle new printed output kept)
+
+-- why recording on disks failed is kept
+disks_kept : (text : List ℕ) (script : Plan) (old middle new : Option (List ℕ)) (fault : RunError) → FailsOnDisks text script old middle fault
+    → Keeps middle new → FailsOnDisks text script old new fault
+disks_kept text script old middle new fault (no_file f is) kept = no_file f is
+disks_kept text script old middle new fault (unmade none) kept = unmade (keeps_twice old middle new none kept)
+disks_kept text script old middle new fault (no_run start f starts ends) kept = no_run start f starts (run_kept text script old middle new start f ends kept)
 
 -- why a recording failed is kept
 failure_kept : (contents old middle new : Option (List ℕ)) (fault : RunError) → FailsRecording contents old middle fault → Keeps middle new
@@ -39,12 +35,12 @@ failure_kept contents old middle new fault (file f is) kept = file f is
 failure_kept contents old middle new fault (unread bytes line refusal read none first before) kept =
     unread bytes line refusal read none first (keeps_twice old middle new before kept)
 failure_kept contents old middle new fault (ran bytes script f read spells ends) kept =
-    ran bytes script f read spells (run_kept bytes script old middle new f ends kept)
+    ran bytes script f read spells (disks_kept bytes script old middle new f ends kept)
 
 -- what was printed before a log was asked for is kept
-prints_kept : (contents : Option (List ℕ)) (log : List ℕ) (writes_old writes_new : Option (List Write)) (old middle new : Option (List ℕ))
-    → PrintsLog contents log writes_old writes_new old middle → Keeps middle new → PrintsLog contents log writes_old writes_new old new
-prints_kept contents log writes_old writes_new old middle new (bytes, output, writes) kept = (
+prints_kept : (contents : Option (List ℕ)) (log : List ℕ) (writes_old writes_new : Option (List Write)) (old middle new : Option (List ℕ)) (status : Status)
+    → PrintsLog contents log writes_old writes_new old middle status → Keeps middle new → PrintsLog contents log writes_old writes_new old new status
+prints_kept contents log writes_old writes_new old middle new status (bytes, output, writes) kept = (
   bytes,
   record {
     text = output.text;
@@ -52,9 +48,7 @@ prints_kept contents log writes_old writes_new old middle new (bytes, output, wr
     lines = output.lines;
     read = output.read;
     spelled = output.spelled;
-    made = output.made;
-    image = output.image;
-    run = output.run;
+    recorded = output.recorded;
     output = appends_kept old middle new _ output.output kept;
   },
   writes,
@@ -62,27 +56,27 @@ prints_kept contents log writes_old writes_new old middle new (bytes, output, wr
 
 -- what recording has printed is kept
 records_kept : (contents : Option (List ℕ)) (log : List ℕ) (writes_old writes_new : Option (List Write)) (old middle new : Option (List ℕ))
-    (done : Result (Unit {0}) RunError) → Records contents log writes_old writes_new old middle done → Keeps middle new
+    (done : Result Status RunError) → Records contents log writes_old writes_new old middle done → Keeps middle new
     → Records contents log writes_old writes_new old new done
-records_kept contents log writes_old writes_new old middle new (Ok u) prints kept =
-    prints_kept contents log writes_old writes_new old middle new prints kept
+records_kept contents log writes_old writes_new old middle new (Ok status) prints kept =
+    prints_kept contents log writes_old writes_new old middle new status prints kept
 records_kept contents log writes_old writes_new old middle new (Err fault) (inl same, fails) kept =
     (inl same, failure_kept contents old middle new fault fails kept)
-records_kept contents log writes_old writes_new old middle new (Err fault) (inr (is, prints), fails) kept =
-    (inr (is, prints_kept contents log writes_old writes_new old middle new prints kept), failure_kept contents old middle new fault fails kept)
+records_kept contents log writes_old writes_new old middle new (Err fault) (inr (is, status, prints), fails) kept =
+    (inr (is, status, prints_kept contents log writes_old writes_new old middle new status prints kept), failure_kept contents old middle new fault fails kept)
 
 -- what recording comes to, by the clauses of the call
 pub records_all : (contents : Option (List ℕ)) (log : List ℕ) (writes_old writes_new : Option (List Write)) (old new : Option (List ℕ))
-    (done : Result (Unit {0}) RunError) → WritesLog contents log writes_old writes_new old new done
+    (done : Result Status RunError) → WritesLog contents log writes_old writes_new old new done
     → IfErr done (FailsRecording contents old new) → Records contents log writes_old writes_new old new done
-records_all contents log writes_old writes_new old new (Ok u) writes fails = writes
+records_all contents log writes_old writes_new old new (Ok status) writes fails = writes
 records_all contents log writes_old writes_new old new (Err fault) writes fails = (writes, fails)
 
 -- how a recording ends
 pub recording_ends : (contents : Option (List ℕ)) (log : List ℕ) (writes_old writes_middle writes_new : Option (List Write)) (old middle new : Option (List ℕ))
-    (t : Telling) (done : Result (Unit {0}) RunError) (ended : Ended)
+    (t : Telling) (done : Result Status RunError) (ended : Ended)
     → Records contents log writes_old writes_middle old middle done → Keeps middle new → writes_new ≡ writes_middle
-    → Tells t done ended → EndsRecording contents log writes_old writes_new old new t ended
+    → TellsLine t (exit_after done) (told_line done) ended → EndsRecording contents log writes_old writes_new old new t ended
 recording_ends contents log writes_old writes_middle writes_new old middle new t done ended records kept same tells = record {
   done = done;
   recorded = records_kept contents log writes_old writes_new old middle new done

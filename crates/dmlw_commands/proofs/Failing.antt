@@ -1,6 +1,7 @@
 -- How the recording of the script in a file ends.
 use Rattle.std.proofs.Common.{◌≡◌, ◌∙◌, ℕ, ◌++◌, Err, IfErr, IfOk, List, None, Ok, Option, Result, Some, ap, inl, inr, refl, subst, sym}
 use Rattle.std.specs.Io.KnownBytes.{Appends}
+use Rattle.std.specs.Result.{IsErrAnd}
 use Rattle.std.specs.declared.io.ErrorKind.{ErrorKind}
 use Rattle.std.specs.declared.io.ErrorKind.TheVariants as kinds
 use Rattle.script_runner.specs.CallLaws.{appends_twice, keeps_same}
@@ -11,14 +12,14 @@ use Rattle.dmlw_script.specs.Plans.{Plan}
 use Rattle.dmlw_script.specs.Reading.{IsFaultOf, is_memory}
 use Rattle.script_runner.specs.declared.error.RunError.{RunError}
 use Rattle.script_runner.specs.declared.error.RunError.TheVariants.{Refused}
-use Rattle.script_runner.specs.declared.fill.Filled.{Filled}
+use Rattle.script_runner.specs.declared.recording.Recorded.{Recorded}
 use Rattle.script_runner.specs.Errors.{IsFileError, io_refusal, refused_by}
-use Rattle.script_runner.specs.RunFaults.{EndsRun}
+use Rattle.script_runner.specs.OnDisks.{FailsOnDisks, IsRecorded}
 use Rattle.dmlw_commands.specs.declared.files.FileError.{FileError}
 use Rattle.dmlw_commands.specs.declared.files.FileError.TheVariants as errors
 use Rattle.dmlw_commands.specs.FileErrors.{file_refusal}
-use Rattle.dmlw_commands.specs.Files.{MatchesContents}
-use Rattle.dmlw_commands.specs.Records.{FailsRecording, IsPrintedLog, IsScriptLog, file, run as run_fails, status_line, text as unread}
+use Rattle.dmlw_commands.specs.Files.{MatchesContents, Write, one_more}
+use Rattle.dmlw_commands.specs.Records.{FailsRecording, IsPrintedLog, WritesLog, file, run as run_fails, status_line, text as unread}
 
 -- a file's error is printed as such
 file_told : (error : FileError) → IsFileError (refused_by (file_refusal error))
@@ -63,7 +64,7 @@ fails_to_tell contents before after told fault is same = file fault (subst IsFil
 
 -- recording ended by a fault of the script's run
 pub fails_run : (before after : Option (List ℕ)) (text : List ℕ) (plan : Plan) (fault again : RunError) → IsTextOf text plan
-    → EndsRun text plan before after fault → again ≡ fault → FailsRecording (Some text) before after again
+    → FailsOnDisks text plan before after fault → again ≡ fault → FailsRecording (Some text) before after again
 fails_run before after text plan fault again spells ends same =
     subst (FailsRecording (Some text) before after) (sym same) (run_fails text plan fault refl spells ends)
 
@@ -76,46 +77,47 @@ fails_of_file contents before after text fault is (unread bytes line refusal sam
 fails_of_file contents before after text fault is (run_fails bytes plan f same spells ends) =
     run_fails bytes plan f (subst (MatchesContents contents) (sym same) is) spells ends
 
--- what a script prints was printed, and then the status of its log
-pub status_printed : (before ran now : Option (List ℕ)) (lines : List ℕ) (status other : Status) → Appends before ran lines
-    → Appends ran now (status_line status) → status ≡ other → Appends before now (lines ++ status_line other)
-status_printed before ran now lines status other first second are =
-    subst (λ (more : Status). Appends before now (lines ++ status_line more)) are
-    (appends_twice before ran now lines (status_line status) first second)
-
--- the log of a text that is a file's is the log of the file's script
-pub log_of_text : (contents : Option (List ℕ)) (items text : List ℕ) (r : Result Filled RunError) → MatchesContents contents items → text ≡ items
-    → IfOk r (λ filled. IsScriptLog (Some text) filled.image.items) → IfOk r (λ filled. IsScriptLog contents filled.image.items)
-log_of_text contents items text (Ok filled) is same log = record {
-  text = log.text;
-  script = log.script;
-  read = subst (MatchesContents contents) (sym same ∙ sym log.read) is;
-  spelled = log.spelled;
-  made = log.made;
-  image = log.image;
+-- a script was recorded, and then the status of its log was printed
+pub printed : (text : List ℕ) (plan : Plan) (before ran now : Option (List ℕ)) (status : Status) (image : List ℕ) → IsTextOf text plan
+    → (lines : List ℕ) × IsRecorded plan lines status image × Appends before ran lines → Appends ran now (status_line status)
+    → IsPrintedLog (Some text) status image before now
+printed text plan before ran now status image spells (lines, recorded, first) second = record {
+  text = text;
+  script = plan;
+  lines = lines;
+  read = refl;
+  spelled = spells;
+  recorded = recorded;
+  output = appends_twice before ran now lines (status_line status) first second;
 }
-log_of_text contents items text (Err fault) is same log = log
 
 -- what was printed of a text that is a file's was printed of the file's script
-pub printed_of_text : (contents : Option (List ℕ)) (items text : List ℕ) (before after : Option (List ℕ)) (r : Result Filled RunError)
-    → MatchesContents contents items → text ≡ items → IfOk r (λ filled. IsPrintedLog (Some text) filled.image.items before after)
-    → IfOk r (λ filled. IsPrintedLog contents filled.image.items before after)
-printed_of_text contents items text before after (Ok filled) is same log = record {
+pub printed_of_text : (contents : Option (List ℕ)) (items text : List ℕ) (before after : Option (List ℕ)) (r : Result Recorded RunError)
+    → MatchesContents contents items → text ≡ items → IfOk r (λ recorded. IsPrintedLog (Some text) recorded.status recorded.image.items before after)
+    → IfOk r (λ recorded. IsPrintedLog contents recorded.status recorded.image.items before after)
+printed_of_text contents items text before after (Ok recorded) is same log = record {
   text = log.text;
   script = log.script;
   lines = log.lines;
   read = subst (MatchesContents contents) (sym same ∙ sym log.read) is;
   spelled = log.spelled;
-  made = log.made;
-  image = log.image;
-  run = log.run;
+  recorded = log.recorded;
   output = log.output;
 }
 printed_of_text contents items text before after (Err fault) is same log = log
 
 -- what failed of a text that is a file's failed of the file's script
-pub fails_of_text : (contents : Option (List ℕ)) (items text : List ℕ) (before after : Option (List ℕ)) (r : Result Filled RunError)
+pub fails_of_text : (contents : Option (List ℕ)) (items text : List ℕ) (before after : Option (List ℕ)) (r : Result Recorded RunError)
     → MatchesContents contents items → text ≡ items → IfErr r (FailsRecording (Some text) before after) → IfErr r (FailsRecording contents before after)
-fails_of_text contents items text before after (Ok filled) is same fails = fails
+fails_of_text contents items text before after (Ok recorded) is same fails = fails
 fails_of_text contents items text before after (Err fault) is same fails =
     fails_of_file contents before after text fault (subst (MatchesContents contents) (sym same) is) fails
+
+-- a log that couldn't be written was asked for
+pub unwritten_log : (contents : Option (List ℕ)) (log : List ℕ) (writes_old writes_mid writes_new : Option (List Write)) (before after : Option (List ℕ))
+    (status : Status) (image bytes : List ℕ) (error : FileError) (r : Result Status RunError) → IsPrintedLog contents status image before after → bytes ≡ image
+    → writes_mid ≡ writes_old → writes_new ≡ one_more writes_mid log bytes → IsErrAnd r (λ fault. fault ≡ refused_by (file_refusal error))
+    → WritesLog contents log writes_old writes_new before after r
+unwritten_log contents log writes_old writes_mid writes_new before after status image bytes error (Ok done) prints same kept asked fails = absurd fails
+unwritten_log contents log writes_old writes_mid writes_new before after status image bytes error (Err fault) prints same kept asked is =
+    inr (subst IsFileError (sym is) (file_told error), status, (image, prints, asked ∙ ap (λ (w : Option (List Write)). one_more w log bytes) kept ∙ ap (one_more writes_old log) same))

@@ -3,8 +3,9 @@ use Rattle.std.specs.Prelude.{◌≡◌, ℕ, Bool, true, false, List, [], ◌++
 use Rattle.std.specs.Io.KnownBytes.{Appends}
 use Rattle.script_runner.specs.declared.error.RunError.{RunError}
 use Rattle.dmlw_commands.specs.declared.ending.Ended.{Ended}
-use Rattle.dmlw_commands.specs.declared.exit.Exit.TheVariants.{Done}
-use Rattle.dmlw_commands.specs.Exits.{exit_by, told_line}
+use Rattle.bio.specs.declared.outcome.Status.{Status}
+use Rattle.dmlw_commands.specs.declared.exit.Exit.{Exit}
+use Rattle.dmlw_commands.specs.Exits.{exit_after, exit_by, told_line}
 use Rattle.dmlw_commands.specs.Files.{Write}
 use Rattle.dmlw_commands.specs.Lists.{Shows, ShowsFile}
 use Rattle.dmlw_commands.specs.Records.{Records}
@@ -18,19 +19,23 @@ pub record Telling : Type 0 where
 abbrev pub telling : Bool → Option (List ℕ) → Option (List ℕ) → Telling
 telling explains before after = record { explains = explains; before = before; after = after }
 
--- What a command has told on the error stream, that did this: the one line of its fault and, where it explains itself,
--- perhaps more behind it; nothing where it is done, and doesn't.
-pub record Tells (t : Telling) (done : Result (Unit {0}) RunError) (ended : Ended) : Type 0 where
-  pub exits : ended.exit ≡ exit_by done
-  pub told : ended.is_told ≡ true → (more : List ℕ) × (t.explains ≡ false → more ≡ []) × Appends t.before t.after (told_line done ++ more)
-  pub quiet : t.explains ≡ false → ended.exit ≡ Done → t.after ≡ t.before
+-- What a command has told on the error stream that ends so, with this line to tell: that line and, where it explains itself,
+-- perhaps more behind it; nothing where there is no line, and it doesn't.
+pub record TellsLine (t : Telling) (exit : Exit) (line : List ℕ) (ended : Ended) : Type 0 where
+  pub exits : ended.exit ≡ exit
+  pub told : ended.is_told ≡ true → (more : List ℕ) × (t.explains ≡ false → more ≡ []) × Appends t.before t.after (line ++ more)
+  pub quiet : t.explains ≡ false → line ≡ [] → t.after ≡ t.before
+
+-- what a command has told that did this: the one line of its fault, or none where it is done
+abbrev pub Tells : Telling → Result (Unit {0}) RunError → Ended → Type 0
+Tells t done ended = TellsLine t (exit_by done) (told_line done) ended
 
 -- How the recording of a script in a log of this name ends: as what it did has it.
 pub record EndsRecording (contents : Option (List ℕ)) (log : List ℕ) (writes_old writes_new : Option (List Write)) (old new : Option (List ℕ))
     (t : Telling) (ended : Ended) : Type 0 where
-  pub done : Result (Unit {0}) RunError
+  pub done : Result Status RunError
   pub recorded : Records contents log writes_old writes_new old new done
-  pub tells : Tells t done ended
+  pub tells : TellsLine t (exit_after done) (told_line done) ended
 
 -- How a command on the image in a file ends: no file was asked to be written, and it ends as what it did has it.
 pub record EndsShowing (shows : Shows) (contents : Option (List ℕ)) (writes_old writes_new : Option (List Write)) (old new : Option (List ℕ))

@@ -1,4 +1,6 @@
-use Rattle.std.specs.Prelude.{ℕ, List, [], ◌++◌, Result, Ok, Err, codes}
+use Rattle.std.specs.Prelude.{◌⊎◌, ◌≡◌, ℕ, List, [], ◌++◌, None, Option, Result, Ok, Err, Some, codes}
+use Rattle.bio.specs.declared.outcome.End.{End}
+use Rattle.bio.specs.declared.outcome.Status.{Status}
 use Rattle.script_runner.specs.declared.error.RunError.{RunError}
 use Rattle.script_runner.specs.declared.error.RunError.TheVariants as errors
 use Rattle.script_runner.specs.Errors.{error_text}
@@ -22,7 +24,25 @@ abbrev pub exit_by : Result (Unit {0}) RunError → Exit
 exit_by (Ok done) = Done
 exit_by (Err fault) = exit_of fault
 
+-- how a recording ends that came so far: done, or logging ended before its time
+abbrev pub exit_at : Option End → Exit
+exit_at None = Done
+exit_at (Some cause) = LoggingEnded
+
+-- how a command ends that recorded so, or failed
+abbrev pub exit_after : Result Status RunError → Exit
+exit_after (Ok status) = exit_at status.end
+exit_after (Err fault) = exit_of fault
+
+-- a command ends without having written a file
+abbrev pub IsRefusal : Exit → Type 0
+IsRefusal exit = (exit ≡ Refused) ⊎ (exit ≡ Usage)
+
+-- the line that a user is told of a fault
+abbrev pub fault_line : RunError → List ℕ
+fault_line fault = codes "dmlw: " ++ error_text fault ++ codes "\n"
+
 -- the line that a user is told who did this: of a fault, or none
-abbrev pub told_line : Result (Unit {0}) RunError → List ℕ
+abbrev pub told_line : {T : Type 0} → Result T RunError → List ℕ
 told_line (Ok done) = []
-told_line (Err fault) = codes "dmlw: " ++ error_text fault ++ codes "\n"
+told_line (Err fault) = fault_line fault

@@ -1,8 +1,9 @@
 ghost use Rattle.std.specs.Prelude.{◌≡◌, ◌++◌, [], Err, OnOk, true};
 ghost use Rattle.std.specs.Io.KnownBytes.{Appends, Keeps};
-ghost use Rattle.dmlw_commands.specs.Exits.{exit_by, exit_of, told_line};
+ghost use Rattle.dmlw_commands.specs.Exits.{exit_after, exit_by, exit_of, fault_line, told_line};
 
 use crate::exit::Exit;
+use bio::Status;
 use script_runner::RunError;
 use std::alloc::Global;
 use std::io;
@@ -26,14 +27,11 @@ pub fn end<O: Write, E: Write>(
 ) -> Ended
     ensures exit { result.exit ≡ exit_by done }
     ensures kept { Keeps (O.contents out.old) (O.contents out.new) }
-    ensures quiet { result.exit ≡ Exit.Done → more.now ≡ [] → E.contents err.new ≡ E.contents err.old }
+    ensures quiet { told_line done ≡ [] → more.now ≡ [] → E.contents err.new ≡ E.contents err.old }
     ensures told { result.is_told ≡ true → Appends (E.contents err.old) (E.contents err.new) (told_line done ++ more.now) }
 {
     match done {
-        Ok(()) => Ended {
-            exit: Exit::Done,
-            is_told: more.is_empty() || tell(more, err).is_ok(),
-        },
+        Ok(()) => end_well(Exit::Done, more, err),
         Err(fault) => {
             let _ = out.flush();
             report(alloc, fault, more, err)
@@ -41,10 +39,42 @@ pub fn end<O: Write, E: Write>(
     }
 }
 
+/// How a recording ends that came so far, or failed. Where logging ended before its time, the exit says so, and nothing is
+/// reported; a fault is, as by `end`.
+pub(crate) fn end_recording<O: Write, E: Write>(
+    alloc: Global,
+    done: Result<Status, RunError>,
+    more: &str,
+    out: &mut O,
+    err: &mut E,
+) -> Ended
+    ensures exit { result.exit ≡ exit_after done }
+    ensures kept { Keeps (O.contents out.old) (O.contents out.new) }
+    ensures quiet { told_line done ≡ [] → more.now ≡ [] → E.contents err.new ≡ E.contents err.old }
+    ensures told { result.is_told ≡ true → Appends (E.contents err.old) (E.contents err.new) (told_line done ++ more.now) }
+{
+    match done {
+        Ok(status) => end_well(Exit::from(status.end), more, err),
+        Err(fault) => end(alloc, Err(fault), more, out, err),
+    }
+}
+
+/// How a command ends so, of which there is no fault to report: `more` is all that goes to `err`.
+pub(crate) fn end_well<E: Write>(exit: Exit, more: &str, err: &mut E) -> Ended
+    ensures exit { result.exit ≡ exit }
+    ensures quiet { more.now ≡ [] → E.contents err.new ≡ E.contents err.old }
+    ensures told { result.is_told ≡ true → Appends (E.contents err.old) (E.contents err.new) more.now }
+{
+    Ended {
+        exit,
+        is_told: more.is_empty() || tell(more, err).is_ok(),
+    }
+}
+
 /// Reports a fault, by one line, and `more` behind it, all in one write where there is memory for it.
 pub fn report<E: Write>(alloc: Global, fault: RunError, more: &str, err: &mut E) -> Ended
     ensures exit { result.exit ≡ exit_of fault }
-    ensures told { result.is_told ≡ true → Appends (E.contents err.old) (E.contents err.new) (told_line (Err fault) ++ more.now) }
+    ensures told { result.is_told ≡ true → Appends (E.contents err.old) (E.contents err.new) (fault_line fault ++ more.now) }
 {
     Ended {
         exit: Exit::from(fault),
@@ -54,7 +84,7 @@ pub fn report<E: Write>(alloc: Global, fault: RunError, more: &str, err: &mut E)
 
 // Writes the line of a fault and what stands behind it: in parts where there is no memory to make them whole.
 fn tell_fault<E: Write>(alloc: Global, fault: RunError, more: &str, err: &mut E) -> io::Result<()>
-    ensures { OnOk result (Appends (E.contents err.old) (E.contents err.new) (told_line (Err fault) ++ more.now)) }
+    ensures { OnOk result (Appends (E.contents err.old) (E.contents err.new) (fault_line fault ++ more.now)) }
 {
     match format!(in alloc; "dmlw: {fault}\n{more}") {
         Ok(text) => tell(&text, err),

@@ -1,6 +1,7 @@
 ghost use Rattle.std.specs.Prelude.{◌≡◌};
-ghost use Rattle.dmlw_commands.specs.Exits.{exit_of, status_of};
+ghost use Rattle.dmlw_commands.specs.Exits.{exit_at, exit_of, status_of};
 
+use bio::End;
 use script_runner::RunError;
 
 /// How a command ended.
@@ -12,7 +13,7 @@ pub enum Exit {
     Refused,
     /// The command line isn't one of the program's.
     Usage,
-    /// Logging ended before its time.
+    /// Logging ended before its time: the log is written as far as it came, or none could be made.
     LoggingEnded,
 }
 
@@ -26,6 +27,17 @@ impl Exit {
             Exit::Refused => 1,
             Exit::Usage => 2,
             Exit::LoggingEnded => 3,
+        }
+    }
+}
+
+impl From<Option<End>> for Exit {
+    ghost from_gives = { λ end exit. exit ≡ exit_at end };
+
+    fn from(end: Option<End>) -> Exit {
+        match end {
+            None => Exit::Done,
+            Some(_) => Exit::LoggingEnded,
         }
     }
 }

@@ -9,6 +9,7 @@ use crate::files::{Files, Trouble};
 use crate::image::read_image;
 use crate::record::MAX_SCRIPT_BYTES;
 use advice::advice;
+use bio::Status;
 use line::{Shown, explain_line, write_forms};
 use refusals::{Fault, Refusal};
 use script_runner::RunError;
@@ -21,7 +22,7 @@ use std::fmt::Write;
 pub(crate) fn explain_recording<F: Files>(
     alloc: Global,
     explains: bool,
-    done: Result<(), RunError>,
+    done: Result<Status, RunError>,
     script: &str,
     log: &str,
     files: &mut F,
@@ -65,7 +66,7 @@ pub(crate) fn explain_reading<F: Files>(
 // Writes what there is to say of a recording that ended so.
 fn write_recording<F: Files, W: Write>(
     alloc: Global,
-    done: Result<(), RunError>,
+    done: Result<Status, RunError>,
     script: &str,
     log: &str,
     files: &mut F,
@@ -74,7 +75,7 @@ fn write_recording<F: Files, W: Write>(
     ensures kept { KeepsFiles (F.contents files.old) (F.contents files.new) }
     ensures unwritten { F.writes files.new ≡ F.writes files.old }
 {
-    match refusal_of(done) {
+    match fault_of(done) {
         None => write_unclosed(alloc, script, files, to),
         Some(
             Fault {
@@ -125,6 +126,17 @@ fn write_reading<F: Files, W: Write>(
     }
 }
 
+// What a recording ended by before its time, if it did.
+fn fault_of(done: Result<Status, RunError>) -> Option<Fault> {
+    match done {
+        Ok(status) => {
+            let end = status.end?;
+            Some(Fault::from(Refusal::from(end)))
+        }
+        Err(fault) => refusal_of(Err(fault)),
+    }
+}
+
 // What a command is refused by, that ended so.
 fn refusal_of(done: Result<(), RunError>) -> Option<Fault> {
     match done {
@@ -155,7 +167,7 @@ fn write_unclosed<F: Files, W: Write>(
     }
     writeln!(
         to,
-        "  {script} has no line `close`: what waits isn't written, and the log is empty"
+        "  {script} has no line `close`: what waits isn't written to the log"
     )
 }
 

@@ -4,18 +4,18 @@ ghost use Rattle.script_runner.specs.Errors.{IsFileError};
 ghost use Rattle.dmlw_script.specs.Grammar.{IsTextOf};
 ghost use Rattle.dmlw_commands.specs.Endings.{EndsRecording, telling};
 ghost use Rattle.dmlw_commands.specs.declared.exit.Exit.{Exit};
-ghost use Rattle.dmlw_commands.specs.Exits.{exit_by, exit_of};
+ghost use Rattle.dmlw_commands.specs.Exits.{IsRefusal, exit_after, exit_of};
 ghost use Rattle.std.specs.Result.{IsErrAnd};
 ghost use Rattle.dmlw_commands.specs.Files.{IsTooLong, IsWithin, KeepsFiles, MatchesContents};
-ghost use Rattle.dmlw_commands.specs.Records.{FailsRecording, IsScriptLog, IsPrintedLog, WritesLog, status_line};
+ghost use Rattle.dmlw_commands.specs.Records.{FailsRecording, IsPrintedLog, WritesLog, status_line};
 
-use crate::ending::{Ended, end};
+use crate::ending::{Ended, end_recording};
 use crate::explain::explain_recording;
 use crate::files::{FileError, Files};
 use bio::Status;
 use dmlw_script::{Kind, Script, read_script};
 use refusals::Refusal;
-use script_runner::{Filled, RunError, run};
+use script_runner::{Recorded, RunError};
 use std::alloc::Global;
 use std::io::Write;
 
@@ -24,7 +24,8 @@ pub const MAX_SCRIPT_BYTES: u64 = 4_194_304;
 
 /// Does `record SCRIPT LOG`: records the requests of a script in a new log, and answers how it ended.
 /// `script` and `log` are names of files. What there is to print goes to `out` before the log is
-/// written; a fault is reported to `err`, with what helps where it `explains`.
+/// written, also where logging ended before its time; a fault is reported to `err`, with what helps where it
+/// `explains`.
 pub fn record<F: Files, O: Write, E: Write>(
     alloc: Global,
     explains: bool,
@@ -36,15 +37,15 @@ pub fn record<F: Files, O: Write, E: Write>(
 ) -> Ended
     ensures ends { EndsRecording (F.contents files.old script.now) log.now (F.writes files.old) (F.writes files.new)
         (O.contents out.old) (O.contents out.new) (telling explains (E.contents err.old) (E.contents err.new)) result }
-    // Unless it is done each file holds what it held, and a script isn't written over.
-    ensures kept { (result.exit ≡ Exit.Done → ⊥) → KeepsFiles (F.contents files.old) (F.contents files.new) }
+    // Where it is refused each file holds what it held, and a script isn't written over.
+    ensures kept { IsRefusal result.exit → KeepsFiles (F.contents files.old) (F.contents files.new) }
     ensures apart { script.now ≡ log.now → F.writes files.new ≡ F.writes files.old }
     // A script whose bytes are known, and too many, is refused as a file, and nothing is printed.
     ensures within { IsTooLong 4194304 (F.contents files.old script.now) → result.exit ≡ Exit.Refused }
 {
     let recorded = record_script(alloc, script, log, files, out);
     let more = explain_recording(alloc, explains, recorded, script, log, files);
-    end(alloc, recorded, more.as_str(), out, err)
+    end_recording(alloc, recorded, more.as_str(), out, err)
 }
 
 // Runs the script in a file, and writes its log.
@@ -54,21 +55,21 @@ fn record_script<F: Files, O: Write>(
     log: &str,
     files: &mut F,
     out: &mut O,
-) -> Result<(), RunError>
+) -> Result<Status, RunError>
     ensures log { WritesLog (F.contents files.old script.now) log.now (F.writes files.old) (F.writes files.new)
         (O.contents out.old) (O.contents out.new) result }
     ensures faults { IfErr result
         (FailsRecording (F.contents files.old script.now) (O.contents out.old) (O.contents out.new)) }
     ensures kept { OnErr result (KeepsFiles (F.contents files.old) (F.contents files.new)) }
     ensures apart { script.now ≡ log.now → F.writes files.new ≡ F.writes files.old }
-    ensures within { IsTooLong 4194304 (F.contents files.old script.now) → exit_by result ≡ Exit.Refused }
+    ensures within { IsTooLong 4194304 (F.contents files.old script.now) → exit_after result ≡ Exit.Refused }
 {
     if files.is_same(script, log) {
         return Err(RunError::from(Refusal::File));
     }
-    let filled = run_file(alloc, script, files, out)?;
-    files.write(alloc, log, &filled.image)?;
-    Ok(())
+    let Recorded { image, status } = run_file(alloc, script, files, out)?;
+    files.write(alloc, log, &image)?;
+    Ok(status)
 }
 
 // Runs the script in a file, and prints what happens and how far its log has come.
@@ -77,9 +78,8 @@ fn run_file<F: Files, O: Write>(
     script: &str,
     files: &mut F,
     out: &mut O,
-) -> Result<Filled, RunError>
-    ensures log { IfOk result (λ filled. IsScriptLog (F.contents files.old script.now) filled.image.items) }
-    ensures printed { IfOk result (λ filled. IsPrintedLog (F.contents files.old script.now) filled.image.items
+) -> Result<Recorded, RunError>
+    ensures printed { IfOk result (λ recorded. IsPrintedLog (F.contents files.old script.now) recorded.status recorded.image.items
         (O.contents out.old) (O.contents out.new)) }
     ensures faults { IfErr result
         (FailsRecording (F.contents files.old script.now) (O.contents out.old) (O.contents out.new)) }
@@ -103,9 +103,8 @@ fn read_text<F: Files>(alloc: Global, script: &str, files: &mut F) -> Result<Vec
 }
 
 // Runs the script that a text spells, and prints what happens and how far its log has come.
-fn run_text<O: Write>(alloc: Global, text: &[u8], out: &mut O) -> Result<Filled, RunError>
-    ensures log { IfOk result (λ filled. IsScriptLog (Some text.now) filled.image.items) }
-    ensures printed { IfOk result (λ filled. IsPrintedLog (Some text.now) filled.image.items
+fn run_text<O: Write>(alloc: Global, text: &[u8], out: &mut O) -> Result<Recorded, RunError>
+    ensures printed { IfOk result (λ recorded. IsPrintedLog (Some text.now) recorded.status recorded.image.items
         (O.contents out.old) (O.contents out.new)) }
     ensures faults { IfErr result (FailsRecording (Some text.now) (O.contents out.old) (O.contents out.new)) }
 {
@@ -119,16 +118,15 @@ fn run_script<O: Write>(
     text: &[u8],
     script: &Script,
     out: &mut O,
-) -> Result<Filled, RunError>
+) -> Result<Recorded, RunError>
     requires { IsTextOf text.now script.now }
-    ensures log { IfOk result (λ filled. IsScriptLog (Some text.now) filled.image.items) }
-    ensures printed { IfOk result (λ filled. IsPrintedLog (Some text.now) filled.image.items
+    ensures printed { IfOk result (λ recorded. IsPrintedLog (Some text.now) recorded.status recorded.image.items
         (O.contents out.old) (O.contents out.new)) }
     ensures faults { IfErr result (FailsRecording (Some text.now) (O.contents out.old) (O.contents out.new)) }
 {
-    let filled = run(alloc, text, script, out)?;
-    print_status(filled.status, out)?;
-    Ok(filled)
+    let recorded = script_runner::record(alloc, text, script, out)?;
+    print_status(recorded.status, out)?;
+    Ok(recorded)
 }
 
 // Prints how far a log has come.

@@ -258,7 +258,7 @@ fn splices_in_the_order_of_ends(rt: HostRuntime) -> Result<(), Fail> {
 
 // Scripts, each after a `~`, with the status, what is printed and the fault: logs of an end mark alone, of nothing
 // and of nothing placed; a close with an open request; texts that are no scripts; logs that are one sector too
-// short, and that aren't; more than one close, of which the first counts; lines after a close.
+// short, and that aren't; more than one close, of which the first counts; lines after a close, and after logging ended.
 const SCRIPTS: &str = "data 16\nlog 32\nclose;0;1 1\n;
 ~data 16\nlog 32\nw a 5 1 41\nc a\n;0;a ok\n0 0\n;
 ~data 16\nlog 1\n# comment\n\nw a 0 1 00\n;0;0 0\n;
@@ -268,9 +268,10 @@ const SCRIPTS: &str = "data 16\nlog 32\nclose;0;1 1\n;
 ~data 16\nlog 32\nno a 1 1\n;1;;dmlw: line 3: 30 BadLine\n
 ~data 16\nlog 32\nw a 5 1 41\nc a\nc a\n;1;;dmlw: line 5: 31 BadId\n
 ~;1;;dmlw: line 1: 30 BadLine\n
-~data 16\nlog 5\nw a 5 1 41\nc a\nf b\nc b\nclose\nf z\nc z\n;3;a ok\nb ok\n;dmlw: 18 Full\n
+~data 16\nlog 5\nw a 5 1 41\nc a\nf b\nc b\nclose\nf z\nc z\n;3;a ok\nb ok\nz ok\n2 3 logging_disabled\n;
 ~data 16\nlog 6\nw a 5 1 41\nc a\nf b\nc b\nclose\n;0;a ok\nb ok\n3 4\n;
-~data 16\nlog 2\nclose\n;3;;dmlw: 18 Full\n
+~data 16\nlog 2\nclose\n;3;0 0 logging_disabled\n;
+~data 16\nlog 1\nclose\n;3;0 0 logging_disabled\n;
 ~data 16\nlog 32\nclose\nf a\nclose\n;0;1 1\n;
 ~data 16\nlog 32\nf a\nclose\nc a\nclose\n;1;;dmlw: line 4: 24 Busy\n
 ~data 16\nlog 32\nclose\nw a 5 1 41\nc a\nclose\nf b\n;0;a ok\n1 1\n;";
@@ -286,7 +287,7 @@ fn answers_scripts(rt: HostRuntime) {
             ran.is(status, out, fields.next().unwrap_or_default()),
             "{row}: {ran:?}"
         );
-        assert!(rt; ran.log.is_some() == (status == 0), "log of {row}");
+        assert!(rt; ran.log.is_some() == (status != 1), "log of {row}");
     }
 }
 
@@ -400,10 +401,10 @@ fn shows_want_of_memory(rt: HostRuntime) {
     let ran = recorded(rt.alloc(), FIRST.as_bytes());
     let is_whole = ran.is(0, "a ok\nb ok\n3 4\n", "") && ran.log.is_some();
     let is_shown = match ran.err.as_slice() {
-        b"dmlw: 2 Memory\n" => ran.status == 1,
-        b"dmlw: 20 Memory\n" => ran.status == 3,
-        [] => ran.status != 0,
+        b"dmlw: 2 Memory\n" => ran.status == 1 && ran.log.is_none(),
+        b"dmlw: 20 Memory\n" => ran.status == 3 && ran.log.is_none(),
+        [] => ran.status == 3 || ran.status == 1 && ran.log.is_none(),
         _ => false,
     };
-    assert!(rt; is_whole || (is_shown && ran.log.is_none()), "{ran:?}");
+    assert!(rt; is_whole || is_shown, "{ran:?}");
 }

@@ -1,8 +1,8 @@
-pub mod Images
-pub mod Filling
-pub mod Running
-pub mod Telling
-pub mod Following
-pub mod Tracing
-pub mod Closing
-pub mod Stopping
+mod Printing
+mod Stepping
+mod Chaining
+mod Scripts
+mod Reading
+mod Writing
+mod Logs
+mod OnDisks

@@ -1,16 +1,20 @@
 pub use Rattle.bio.specs.Check
-pub use Rattle.bio.specs.Lawful
-pub use Rattle.bio.specs.Requests
+pub use Rattle.blockdev.specs.Calls
 pub use Rattle.dmlw_script.specs.Plans
-pub use Rattle.log_format.specs.Encode
-pub use Rattle.log_format.specs.Entries
-pub use Rattle.log_format.specs.Placing
-pub use Rattle.pending.specs.Refusals
-pub use Rattle.refusals.specs.Texts
+pub use Rattle.recorder.specs.Calls as RecorderCalls
+pub use Rattle.recorder.specs.Growth
+pub use Rattle.refusals.specs.Texts as RefusalTexts
+pub use Rattle.log_format.specs.LogOf
+pub use Rattle.recorder.specs.Recording
+pub use Rattle.sector_disk.specs.Candidates
+pub use Rattle.sector_disk.specs.Shown as DiskShown
+pub use Rattle.sector_disk.specs.Sizes
 pub mod Errors
 pub mod CallLaws
-pub mod Image
-pub mod Recorded
-pub mod Printed
-pub mod RunFaults
-pub mod inside
+pub mod Submitted
+pub mod HandOver
+pub mod Texts
+pub mod Lines
+pub mod Runs
+pub mod Written
+pub mod OnDisks

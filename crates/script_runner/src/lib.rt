@@ -1,19 +1,26 @@
-//! Runs a script of `dmlw record`: each request goes through the recorder's core and ends, the log is
-//! filled with what the core gives, and a line says what became of each request.
+//! Runs a script of `dmlw record`: its requests go through the recorder and to the data device, and a line says what became of each.
 //!
-//! `run` runs a script that was read. Where it succeeds, the log is that of the completion list of
-//! the script's events (`specs/Recorded` says which these are, `specs/Image` which bytes a log has) and
-//! the lines are those of `specs/Printed`; where it fails, `specs/RunFaults` says when a Close is
-//! refused and when logging ends, and what was printed before. `fill_log` fills a log with the entries that a core still
-//! has to give, `empty_log` makes one of none. A `RunError` says why a command ended before its time.
+//! `Running` is a script's run so far: the recorder over the log's device, the data device, and the requests that were submitted. `run` runs
+//! the lines of a script one after another. `specs/Lines` says what each line does and prints, in one case for each kind of line, and `specs/Runs` what
+//! all lines come to.
 #![tactic(auto)]
 
 pub use error::RunError;
-pub use fill::{Filled, empty_log, fill_log};
-pub use recording::run;
+pub use recording::{Recorded, record};
+pub use request::Request;
+pub use run_script::run;
+pub use running::Running;
+pub use step_error::StepError;
 
+mod asking;
 mod error;
-mod fill;
+mod handing;
+pub mod laws;
+mod print;
 mod recording;
+mod request;
+mod run_script;
+mod running;
+mod step_error;
 #[cfg(test)]
 mod tests;

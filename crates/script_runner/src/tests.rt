@@ -1,71 +1,112 @@
 use super::*;
+use bio::{Event, Ms};
+use blockdev::BlockDev;
 use dmlw_script::{Kind, read_script};
-use refusals::Refusal;
+use log_store::LogStore;
+use recorder::{Recorder, Reply};
+use sector_disk::SectorDisk;
 use std::alloc::{AllocError, Global};
+use std::process::Abort;
 use std::test::Fail;
 
-// Appends so many writes, each of so many sectors and ended at once, whose ids begin with a letter.
-fn push_writes(
-    alloc: Global,
-    text: &mut String,
-    letter: &str,
-    count: u64,
-    sectors: &str,
-) -> Result<(), AllocError> {
-    for number in 0..count {
-        let lines = format!(in alloc; "w {letter}{number} 7 {sectors} 41\nc {letter}{number}\n")?;
-        text.push_str(lines.as_str())?;
-    }
-    Ok(())
-}
+// Scripts, a line each, whose lines stand between commas; after `=` stands what the run prints, and the recorder's status or the fault.
+const SCRIPTS: &str = "log 32,w a 5 1 41,c a,f b,c b,close=a ok;b ok;3 4
+log 32,close,close=1 1
+log 5,w a 5 1 41,c a,f b,c b,close=a ok;b ok;2 3 logging_disabled
+log 32,w a 5 1 41,c a=a ok;0 0
+log 32,close,w a 5 1 41,f b,c b,c a=b ok;a ok;1 1
+log 32,w a 5 1 41,c a,w b 6 1 42,close=a ok;line 6: 24 Busy
+log 2,f a,close=line 4: 24 Busy";
 
-// The script of these parts, each a close or a letter, how many writes there are, and of how many sectors.
-fn script_text(alloc: Global, parts: &str) -> Result<String, AllocError> {
-    let mut text = String::from_str(alloc, "data 1048576\nlog 4200\n")?;
-    for part in parts.split(",") {
-        let mut words = part.split(" ");
-        let letter = words.next().unwrap_or_default();
-        let count = words.next().unwrap_or_default().parse::<u64>().unwrap_or(0);
-        if count == 0 {
-            text.push_str("close\n")?;
-        }
-        let sectors = words.next().unwrap_or_default();
-        push_writes(alloc, &mut text, letter, count, sectors)?;
+// The text of a script of these lines.
+fn text_of(alloc: Global, lines: &str) -> Result<String, AllocError> {
+    let mut text = String::from_str(alloc, "data 16\n")?;
+    for line in lines.split(",") {
+        text.push_str(line)?;
+        text.push_str("\n")?;
     }
     Ok(text)
 }
 
-// What is shown of a script's run: its status, or why it ended.
-fn run_text(alloc: Global, text: &[u8]) -> Result<String, AllocError> {
-    let Ok(script) = read_script(alloc, text, Kind::Record) else {
-        return String::from_str(alloc, "no script");
-    };
-    let mut out = Vec::new(alloc);
-    match run(alloc, text, &script, &mut out) {
-        Ok(filled) => filled.status.to_string(alloc),
-        Err(error) => error.to_string(alloc),
-    }
+// A recorder over a log of so many sectors.
+fn recorder_over(alloc: Global, sectors: u64) -> Result<Option<Recorder<SectorDisk>>, AllocError> {
+    let disk = SectorDisk::new(alloc, sectors.clamp(1, 65_536))?;
+    Ok(match LogStore::create(disk) {
+        Ok(store) => Recorder::new(alloc, store).ok(),
+        Err(_) => None,
+    })
 }
 
-// The longest writes before a Close, behind it and without one; writes of other sizes; many requests.
-const ROWS: &str = "a 2 2048,close,b 2 2048=3 4099
-a 2 2048=0 0
-a 3 65,close,b 3 65,close=4 199
-a 1200 1,close,b 1200 1=1201 2401";
+// What a run of the script prints, and how it ended.
+fn shown(rt: &impl Abort, alloc: Global, text: &str) -> Result<String, Fail> {
+    let script = read_script(alloc, text.as_bytes(), Kind::Record)?;
+    let data = SectorDisk::new(alloc, script.data_sectors())?;
+    let recorder = recorder_over(alloc, script.log_sectors())?.expect(rt, "a disk never fails");
+    let mut running = Running::new(alloc, recorder, data, script.names().len())?;
+    let mut out = Vec::new(alloc);
+    let ended = match run(text.as_bytes(), &script, &mut running, &mut out) {
+        Ok(()) => running.recorder().status().to_string(alloc)?,
+        Err(error) => error.to_string(alloc)?,
+    };
+    let mut shown = String::new(alloc);
+    for byte in out {
+        shown.push(if byte == b'\n' { ';' } else { char::from(byte) })?;
+    }
+    shown.push_str(ended.as_str())?;
+    Ok(shown)
+}
 
 #[test]
-fn long_scripts_are_run(rt: HostRuntime) -> Result<(), Fail> {
+fn scripts_are_run(rt: HostRuntime) -> Result<(), Fail> {
     let alloc = rt.alloc();
-    for row in ROWS.split("\n") {
+    for row in SCRIPTS.lines() {
         let mut parts = row.split("=");
-        let text = script_text(alloc, parts.next().unwrap_or_default())?;
-        let shown = run_text(alloc, text.as_bytes())?;
+        let text = text_of(alloc, parts.next().unwrap_or_default())?;
+        let shown = shown(&rt, alloc, text.as_str())?;
         assert_eq!(rt; Some(shown.as_str()), parts.next(), "{row}");
     }
     Ok(())
 }
 
+// A long script finds memory for all that it asks.
 #[test]
-fn errors_differ(rt: HostRuntime) {
-    assert!(rt; RunError::from(Refusal::File) != RunError::from(Refusal::Memory));
+fn long_scripts_are_run(rt: HostRuntime) -> Result<(), Fail> {
+    let alloc = rt.alloc();
+    let mut lines = String::from_str(alloc, "log 20000")?;
+    for number in 0..3000 {
+        lines.push_str(format!(in alloc;
+            ",w a{number} 7 2 41,c a{number},f b{number},c b{number}"
+        )?.as_str())?;
+    }
+    lines.push_str(",close")?;
+    let text = text_of(alloc, lines.as_str())?;
+    let shown = shown(&rt, alloc, text.as_str())?;
+    assert!(rt; shown.as_str().ends_with("b2999 ok;6001 12001"));
+    Ok(())
+}
+
+// Reads of one sector, of those around it, and of as many as a request may have; and a turn.
+#[test]
+fn reads_and_turns_are_taken(rt: HostRuntime) -> Result<(), Fail> {
+    let alloc = rt.alloc();
+    let mut data = SectorDisk::new(alloc, 4096)?;
+    let bytes = [0x4f; 1024];
+    assert!(rt; data.write(Ms::new(0), 5, &bytes, false).is_ok());
+    let mut recorder = recorder_over(alloc, 32)?.expect(&rt, "a disk never fails");
+    assert!(rt; recorder.event(Event::Close) == Reply::Closed);
+    let mut running = Running::new(alloc, recorder, data, 0)?;
+    let mut out = Vec::new(alloc);
+    assert!(rt; running.read(5, 1, &mut out).is_ok());
+    assert!(rt; running.read(4, 4, &mut out).is_ok());
+    assert_eq!(rt;
+        out.as_slice(),
+        b"read 5+1 ok 4f\nread 4+4 ok 004f4f00\n".as_slice()
+    );
+    assert!(rt; running.read(2048, 2048, &mut out).is_ok());
+    assert_eq!(rt; out.len(), 36 + 4096 + 19);
+    running.turn();
+    running.turn();
+    let status = running.recorder().status().to_string(alloc)?;
+    assert_eq!(rt; status.as_str(), "1 1");
+    Ok(())
 }

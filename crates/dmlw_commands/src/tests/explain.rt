@@ -80,13 +80,13 @@ fn explains_an_empty_log(rt: HostRuntime) {
         ran.is(
             0,
             "a ok\n0 0\n",
-            "  script has no line `close`: what waits isn't written, and the log is empty\n"
+            "  script has no line `close`: what waits isn't written to the log\n"
         )
     );
     assert!(rt; run(alloc, &words, FIRST.as_bytes()).is(0, "a ok\nb ok\n3 4\n", ""));
     let ran = run(alloc, &words, b"data 16\nlog 2\nclose\n".as_slice());
     assert!(rt;
-        ran.err.as_slice().starts_with(b"dmlw: 18 Full\n  script: the entries don't fit".as_slice())
+        ran.err.as_slice().starts_with(b"  script: the entries don't fit".as_slice())
     );
 }
 

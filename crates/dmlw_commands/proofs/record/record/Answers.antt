@@ -7,6 +7,6 @@ pub returns-clause-ends : goal.returns-clause-ends
 returns-clause-ends g c =
     let recorded = c.record_script-recorded.ensures in
     let more = c.explain_recording-more.ensures in
-    let told = ends_told _ c.as_str.result.now c.record_script-recorded.result c.end.result (λ off. c.as_str.ensures.value ∙ more.silent off) c.end.ensures.exit
-    c.end.ensures.quiet c.end.ensures.told in
-    recording_ends _ _ _ _ _ _ _ _ _ _ _ (records_all _ _ _ _ _ _ _ recorded.log recorded.faults) c.end.ensures.kept more.unwritten told
+    let told = ends_told _ c.as_str.result.now _ _ c.end_recording.result (λ off. c.as_str.ensures.value ∙ more.silent off) c.end_recording.ensures.exit
+    c.end_recording.ensures.quiet c.end_recording.ensures.told in
+    recording_ends _ _ _ _ _ _ _ _ _ _ _ (records_all _ _ _ _ _ _ _ recorded.log recorded.faults) c.end_recording.ensures.kept more.unwritten told

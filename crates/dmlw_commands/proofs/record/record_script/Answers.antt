@@ -1,6 +1,6 @@
 use Rattle.std.proofs.Common.{inl}
 use Rattle.script_runner.specs.CallLaws.{on_error}
-use Rattle.dmlw_commands.proofs.Failing.{fails_for_file}
+use Rattle.dmlw_commands.proofs.Failing.{fails_for_file, unwritten_log}
 use Rattle.dmlw_commands.specs.Records.{file}
 use Rattle.dmlw_commands.proofs.record.record_script.Goals as goal
 
@@ -10,3 +10,8 @@ returns-in_err-write-clause-faults g c =
 
 pub returns-then-is_same-clause-faults : goal.returns-then-is_same-clause-faults
 returns-then-is_same-clause-faults g c = file c.from.result (inl c.from.ensures)
+
+pub returns-in_err-write-clause-log : goal.returns-in_err-write-clause-log
+returns-in_err-write-clause-log g c =
+    unwritten_log _ _ _ _ _ _ _ c.in_ok-image.field-0.status c.in_ok-image.field-0.image.items c.deref.result.now _ c.from_residual-in_err-write.result
+    c.in_ok-image.ensures.printed (let is = c.in_ok-image.image-is in let value = c.deref.ensures.value in cc) c.run_file.ensures.unwritten c.write.ensures.writes c.from_residual-in_err-write.ensures.1

@@ -1,10 +1,6 @@
 use Rattle.script_runner.specs.CallLaws.{on_error}
-use Rattle.dmlw_commands.proofs.Failing.{fails_for_file, fails_of_text, log_of_text, printed_of_text}
+use Rattle.dmlw_commands.proofs.Failing.{fails_for_file, fails_of_text, printed_of_text}
 use Rattle.dmlw_commands.proofs.record.run_file.Goals as goal
-
-pub returns-clause-log : goal.returns-clause-log
-returns-clause-log g c =
-    log_of_text _ c.in_ok-text.text.items c.deref.result.now c.run_text.result c.in_ok-text.ensures.contents c.deref.ensures.value c.run_text.ensures.log
 
 pub returns-clause-printed : goal.returns-clause-printed
 returns-clause-printed g c =

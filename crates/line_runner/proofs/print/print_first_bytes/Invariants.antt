@@ -1,6 +1,0 @@
-use Rattle.std.specs.Io.KnownBytes.{Appends}
-use Rattle.line_runner.specs.Texts.{first_bytes}
-use Rattle.line_runner.proofs.print.print_first_bytes.Given as goal
-
-abbrev pub invariant-loop-sector : goal.invariant-loop-sector
-invariant-loop-sector g l = Appends (g.O.Write.contents l.fn.out) (g.O.Write.contents l.out) (first_bytes l.sector l.bytes)

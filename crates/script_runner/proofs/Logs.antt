@@ -1,0 +1,76 @@
+-- What the lines of a script leave of the log.
+use Rattle.std.proofs.Common.{List, [], ◌∷◌, ℕ, Bool, Option, Some, None, inl, inr, subst, sym}
+use Rattle.std.specs.Prelude.{slice_get}
+use Rattle.bio.specs.declared.request.Bio.{Bio}
+use Rattle.refusals.specs.declared.refusal.Refusal.TheVariants as refusals
+use Rattle.dmlw_script.specs.declared.command.Command.TheVariants as commands
+use Rattle.dmlw_script.specs.declared.command.Step.TheVariants as steps
+use Rattle.dmlw_script.specs.Plans.{name_at}
+use Rattle.recorder.specs.declared.reply.Reply.TheVariants as replies
+use Rattle.script_runner.specs.declared.request.Request.{Request}
+use Rattle.script_runner.specs.declared.request.Request.TheVariants as requests
+use Rattle.script_runner.specs.Lines.{Asks, EndsRequest, HearsEnd, RunsLine, reply_of}
+use Rattle.script_runner.specs.Submitted.{bio_of}
+use Rattle.script_runner.specs.Written.{IsWritten}
+use Rattle.script_runner.proofs.Writing.{kept_close, kept_complete, kept_submit}
+use Rattle.blockdev.specs.declared.device.BlockDev.{Ghosts}
+use Rattle.dmlw_script.specs.declared.command.Command.{Command}
+use Rattle.dmlw_script.specs.declared.script_id.ScriptId.{ScriptId}
+use Rattle.recorder.specs.declared.recorder.Recorder.{Recorder}
+use Rattle.recorder.specs.Growth.{RecorderGoes}
+use Rattle.recorder.specs.Shown.{recording_of}
+use Rattle.script_runner.specs.declared.running.Running.{Running}
+use Rattle.script_runner.specs.Runs.{RunsLines}
+
+-- no call of a recorder goes, and two calls go as one
+abbrev pub GoesNone : {L : Type 0} → (l : Ghosts L) → Type 0
+GoesNone {L} l = (r : Recorder L l) → RecorderGoes (recording_of r) (recording_of r)
+
+abbrev pub GoesTwice : {L : Type 0} → (l : Ghosts L) → Type 0
+GoesTwice {L} l = (old mid new : Recorder L l) → RecorderGoes (recording_of old) (recording_of mid) → RecorderGoes (recording_of mid) (recording_of new)
+    → RecorderGoes (recording_of old) (recording_of new)
+
+-- the lines of a script go as one call
+pub lines_go : {D L : Type 0} {d : Ghosts D} {l : Ghosts L} → GoesNone l → GoesTwice l → (names : List ScriptId) (body : List Command) (text : List ℕ) (old new : Running D L d l)
+    → RunsLines names body text old new → RecorderGoes (recording_of old.recorder) (recording_of new.recorder)
+lines_go {D} {L} {d} {l} none twice names [] text old new ran =
+    subst (λ (end : Running D L d l). RecorderGoes (recording_of old.recorder) (recording_of end.recorder)) (sym ran.1) (none old.recorder)
+lines_go none twice names (command ∷ body) text old new ran =
+    twice old.recorder ran.0.recorder new.recorder ran.4.goes (lines_go none twice names body ran.2 ran.0 new ran.5)
+
+-- a request that is asked keeps the log written
+asked_written : {L : Type 0} {l : Ghosts L} (bio : Bio) (request : Request) (old new : Recorder L l) → Asks bio request old new → IsWritten old → IsWritten new
+asked_written {L} {l} bio (requests.Asked kept id) old new asks written = kept_submit {l = l} bio (reply_of id) old new asks.1 written
+asked_written {L} {l} bio requests.Failed old new asks written = elim asks [
+  | inl unasked ↦ subst (λ (r : Recorder L l). IsWritten r) (sym unasked.1) written
+  | inr refused ↦ kept_submit {l = l} bio (replies.Refused refusals.Memory) old new refused written
+]
+
+-- so does a request's end
+ended_written : {L : Type 0} {l : Ghosts L} (id : Option ℕ) (ok : Bool) (old new : Recorder L l) → HearsEnd id ok old new → IsWritten old → IsWritten new
+ended_written {L} {l} (Some id) ok old new hears written = kept_complete {l = l} id ok hears.0 old new hears.1 written
+ended_written {L} {l} None ok old new hears written = subst (λ (r : Recorder L l). IsWritten r) (sym hears) written
+
+found_written : {D L : Type 0} {d : Ghosts D} {l : Ghosts L} (found : Option Request) (name : ScriptId) (text : List ℕ) (old new : Running D L d l)
+    → EndsRequest found name text old new → IsWritten old.recorder → IsWritten new.recorder
+found_written {D} {L} {d} {l} None name text old new does written = absurd does
+found_written {D} {L} {d} {l} (Some requests.Failed) name text old new does written = subst (λ (r : Recorder L l). IsWritten r) (sym does.1) written
+found_written {D} {L} {d} {l} (Some (requests.Asked bio id)) name text old new does written =
+    ended_written {l = l} id does.ok old.recorder new.recorder does.hears written
+
+-- each line does
+line_written : {D L : Type 0} {d : Ghosts D} {l : Ghosts L} (names : List ScriptId) (command : Command) (text : List ℕ) (old new : Running D L d l)
+    → RunsLine names command text old new → IsWritten old.recorder → IsWritten new.recorder
+line_written {D} {L} {d} {l} names (commands.Submit submission) text old new line written =
+    asked_written {l = l} (bio_of submission) line.does.request old.recorder new.recorder line.does.asks written
+line_written {D} {L} {d} {l} names (commands.Complete request) text old new line written =
+    found_written {d = d} {l = l} (slice_get old.requests.items request) (name_at names request) text old new line.does written
+line_written {D} {L} {d} {l} names (commands.Step steps.Close) text old new line written =
+    kept_close {l = l} line.does.answer line.does.closed new.recorder line.does.drains
+
+-- and all lines do
+pub lines_written : {D L : Type 0} {d : Ghosts D} {l : Ghosts L} (names : List ScriptId) (body : List Command) (text : List ℕ) (old new : Running D L d l)
+    → RunsLines names body text old new → IsWritten old.recorder → IsWritten new.recorder
+lines_written {D} {L} {d} {l} names [] text old new ran written = subst (λ (run : Running D L d l). IsWritten run.recorder) (sym ran.1) written
+lines_written {D} {L} {d} {l} names (command ∷ body) text old new ran written =
+    lines_written {d = d} {l = l} names body ran.2 ran.0 new ran.5 (line_written {d = d} {l = l} names command ran.1 old ran.0 ran.4 written)

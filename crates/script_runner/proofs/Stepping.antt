@@ -1,0 +1,56 @@
+-- What one line does.
+use Rattle.std.proofs.Common.{◌≡◌, ◌∙◌, ◌<◌, ℕ, Some, List, ap, length, subst, sym, inl, inr}
+use Rattle.std.proofs.lemmas.Option.{slice_get-get_or}
+use Rattle.std.specs.Prelude.{Err, IfErr, Ok, OnOk, Result, slice_get, slice_index_or}
+use Rattle.sectors.specs.PlaceLaws.{bool_cases}
+use Rattle.bio.specs.declared.request.Bio.{Bio}
+use Rattle.refusals.specs.declared.refusal.Refusal.{Refusal}
+use Rattle.refusals.specs.declared.refusal.Refusal.TheVariants as refusals
+use Rattle.blockdev.specs.declared.device.BlockDev.{Ghosts}
+use Rattle.dmlw_script.specs.declared.command.Command.{Command}
+use Rattle.dmlw_script.specs.declared.command.Command.TheVariants as commands
+use Rattle.dmlw_script.specs.declared.command.Step.{Step}
+use Rattle.dmlw_script.specs.declared.command.Step.TheVariants as steps
+use Rattle.pending.specs.CoreState.{records}
+use Rattle.recorder.specs.declared.recorder.Recorder.{Recorder}
+use Rattle.recorder.specs.declared.reply.Reply.{Reply}
+use Rattle.recorder.specs.declared.reply.Reply.TheVariants as replies
+use Rattle.recorder.specs.Calls.{Closes, Submits}
+use Rattle.script_runner.specs.declared.request.Request.{Request}
+
+-- a reply to a submission that names no id and passes nothing says that there is no memory
+pub refused-only : {L : Type 0} {g : Ghosts L} (bio : Bio) (reply : Reply) (old new : Recorder L g) → Submits bio reply old new
+    → ((id : ℕ) → reply ≡ replies.Tracked id → ⊥) → (reply ≡ replies.Passed → ⊥) → Submits bio (replies.Refused refusals.Memory) old new
+refused-only bio reply old new submits tracked passed = elim (bool_cases (records old.core bio)) [
+  | inl recorded ↦ elim (submits.recorded recorded) [
+    | inl followed ↦ absurd (tracked _ followed.0)
+    | inr refused ↦ subst (λ (answer : Reply). Submits bio answer old new) refused.0 submits
+  ]
+  | inr other ↦ absurd (passed (submits.passed other).0)
+]
+
+-- a close that isn't refused is done
+pub closed-only : {L : Type 0} {g : Ghosts L} (reply : Reply) (old new : Recorder L g) → Closes reply old new
+    → ((refusal : Refusal) → reply ≡ replies.Refused refusal → ⊥) → Closes replies.Closed old new
+closed-only reply old new closes refused = elim closes.answer [
+  | inl done ↦ subst (λ (answer : Reply). Closes answer old new) done.0 closes
+  | inr other ↦ elim other [ inl busy ↦ absurd (refused _ busy.0) | inr memory ↦ absurd (refused _ memory.0) ]
+]
+
+-- what stands at a place
+pub stands_at : (items : List Request) (place : ℕ) (here found : Request) → place < length items → here ≡ slice_index_or items place here → here ≡ found
+    → slice_get items place ≡ Some found
+stands_at items place here found within is same = slice_get-get_or items place here within ∙ ap Some (sym is ∙ same)
+
+-- the only line that names no request is a close
+pub is_close_step : (command : Command) (step : Step) → command ≡ commands.Step step → command ≡ commands.Step steps.Close
+is_close_step command steps.Close is = is
+
+-- what follows from a success, and from an error
+pub on_ok : {T E A B : Type 0} (result : Result T E) → OnOk result A → (A → B) → OnOk result B
+on_ok (Ok value) holds follows = follows holds
+on_ok (Err error) holds follows = tt
+
+pub if_err : {T E : Type 0} {P Q : E → Type 0} (result : Result T E) → IfErr result P → ((error : E) → P error → Q error) → IfErr result Q
+if_err (Ok value) holds follows = tt
+if_err (Err error) holds follows = follows error holds

@@ -1,0 +1,40 @@
+use Rattle.std.proofs.Common.{◌≡◌, refl, subst, sym, inr}
+use Rattle.script_runner.specs.CallLaws.{on_error}
+use Rattle.script_runner.specs.declared.error.RunError.{RunError}
+use Rattle.script_runner.specs.OnDisks.{DiskRecorder, FailsOnDisks, file, run}
+use Rattle.log_format.specs.LogOf.{status_of}
+use Rattle.log_store.specs.Shown.{store_of}
+use Rattle.log_store.specs.Store.{entries_of}
+use Rattle.pending.specs.CoreState.{IsSound}
+use Rattle.recorder.specs.Growth.{CrashReopens}
+use Rattle.recorder.specs.Shown.{recording_of}
+use Rattle.script_runner.proofs.OnDisks.{fails_to_start, is_recorded}
+use Rattle.script_runner.proofs.recording.record.Goals as goal
+
+pub returns-in_err-running-clause-faults : goal.returns-in_err-running-clause-faults
+returns-in_err-running-clause-faults g c =
+    on_error c.from_residual.result c.from_residual.ensures.1
+    (λ fault is. subst (FailsOnDisks _ _ _ _) (sym is) (fails_to_start _ _ _ _ c.in_err-running.ensures.faults))
+
+pub returns-in_err-run-clause-faults : goal.returns-in_err-run-clause-faults
+returns-in_err-run-clause-faults g c =
+    on_error c.from_residual-in_err-run.result c.from_residual-in_err-run.ensures.1
+    (λ fault is. subst (FailsOnDisks _ _ _ _) (sym is) (run c.in_ok-running.running _ c.in_ok-running.ensures.starts c.in_err-run.ensures.faults))
+
+pub returns-in_err-image-clause-faults : goal.returns-in_err-image-clause-faults
+returns-in_err-image-clause-faults g c =
+    on_error c.from_residual-in_err-image.result c.from_residual-in_err-image.ensures.1 (λ fault is. file fault (inr is))
+
+pub returns-clause-recorded : goal.returns-clause-recorded
+returns-clause-recorded g c =
+    let ran = c.in_ok-run.ensures.runs in
+    let script = c.args.script.now in
+    let start = c.in_ok-running.running in
+    let last = c.run.new.running in
+    let told = subst (λ (r : DiskRecorder). c.status-status.result ≡ status_of 512 (entries_of (store_of r.store)) r.end) c.recorder-2.ensures (c.status-status.ensures.status refl) in
+    let reopens = subst (λ (r : DiskRecorder). CrashReopens (recording_of r)) c.recorder-2.ensures c.status-status.ensures.crash in
+    let sound = subst (λ (r : DiskRecorder). IsSound r.core) c.recorder.ensures c.events-events.ensures.core in
+    (ran.0, is_recorded script ran.0 start last _ c.status-status.result c.in_ok-image.image.items c.in_ok-running.ensures.starts ran.1
+    (c.lines_go_as_one_call.ensures script.names script.commands ran.0 start last ran.1)
+    told c.into_parts-recorder.ensures.recorder c.in_ok-image.ensures.size c.in_ok-image.ensures.bytes reopens
+    (λ written on closed. c.closed_runs_leave_whole_logs.ensures.whole script.names script.commands ran.0 start last ran.1 written sound on closed refl), ran.2)

@@ -1,0 +1,156 @@
+-- What each line of a script does, from the run before it (old) to the run after it (new), and what it prints.
+use Rattle.recorder.specs.declared.reply.Turn.{Turn}
+use Rattle.std.specs.Prelude.{◌≡◌, ◌⊎◌, ℕ, ◌<◌, Bool, true, false, List, [], ◌∷◌, ◌++◌, Option, Some, None, Result, Ok, length, slice_get, if◌then◌else◌}
+use Rattle.std.specs.Io.KnownBytes.{Appends, Keeps}
+use Rattle.bio.specs.declared.request.Bio.{Bio}
+use Rattle.bio.specs.declared.outcome.End.{End}
+use Rattle.bio.specs.Requests.{has_data}
+use Rattle.blockdev.specs.declared.device.BlockDev.{Ghosts}
+use Rattle.refusals.specs.declared.refusal.Refusal.{Refusal}
+use Rattle.refusals.specs.declared.refusal.Refusal.TheVariants as refusals
+use Rattle.dmlw_script.specs.declared.command.Command.{Command}
+use Rattle.dmlw_script.specs.declared.command.Command.TheVariants as commands
+use Rattle.dmlw_script.specs.declared.command.Step.{Step}
+use Rattle.dmlw_script.specs.declared.command.Step.TheVariants as steps
+use Rattle.dmlw_script.specs.declared.script_id.ScriptId.{ScriptId}
+use Rattle.dmlw_script.specs.Plans.{is_submission, name_at, step_answer, submission_answer}
+use Rattle.recorder.specs.declared.recorder.Recorder.{Recorder}
+use Rattle.recorder.specs.declared.reply.Reply.{Reply}
+use Rattle.recorder.specs.declared.reply.Reply.TheVariants as replies
+use Rattle.recorder.specs.Calls.{Turns, Closes, Completes, Drains, Submits}
+use Rattle.recorder.specs.Growth.{RecorderGoes}
+use Rattle.recorder.specs.Shown.{recording_of}
+use Rattle.script_runner.specs.declared.request.Request.{Request}
+use Rattle.script_runner.specs.declared.request.Request.TheVariants as requests
+use Rattle.script_runner.specs.declared.running.Running.{Running}
+use Rattle.script_runner.specs.declared.step_error.StepError.{StepError}
+use Rattle.script_runner.specs.declared.step_error.StepError.TheVariants.{AtLine, Whole}
+use Rattle.script_runner.specs.Errors.{IsFileError}
+use Rattle.script_runner.specs.HandOver.{ReadsSectors, HandsOver}
+use Rattle.script_runner.specs.Submitted.{bio_of}
+use Rattle.script_runner.specs.Texts.{read_line, outcome_line}
+
+-- what the recorder answers to a submission that it doesn't refuse
+abbrev pub reply_of : Option ℕ → Reply
+reply_of (Some id) = replies.Tracked id
+reply_of None = replies.Passed
+
+-- The recorder is asked of a request: it follows it by an id, or passes it. Or there is no memory: for the request's bytes, and the recorder
+-- isn't asked; or the recorder has none.
+abbrev pub Asks : {L : Type 0} {l : Ghosts L} → Bio → Request → Recorder L l → Recorder L l → Type 0
+Asks bio (requests.Asked kept id) old new = (kept ≡ bio) × Submits bio (reply_of id) old new
+Asks bio requests.Failed old new = ((has_data bio ≡ true) × (new ≡ old)) ⊎ Submits bio (replies.Refused refusals.Memory) old new
+
+-- what a submission prints: nothing, unless there was no memory for the request
+abbrev pub submission_text : ScriptId → Request → List ℕ
+submission_text name (requests.Asked bio id) = []
+submission_text name requests.Failed = outcome_line name false
+
+-- A line submits the next request. The data device isn't called yet.
+pub record SubmitsNext {D L : Type 0} {d : Ghosts D} {l : Ghosts L} (names : List ScriptId) (bio : Bio) (text : List ℕ) (old new : Running D L d l) : Type 0 where
+  pub device : new.disk ≡ old.disk
+  pub request : Request
+  pub asks : Asks bio request old.recorder new.recorder
+  pub kept : new.requests.items ≡ old.requests.items ++ request ∷ []
+  pub prints : text ≡ submission_text (name_at names (length old.requests.items)) request
+
+-- how the recorder hears of the end of a request that it follows by this id, or passed
+abbrev pub HearsEnd : {L : Type 0} {l : Ghosts L} → Option ℕ → Bool → Recorder L l → Recorder L l → Type 0
+HearsEnd (Some id) ok old new = (reply : Reply) × Completes id ok reply old new
+HearsEnd None ok old new = new ≡ old
+
+-- A request that was asked is handed over to the data device, and ends with that result, which is printed.
+pub record EndsAsked {D L : Type 0} {d : Ghosts D} {l : Ghosts L} (bio : Bio) (id : Option ℕ) (name : ScriptId) (text : List ℕ) (old new : Running D L d l) : Type 0 where
+  pub ok : Bool
+  pub hands_over : HandsOver d.does bio ok old.disk new.disk
+  pub hears : HearsEnd id ok old.recorder new.recorder
+  pub kept : new.requests.items ≡ old.requests.items
+  pub prints : text ≡ outcome_line name ok
+
+-- A line leaves the data device and the requests as they are, and prints nothing.
+pub record KeepsData {D L : Type 0} {d : Ghosts D} {l : Ghosts L} (text : List ℕ) (old new : Running D L d l) : Type 0 where
+  pub device : new.disk ≡ old.disk
+  pub kept : new.requests.items ≡ old.requests.items
+  pub prints : text ≡ []
+
+-- A line ends a request: one that has failed already does nothing, and prints nothing.
+abbrev pub EndsRequest : {D L : Type 0} {d : Ghosts D} {l : Ghosts L} → Option Request → ScriptId → List ℕ → Running D L d l → Running D L d l → Type 0
+EndsRequest (Some (requests.Asked bio id)) name text old new = EndsAsked bio id name text old new
+EndsRequest (Some requests.Failed) name text old new = KeepsData text old new × (new.recorder ≡ old.recorder)
+EndsRequest None name text old new = ⊥
+
+-- A line ends recording, and the log is written to its end, or logging ends.
+pub record EndsRecording {D L : Type 0} {d : Ghosts D} {l : Ghosts L} (text : List ℕ) (old new : Running D L d l) : Type 0 where
+  pub keeps : KeepsData text old new
+  pub closed : Recorder L l
+  pub closes : Closes replies.Closed old.recorder closed
+  pub answer : Result Unit End
+  pub drains : Drains answer closed new.recorder
+
+-- A line reads from the data device; the recorder isn't asked.
+pub record ReadsData {D L : Type 0} {d : Ghosts D} {l : Ghosts L} (first count : ℕ) (text : List ℕ) (old new : Running D L d l) : Type 0 where
+  pub log : new.recorder ≡ old.recorder
+  pub kept : new.requests.items ≡ old.requests.items
+  pub bytes : Option (List ℕ)
+  pub reads : ReadsSectors d.does first count bytes old.disk new.disk
+  pub prints : text ≡ read_line first count bytes
+
+-- A line gives the writer a turn.
+pub record GivesTurn {D L : Type 0} {d : Ghosts D} {l : Ghosts L} (text : List ℕ) (old new : Running D L d l) : Type 0 where
+  pub keeps : KeepsData text old new
+  pub turn : Turn
+  pub turns : Turns turn old.recorder new.recorder
+
+-- A line that names no request.
+abbrev pub TakesStep : {D L : Type 0} {d : Ghosts D} {l : Ghosts L} → Step → List ℕ → Running D L d l → Running D L d l → Type 0
+TakesStep steps.Close text old new = EndsRecording text old new
+
+-- What a line does, by its kind.
+abbrev pub Does : {D L : Type 0} {d : Ghosts D} {l : Ghosts L} → List ScriptId → Command → List ℕ → Running D L d l → Running D L d l → Type 0
+Does names (commands.Submit submission) text old new = SubmitsNext names (bio_of submission) text old new
+Does names (commands.Complete request) text old new =
+    EndsRequest (slice_get old.requests.items request) (name_at names request) text old new
+Does names (commands.Step step) text old new = TakesStep step text old new
+
+-- A line is run: it does what its kind does, and the recorder goes on as by one of its calls.
+pub record RunsLine {D L : Type 0} {d : Ghosts D} {l : Ghosts L} (names : List ScriptId) (command : Command) (text : List ℕ) (old new : Running D L d l) : Type 0 where
+  pub does : Does names command text old new
+  pub goes : RecorderGoes (recording_of old.recorder) (recording_of new.recorder)
+
+-- A line is run, and what it prints is added to what a writer holds.
+abbrev pub PrintsLine : {D L : Type 0} {d : Ghosts D} {l : Ghosts L} → List ScriptId → Command → Option (List ℕ) → Option (List ℕ) → Running D L d l → Running D L d l → Type 0
+PrintsLine names command before after old new = (text : List ℕ) × RunsLine names command text old new × Appends before after text
+
+-- how many requests a line submits
+abbrev pub count_of : Command → ℕ
+count_of command = if is_submission command then 1 else 0
+
+-- what a line covers is within a data device of so many sectors
+abbrev pub FitsDevice : ℕ → Command → Type 0
+FitsDevice sectors (commands.Submit submission) = submission_answer sectors submission ≡ Ok tt
+FitsDevice sectors (commands.Complete request) = Unit {0}
+FitsDevice sectors (commands.Step step) = step_answer sectors step ≡ Ok tt
+
+-- the run of a line stops, since the output can't be written or there is no memory
+abbrev pub StopsForFile : StepError → Type 0
+StopsForFile (AtLine refusal) = ⊥
+StopsForFile (Whole fault) = IsFileError fault
+
+-- or since it is a close that the recorder refuses
+pub record StopsAtClose {L : Type 0} {l : Ghosts L} (command : Command) (before after : Option (List ℕ)) (stop : StepError) (old : Recorder L l) : Type 0 where
+  pub is_close : command ≡ commands.Step steps.Close
+  pub refusal : Refusal
+  pub stops : stop ≡ AtLine refusal
+  pub last : Recorder L l
+  pub closes : Closes (replies.Refused refusal) old last
+  pub printed : Keeps before after
+
+-- why the run of a line stops
+abbrev pub StopsLine : {L : Type 0} {l : Ghosts L} → Command → Option (List ℕ) → Option (List ℕ) → Recorder L l → StepError → Type 0
+StopsLine command before after old stop = StopsForFile stop ⊎ StopsAtClose command before after stop old
+
+-- the request that a line ends is one of so many
+abbrev pub EndsSubmitted : ℕ → Command → Type 0
+EndsSubmitted requests (commands.Submit submission) = Unit {0}
+EndsSubmitted requests (commands.Complete request) = request < requests
+EndsSubmitted requests (commands.Step step) = Unit {0}

@@ -1,0 +1,19 @@
+-- What a script's line submits.
+use Rattle.std.specs.Prelude.{ℕ, ◌*◌, Bool, true, false, is_ok, replicate}
+use Rattle.bio.specs.declared.request.Bio.{Bio}
+use Rattle.bio.specs.declared.request.Bio.TheVariants as bios
+use Rattle.bio.specs.Check.{check_answer}
+use Rattle.dmlw_script.specs.declared.command.Submission.{Submission}
+use Rattle.dmlw_script.specs.declared.command.Submission.TheVariants as submits
+use Rattle.script_runner.specs.declared.request.Request.{Request}
+use Rattle.script_runner.specs.declared.request.Request.TheVariants as requests
+
+-- the request that a line submits: a write's sectors are of its byte
+abbrev pub bio_of : Submission → Bio
+bio_of (submits.Write first count byte) = bios.Write first (replicate (count * 512) byte) false false false
+bio_of submits.Flush = bios.Flush
+
+-- the request passes the test of a device of so many sectors
+abbrev pub fits_device : ℕ → Request → Bool
+fits_device sectors (requests.Asked bio id) = is_ok (check_answer bio sectors)
+fits_device sectors requests.Failed = true

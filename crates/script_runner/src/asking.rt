@@ -1,0 +1,46 @@
+ghost use Rattle.std.specs.Prelude.{◌≡◌, ◌≤◌, Ok, ℕ};
+ghost use Rattle.dmlw_script.specs.Plans.{submission_answer};
+ghost use Rattle.recorder.specs.Growth.{RecorderGoes};
+ghost use Rattle.recorder.specs.Shown.{recording_of};
+ghost use Rattle.script_runner.specs.Lines.{Asks, HearsEnd};
+ghost use Rattle.script_runner.specs.Submitted.{bio_of};
+
+use crate::request::{Request, bio_of};
+use bio::{Event, Id};
+use blockdev::BlockDev;
+use dmlw_script::Submission;
+use recorder::{Recorder, Reply};
+use std::alloc::Global;
+
+// Asks the recorder of the request that a line submits.
+pub(crate) fn ask<L: BlockDev + Drop>(
+    recorder: &mut Recorder<L>,
+    alloc: Global,
+    submission: Submission,
+) -> Request
+    requires { submission_answer 1048576 submission ≡ Ok tt }
+    ensures asks { Asks (bio_of submission) result recorder.old recorder.new }
+    ensures goes { RecorderGoes (recording_of recorder.old) (recording_of recorder.new) }
+{
+    let Ok(bio) = bio_of(alloc, submission) else {
+        return Request::Failed;
+    };
+    let Ok(asked) = bio.clone() else {
+        return Request::Failed;
+    };
+    match recorder.event(Event::Submit(asked)) {
+        Reply::Tracked(id) => Request::Asked { bio, id: Some(id) },
+        Reply::Passed => Request::Asked { bio, id: None },
+        _ => Request::Failed,
+    }
+}
+
+// Tells the recorder of the end of a request that it follows.
+pub(crate) fn tell_end<L: BlockDev + Drop>(recorder: &mut Recorder<L>, id: Option<Id>, ok: bool)
+    ensures hears { HearsEnd id ok recorder.old recorder.new }
+    ensures goes { RecorderGoes (recording_of recorder.old) (recording_of recorder.new) }
+{
+    if let Some(id) = id {
+        let _reply = recorder.event(Event::Complete { id, ok });
+    }
+}

@@ -1,0 +1,75 @@
+ghost use Rattle.std.specs.Prelude.{◌≡◌, ◌*◌, IfSome, Ok, option_map, IsTrue, is_ok, length, true, false};
+ghost use Rattle.bio.specs.Check.{check_answer, range_answer};
+ghost use Rattle.blockdev.specs.Calls.{Flushes, IsByteRange, IsRange, Writes};
+ghost use Rattle.script_runner.specs.HandOver.{DoesCall, HandsOver, ReadsSectors};
+
+use bio::{Bio, Ms};
+use blockdev::BlockDev;
+use sectors::SECTOR_BYTES;
+use std::alloc::Global;
+
+// A sector's size in bytes.
+const SECTOR: usize = SECTOR_BYTES as usize;
+
+// Hands a request over to a device: a write with flush as a flush, and then the write where the flush succeeded. Answers whether it succeeded.
+pub(crate) fn hand_over<D: BlockDev>(device: &mut D, bio: &Bio) -> bool
+    requires { IsTrue (is_ok (check_answer bio.now (D.shown device.old).size)) }
+    ensures does { HandsOver D.does bio.now result device.old device.new }
+    ensures size { (D.shown device.new).size ≡ (D.shown device.old).size }
+{
+    let now = Ms::new(0);
+    match bio {
+        Bio::Write {
+            first,
+            bytes,
+            flush: true,
+            fua,
+            ..
+        } => flush(device) && write(device, *first, bytes.as_slice(), *fua),
+        Bio::Write {
+            first,
+            bytes,
+            fua,
+            ..
+        } => write(device, *first, bytes.as_slice(), *fua),
+        Bio::Flush => flush(device),
+        Bio::Discard { first, count } => device.discard(now, *first, *count).is_ok(),
+        Bio::Read { .. } => true,
+    }
+}
+
+// Flushes a device. Answers whether that succeeded.
+fn flush<D: BlockDev>(device: &mut D) -> bool
+    ensures does { DoesCall D.does Flushes result device.old device.new }
+    ensures size { (D.shown device.new).size ≡ (D.shown device.old).size }
+{
+    device.flush(Ms::new(0)).is_ok()
+}
+
+// Writes whole sectors to a device. Answers whether that succeeded.
+fn write<D: BlockDev>(device: &mut D, first: u64, bytes: &[u8], fua: bool) -> bool
+    requires { IsByteRange (D.shown device.old).size first (length bytes.now) }
+    ensures does { DoesCall D.does (Writes first bytes.now fua) result device.old device.new }
+    ensures size { (D.shown device.new).size ≡ (D.shown device.old).size }
+{
+    device.write(Ms::new(0), first, bytes, fua).is_ok()
+}
+
+// Reads so many sectors from a device; none where there is no memory for them or the read fails.
+pub(crate) fn read_sectors<D: BlockDev>(
+    device: &mut D,
+    alloc: Global,
+    first: u64,
+    count: u64,
+) -> Option<Vec<u8>>
+    requires { range_answer first count (D.shown device.old).size ≡ Ok tt }
+    ensures reads { ReadsSectors D.does first count (option_map (λ bytes. bytes.items) result) device.old device.new }
+    ensures length { IfSome result (λ bytes. length bytes.items ≡ count * 512) }
+    ensures size { (D.shown device.new).size ≡ (D.shown device.old).size }
+{
+    let mut buffer = vec![in alloc; 0; count as usize * SECTOR].ok()?;
+    match device.read(Ms::new(0), first, buffer.as_mut_slice()) {
+        Ok(_) => Some(buffer),
+        Err(_) => None,
+    }
+}

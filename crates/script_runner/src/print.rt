@@ -1,0 +1,111 @@
+ghost use Rattle.std.specs.Prelude.{◌≡◌, ◌*◌, ◌<◌, IfErr, IfSome, OnOk, length, option_map};
+ghost use Rattle.std.specs.List.{AllByRecursion};
+ghost use Rattle.std.specs.Io.KnownBytes.{Appends};
+ghost use Rattle.dmlw_script.specs.Plans.{IsName, name_at};
+ghost use Rattle.dmlw_script.specs.Words.{hex_digit};
+ghost use Rattle.script_runner.specs.Lines.{StopsForFile, submission_text};
+ghost use Rattle.script_runner.specs.Texts.{first_bytes, outcome_line, outcome_word, read_line};
+
+use crate::request::Request;
+use crate::step_error::StepError;
+use dmlw_script::ScriptId;
+use sectors::SECTOR_BYTES;
+use std::io::Write;
+
+// A sector's size in bytes.
+const SECTOR: usize = SECTOR_BYTES as usize;
+
+// Says what a submission came to, where there was no memory for the request.
+pub(crate) fn print_submission<O: Write>(
+    name: &ScriptId,
+    request: &Request,
+    out: &mut O,
+) -> Result<(), StepError>
+    requires { IsName name.now }
+    ensures output { OnOk result (Appends (O.contents out.old) (O.contents out.new) (submission_text name.now request.now)) }
+    ensures faults { IfErr result StopsForFile }
+{
+    match request {
+        Request::Asked { .. } => Ok(()),
+        Request::Failed => print_outcome(name, false, out),
+    }
+}
+
+// Says what became of a request.
+pub(crate) fn print_outcome<O: Write>(
+    name: &ScriptId,
+    ok: bool,
+    out: &mut O,
+) -> Result<(), StepError>
+    requires { IsName name.now }
+    ensures output { OnOk result (Appends (O.contents out.old) (O.contents out.new) (outcome_line name.now ok)) }
+    ensures faults { IfErr result StopsForFile }
+{
+    let word = outcome_word(ok);
+    Ok(writeln!(out, "{name} {word}")?)
+}
+
+// Says what was read: the first byte of each sector.
+pub(crate) fn print_read<O: Write>(
+    first: u64,
+    count: u64,
+    bytes: &Option<Vec<u8>>,
+    out: &mut O,
+) -> Result<(), StepError>
+    requires { IfSome bytes.now (λ read. length read.items ≡ count * 512) }
+    ensures output { OnOk result (Appends (O.contents out.old) (O.contents out.new) (read_line first count (option_map (λ read. read.items) bytes.now))) }
+    ensures faults { IfErr result StopsForFile }
+{
+    write!(out, "read {first}+{count} ")?;
+    match bytes {
+        Some(read) => {
+            write!(out, "ok ")?;
+            print_first_bytes(count, read.as_slice(), out)?;
+        }
+        None => write!(out, "failed")?,
+    }
+    Ok(writeln!(out)?)
+}
+
+// Prints the first byte of each of so many sectors.
+fn print_first_bytes<O: Write>(count: u64, bytes: &[u8], out: &mut O) -> Result<(), StepError>
+    requires { length bytes.now ≡ count * 512 }
+    ensures output { OnOk result (Appends (O.contents out.old) (O.contents out.new) (first_bytes count bytes.now)) }
+    ensures faults { IfErr result StopsForFile }
+{
+    for sector in 0..count {
+        let byte = bytes[sector as usize * SECTOR];
+        let digits = [hex_digit(byte / 16), hex_digit(byte % 16)];
+        out.write_all(&digits)?;
+    }
+    Ok(())
+}
+
+// A lower case hexadecimal digit.
+fn hex_digit(half: u8) -> u8
+    requires { half < 16 }
+    ensures { result ≡ hex_digit half }
+{
+    if half < 10 {
+        b'0' + half
+    } else {
+        b'a' + (half - 10)
+    }
+}
+
+// How a request ended.
+fn outcome_word(ok: bool) -> &'static str
+    ensures { result.now ≡ outcome_word ok }
+{
+    if ok { "ok" } else { "failed" }
+}
+
+// The id of a request.
+pub(crate) fn name_of(names: &[ScriptId], request: usize) -> &ScriptId
+    requires named { request < length names.now }
+    requires ids { AllByRecursion IsName names.now }
+    ensures name { result.now ≡ name_at names.now request }
+    ensures id { IsName result.now }
+{
+    &names[request]
+}

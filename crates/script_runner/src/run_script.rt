@@ -1,0 +1,39 @@
+ghost use Rattle.std.specs.Prelude.{◌≡◌, IfErr, OnOk, []};
+ghost use Rattle.script_runner.specs.Runs.{EndsRun, PrintsLines};
+
+use crate::running::Running;
+use crate::step_error::StepError;
+use blockdev::BlockDev;
+use dmlw_script::{Script, laws, line_of};
+use refusals::Fault;
+use crate::error::RunError;
+use std::io::Write;
+
+/// Runs a script, which was read from `text`, on a data device of its size, from before its first line on. What its lines print is
+/// written to `out`. A close that is refused ends the run at its line; so does an output that can't be written, and want of memory for what the
+/// run itself keeps.
+pub fn run<D: BlockDev + Drop, L: BlockDev + Drop, O: Write>(
+    text: &[u8],
+    script: &Script,
+    running: &mut Running<D, L>,
+    out: &mut O,
+) -> Result<(), RunError>
+    requires size { (D.shown running.old.disk).size ≡ script.now.data_sectors }
+    requires first { running.old.requests.items ≡ [] }
+    ensures runs { OnOk result (PrintsLines script.now.names script.now.commands (O.contents out.old) (O.contents out.new) running.old running.new) }
+    ensures size { (D.shown running.new.disk).size ≡ (D.shown running.old.disk).size }
+    ensures faults { IfErr result (EndsRun text.now script.now (O.contents out.old) (O.contents out.new) running.old) }
+{
+    laws::requests_end_once();
+    for (place, command) in script.commands().iter().enumerate() {
+        match running.run_line(*command, script.names(), out) {
+            Ok(()) => {}
+            Err(StepError::Whole(fault)) => return Err(fault),
+            Err(StepError::AtLine(refusal)) => {
+                let line = line_of(text, place);
+                return Err(RunError::Refused(Fault { line, refusal }));
+            }
+        }
+    }
+    Ok(())
+}

@@ -1,0 +1,188 @@
+ghost use Rattle.std.specs.Prelude.{IsTrue};
+ghost use Rattle.std.specs.List.{list_all};
+ghost use Rattle.script_runner.specs.Submitted.{fits_device};
+
+use crate::asking::{ask, tell_end};
+use crate::handing::{hand_over, read_sectors};
+use crate::print::{name_of, print_outcome, print_read, print_submission};
+use crate::request::Request;
+use crate::step_error::StepError;
+use bio::Event;
+use blockdev::BlockDev;
+use dmlw_script::{Command, ScriptId, Step, Submission};
+use recorder::{Recorder, Reply, laws};
+use refusals::Refusal;
+use std::alloc::{AllocError, Global};
+use std::io::Write;
+
+/// A script's run so far: a recorder over the log's device, the data device, and the requests that were submitted, by their numbers.
+#[derive(Drop)]
+pub struct Running<D: BlockDev + Drop, L: BlockDev + Drop> {
+    alloc: Global,
+    recorder: Recorder<L>,
+    disk: D,
+    requests: Vec<Request>,
+    ghost fits: { IsTrue (list_all (fits_device (D.shown disk).size) requests.items) },
+}
+
+impl<D: BlockDev + Drop, L: BlockDev + Drop> Running<D, L> {
+    ghost use Rattle.std.specs.Prelude.{◌≡◌, ◌+◌, ◌<◌, IfErr, IfOk, List, Ok, OnOk, [], length, ℕ};
+    ghost use Rattle.std.specs.List.{AllByRecursion};
+    ghost use Rattle.std.specs.Io.KnownBytes.{Appends, Keeps};
+    ghost use Rattle.bio.specs.Check.{range_answer};
+    ghost use Rattle.dmlw_script.specs.Plans.{HasName, IsName, submission_answer};
+    ghost use Rattle.recorder.specs.declared.reply.Reply.TheVariants as replies;
+    ghost use Rattle.recorder.specs.Calls.{Closes};
+    ghost use Rattle.recorder.specs.Growth.{RecorderGoes};
+    ghost use Rattle.recorder.specs.Shown.{recording_of};
+    ghost use Rattle.script_runner.specs.declared.step_error.StepError.TheVariants.{AtLine};
+    ghost use Rattle.script_runner.specs.Lines.{EndsRecording, EndsSubmitted, FitsDevice, GivesTurn, PrintsLine, ReadsData, StopsForFile, StopsLine, count_of};
+
+    /// The run of a script before its first line, with room for so many requests.
+    pub fn new(
+        alloc: Global,
+        recorder: Recorder<L>,
+        disk: D,
+        requests: usize,
+    ) -> Result<Running<D, L>, AllocError>
+        ensures made { IfOk result (λ run. (run.recorder ≡ recorder) × (run.disk ≡ disk) × (run.requests.items ≡ [])) }
+    {
+        Ok(Running {
+            alloc,
+            recorder,
+            disk,
+            requests: Vec::with_capacity(alloc, requests)?,
+        })
+    }
+
+    /// The recorder.
+    pub fn recorder(&self) -> &Recorder<L>
+        ensures { result.now ≡ self.now.recorder }
+    {
+        &self.recorder
+    }
+
+    /// The recorder and the data device, as they stand.
+    pub fn into_parts(self) -> (Recorder<L>, D)
+        ensures recorder { result.0 ≡ self.recorder }
+        ensures device { result.1 ≡ self.disk }
+    {
+        let Running { recorder, disk, .. } = self;
+        (recorder, disk)
+    }
+
+    // Submits the next request.
+    fn submit<O: Write>(
+        &mut self,
+        submission: Submission,
+        names: &[ScriptId],
+        out: &mut O,
+    ) -> Result<(), StepError>
+        requires fits { submission_answer (D.shown self.old.disk).size submission ≡ Ok tt }
+        requires named { length self.old.requests.items < length names.now }
+        requires ids { AllByRecursion IsName names.now }
+        ensures runs { OnOk result (PrintsLine names.now (Command.Submit submission) (O.contents out.old) (O.contents out.new) self.old self.new) }
+        ensures faults { IfErr result StopsForFile }
+        ensures size { (D.shown self.new.disk).size ≡ (D.shown self.old.disk).size }
+        ensures count { OnOk result (length self.new.requests.items ≡ length self.old.requests.items + 1) }
+    {
+        let _sectors = self.disk.sectors();
+        let request = ask(&mut self.recorder, self.alloc, submission);
+        print_submission(name_of(names, self.requests.len()), &request, out)?;
+        self.requests.push(request)?;
+        Ok(())
+    }
+
+    // Hands a request over to the data device, and ends it with that result.
+    fn complete<O: Write>(
+        &mut self,
+        request: usize,
+        names: &[ScriptId],
+        out: &mut O,
+    ) -> Result<(), StepError>
+        requires submitted { request < length self.old.requests.items }
+        requires named { request < length names.now }
+        requires ids { AllByRecursion IsName names.now }
+        ensures runs { OnOk result (PrintsLine names.now (Command.Complete request) (O.contents out.old) (O.contents out.new) self.old self.new) }
+        ensures faults { IfErr result StopsForFile }
+        ensures size { (D.shown self.new.disk).size ≡ (D.shown self.old.disk).size }
+        ensures count { OnOk result (length self.new.requests.items ≡ length self.old.requests.items) }
+    {
+        laws::several_calls_go_as_one::<L>();
+        match &self.requests[request] {
+            Request::Failed => Ok(()),
+            Request::Asked { bio, id } => {
+                let ok = hand_over(&mut self.disk, bio);
+                tell_end(&mut self.recorder, *id, ok);
+                print_outcome(name_of(names, request), ok, out)
+            }
+        }
+    }
+
+    /// Reads `count` sectors from sector `first` on from the data device, and prints the first byte of each, or that the read failed.
+    pub fn read<O: Write>(&mut self, first: u64, count: u64, out: &mut O) -> Result<(), StepError>
+        requires { range_answer first count (D.shown self.old.disk).size ≡ Ok tt }
+        ensures runs { OnOk result ((text : List ℕ) × ReadsData first count text self.old self.new
+            × Appends (O.contents out.old) (O.contents out.new) text) }
+        ensures faults { IfErr result StopsForFile }
+        ensures goes { RecorderGoes (recording_of self.old.recorder) (recording_of self.new.recorder) }
+        ensures size { (D.shown self.new.disk).size ≡ (D.shown self.old.disk).size }
+        ensures count { length self.new.requests.items ≡ length self.old.requests.items }
+    {
+        laws::several_calls_go_as_one::<L>();
+        let bytes = read_sectors(&mut self.disk, self.alloc, first, count);
+        print_read(first, count, &bytes, out)
+    }
+
+    /// Gives the writer a turn.
+    pub fn turn(&mut self)
+        ensures turns { GivesTurn [] self.old self.new }
+        ensures goes { RecorderGoes (recording_of self.old.recorder) (recording_of self.new.recorder) }
+        ensures size { (D.shown self.new.disk).size ≡ (D.shown self.old.disk).size }
+        ensures count { length self.new.requests.items ≡ length self.old.requests.items }
+    {
+        let _turn = self.recorder.turn();
+    }
+
+    // Ends the recording, and writes the log to its end.
+    fn close(&mut self) -> Result<(), StepError>
+        ensures ends { OnOk result (EndsRecording [] self.old self.new) }
+        ensures goes { OnOk result (RecorderGoes (recording_of self.old.recorder) (recording_of self.new.recorder)) }
+        ensures refused { IfErr result (λ stop. (refusal : Refusal) × (stop ≡ AtLine refusal)
+            × Closes (replies.Refused refusal) self.old.recorder self.new.recorder) }
+        ensures size { (D.shown self.new.disk).size ≡ (D.shown self.old.disk).size }
+        ensures count { length self.new.requests.items ≡ length self.old.requests.items }
+    {
+        laws::several_calls_go_as_one::<L>();
+        if let Reply::Refused(refusal) = self.recorder.event(Event::Close) {
+            return Err(StepError::AtLine(refusal));
+        }
+        let _ended = self.recorder.drain();
+        Ok(())
+    }
+
+    /// Runs a line: it does what its kind does, and what it prints is written to `out`.
+    pub fn run_line<O: Write>(
+        &mut self,
+        command: Command,
+        names: &[ScriptId],
+        out: &mut O,
+    ) -> Result<(), StepError>
+        requires fits { FitsDevice (D.shown self.old.disk).size command }
+        requires named { HasName (length names.now) (length self.old.requests.items) command }
+        requires submitted { EndsSubmitted (length self.old.requests.items) command }
+        requires ids { AllByRecursion IsName names.now }
+        ensures runs { OnOk result (PrintsLine names.now command (O.contents out.old) (O.contents out.new) self.old self.new) }
+        ensures faults { IfErr result (StopsLine command (O.contents out.old) (O.contents out.new) self.old.recorder) }
+        ensures size { (D.shown self.new.disk).size ≡ (D.shown self.old.disk).size }
+        ensures count { OnOk result (length self.new.requests.items ≡ length self.old.requests.items + count_of command) }
+    {
+        match command {
+            Command::Submit(submission) => self.submit(submission, names, out),
+            Command::Complete { request } => self.complete(request, names, out),
+            Command::Step(step) => match step {
+                Step::Close => self.close(),
+            },
+        }
+    }
+}

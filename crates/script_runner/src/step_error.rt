@@ -1,0 +1,35 @@
+ghost use Rattle.std.specs.Prelude.{◌≡◌};
+ghost use Rattle.std.specs.IoError.{error_kind};
+ghost use Rattle.script_runner.specs.Errors.{io_refusal, memory_error, refused_by};
+ghost use Rattle.script_runner.specs.declared.step_error.StepError.TheVariants.{AtLine, Whole};
+
+use refusals::Refusal;
+use crate::error::RunError;
+use std::alloc::AllocFailed;
+use std::io;
+
+/// Why a line stops the run of its script.
+#[derive(Clone, Copy, Debug, PartialEq, Eq)]
+pub enum StepError {
+    /// The line itself is refused.
+    AtLine(Refusal),
+    /// Something else, for which no line is named.
+    Whole(RunError),
+}
+
+impl<T: Drop> From<AllocFailed<T>> for StepError {
+    ghost from_gives = { λ _ stop. stop ≡ Whole memory_error };
+
+    fn from(_error: AllocFailed<T>) -> StepError {
+        StepError::Whole(RunError::from(Refusal::Memory))
+    }
+}
+
+impl From<io::Error> for StepError {
+    ghost from_gives = { λ error stop.
+        stop ≡ Whole (refused_by (io_refusal (error_kind error))) };
+
+    fn from(error: io::Error) -> StepError {
+        StepError::Whole(RunError::from(error))
+    }
+}

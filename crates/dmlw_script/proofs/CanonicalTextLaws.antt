@@ -164,6 +164,21 @@ write_written name first count byte is first_low count_low byte_low = record {
       (visible_append (decimal count) (32 ∷ byte_text byte) (visible_number count count_low) (visible_byte byte byte_low))));
 }
 
+-- a read's line
+read_written : (first count : ℕ) → first < 2 ^ 64 → count < 2 ^ 64 → IsWritten (step (steps.Read first count))
+read_written first count first_low count_low = record {
+  says = record {
+    first_word = decimal first;
+    count_word = decimal count;
+    first_number = decimal_number first first_low;
+    count_number = decimal_number count count_low;
+    spelled = refl;
+  };
+  visible =
+      visible_append (codes "r") (32 ∷ (decimal first ++ 32 ∷ decimal count)) refl
+      (visible_append (decimal first) (32 ∷ decimal count) (visible_number first first_low) (visible_number count count_low));
+}
+
 -- ---- scripts
 
 -- a test that was passed
@@ -191,6 +206,10 @@ submission_written sectors name submits.Flush small is passes low =
 -- a line that names no request
 step_written : (sectors : ℕ) (it : Step) → sectors ≤ 1048576 → step_answer sectors it ≡ Ok tt → IsWritten (step it)
 step_written sectors steps.Close small passes = record { says = refl; visible = refl }
+step_written sectors (steps.Read first count) small passes =
+    let r = range_ok first count sectors passes in
+    read_written first count (omega (arith, r.1)) (omega (arith, r.0))
+step_written sectors steps.Turn small passes = record { says = refl; visible = refl }
 
 -- a request's id is one
 id_at : (names : List ScriptId) (request : ℕ) → AllByRecursion IsName names → request < length names → IsName (name_at names request)

@@ -18,7 +18,7 @@ use Rattle.dmlw_script.specs.declared.command.Step.TheVariants as steps
 use Rattle.dmlw_script.specs.Grammar.{IsId, IsNumber, ParsesAs, ParsesAsId, ParsesAsNumber}
 use Rattle.dmlw_script.specs.Lines.{is_skipped}
 use Rattle.dmlw_script.specs.Ids.{is_id, is_name_byte, id_of_word}
-use Rattle.dmlw_script.specs.inside.Parsing.{◌>>=◌, lone_word, parse_parts, parse_words, parse_line, step, submit, write_of}
+use Rattle.dmlw_script.specs.inside.Parsing.{◌>>=◌, lone_word, parse_parts, parse_words, parse_line, read_of, step, submit, write_of}
 use Rattle.dmlw_script.specs.Words.{after_byte, byte_from, byte_of, byte_text, before_byte, half_of, hex_digit, is_number, number_of}
 
 -- ---- choices
@@ -248,6 +248,21 @@ write_read words s e =
       spelled = ap (λ x. first_word (codes "w") x) whole;
     }
 
+-- what is heard as a read is said
+read_read : (words : List ℕ) (s : Line) → read_of words ≡ Some s → ParsesAs (first_word (codes "r") words) s
+read_read words s e =
+    let a = bind_some (number_of (before_byte 32 words)) _ s e in
+    let b = bind_some (after_byte 32 words) _ s a.2 in
+    let c = bind_some (number_of b.0) _ s b.2 in
+    let is : step (steps.Read a.0 c.0) ≡ s = let last = c.2 in cc in
+    subst (λ (x : Line). ParsesAs (first_word (codes "r") words) x) is (record {
+      first_word = before_byte 32 words;
+      count_word = b.0;
+      first_number = number_read (before_byte 32 words) a.0 a.1;
+      count_number = number_read b.0 c.0 c.1;
+      spelled = ap (λ x. first_word (codes "r") x) (cut_joined 32 words b.0 b.1);
+    })
+
 -- a first word and a number
 said_number : (verb words : List ℕ) (n : ℕ) → number_of words ≡ Some n → ParsesAsNumber verb (first_word verb words) n
 said_number verb words n e = record { word = words; number = number_read words n e; spelled = refl }
@@ -287,7 +302,8 @@ said_read verb words s =
     (verb_read verb (codes "w") words _ _ s (write_read words s)
     (verb_read verb (codes "f") words _ _ s (id_line (codes "f") words (λ name. submit name submits.Flush) s (λ name says. says))
     (verb_read verb (codes "c") words _ _ s (id_line (codes "c") words (λ name. parsed_lines.Body (body_lines.Complete name)) s (λ name says. says))
-    (λ e. absurd (cc e))))))
+    (verb_read verb (codes "r") words _ _ s (read_read words s)
+    (λ e. absurd (cc e)))))))
 
 -- what is heard of one word is said
 word_read : (verb word : List ℕ) (x s : Line) (y : Option Line) → ParsesAs word x → (y ≡ Some s → ParsesAs verb s) → cond (bytes_eq verb word) (Some x) y ≡ Some s → ParsesAs verb s
@@ -301,7 +317,9 @@ word_read verb word x s y here other e =
 
 -- what is heard of a line of one word is said
 lone_read : (verb : List ℕ) (s : Line) → lone_word verb ≡ Some s → ParsesAs verb s
-lone_read verb s = word_read verb (codes "close") (step steps.Close) s _ refl (λ e. absurd (cc e))
+lone_read verb s =
+    word_read verb (codes "close") (step steps.Close) s _ refl
+    (word_read verb (codes "turn") (step steps.Turn) s _ refl (λ e. absurd (cc e)))
 
 -- one more byte that isn't the mark
 all_step : (t : Bool) (b : ℕ) (bytes front : List ℕ) (rest : Option (List ℕ)) → cond t (Some bytes) rest ≡ None → (rest ≡ None → front ≡ bytes) → cond t [] (b ∷ front) ≡ b ∷ bytes
@@ -342,6 +360,14 @@ write_again id fw cw name first count byte is_id is_first is_count low =
     (bind_at _ _ _ _ c.1
     (bind_at _ _ _ _ (byte_again byte low) refl))))))
 
+-- a read is heard as it is
+read_again : (fw cw : List ℕ) (first count : ℕ) → IsNumber fw first → IsNumber cw count → read_of (fw ++ 32 ∷ cw) ≡ Some (step (steps.Read first count))
+read_again fw cw first count is_first is_count =
+    let a = cut_at 32 fw cw (number_lacks_space fw is_first.0) in
+    bind_at _ _ _ _ (ap number_of a.0 ∙ number_again fw first is_first)
+    (bind_at _ _ _ _ a.1
+    (bind_at _ _ _ _ (number_again cw count is_count) refl))
+
 -- what is said is heard
 pub parsed_again : (line : List ℕ) (s : Line) → ParsesAs line s → parse_line line ≡ Some s
 parsed_again line (parsed_lines.Head (head_lines.Data n)) says =
@@ -355,6 +381,9 @@ parsed_again line (parsed_lines.Body (body_lines.Submit name submits.Flush)) say
 parsed_again line (parsed_lines.Body (body_lines.Complete name)) says =
     rw says.spelled (ap (option_map (λ k. parsed_lines.Body (body_lines.Complete k))) (id_again says.word name says.id))
 parsed_again line (parsed_lines.Body (body_lines.Step steps.Close)) says = rw says refl
+parsed_again line (parsed_lines.Body (body_lines.Step (steps.Read first count))) says =
+    rw says.spelled (read_again says.first_word says.count_word first count says.first_number says.count_number)
+parsed_again line (parsed_lines.Body (body_lines.Step steps.Turn)) says = rw says refl
 
 -- a line says one thing
 pub one_parsed : (line : List ℕ) (s t : Line) → ParsesAs line s → ParsesAs line t → s ≡ t

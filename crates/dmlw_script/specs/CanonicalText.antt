@@ -22,6 +22,8 @@ submission_text name submits.Flush = spaced (codes "f" ∷ letters_of name ∷ [
 -- a line that names no request
 abbrev pub step_text : Step → List ℕ
 step_text steps.Close = codes "close"
+step_text (steps.Read first count) = spaced (codes "r" ∷ decimal first ∷ decimal count ∷ [])
+step_text steps.Turn = codes "turn"
 
 -- the line that says this
 abbrev pub line_text : Line → List ℕ

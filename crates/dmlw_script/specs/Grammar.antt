@@ -48,6 +48,14 @@ pub record ParsesAsWrite (line : List ℕ) (name : ScriptId) (first count byte :
   pub is_byte : byte < 256
   pub spelled : line ≡ spaced (codes "w" ∷ id_word ∷ first_word ∷ count_word ∷ byte_text byte ∷ [])
 
+-- the line is a read: its first sector and its number of sectors
+pub record ParsesAsRead (line : List ℕ) (first count : ℕ) : Type 0 where
+  pub first_word : List ℕ
+  pub count_word : List ℕ
+  pub first_number : IsNumber first_word first
+  pub count_number : IsNumber count_word count
+  pub spelled : line ≡ spaced (codes "r" ∷ first_word ∷ count_word ∷ [])
+
 -- what a line says by its words
 abbrev pub ParsesAs : List ℕ → Line → Type 0
 ParsesAs line (parsed_lines.Head (head_lines.Data sectors)) = ParsesAsNumber (codes "data") line sectors
@@ -56,6 +64,8 @@ ParsesAs line (parsed_lines.Body (body_lines.Submit name (submits.Write first co
 ParsesAs line (parsed_lines.Body (body_lines.Submit name submits.Flush)) = ParsesAsId (codes "f") line name
 ParsesAs line (parsed_lines.Body (body_lines.Complete name)) = ParsesAsId (codes "c") line name
 ParsesAs line (parsed_lines.Body (body_lines.Step steps.Close)) = line ≡ codes "close"
+ParsesAs line (parsed_lines.Body (body_lines.Step (steps.Read first count))) = ParsesAsRead line first count
+ParsesAs line (parsed_lines.Body (body_lines.Step steps.Turn)) = line ≡ codes "turn"
 
 -- the lines are those of a script of a recorder: plain ones, of which those that aren't skipped say what the script's
 -- lines say, one after the other

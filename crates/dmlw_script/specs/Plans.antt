@@ -65,6 +65,8 @@ submission_answer sectors submits.Flush = Ok tt
 -- the same of a line that names no request
 abbrev pub step_answer : ℕ → Step → Result (Unit {0}) BadBio
 step_answer sectors steps.Close = Ok tt
+step_answer sectors (steps.Read first count) = range_answer first count sectors
+step_answer sectors steps.Turn = Ok tt
 
 -- what a submission writes is a byte
 abbrev pub WritesByte : Submission → Type 0

@@ -152,10 +152,11 @@ fn check_submission(submission: Submission, sectors: u64) -> Result<(), LineErro
 }
 
 // The same for a line that names no request.
-fn check_step(step: Step, _sectors: u64) -> Result<(), LineError>
-    ensures { Follows result tt (as_refusal (step_answer _sectors step)) }
+fn check_step(step: Step, sectors: u64) -> Result<(), LineError>
+    ensures { Follows result tt (as_refusal (step_answer sectors step)) }
 {
     match step {
-        Step::Close => Ok(()),
+        Step::Read { first, count } => Ok(check(&Bio::Read { first, count }, sectors)?),
+        Step::Close | Step::Turn => Ok(()),
     }
 }

@@ -1,5 +1,5 @@
 ghost use Rattle.std.specs.Prelude.{◌≡◌};
-ghost use Rattle.dmlw_script.specs.inside.Parsing.{lone_word, parse_words, parse_line as the_line, write_of as the_write};
+ghost use Rattle.dmlw_script.specs.inside.Parsing.{lone_word, parse_words, parse_line as the_line, read_of as the_read, write_of as the_write};
 
 use crate::command::{Step, Submission};
 use crate::script_id::ScriptId;
@@ -35,7 +35,7 @@ pub(crate) enum BodyLine {
     Complete {
         name: ScriptId,
     },
-    /// `close`
+    /// `close`, `r <first> <count>`, or `turn`
     Step(Step),
 }
 
@@ -56,6 +56,7 @@ fn lone_word(verb: &[u8]) -> Option<Line>
 {
     match verb {
         b"close" => Some(Line::Body(BodyLine::Step(Step::Close))),
+        b"turn" => Some(Line::Body(BodyLine::Step(Step::Turn))),
         _ => None,
     }
 }
@@ -79,6 +80,7 @@ fn parse_words(verb: &[u8], words: &[u8]) -> Option<Line>
         b"c" => Some(Line::Body(BodyLine::Complete {
             name: ScriptId::of_word(words)?,
         })),
+        b"r" => read_of(words),
         _ => None,
     }
 }
@@ -98,4 +100,15 @@ fn write_of(words: &[u8]) -> Option<Line>
             byte: byte_of(byte?)?,
         },
     }))
+}
+
+// The read whose first sector and number of sectors these words are.
+fn read_of(words: &[u8]) -> Option<Line>
+    ensures { result ≡ the_read words.now }
+{
+    let (first, count) = cut(words, b' ');
+    Some(Line::Body(BodyLine::Step(Step::Read {
+        first: number_of(first)?,
+        count: number_of(count?)?,
+    })))
 }

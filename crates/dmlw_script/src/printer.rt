@@ -120,6 +120,8 @@ fn push_step(out: &mut Vec<u8>, step: Step) -> Result<(), AllocError>
 {
     match step {
         Step::Close => out.extend_from_slice(b"close"),
+        Step::Read { first, count } => push_read(out, first, count),
+        Step::Turn => out.extend_from_slice(b"turn"),
     }
 }
 
@@ -156,6 +158,15 @@ fn push_write(
     push_number(out, count)?;
     out.push(b' ')?;
     push_byte(out, byte)
+}
+
+// The line of a read, but for its line feed.
+fn push_read(out: &mut Vec<u8>, first: u64, count: u64) -> Result<(), AllocError>
+    ensures { OnOk result (out.new.items ≡ out.old.items ++ step_text (Step.Read first count)) }
+{
+    push_size(out, b"r ", first)?;
+    out.push(b' ')?;
+    push_number(out, count)
 }
 
 // The decimal digits of a number.

@@ -130,8 +130,8 @@ impl Reader {
 /// A line is refused, in this order, as `BadLine` where it isn't of the grammar at its place (also
 /// in a comment, if a byte is zero or not ASCII; and after the last line, where the head isn't
 /// whole), as `BadId` where an id is submitted again or isn't open at its end, and as `NotWhole`,
-/// `TooLong` or `PastEnd` where `bio::check` refuses a write's sectors for the data disk. Want of
-/// memory is `Memory`, and names no line.
+/// `TooLong` or `PastEnd` where `bio::check` refuses a write's or a read's sectors for the data disk.
+/// Want of memory is `Memory`, and names no line.
 pub fn read_script(alloc: Global, text: &[u8], kind: Kind) -> Result<Script, Fault>
     // What is read is a recorder's script, and this is a text of it.
     ensures found { IfOk result (λ script. (kind ≡ Kind.Record) × IsTextOf text.now script) }

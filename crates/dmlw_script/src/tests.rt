@@ -223,6 +223,53 @@ close now
 ~data 16
 log 32
 turn
+r 15 1
+r 00 016
+close
+turn=data 16
+log 32
+turn
+r 15 1
+r 0 16
+close
+turn
+
+~data 16
+log 32
+turn x
+=line 3: 30 BadLine
+~data 16
+log 32
+r
+=line 3: 30 BadLine
+~data 16
+log 32
+r 1
+=line 3: 30 BadLine
+~data 16
+log 32
+r 1 2 3
+=line 3: 30 BadLine
+~data 16
+log 32
+r 1\x20
+=line 3: 30 BadLine
+~data 16
+log 32
+r 15 2
+=line 3: 3 PastEnd
+~data 4096
+log 32
+r 0 2048
+r 0 2049
+=line 4: 4 TooLong
+~data 16
+log 32
+r 99 0
+=line 3: 5 NotWhole
+~data 16
+log 32
+r 1 18446744073709551616
 =line 3: 30 BadLine
 ~data 16
 log 32

@@ -40,9 +40,20 @@ write_of words = do
   byte ← byte_of byte_word
   Some (submit name (submits.Write first count byte))
 
+-- the read that these words say: the first sector and the number of sectors
+abbrev pub read_of : List ℕ → Option Line
+read_of words = do
+  first ← number_of (before_byte 32 words)
+  count_word ← after_byte 32 words
+  count ← number_of count_word
+  Some (step (steps.Read first count))
+
 -- what a line of this one word says
 abbrev pub lone_word : List ℕ → Option Line
-lone_word verb = if bytes_eq verb (codes "close") then Some (step steps.Close) else None
+lone_word verb =
+    if bytes_eq verb (codes "close") then Some (step steps.Close)
+    else if bytes_eq verb (codes "turn") then Some (step steps.Turn)
+    else None
 
 -- what a line of this first word says, whose other words are these
 abbrev pub parse_words : List ℕ → List ℕ → Option Line
@@ -52,6 +63,7 @@ parse_words verb words =
     else if bytes_eq verb (codes "w") then write_of words
     else if bytes_eq verb (codes "f") then option_map (λ name. submit name submits.Flush) (id_of_word words)
     else if bytes_eq verb (codes "c") then option_map (λ name. parsed_lines.Body (body_lines.Complete name)) (id_of_word words)
+    else if bytes_eq verb (codes "r") then read_of words
     else None
 
 -- what a line of this first word says, whose other words are these, if it has any

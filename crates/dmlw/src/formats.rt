@@ -17,7 +17,10 @@ a line's end, a byte order mark, a tab, two spaces, an upper case letter in a wo
 | `w <id> <first> <count> <byte>` | submits a write of that byte | 1 to 2,048 sectors, two lower case hexadecimal digits |
 | `f <id>` | submits a flush | |
 | `c <id>` | ends that request | an open one |
+| `r <first> <count>` | reads from the data disk | 1 to 2,048 sectors |
+| `turn` | one turn of the log's writer | |
 | `close` | ends recording, and writes the log to its end, with its end mark | no request is open |
+| `crash <pick> ..` | the log's disk loses power, with none or more picks; the last line | each a number |
 
 Sizes and places are in sectors of 512 bytes. An id is 1 to 16 of `a` to `z` and `0` to `9`, and is submitted once. A script without `close`
 ends as it stands, and that is no fault: what wasn't written to the log by then isn't in it.
@@ -26,7 +29,7 @@ ends as it stands, and that is no fault: what wasn't written to the log by then 
 
 | Command | Prints |
 |---|---|
-| `record` | at `c`: `<id> ok` or `<id> failed`; `<id> failed` at a submission that found no memory; at the end the status, with ` logging_disabled` behind it where logging ended before its time |
+| `record` | at `c`: `<id> ok` or `<id> failed`; `<id> failed` at a submission that found no memory; at `r`: `read <first>+<count> ok ` and the first byte of each sector as two digits, joined, or `read <first>+<count> failed`; at the end the status, with ` logging_disabled` behind it where logging ended before its time |
 | `list` | `super version 1 entries <n> sectorsize <S>`, then a line of each entry: `<number> @<log sector>`, and `mark <text>`, `discard <sector>+<sectors>`, `flush` or `write <sector>+<sectors>`, the last two with ` flush` (of a write), ` fua`, ` meta` where set |
 | `status` | `<entries> <sector>`: how many entries the log counts, and the highest sector of 512 bytes that they use; `0 0` of an empty log |
 

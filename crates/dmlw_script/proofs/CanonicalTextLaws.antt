@@ -1,10 +1,12 @@
-use Rattle.std.proofs.Common.{◌≡◌, ◌≢◌, ℕ, zero, suc, ◌+◌, ◌-◌, ◌^◌, ◌<◌, ◌≤◌, Bool, true, false, not, ◌&&◌, cond, List, [], ◌∷◌, ◌++◌, length, Ok, Err, refl, ap, ◌∙◌, sym, subst, arith, rules, append_assoc, lit<}
+use Rattle.std.proofs.Common.{◌≡◌, ◌≢◌, ℕ, zero, suc, ◌+◌, ◌-◌, ◌^◌, ◌<◌, ◌≤◌, Bool, true, false, not, ◌&&◌, cond, List, [], ◌∷◌, ◌++◌, length, Option, Some, None, Ok, Err, refl, ap, ◌∙◌, sym, subst, arith, rules, append_assoc, lit<}
 use Rattle.std.specs.Prelude.{◌/◌, ◌%◌, ◌==◌, codes, decimal, flat_map, map, nat_le, nat_lt, replicate, Result}
 use Rattle.std.specs.Char.{is_ascii_digit}
 use Rattle.std.specs.List.{list_all, onto_first, AllByRecursion, AllZip}
 use Rattle.std.proofs.lemmas.Bool.{and_from, and_parts, cond-true, le-leb, leb-true, lt-ltb, ltb-false}
 use Rattle.std.proofs.lemmas.Bool.Decides.{nat_tests}
 use Rattle.std.proofs.lemmas.Fmt.{decimal_nonempty, digits_decimal, digits_value-decimal, length-decimal-le}
+use Rattle.std.proofs.lemmas.List.{append-nil}
+use Rattle.std.proofs.lemmas.List.Concat.{flat_map-append}
 use Rattle.std.proofs.lemmas.List.Elements.{All-from_recursion}
 use Rattle.std.proofs.lemmas.Str.Parse.{numerals_by_fold, IsNumeralModel}
 use Rattle.bio.specs.Check.{range_answer}
@@ -12,8 +14,8 @@ use Rattle.bio.specs.declared.request.BadBio.{BadBio}
 use Rattle.dmlw_script.specs.declared.command.Command.{Command}
 use Rattle.dmlw_script.specs.declared.command.Command.TheVariants as commands
 use Rattle.dmlw_script.specs.declared.script_id.ScriptId.{ScriptId}
-use Rattle.dmlw_script.specs.declared.line.Line.{Line}
-use Rattle.dmlw_script.specs.declared.line.Line.TheVariants as parsed_lines
+use Rattle.dmlw_script.specs.Said.{Said}
+use Rattle.dmlw_script.specs.Said as parsed_lines
 use Rattle.dmlw_script.specs.declared.line.HeadLine.TheVariants as head_lines
 use Rattle.dmlw_script.specs.declared.line.BodyLine.TheVariants as body_lines
 use Rattle.dmlw_script.specs.declared.command.Submission.{Submission}
@@ -21,11 +23,11 @@ use Rattle.dmlw_script.specs.declared.command.Submission.TheVariants as submits
 use Rattle.dmlw_script.specs.declared.command.Step.{Step}
 use Rattle.dmlw_script.specs.declared.command.Step.TheVariants as steps
 use Rattle.dmlw_script.specs.inside.Parsing.{step, submit}
-use Rattle.dmlw_script.specs.Grammar.{IsId, IsNumber, ParsesAs, IsTextOf, AreLinesOf}
+use Rattle.dmlw_script.specs.Grammar.{spaced, IsId, IsNumber, ParsesAs, IsTextOf, AreLinesOf}
 use Rattle.dmlw_script.specs.Lines.{with_line_feeds, is_ascii_line, unskipped, lines_of, IsUnbroken}
 use Rattle.dmlw_script.specs.Ids.{is_id, is_name_byte, letters_of, script_id}
-use Rattle.dmlw_script.specs.Plans.{CanFollow, count_after_command, line_at, lines_of_body, name_at, lines_of_script, step_answer, submission_answer, submissions, IsName, IsWellFormed, IsPlan, Plan, WritesByte}
-use Rattle.dmlw_script.specs.CanonicalText.{ended_line, line_text, canonical_text}
+use Rattle.dmlw_script.specs.Plans.{ArePicks, CanFollow, count_after_command, line_at, lines_of_body, name_at, lines_of_script, step_answer, submission_answer, submissions, with_ending, IsName, IsWellFormed, IsPlan, Plan, WritesByte}
+use Rattle.dmlw_script.specs.CanonicalText.{ended_line, ending_text, line_text, canonical_text}
 use Rattle.dmlw_script.specs.Words.{byte_text, before_byte, hex_digit, number_after, number_value}
 use Rattle.dmlw_script.proofs.BodyLaws.{count_after_command-is, submissions-cons, submissions-push}
 use Rattle.dmlw_script.proofs.ParsingLaws.{all_weaker, lacks, said_kept}
@@ -120,7 +122,7 @@ visible_byte : (byte : ℕ) → byte < 256 → IsVisible (byte_text byte)
 visible_byte byte low = and_from _ _ (visible_hex (byte / 16) (omega arith)) (and_from _ _ (visible_hex (byte % 16) (omega arith)) refl)
 
 -- what can be written of what a line says
-pub record IsWritten (s : Line) : Type 0 where
+pub record IsWritten (s : Said) : Type 0 where
   pub says : ParsesAs (line_text s) s
   pub visible : IsVisible (line_text s)
 
@@ -164,6 +166,61 @@ write_written name first count byte is first_low count_low byte_low = record {
       (visible_append (decimal count) (32 ∷ byte_text byte) (visible_number count count_low) (visible_byte byte byte_low))));
 }
 
+-- a read's line
+read_written : (first count : ℕ) → first < 2 ^ 64 → count < 2 ^ 64 → IsWritten (step (steps.Read first count))
+read_written first count first_low count_low = record {
+  says = record {
+    first_word = decimal first;
+    count_word = decimal count;
+    first_number = decimal_number first first_low;
+    count_number = decimal_number count count_low;
+    spelled = refl;
+  };
+  visible =
+      visible_append (codes "r") (32 ∷ (decimal first ++ 32 ∷ decimal count)) refl
+      (visible_append (decimal first) (32 ∷ decimal count) (visible_number first first_low) (visible_number count count_low));
+}
+
+-- picks are written as numbers
+picks_numbers : (picks : List ℕ) → AllByRecursion (λ pick. pick < 2 ^ 64) picks → AllZip IsNumber (map decimal picks) picks
+picks_numbers [] low = tt
+picks_numbers (pick ∷ picks) low = (decimal_number pick low.0, picks_numbers picks low.1)
+
+-- a first word and picks
+visible_picks : (word : List ℕ) (picks : List ℕ) → IsVisible word → AllByRecursion (λ pick. pick < 2 ^ 64) picks → IsVisible (spaced (word ∷ map decimal picks))
+visible_picks word [] visible low = visible
+visible_picks word (pick ∷ picks) visible low =
+    visible_append word (32 ∷ spaced (decimal pick ∷ map decimal picks)) visible (visible_picks (decimal pick) picks (visible_number pick low.0) low.1)
+
+-- a crash's line
+crash_written : (picks : List ℕ) → AllByRecursion (λ pick. pick < 2 ^ 64) picks → IsWritten (parsed_lines.Crash picks)
+crash_written picks low = record {
+  says = record { words = map decimal picks; numbers = picks_numbers picks low; spelled = refl };
+  visible = visible_picks (codes "crash") picks refl low;
+}
+
+-- lines that can be written, and one more
+written_push : (ss : List Said) (s : Said) → AllByRecursion IsWritten ss → IsWritten s → AllByRecursion IsWritten (ss ++ s ∷ [])
+written_push [] s written last = (last, tt)
+written_push (first ∷ ss) s written last = (written.0, written_push ss s written.1 last)
+
+-- lines that can be written, and the crash behind them
+ending_written : (ending : Option (List ℕ)) (ss : List Said) → ArePicks ending → AllByRecursion IsWritten ss → AllByRecursion IsWritten (with_ending ending ss)
+ending_written None ss picks written = written
+ending_written (Some picks) ss low written = written_push ss (parsed_lines.Crash picks) written (crash_written picks low)
+
+-- the text of lines and of the crash behind them
+pub ending_spelled : (ending : Option (List ℕ)) (ss : List Said) → flat_map ended_line (with_ending ending ss) ≡ flat_map ended_line ss ++ ending_text ending
+ending_spelled None ss = sym (append-nil (flat_map ended_line ss))
+ending_spelled (Some picks) ss =
+    flat_map-append ended_line ss (parsed_lines.Crash picks ∷ [])
+    ∙ ap (λ (x : List ℕ). flat_map ended_line ss ++ x) (append-nil (ended_line (parsed_lines.Crash picks)))
+
+-- a first word and picks behind it, each behind a space
+pub picks_spelled : (word : List ℕ) (picks : List ℕ) → spaced (word ∷ map decimal picks) ≡ word ++ flat_map (λ n. 32 ∷ decimal n) picks
+picks_spelled word [] = sym (append-nil word)
+picks_spelled word (pick ∷ picks) = ap (λ (x : List ℕ). word ++ 32 ∷ x) (picks_spelled (decimal pick) picks)
+
 -- ---- scripts
 
 -- a test that was passed
@@ -191,6 +248,10 @@ submission_written sectors name submits.Flush small is passes low =
 -- a line that names no request
 step_written : (sectors : ℕ) (it : Step) → sectors ≤ 1048576 → step_answer sectors it ≡ Ok tt → IsWritten (step it)
 step_written sectors steps.Close small passes = record { says = refl; visible = refl }
+step_written sectors (steps.Read first count) small passes =
+    let r = range_ok first count sectors passes in
+    read_written first count (omega (arith, r.1)) (omega (arith, r.0))
+step_written sectors steps.Turn small passes = record { says = refl; visible = refl }
 
 -- a request's id is one
 id_at : (names : List ScriptId) (request : ℕ) → AllByRecursion IsName names → request < length names → IsName (name_at names request)
@@ -230,7 +291,8 @@ plan_written plan is =
       data_written plan.data_sectors (omega (arith, d)),
       (
         log_written plan.log_sectors (omega (arith, l)),
-        body_written plan.data_sectors plan.names 0 [] plan.commands d is.ids refl (is.numbered ∙ omega arith) is.well_formed,
+        ending_written plan.ending (lines_of_body plan.names 0 plan.commands) is.picks
+            (body_written plan.data_sectors plan.names 0 [] plan.commands d is.ids refl (is.numbered ∙ omega arith) is.well_formed),
       ),
     )
 
@@ -247,7 +309,7 @@ fed_line (b ∷ line) rest lack =
     feed_step (b == 10) b line (lines_of rest) _ parts.0 (fed_line line rest parts.1)
 
 -- the lines of a spelling
-spelled_lines_are : (ss : List Line) → AllByRecursion IsWritten ss → lines_of (flat_map ended_line ss) ≡ map line_text ss
+spelled_lines_are : (ss : List Said) → AllByRecursion IsWritten ss → lines_of (flat_map ended_line ss) ≡ map line_text ss
 spelled_lines_are [] written = refl
 spelled_lines_are (s ∷ ss) written =
     ap lines_of (append_assoc (line_text s) (10 ∷ []) (flat_map ended_line ss))
@@ -255,17 +317,17 @@ spelled_lines_are (s ∷ ss) written =
     ∙ ap (λ x. line_text s ∷ x) (spelled_lines_are ss written.1)
 
 -- they are plain
-plain_lines : (ss : List Line) → AllByRecursion IsWritten ss → AllByRecursion (λ line. is_ascii_line line ≡ true) (map line_text ss)
+plain_lines : (ss : List Said) → AllByRecursion IsWritten ss → AllByRecursion (λ line. is_ascii_line line ≡ true) (map line_text ss)
 plain_lines [] written = tt
 plain_lines (s ∷ ss) written = (all_weaker _ _ visible_plain (line_text s) written.0.visible, plain_lines ss written.1)
 
 -- none of them is skipped
-kept_lines : (ss : List Line) → AllByRecursion IsWritten ss → unskipped (map line_text ss) ≡ map line_text ss
+kept_lines : (ss : List Said) → AllByRecursion IsWritten ss → unskipped (map line_text ss) ≡ map line_text ss
 kept_lines [] written = refl
 kept_lines (s ∷ ss) written = cond-true _ _ _ (ap not (said_kept (line_text s) s written.0.says)) ∙ ap (λ x. line_text s ∷ x) (kept_lines ss written.1)
 
 -- they say the sentences
-says_lines : (ss : List Line) → AllByRecursion IsWritten ss → AllZip ParsesAs (map line_text ss) ss
+says_lines : (ss : List Said) → AllByRecursion IsWritten ss → AllZip ParsesAs (map line_text ss) ss
 says_lines [] written = tt
 says_lines (s ∷ ss) written = (written.0.says, says_lines ss written.1)
 

@@ -12,27 +12,27 @@ use Rattle.refusals.specs.declared.fault.Fault.{Fault}
 use Rattle.dmlw_script.specs.declared.script_id.ScriptId.{ScriptId}
 use Rattle.dmlw_script.specs.declared.reader.Kind.{Kind}
 use Rattle.dmlw_script.specs.declared.reader.Kind.TheVariants as kinds
-use Rattle.dmlw_script.specs.declared.line.Line.{Line}
-use Rattle.dmlw_script.specs.declared.line.Line.TheVariants as parsed_lines
+use Rattle.dmlw_script.specs.Said.{Said}
+use Rattle.dmlw_script.specs.Said as parsed_lines
 use Rattle.dmlw_script.specs.declared.line.HeadLine.{HeadLine}
 use Rattle.dmlw_script.specs.declared.line.HeadLine.TheVariants as head_lines
 use Rattle.dmlw_script.specs.declared.line.BodyLine.{BodyLine}
 use Rattle.dmlw_script.specs.declared.line.BodyLine.TheVariants as body_lines
 use Rattle.dmlw_script.specs.declared.command.Submission.{Submission}
-use Rattle.dmlw_script.specs.declared.head.Head.{Head}
-use Rattle.dmlw_script.specs.declared.head.Head.TheVariants as heads
+use Rattle.dmlw_script.specs.inside.Stages.{Stage}
+use Rattle.dmlw_script.specs.inside.Stages as heads
 use Rattle.dmlw_script.specs.inside.Heads.{head_step}
 use Rattle.dmlw_script.specs.inside.Drafts.{◌>>=◌, body_step, ended_next, named_next, as_refusal, with_command, Body}
 use Rattle.dmlw_script.specs.Grammar.{ParsesAs, AreLinesOf}
 use Rattle.dmlw_script.specs.Lines.{is_ascii_line, is_skipped, unskipped}
 use Rattle.dmlw_script.specs.Ids.{same_name}
 use Rattle.dmlw_script.specs.Plans.{is_disk_size, is_ended, request_of, step_answer, submission_answer, Plan}
-use Rattle.dmlw_script.specs.inside.Readers.{and_then, at_line, body_line, finish_step, finished, step_if_parsed, line_step, nothing, read_lines, parsed_step, with_body, with_head, Progress}
-use Rattle.dmlw_script.specs.Reading.{bad_line, body_refusal, data_due, in_body, is_open, log_due, next_phase, phase_after, refused, test_refusal, BeginsScript, FaultAfter, IsFirstFault, IsLineAfter, IsLineFault, Phase, StandsAfter}
+use Rattle.dmlw_script.specs.inside.Readers.{and_then, at_line, body_line, crash_line, finish_step, finished, step_if_parsed, line_step, nothing, read_lines, parsed_step, with_body, with_head, Progress}
+use Rattle.dmlw_script.specs.Reading.{at_end, bad_line, body_refusal, data_due, in_body, is_open, log_due, next_phase, phase_after, refused, test_refusal, BeginsScript, FaultAfter, IsFirstFault, IsLineAfter, IsLineFault, Phase, StandsAfter}
 use Rattle.dmlw_script.specs.inside.Parsing.{parse_line}
 use Rattle.dmlw_script.proofs.BodyLaws.{bind_ok, in_draft, run, unlisted}
 use Rattle.dmlw_script.proofs.DraftLemmas.{listed}
-use Rattle.dmlw_script.proofs.ReadingLaws.{go, go_heard, lines_go, lines_spell, plain_step, plan_of, said_step, skipped_step, spelled_lines, with_body_ok, with_head_ok, GoneBy}
+use Rattle.dmlw_script.proofs.ReadingLaws.{ended_plan, go, go_heard, lines_go, lines_spell, plain_step, plan_of, said_step, skipped_step, spelled_lines, with_body_ok, with_head_ok, GoneBy}
 use Rattle.dmlw_script.proofs.ParsingLaws.{one_parsed, parsed_again, parsed_read}
 
 -- ---- where reading ends
@@ -104,8 +104,9 @@ pub record Completes (p : Progress) (number : ℕ) : Type 0 where
   pub read : read_lines kinds.Record p number more ≡ Ok plan
 
 -- the lines of the head that are missing complete a script
-completes : (h : Head) (b : Body) (number : ℕ) → Completes (record { head = h; body = b }) number
+completes : (h : Stage) (b : Body) (number : ℕ) → Completes (record { head = h; body = b }) number
 completes (heads.Whole d l) b number = record { more = []; plan = plan_of d l b; read = refl }
+completes (heads.Ended d l picks) b number = record { more = []; plan = ended_plan d l (Some picks) b; read = refl }
 completes (heads.Data d) b number = record { more = codes "log 1" ∷ []; plan = plan_of d 1 b; read = refl }
 completes heads.Empty b number = record { more = codes "data 1" ∷ codes "log 1" ∷ []; plan = plan_of 1 1 b; read = refl }
 
@@ -131,44 +132,58 @@ unfinished before q refusal gone finish plan spells =
     cc
 
 -- a text that can't end yet is a bad line
-unfinished_is : (h : Head) (b : Body) (refusal : Refusal) → finished kinds.Record h b ≡ Err refusal → refusal ≡ BadLine
+unfinished_is : (h : Stage) (b : Body) (refusal : Refusal) → finished kinds.Record h b ≡ Err refusal → refusal ≡ BadLine
 unfinished_is (heads.Whole d l) b refusal e = absurd (cc)
+unfinished_is (heads.Ended d l picks) b refusal e = absurd (cc)
 unfinished_is (heads.Data d) b refusal e = cc
 unfinished_is heads.Empty b refusal e = cc
 
 -- ---- what comes next
 
 -- what comes next after this much of a head
-abbrev pub phase_of : Head → Phase
+abbrev pub phase_of : Stage → Phase
 phase_of heads.Empty = data_due
 phase_of (heads.Data d) = log_due
 phase_of (heads.Whole d l) = in_body
+phase_of (heads.Ended d l picks) = at_end
 
 -- after one more line of the head
-head_phase : (h k : Head) (line : HeadLine) → head_step h line ≡ Some k → phase_of k ≡ next_phase (parsed_lines.Head line)
+head_phase : (h k : Stage) (line : HeadLine) → head_step h line ≡ Some k → phase_of k ≡ next_phase (parsed_lines.Head line)
 head_phase heads.Empty k (head_lines.Data n) e = ap phase_of (sym (cond_some (is_disk_size n) (heads.Data n) k e).1)
 head_phase (heads.Data d) k (head_lines.Log n) e = ap phase_of (sym (cond_some (is_disk_size n) (heads.Whole d n) k e).1)
 head_phase heads.Empty k (head_lines.Log n) e = absurd (cc e)
 head_phase (heads.Data d) k (head_lines.Data n) e = absurd (cc e)
 head_phase (heads.Whole d l) k line e = absurd (cc e)
+head_phase (heads.Ended d l picks) k line e = absurd (cc e)
 
 -- after one more line of the body
-body_phase : (h : Head) (p q : Progress) (line : BodyLine) → p.head ≡ h → body_line kinds.Record h p line ≡ Ok q → phase_of q.head ≡ in_body
+body_phase : (h : Stage) (p q : Progress) (line : BodyLine) → p.head ≡ h → body_line kinds.Record h p line ≡ Ok q → phase_of q.head ≡ in_body
 body_phase heads.Empty p q line is e = absurd (cc e)
 body_phase (heads.Data d) p q line is e = absurd (cc e)
 body_phase (heads.Whole d l) p q line is e =
     let r = with_body_ok p q (body_step d p.body line) e in
     ap (λ (x : Progress). phase_of x.head) (sym r.2) ∙ ap phase_of is
+body_phase (heads.Ended d l picks) p q line is e = absurd (cc e)
+
+-- after a crash
+crash_phase : (h : Stage) (p q : Progress) (picks : List ℕ) → crash_line kinds.Record h p picks ≡ Ok q → phase_of q.head ≡ at_end
+crash_phase heads.Empty p q picks e = absurd (cc e)
+crash_phase (heads.Data d) p q picks e = absurd (cc e)
+crash_phase (heads.Ended d l ended) p q picks e = absurd (cc e)
+crash_phase (heads.Whole d l) p q picks e =
+    let same : record p { head = heads.Ended d l picks } ≡ q = cc in
+    ap (λ (x : Progress). phase_of x.head) (sym same)
 
 -- after one more line
-step_phase : (p q : Progress) (s : Line) → parsed_step kinds.Record p s ≡ Ok q → phase_of q.head ≡ next_phase s
+step_phase : (p q : Progress) (s : Said) → parsed_step kinds.Record p s ≡ Ok q → phase_of q.head ≡ next_phase s
 step_phase p q (parsed_lines.Head line) e =
     let r = with_head_ok p q (head_step p.head line) e in
     ap (λ (x : Progress). phase_of x.head) (sym r.2) ∙ head_phase p.head r.0 line r.1
 step_phase p q (parsed_lines.Body line) e = body_phase p.head p q line refl e
+step_phase p q (parsed_lines.Crash picks) e = crash_phase p.head p q picks e
 
 -- after the lines that say this
-run_phase : (p q : Progress) (ss : List Line) → run kinds.Record p ss ≡ Ok q → phase_of q.head ≡ phase_after (phase_of p.head) ss
+run_phase : (p q : Progress) (ss : List Said) → run kinds.Record p ss ≡ Ok q → phase_of q.head ≡ phase_after (phase_of p.head) ss
 run_phase p q [] e = let same : p ≡ q = cc in ap (λ (x : Progress). phase_of x.head) (sym same)
 run_phase p q (s ∷ ss) e =
     let r = bind_ok (parsed_step kinds.Record p s) _ q e in
@@ -177,33 +192,33 @@ run_phase p q (s ∷ ss) e =
 -- ---- why a line is refused
 
 -- as many lines as what they say
-pub as_many : (lines : List (List ℕ)) (ss : List Line) → AllZip ParsesAs lines ss → length lines ≡ length ss
+pub as_many : (lines : List (List ℕ)) (ss : List Said) → AllZip ParsesAs lines ss → length lines ≡ length ss
 as_many [] [] says = refl
 as_many [] (s ∷ ss) says = absurd says
 as_many (line ∷ lines) [] says = absurd says
 as_many (line ∷ lines) (s ∷ ss) says = ap suc (as_many lines ss says.1)
 
 -- lines say one thing
-all_one : (lines : List (List ℕ)) (ss ts : List Line) → AllZip ParsesAs lines ss → AllZip ParsesAs lines ts → ss ≡ ts
+all_one : (lines : List (List ℕ)) (ss ts : List Said) → AllZip ParsesAs lines ss → AllZip ParsesAs lines ts → ss ≡ ts
 all_one [] [] [] says again = refl
 all_one [] (s ∷ ss) ts says again = absurd says
 all_one [] [] (t ∷ ts) says again = absurd again
 all_one (line ∷ lines) [] ts says again = absurd says
 all_one (line ∷ lines) (s ∷ ss) [] says again = absurd again
 all_one (line ∷ lines) (s ∷ ss) (t ∷ ts) says again =
-    ap (λ (x : Line). x ∷ ss) (one_parsed line s t says.0 again.0) ∙ ap (λ (xs : List Line). t ∷ xs) (all_one lines ss ts says.1 again.1)
+    ap (λ (x : Said). x ∷ ss) (one_parsed line s t says.0 again.0) ∙ ap (λ (xs : List Said). t ∷ xs) (all_one lines ss ts says.1 again.1)
 
 -- a line that says this, after lines that lead to q
-record Comes (before : List (List ℕ)) (q : Progress) (line : List ℕ) (s : Line) : Type 0 where
+record Comes (before : List (List ℕ)) (q : Progress) (line : List ℕ) (s : Said) : Type 0 where
   plain : is_ascii_line line ≡ true
   says : ParsesAs line s
   gone : go kinds.Record nothing before ≡ Ok q
-  said : List Line
+  said : List Said
   before_says : AllZip ParsesAs (unskipped before) said
   leads : run kinds.Record nothing said ≡ Ok q
 
 -- what may come after them stands there
-comes_after : (before : List (List ℕ)) (q : Progress) (line : List ℕ) (s : Line) → Comes before q line s → StandsAfter (phase_of q.head) s → IsLineAfter before line s
+comes_after : (before : List (List ℕ)) (q : Progress) (line : List ℕ) (s : Said) → Comes before q line s → StandsAfter (phase_of q.head) s → IsLineAfter before line s
 comes_after before q line s c stands = record {
   plain = c.plain;
   says = c.says;
@@ -213,27 +228,28 @@ comes_after before q line s c stands = record {
 }
 
 -- what may not come after them doesn't
-never_after : (before : List (List ℕ)) (q : Progress) (line : List ℕ) (s : Line) → Comes before q line s → (StandsAfter (phase_of q.head) s → ⊥) → (t : Line) → IsLineAfter before line t → ⊥
+never_after : (before : List (List ℕ)) (q : Progress) (line : List ℕ) (s : Said) → Comes before q line s → (StandsAfter (phase_of q.head) s → ⊥) → (t : Said) → IsLineAfter before line t → ⊥
 never_after before q line s c never t at =
     let same : t ≡ s = one_parsed line t s at.says c.says in
     let said : at.said ≡ c.said = all_one (unskipped before) at.said c.said at.before_says c.before_says in
     let there : phase_after data_due at.said ≡ phase_of q.head = ap (phase_after data_due) said ∙ sym (run_phase nothing q c.said c.leads) in
-    never (subst (λ (x : Line). StandsAfter (phase_of q.head) x) same (subst (λ (phase : Phase). StandsAfter phase t) there at.stands))
+    never (subst (λ (x : Said). StandsAfter (phase_of q.head) x) same (subst (λ (phase : Phase). StandsAfter phase t) there at.stands))
 
 -- a line that may not come is a bad one
-never_fault : (before : List (List ℕ)) (q : Progress) (line : List ℕ) (s : Line) (refusal : Refusal) → Comes before q line s → (StandsAfter (phase_of q.head) s → ⊥) → BadLine ≡ refusal → IsLineFault before line refusal
+never_fault : (before : List (List ℕ)) (q : Progress) (line : List ℕ) (s : Said) (refusal : Refusal) → Comes before q line s → (StandsAfter (phase_of q.head) s → ⊥) → BadLine ≡ refusal → IsLineFault before line refusal
 never_fault before q line s refusal c never same = subst (λ (x : Refusal). IsLineFault before line x) same (bad_line (never_after before q line s c never))
 
 -- a line of the head that adds nothing may not come
-no_head : (h : Head) (line : HeadLine) → head_step h line ≡ None → StandsAfter (phase_of h) (parsed_lines.Head line) → ⊥
+no_head : (h : Stage) (line : HeadLine) → head_step h line ≡ None → StandsAfter (phase_of h) (parsed_lines.Head line) → ⊥
 no_head heads.Empty (head_lines.Data n) e stands = let some = cond-true (is_disk_size n) (Some (heads.Data n)) None stands in cc
 no_head (heads.Data d) (head_lines.Log n) e stands = let some = cond-true (is_disk_size n) (Some (heads.Whole d n)) None stands in cc
 no_head heads.Empty (head_lines.Log n) e stands = stands
 no_head (heads.Data d) (head_lines.Data n) e stands = stands
 no_head (heads.Whole d l) line e stands = stands
+no_head (heads.Ended d l picks) line e stands = stands
 
 -- a line of the head is refused where it adds nothing
-pub with_head_err : (p : Progress) (o : Option Head) (refusal : Refusal) → with_head p o ≡ Err refusal → (o ≡ None) × (BadLine ≡ refusal)
+pub with_head_err : (p : Progress) (o : Option Stage) (refusal : Refusal) → with_head p o ≡ Err refusal → (o ≡ None) × (BadLine ≡ refusal)
 with_head_err p None refusal e = (refl, cc)
 with_head_err p (Some h) refusal e = absurd (cc)
 
@@ -290,23 +306,35 @@ gone_spells before d l b gone =
     (ap (λ x. read_lines kinds.Record nothing 1 x) (sym (append-nil before)) ∙ lines_go kinds.Record nothing (in_draft d l b) 1 before [] gone)
 
 -- why a line that says this is refused where this is read of the body
-body_fault : (before : List (List ℕ)) (h : Head) (b : Body) (line : List ℕ) (s : BodyLine) (refusal : Refusal) → Comes before (record { head = h; body = b }) line (parsed_lines.Body s)
+body_fault : (before : List (List ℕ)) (h : Stage) (b : Body) (line : List ℕ) (s : BodyLine) (refusal : Refusal) → Comes before (record { head = h; body = b }) line (parsed_lines.Body s)
     → body_line kinds.Record h (record { head = h; body = b }) s ≡ Err refusal → IsLineFault before line refusal
 body_fault before heads.Empty b line s refusal c e = never_fault before (record { head = heads.Empty; body = b }) line (parsed_lines.Body s) refusal c (λ stands. stands) (cc)
 body_fault before (heads.Data d) b line s refusal c e = never_fault before (record { head = heads.Data d; body = b }) line (parsed_lines.Body s) refusal c (λ stands. stands) (cc)
 body_fault before (heads.Whole d l) b line s refusal c e =
     refused (parsed_lines.Body s) (plan_of d l b) refusal (comes_after before (in_draft d l b) line (parsed_lines.Body s) c tt) (gone_spells before d l b c.gone)
     (body_refused d l b s refusal (with_body_err (in_draft d l b) (body_step d b s) refusal e))
+body_fault before (heads.Ended d l picks) b line s refusal c e =
+    never_fault before (record { head = heads.Ended d l picks; body = b }) line (parsed_lines.Body s) refusal c (λ stands. stands) (cc)
+
+-- why a crash is refused where this is read of the body
+crash_fault : (before : List (List ℕ)) (h : Stage) (b : Body) (line picks : List ℕ) (refusal : Refusal) → Comes before (record { head = h; body = b }) line (parsed_lines.Crash picks)
+    → crash_line kinds.Record h (record { head = h; body = b }) picks ≡ Err refusal → IsLineFault before line refusal
+crash_fault before heads.Empty b line picks refusal c e = never_fault before (record { head = heads.Empty; body = b }) line (parsed_lines.Crash picks) refusal c (λ stands. stands) (cc)
+crash_fault before (heads.Data d) b line picks refusal c e = never_fault before (record { head = heads.Data d; body = b }) line (parsed_lines.Crash picks) refusal c (λ stands. stands) (cc)
+crash_fault before (heads.Whole d l) b line picks refusal c e = absurd (cc)
+crash_fault before (heads.Ended d l ended) b line picks refusal c e =
+    never_fault before (record { head = heads.Ended d l ended; body = b }) line (parsed_lines.Crash picks) refusal c (λ stands. stands) (cc)
 
 -- why a line that says this is refused
-parsed_fault : (before : List (List ℕ)) (q : Progress) (line : List ℕ) (s : Line) (refusal : Refusal) → Comes before q line s → parsed_step kinds.Record q s ≡ Err refusal → IsLineFault before line refusal
+parsed_fault : (before : List (List ℕ)) (q : Progress) (line : List ℕ) (s : Said) (refusal : Refusal) → Comes before q line s → parsed_step kinds.Record q s ≡ Err refusal → IsLineFault before line refusal
 parsed_fault before q line (parsed_lines.Head s) refusal c e =
     let h = with_head_err q (head_step q.head s) refusal e in
     never_fault before q line (parsed_lines.Head s) refusal c (no_head q.head s h.0) h.1
 parsed_fault before q line (parsed_lines.Body s) refusal c e = body_fault before q.head q.body line s refusal c e
+parsed_fault before q line (parsed_lines.Crash picks) refusal c e = crash_fault before q.head q.body line picks refusal c e
 
 -- why a line that isn't skipped is refused
-heard_fault : (before : List (List ℕ)) (q : Progress) (line : List ℕ) (refusal : Refusal) (g : GoneBy kinds.Record nothing q before) (o : Option Line) → go kinds.Record nothing before ≡ Ok q → is_ascii_line line ≡ true →
+heard_fault : (before : List (List ℕ)) (q : Progress) (line : List ℕ) (refusal : Refusal) (g : GoneBy kinds.Record nothing q before) (o : Option Said) → go kinds.Record nothing before ≡ Ok q → is_ascii_line line ≡ true →
     parse_line line ≡ o → step_if_parsed kinds.Record q o ≡ Err refusal → IsLineFault before line refusal
 heard_fault before q line refusal g None gone plain is e =
     let same : BadLine ≡ refusal = cc in

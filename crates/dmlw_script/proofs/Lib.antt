@@ -1,5 +1,6 @@
 pub mod WordLemmas
 pub mod DraftLemmas
+pub mod PickLaws
 pub mod LineLemmas
 pub mod ParsingLaws
 pub mod BodyLaws

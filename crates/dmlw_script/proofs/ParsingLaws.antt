@@ -1,24 +1,25 @@
 use Rattle.std.proofs.Common.{◌≡◌, ℕ, ◌+◌, ◌-◌, ◌*◌, ◌/◌, ◌%◌, ◌<◌, ◌≤◌, Bool, true, false, ◌&&◌, cond, List, [], ◌∷◌, ◌++◌, Option, Some, None, ◌⊎◌, inl, inr, ⊎_elim, refl, ap, subst, ◌∙◌, sym, arith}
 use Rattle.std.specs.Prelude.{◌==◌, codes, nat_lt, nat_le, not}
 use Rattle.std.specs.Char.{is_ascii_digit}
-use Rattle.std.specs.List.{list_all}
+use Rattle.std.specs.List.{list_all, onto_first, AllZip}
 use Rattle.std.specs.Option.{option_map}
 use Rattle.std.specs.Str.{bytes_eq}
 use Rattle.std.proofs.lemmas.Bool.{and_parts, and_from, cases_Bool, cond-true, cond-false, eq-eqb, eqb-true, leb-true, lt-ltb, le-ltb}
 use Rattle.std.proofs.lemmas.Bool.Decides.{nat_tests}
+use Rattle.std.proofs.lemmas.List.{append-nil}
 use Rattle.std.proofs.lemmas.Slice.Eq.{bytes_eq-Decides}
 use Rattle.std.proofs.lemmas.Option.{cond_some}
 use Rattle.dmlw_script.specs.declared.script_id.ScriptId.{ScriptId}
-use Rattle.dmlw_script.specs.declared.line.Line.{Line}
-use Rattle.dmlw_script.specs.declared.line.Line.TheVariants as parsed_lines
+use Rattle.dmlw_script.specs.Said.{Said}
+use Rattle.dmlw_script.specs.Said as parsed_lines
 use Rattle.dmlw_script.specs.declared.line.HeadLine.TheVariants as head_lines
 use Rattle.dmlw_script.specs.declared.line.BodyLine.TheVariants as body_lines
 use Rattle.dmlw_script.specs.declared.command.Submission.TheVariants as submits
 use Rattle.dmlw_script.specs.declared.command.Step.TheVariants as steps
-use Rattle.dmlw_script.specs.Grammar.{IsId, IsNumber, ParsesAs, ParsesAsId, ParsesAsNumber}
+use Rattle.dmlw_script.specs.Grammar.{spaced, IsId, IsNumber, ParsesAs, ParsesAsCrash, ParsesAsId, ParsesAsNumber}
 use Rattle.dmlw_script.specs.Lines.{is_skipped}
 use Rattle.dmlw_script.specs.Ids.{is_id, is_name_byte, id_of_word}
-use Rattle.dmlw_script.specs.inside.Parsing.{◌>>=◌, lone_word, parse_parts, parse_words, parse_line, step, submit, write_of}
+use Rattle.dmlw_script.specs.inside.Parsing.{◌>>=◌, lone_word, numbers_of, parse_parts, parse_words, parse_line, picks_of, plain_parts, read_of, split_words, step, submit, with_number, write_of}
 use Rattle.dmlw_script.specs.Words.{after_byte, byte_from, byte_of, byte_text, before_byte, half_of, hex_digit, is_number, number_of}
 
 -- ---- choices
@@ -182,7 +183,7 @@ abbrev first_word : List ℕ → List ℕ → List ℕ
 first_word verb words = verb ++ 32 ∷ words
 
 -- the parts that a write was read by
-record WriteParts (words : List ℕ) (s : Line) : Type 0 where
+record WriteParts (words : List ℕ) (s : Said) : Type 0 where
   from_first : List ℕ
   from_count : List ℕ
   byte_word : List ℕ
@@ -200,7 +201,7 @@ record WriteParts (words : List ℕ) (s : Line) : Type 0 where
   is : s ≡ submit name (submits.Write first count byte)
 
 -- a write was read by its parts
-write_parts : (words : List ℕ) (s : Line) → write_of words ≡ Some s → WriteParts words s
+write_parts : (words : List ℕ) (s : Said) → write_of words ≡ Some s → WriteParts words s
 write_parts words s e =
     let a = bind_some (after_byte 32 words) _ s e in
     let b = bind_some (after_byte 32 a.0) _ s a.2 in
@@ -228,7 +229,7 @@ write_parts words s e =
     }
 
 -- what is heard as a write is said
-write_read : (words : List ℕ) (s : Line) → write_of words ≡ Some s → ParsesAs (first_word (codes "w") words) s
+write_read : (words : List ℕ) (s : Said) → write_of words ≡ Some s → ParsesAs (first_word (codes "w") words) s
 write_read words s e =
     let p = write_parts words s e in
     let b = byte_read p.byte_word p.byte p.is_byte in
@@ -248,6 +249,21 @@ write_read words s e =
       spelled = ap (λ x. first_word (codes "w") x) whole;
     }
 
+-- what is heard as a read is said
+read_read : (words : List ℕ) (s : Said) → read_of words ≡ Some s → ParsesAs (first_word (codes "r") words) s
+read_read words s e =
+    let a = bind_some (number_of (before_byte 32 words)) _ s e in
+    let b = bind_some (after_byte 32 words) _ s a.2 in
+    let c = bind_some (number_of b.0) _ s b.2 in
+    let is : step (steps.Read a.0 c.0) ≡ s = let last = c.2 in cc in
+    subst (λ (x : Said). ParsesAs (first_word (codes "r") words) x) is (record {
+      first_word = before_byte 32 words;
+      count_word = b.0;
+      first_number = number_read (before_byte 32 words) a.0 a.1;
+      count_number = number_read b.0 c.0 c.1;
+      spelled = ap (λ x. first_word (codes "r") x) (cut_joined 32 words b.0 b.1);
+    })
+
 -- a first word and a number
 said_number : (verb words : List ℕ) (n : ℕ) → number_of words ≡ Some n → ParsesAsNumber verb (first_word verb words) n
 said_number verb words n e = record { word = words; number = number_read words n e; spelled = refl }
@@ -257,7 +273,7 @@ said_id : (verb words : List ℕ) (name : ScriptId) → id_of_word words ≡ Som
 said_id verb words name e = record { word = words; id = id_read words name e; spelled = refl }
 
 -- what is heard of a first word and others is said, where it is of this first word, or of the others
-verb_read : (verb word words : List ℕ) (x y : Option Line) (s : Line) → (x ≡ Some s → ParsesAs (first_word word words) s)
+verb_read : (verb word words : List ℕ) (x y : Option Said) (s : Said) → (x ≡ Some s → ParsesAs (first_word word words) s)
     → (y ≡ Some s → ParsesAs (first_word verb words) s) → cond (bytes_eq verb word) x y ≡ Some s → ParsesAs (first_word verb words) s
 verb_read verb word words x y s here other e =
     ⊎_elim
@@ -266,42 +282,45 @@ verb_read verb word words x y s here other e =
     (chosen (bytes_eq verb word) x y (Some s) e)
 
 -- a line of a first word and a number
-number_line : (verb words : List ℕ) (f : ℕ → Line) (s : Line) → ((n : ℕ) → ParsesAsNumber verb (first_word verb words) n → ParsesAs (first_word verb words) (f n))
+number_line : (verb words : List ℕ) (f : ℕ → Said) (s : Said) → ((n : ℕ) → ParsesAsNumber verb (first_word verb words) n → ParsesAs (first_word verb words) (f n))
     → option_map f (number_of words) ≡ Some s → ParsesAs (first_word verb words) s
 number_line verb words f s says e =
     let p = map_some f (number_of words) s e in
-    subst (λ (x : Line). ParsesAs (first_word verb words) x) p.2 (says p.0 (said_number verb words p.0 p.1))
+    subst (λ (x : Said). ParsesAs (first_word verb words) x) p.2 (says p.0 (said_number verb words p.0 p.1))
 
 -- a line of a first word and an id
-id_line : (verb words : List ℕ) (f : ScriptId → Line) (s : Line) → ((name : ScriptId) → ParsesAsId verb (first_word verb words) name → ParsesAs (first_word verb words) (f name))
+id_line : (verb words : List ℕ) (f : ScriptId → Said) (s : Said) → ((name : ScriptId) → ParsesAsId verb (first_word verb words) name → ParsesAs (first_word verb words) (f name))
     → option_map f (id_of_word words) ≡ Some s → ParsesAs (first_word verb words) s
 id_line verb words f s says e =
     let p = map_some f (id_of_word words) s e in
-    subst (λ (x : Line). ParsesAs (first_word verb words) x) p.2 (says p.0 (said_id verb words p.0 p.1))
+    subst (λ (x : Said). ParsesAs (first_word verb words) x) p.2 (says p.0 (said_id verb words p.0 p.1))
 
 -- what is heard of the words is said
-said_read : (verb words : List ℕ) (s : Line) → parse_words verb words ≡ Some s → ParsesAs (first_word verb words) s
+said_read : (verb words : List ℕ) (s : Said) → parse_words verb words ≡ Some s → ParsesAs (first_word verb words) s
 said_read verb words s =
     verb_read verb (codes "data") words _ _ s (number_line (codes "data") words (λ n. parsed_lines.Head (head_lines.Data n)) s (λ n says. says))
     (verb_read verb (codes "log") words _ _ s (number_line (codes "log") words (λ n. parsed_lines.Head (head_lines.Log n)) s (λ n says. says))
     (verb_read verb (codes "w") words _ _ s (write_read words s)
     (verb_read verb (codes "f") words _ _ s (id_line (codes "f") words (λ name. submit name submits.Flush) s (λ name says. says))
     (verb_read verb (codes "c") words _ _ s (id_line (codes "c") words (λ name. parsed_lines.Body (body_lines.Complete name)) s (λ name says. says))
-    (λ e. absurd (cc e))))))
+    (verb_read verb (codes "r") words _ _ s (read_read words s)
+    (λ e. absurd (cc e)))))))
 
 -- what is heard of one word is said
-word_read : (verb word : List ℕ) (x s : Line) (y : Option Line) → ParsesAs word x → (y ≡ Some s → ParsesAs verb s) → cond (bytes_eq verb word) (Some x) y ≡ Some s → ParsesAs verb s
+word_read : (verb word : List ℕ) (x s : Said) (y : Option Said) → ParsesAs word x → (y ≡ Some s → ParsesAs verb s) → cond (bytes_eq verb word) (Some x) y ≡ Some s → ParsesAs verb s
 word_read verb word x s y here other e =
     ⊎_elim
     (λ (h : (bytes_eq verb word ≡ true) × (Some x ≡ Some s)).
     let same : x ≡ s = (let k = h.1 in cc) in
-    subst (λ (v : List ℕ). ParsesAs v s) (sym (same_bytes verb word h.0)) (subst (λ (t : Line). ParsesAs word t) same here))
+    subst (λ (v : List ℕ). ParsesAs v s) (sym (same_bytes verb word h.0)) (subst (λ (t : Said). ParsesAs word t) same here))
     (λ (h : (bytes_eq verb word ≡ false) × (y ≡ Some s)). other h.1)
     (chosen (bytes_eq verb word) (Some x) y (Some s) e)
 
 -- what is heard of a line of one word is said
-lone_read : (verb : List ℕ) (s : Line) → lone_word verb ≡ Some s → ParsesAs verb s
-lone_read verb s = word_read verb (codes "close") (step steps.Close) s _ refl (λ e. absurd (cc e))
+lone_read : (verb : List ℕ) (s : Said) → lone_word verb ≡ Some s → ParsesAs verb s
+lone_read verb s =
+    word_read verb (codes "close") (step steps.Close) s _ refl
+    (word_read verb (codes "turn") (step steps.Turn) s _ refl (λ e. absurd (cc e)))
 
 -- one more byte that isn't the mark
 all_step : (t : Bool) (b : ℕ) (bytes front : List ℕ) (rest : Option (List ℕ)) → cond t (Some bytes) rest ≡ None → (rest ≡ None → front ≡ bytes) → cond t [] (b ∷ front) ≡ b ∷ bytes
@@ -313,13 +332,134 @@ before_all : (mark : ℕ) (bytes : List ℕ) → after_byte mark bytes ≡ None 
 before_all mark [] none = refl
 before_all mark (b ∷ bytes) none = all_step (b == mark) b bytes _ _ none (before_all mark bytes)
 
+-- what is heard of the parts of a line that is no crash is said
+plain_read : (line : List ℕ) (rest : Option (List ℕ)) (s : Said) → after_byte 32 line ≡ rest → plain_parts (before_byte 32 line) rest ≡ Some s → ParsesAs line s
+plain_read line (Some words) s cut e = subst (λ (x : List ℕ). ParsesAs x s) (sym (cut_joined 32 line words cut)) (said_read (before_byte 32 line) words s e)
+plain_read line None s cut e = subst (λ (x : List ℕ). ParsesAs x s) (before_all 32 line cut) (lone_read (before_byte 32 line) s e)
+
+-- ---- crashes
+
+-- a byte before the first of some words
+spaced_onto : (b : ℕ) (word : List ℕ) (words : List (List ℕ)) → spaced ((b ∷ word) ∷ words) ≡ b ∷ spaced (word ∷ words)
+spaced_onto b word [] = refl
+spaced_onto b word (next ∷ words) = refl
+
+-- the first word of a text and the others, which make it up
+record Splits (bytes : List ℕ) (parts : List (List ℕ)) : Type 0 where
+  first : List ℕ
+  others : List (List ℕ)
+  split : parts ≡ first ∷ others
+  joined : bytes ≡ spaced (first ∷ others)
+
+-- one more byte
+splits_step : (t : Bool) (b : ℕ) (bytes : List ℕ) (parts : List (List ℕ)) → (t ≡ true → b ≡ 32) → Splits bytes parts → Splits (b ∷ bytes) (cond t ([] ∷ parts) (onto_first b parts))
+splits_step true b bytes parts here s = record {
+  first = [];
+  others = s.first ∷ s.others;
+  split = ap (λ (ps : List (List ℕ)). [] ∷ ps) s.split;
+  joined = ap (λ x. x ∷ bytes) (here refl) ∙ ap (λ x. 32 ∷ x) s.joined;
+}
+splits_step false b bytes parts here s = record {
+  first = b ∷ s.first;
+  others = s.others;
+  split = ap (onto_first b) s.split;
+  joined = ap (λ x. b ∷ x) s.joined ∙ sym (spaced_onto b s.first s.others);
+}
+
+-- the words of a text make it up
+splits : (bytes : List ℕ) → Splits bytes (split_words bytes)
+splits [] = record { first = []; others = []; split = refl; joined = refl }
+splits (b ∷ bytes) = splits_step (b == 32) b bytes (split_words bytes) (eqb-true b 32) (splits bytes)
+
+-- a number before others was read with them
+record NumberParts (o : Option ℕ) (os : Option (List ℕ)) (picks : List ℕ) : Type 0 where
+  first : ℕ
+  others : List ℕ
+  is_first : o ≡ Some first
+  are_others : os ≡ Some others
+  are : picks ≡ first ∷ others
+
+number_parts : (o : Option ℕ) (os : Option (List ℕ)) (picks : List ℕ) → with_number o os ≡ Some picks → NumberParts o os picks
+number_parts None os picks e = absurd (cc)
+number_parts (Some n) None picks e = absurd (cc)
+number_parts (Some n) (Some ns) picks e = record { first = n; others = ns; is_first = refl; are_others = refl; are = cc }
+
+-- what is read as numbers are numbers
+numbers_read : (words : List (List ℕ)) (picks : List ℕ) → numbers_of words ≡ Some picks → AllZip IsNumber words picks
+numbers_read [] [] e = tt
+numbers_read [] (pick ∷ picks) e = absurd (cc)
+numbers_read (word ∷ words) picks e =
+    let p = number_parts (number_of word) (numbers_of words) picks e in
+    subst (λ (x : List ℕ). AllZip IsNumber (word ∷ words) x) (sym p.are) (number_read word p.first p.is_first, numbers_read words p.others p.are_others)
+
+-- numbers are read as they are
+numbers_again : (words : List (List ℕ)) (picks : List ℕ) → AllZip IsNumber words picks → numbers_of words ≡ Some picks
+numbers_again [] [] says = refl
+numbers_again [] (pick ∷ picks) says = absurd says
+numbers_again (word ∷ words) [] says = absurd says
+numbers_again (word ∷ words) (pick ∷ picks) says =
+    ap (λ o. with_number o (numbers_of words)) (number_again word pick says.0) ∙ ap (with_number (Some pick)) (numbers_again words picks says.1)
+
+-- a word and what stands behind it
+word_split : (word rest : List ℕ) (words : List (List ℕ)) → lacks 32 word ≡ true → split_words rest ≡ [] ∷ words → split_words (word ++ rest) ≡ word ∷ words
+word_split [] rest words lack e = e
+word_split (b ∷ word) rest words lack e =
+    let parts : (not (b == 32) ≡ true) × (lacks 32 word ≡ true) = and_parts _ _ lack in
+    onto_step (b == 32) b (split_words (word ++ rest)) parts.0 ∙ ap (onto_first b) (word_split word rest words parts.1 e)
+  where
+    onto_step : (t : Bool) (x : ℕ) (ps : List (List ℕ)) → not t ≡ true → cond t ([] ∷ ps) (onto_first x ps) ≡ onto_first x ps
+    onto_step true x ps apart = absurd (cc)
+    onto_step false x ps apart = refl
+
+-- numbers with one space between each two are split into them
+split_spaced : (word : List ℕ) (words : List (List ℕ)) (pick : ℕ) (picks : List ℕ) → AllZip IsNumber (word ∷ words) (pick ∷ picks) → split_words (spaced (word ∷ words)) ≡ word ∷ words
+split_spaced word [] pick [] says = ap split_words (sym (append-nil word)) ∙ word_split word [] [] (number_lacks_space word says.0.0) refl
+split_spaced word [] pick (next ∷ picks) says = absurd says.1
+split_spaced word (next ∷ words) pick [] says = absurd says.1
+split_spaced word (next ∷ words) pick (other ∷ picks) says =
+    word_split word (32 ∷ spaced (next ∷ words)) (next ∷ words) (number_lacks_space word says.0.0)
+    (ap (λ (ws : List (List ℕ)). [] ∷ ws) (split_spaced next words other picks says.1))
+
+-- a crash is heard as it is
+crash_again : (words : List (List ℕ)) (picks : List ℕ) → AllZip IsNumber words picks → parse_line (spaced (codes "crash" ∷ words)) ≡ Some (parsed_lines.Crash picks)
+crash_again [] [] says = refl
+crash_again [] (pick ∷ picks) says = absurd says
+crash_again (word ∷ words) [] says = absurd says
+crash_again (word ∷ words) (pick ∷ picks) says =
+    ap (λ (ws : List (List ℕ)). option_map (λ (ps : List ℕ). parsed_lines.Crash ps) (numbers_of ws)) (split_spaced word words pick picks says)
+    ∙ ap (option_map (λ (ps : List ℕ). parsed_lines.Crash ps)) (numbers_again (word ∷ words) (pick ∷ picks) says)
+
+-- what is heard as a crash is said
+crash_read : (line : List ℕ) (rest : Option (List ℕ)) (picks : List ℕ) → after_byte 32 line ≡ rest → before_byte 32 line ≡ codes "crash" → picks_of rest ≡ Some picks → ParsesAsCrash line picks
+crash_read line None picks cut verb e =
+    let none : [] ≡ picks = cc in
+    record {
+      words = [];
+      numbers = subst (λ (x : List ℕ). AllZip IsNumber [] x) none tt;
+      spelled = sym (before_all 32 line cut) ∙ verb;
+    }
+crash_read line (Some words) picks cut verb e =
+    let s = splits words in
+    record {
+      words = split_words words;
+      numbers = numbers_read (split_words words) picks e;
+      spelled =
+          cut_joined 32 line words cut ∙ ap (λ (v : List ℕ). v ++ 32 ∷ words) verb ∙ ap (λ (ws : List ℕ). codes "crash" ++ 32 ∷ ws) s.joined
+          ∙ ap (λ (ws : List (List ℕ)). spaced (codes "crash" ∷ ws)) (sym s.split);
+    }
+
 -- what is heard of the parts of a line is said
-parts_read : (line : List ℕ) (rest : Option (List ℕ)) (s : Line) → after_byte 32 line ≡ rest → parse_parts (before_byte 32 line) rest ≡ Some s → ParsesAs line s
-parts_read line (Some words) s cut e = subst (λ (x : List ℕ). ParsesAs x s) (sym (cut_joined 32 line words cut)) (said_read (before_byte 32 line) words s e)
-parts_read line None s cut e = subst (λ (x : List ℕ). ParsesAs x s) (before_all 32 line cut) (lone_read (before_byte 32 line) s e)
+parts_read : (line : List ℕ) (rest : Option (List ℕ)) (s : Said) → after_byte 32 line ≡ rest → parse_parts (before_byte 32 line) rest ≡ Some s → ParsesAs line s
+parts_read line rest s cut e =
+    ⊎_elim
+    (λ (h : (bytes_eq (before_byte 32 line) (codes "crash") ≡ true) × (option_map (λ (ps : List ℕ). parsed_lines.Crash ps) (picks_of rest) ≡ Some s)).
+    let p = map_some (λ (ps : List ℕ). parsed_lines.Crash ps) (picks_of rest) s h.1 in
+    subst (λ (x : Said). ParsesAs line x) p.2 (crash_read line rest p.0 cut (same_bytes _ _ h.0) p.1))
+    (λ (h : (bytes_eq (before_byte 32 line) (codes "crash") ≡ false) × (plain_parts (before_byte 32 line) rest ≡ Some s)). plain_read line rest s cut h.1)
+    (chosen (bytes_eq (before_byte 32 line) (codes "crash")) _ _ (Some s) e)
 
 -- what is heard is said
-pub parsed_read : (line : List ℕ) (s : Line) → parse_line line ≡ Some s → ParsesAs line s
+pub parsed_read : (line : List ℕ) (s : Said) → parse_line line ≡ Some s → ParsesAs line s
 parsed_read line s e = parts_read line (after_byte 32 line) s refl e
 
 -- what has this value goes on from it
@@ -342,8 +482,16 @@ write_again id fw cw name first count byte is_id is_first is_count low =
     (bind_at _ _ _ _ c.1
     (bind_at _ _ _ _ (byte_again byte low) refl))))))
 
+-- a read is heard as it is
+read_again : (fw cw : List ℕ) (first count : ℕ) → IsNumber fw first → IsNumber cw count → read_of (fw ++ 32 ∷ cw) ≡ Some (step (steps.Read first count))
+read_again fw cw first count is_first is_count =
+    let a = cut_at 32 fw cw (number_lacks_space fw is_first.0) in
+    bind_at _ _ _ _ (ap number_of a.0 ∙ number_again fw first is_first)
+    (bind_at _ _ _ _ a.1
+    (bind_at _ _ _ _ (number_again cw count is_count) refl))
+
 -- what is said is heard
-pub parsed_again : (line : List ℕ) (s : Line) → ParsesAs line s → parse_line line ≡ Some s
+pub parsed_again : (line : List ℕ) (s : Said) → ParsesAs line s → parse_line line ≡ Some s
 parsed_again line (parsed_lines.Head (head_lines.Data n)) says =
     rw says.spelled (ap (option_map (λ k. parsed_lines.Head (head_lines.Data k))) (number_again says.word n says.number))
 parsed_again line (parsed_lines.Head (head_lines.Log n)) says =
@@ -355,9 +503,13 @@ parsed_again line (parsed_lines.Body (body_lines.Submit name submits.Flush)) say
 parsed_again line (parsed_lines.Body (body_lines.Complete name)) says =
     rw says.spelled (ap (option_map (λ k. parsed_lines.Body (body_lines.Complete k))) (id_again says.word name says.id))
 parsed_again line (parsed_lines.Body (body_lines.Step steps.Close)) says = rw says refl
+parsed_again line (parsed_lines.Body (body_lines.Step (steps.Read first count))) says =
+    rw says.spelled (read_again says.first_word says.count_word first count says.first_number says.count_number)
+parsed_again line (parsed_lines.Body (body_lines.Step steps.Turn)) says = rw says refl
+parsed_again line (parsed_lines.Crash picks) says = rw says.spelled (crash_again says.words picks says.numbers)
 
 -- a line says one thing
-pub one_parsed : (line : List ℕ) (s t : Line) → ParsesAs line s → ParsesAs line t → s ≡ t
+pub one_parsed : (line : List ℕ) (s t : Said) → ParsesAs line s → ParsesAs line t → s ≡ t
 one_parsed line s t says_s says_t = let both = sym (parsed_again line s says_s) ∙ parsed_again line t says_t in cc
 
 -- nothing is heard of a comment
@@ -372,7 +524,7 @@ skipped_unheard (b ∷ line) skipped =
     subst (λ (x : ℕ). parse_line (x ∷ line) ≡ None) (sym (eqb-true b 35 skipped)) (comment_parts (before_byte 32 line) (after_byte 32 line))
 
 -- a line that says something isn't skipped
-pub said_kept : (line : List ℕ) (s : Line) → ParsesAs line s → is_skipped line ≡ false
+pub said_kept : (line : List ℕ) (s : Said) → ParsesAs line s → is_skipped line ≡ false
 said_kept line s says =
     ⊎_elim
     (λ (skipped : is_skipped line ≡ true). absurd (let both = sym (parsed_again line s says) ∙ skipped_unheard line skipped in cc))

@@ -1,7 +1,7 @@
-use Rattle.std.proofs.Common.{◌≡◌, ℕ, ◌+◌, true, false, not, List, [], ◌∷◌, ◌++◌, length, append_assoc, Option, Some, None, Ok, Err, ⊎_elim, refl, ap, ◌∙◌, sym, subst, arith}
+use Rattle.std.proofs.Common.{◌≡◌, ℕ, ◌+◌, ◌<◌, ◌^◌, true, false, not, List, [], ◌∷◌, ◌++◌, length, append_assoc, Option, Some, None, Ok, Err, ⊎_elim, refl, ap, ◌∙◌, sym, subst, arith}
 use Rattle.std.specs.Prelude.{Result, IfOk}
 use Rattle.std.specs.List.{AllByRecursion, AllZip, IsDistinct}
-use Rattle.std.proofs.lemmas.Bool.{cond-true, cond-false, cases_Bool}
+use Rattle.std.proofs.lemmas.Bool.{and_parts, cond-true, cond-false, cases_Bool, ltb-true}
 use Rattle.std.proofs.lemmas.List.{append-nil}
 use Rattle.std.proofs.lemmas.Option.{cond_some}
 use Rattle.refusals.specs.declared.refusal.Refusal.{Refusal}
@@ -9,21 +9,22 @@ use Rattle.refusals.specs.declared.refusal.Refusal.TheVariants.{BadLine}
 use Rattle.refusals.specs.declared.fault.Fault.{Fault}
 use Rattle.dmlw_script.specs.declared.reader.Kind.{Kind}
 use Rattle.dmlw_script.specs.declared.reader.Kind.TheVariants as kinds
-use Rattle.dmlw_script.specs.declared.line.Line.{Line}
-use Rattle.dmlw_script.specs.declared.line.Line.TheVariants as parsed_lines
+use Rattle.dmlw_script.specs.Said.{Said}
+use Rattle.dmlw_script.specs.Said as parsed_lines
 use Rattle.dmlw_script.specs.declared.line.HeadLine.{HeadLine}
 use Rattle.dmlw_script.specs.declared.line.HeadLine.TheVariants as head_lines
 use Rattle.dmlw_script.specs.declared.line.BodyLine.{BodyLine}
 use Rattle.dmlw_script.specs.declared.line.BodyLine.TheVariants as body_lines
 use Rattle.dmlw_script.specs.declared.command.Submission.TheVariants as submits
-use Rattle.dmlw_script.specs.declared.head.Head.{Head}
-use Rattle.dmlw_script.specs.declared.head.Head.TheVariants as heads
+use Rattle.dmlw_script.specs.inside.Stages.{Stage}
+use Rattle.dmlw_script.specs.inside.Stages as heads
 use Rattle.dmlw_script.specs.inside.Heads.{head_step}
 use Rattle.dmlw_script.specs.inside.Drafts.{◌>>=◌, body_step, Body}
-use Rattle.dmlw_script.specs.Grammar.{ParsesAs, AreLinesOf}
+use Rattle.dmlw_script.specs.Grammar.{IsNumber, ParsesAs, AreLinesOf}
 use Rattle.dmlw_script.specs.Lines.{is_ascii_line, is_skipped, unskipped, lines_of}
-use Rattle.dmlw_script.specs.Plans.{lines_of_body, is_disk_size, lines_of_script, IsPlan, Plan}
-use Rattle.dmlw_script.specs.inside.Readers.{and_then, at_line, body_line, finish_step, finished, step_if_parsed, line_step, nothing, read_lines, read_text, parsed_step, with_body, with_head, Progress}
+use Rattle.dmlw_script.specs.Plans.{lines_of_body, is_disk_size, lines_of_script, with_ending, ArePicks, IsPlan, Plan}
+use Rattle.dmlw_script.specs.Words.{number_value}
+use Rattle.dmlw_script.specs.inside.Readers.{and_then, at_line, body_line, crash_line, finish_step, finished, step_if_parsed, line_step, nothing, read_lines, read_text, parsed_step, with_body, with_head, Progress}
 use Rattle.dmlw_script.specs.inside.Parsing.{parse_line}
 use Rattle.dmlw_script.proofs.BodyLaws.{bind_at, bind_ok, in_draft, lines_grow, lines_of_draft, run, run_again, step_grows, IsFine, IsSound}
 use Rattle.dmlw_script.proofs.ParsingLaws.{parsed_again, parsed_read}
@@ -31,20 +32,31 @@ use Rattle.dmlw_script.proofs.ParsingLaws.{parsed_again, parsed_read}
 -- ---- what is heard of single lines
 
 -- what is known of a line from its words alone
-abbrev pub IsFineLine : Line → Type 0
+abbrev pub IsFineLine : Said → Type 0
 IsFineLine (parsed_lines.Head line) = Unit {0}
 IsFineLine (parsed_lines.Body line) = IsFine line
+IsFineLine (parsed_lines.Crash picks) = AllByRecursion (λ pick. pick < 2 ^ 64) picks
+
+-- numbers are below 2 ^ 64
+numbers_low : (words : List (List ℕ)) (picks : List ℕ) → AllZip IsNumber words picks → AllByRecursion (λ pick. pick < 2 ^ 64) picks
+numbers_low [] [] says = tt
+numbers_low [] (pick ∷ picks) says = absurd says
+numbers_low (word ∷ words) [] says = absurd says
+numbers_low (word ∷ words) (pick ∷ picks) says =
+    let low : number_value word < 2 ^ 64 = ltb-true _ _ (and_parts _ _ says.0.0).1 in
+    (subst (λ (n : ℕ). n < 2 ^ 64) says.0.1 low, numbers_low words picks says.1)
 
 -- what a line says is fine
-pub fine_said : (line : List ℕ) (s : Line) → ParsesAs line s → IsFineLine s
+pub fine_said : (line : List ℕ) (s : Said) → ParsesAs line s → IsFineLine s
 fine_said line (parsed_lines.Head head) says = tt
 fine_said line (parsed_lines.Body (body_lines.Submit name (submits.Write first count byte))) says = ((says.id_word, says.id.0, says.id.1), says.is_byte)
 fine_said line (parsed_lines.Body (body_lines.Submit name submits.Flush)) says = ((says.word, says.id.0, says.id.1), tt)
 fine_said line (parsed_lines.Body (body_lines.Complete name)) says = tt
 fine_said line (parsed_lines.Body (body_lines.Step step)) says = tt
+fine_said line (parsed_lines.Crash picks) says = numbers_low says.words picks says.numbers
 
 -- what lines say is fine
-pub all_fine : (lines : List (List ℕ)) (ss : List Line) → AllZip ParsesAs lines ss → AllByRecursion IsFineLine ss
+pub all_fine : (lines : List (List ℕ)) (ss : List Said) → AllZip ParsesAs lines ss → AllByRecursion IsFineLine ss
 all_fine [] [] says = tt
 all_fine [] (s ∷ ss) says = absurd says
 all_fine (line ∷ lines) [] says = absurd says
@@ -61,47 +73,62 @@ pub no_body_sound : (sectors : ℕ) → IsSound sectors no_body
 unfolding IsDistinct
 no_body_sound sectors = record { ids = tt; distinct = tt; numbered = refl; well_formed = tt }
 
--- a body's plan
+-- a body's plan, with the crash that ends it
+abbrev pub ended_plan : ℕ → ℕ → Option (List ℕ) → Body → Plan
+ended_plan d l ending b = record { data_sectors = d; log_sectors = l; names = b.names; commands = b.body; ending = ending }
+
+-- a body's plan, with no crash
 abbrev pub plan_of : ℕ → ℕ → Body → Plan
-plan_of d l b = record { data_sectors = d; log_sectors = l; names = b.names; commands = b.body }
+plan_of d l b = ended_plan d l None b
 
 -- what was read is the beginning of a script
-abbrev pub IsBegun : Head → Body → Type 0
+abbrev pub IsBegun : Stage → Body → Type 0
 IsBegun heads.Empty b = b ≡ no_body
 IsBegun (heads.Data d) b = (is_disk_size d ≡ true) × (b ≡ no_body)
 IsBegun (heads.Whole d l) b = (is_disk_size d ≡ true) × (is_disk_size l ≡ true) × IsSound d b
+IsBegun (heads.Ended d l picks) b =
+    (is_disk_size d ≡ true) × (is_disk_size l ≡ true) × IsSound d b × AllByRecursion (λ pick. pick < 2 ^ 64) picks
 
 -- the lines of the head, as far as it was read
-abbrev pub lines_of_head : Head → List Line
+abbrev pub lines_of_head : Stage → List Said
 lines_of_head heads.Empty = []
 lines_of_head (heads.Data d) = parsed_lines.Head (head_lines.Data d) ∷ []
 lines_of_head (heads.Whole d l) = parsed_lines.Head (head_lines.Data d) ∷ parsed_lines.Head (head_lines.Log l) ∷ []
+lines_of_head (heads.Ended d l picks) = parsed_lines.Head (head_lines.Data d) ∷ parsed_lines.Head (head_lines.Log l) ∷ []
+
+-- the crash that was read, if one was
+abbrev pub ending_of : Stage → Option (List ℕ)
+ending_of heads.Empty = None
+ending_of (heads.Data d) = None
+ending_of (heads.Whole d l) = None
+ending_of (heads.Ended d l picks) = Some picks
 
 -- the lines that were read
-abbrev pub lines_of_progress : Progress → List Line
-lines_of_progress p = lines_of_head p.head ++ lines_of_draft p.body
+abbrev pub lines_of_progress : Progress → List Said
+lines_of_progress p = lines_of_head p.head ++ with_ending (ending_of p.head) (lines_of_draft p.body)
 
 -- what was read is the beginning of a script, and its lines are these and one more
-abbrev pub GrowsBy : Progress → Progress → List Line → Type 0
+abbrev pub GrowsBy : Progress → Progress → List Said → Type 0
 GrowsBy p q ss = IsBegun q.head q.body × (lines_of_progress q ≡ lines_of_progress p ++ ss)
 
 -- one more line of the head
-head_grows : (h k : Head) (b : Body) (line : HeadLine) → head_step h line ≡ Some k → IsBegun h b
+head_grows : (h k : Stage) (b : Body) (line : HeadLine) → head_step h line ≡ Some k → IsBegun h b
     → GrowsBy (record { head = h; body = b }) (record { head = k; body = b }) (parsed_lines.Head line ∷ [])
 head_grows heads.Empty k b (head_lines.Data n) e begun =
     let p = cond_some (is_disk_size n) (heads.Data n) k e in
-    subst (λ (x : Head). GrowsBy (record { head = heads.Empty; body = b }) (record { head = x; body = b }) (parsed_lines.Head (head_lines.Data n) ∷ [])) p.1
+    subst (λ (x : Stage). GrowsBy (record { head = heads.Empty; body = b }) (record { head = x; body = b }) (parsed_lines.Head (head_lines.Data n) ∷ [])) p.1
     ((p.0, begun), rw begun refl)
 head_grows (heads.Data d) k b (head_lines.Log n) e begun =
     let p = cond_some (is_disk_size n) (heads.Whole d n) k e in
-    subst (λ (x : Head). GrowsBy (record { head = heads.Data d; body = b }) (record { head = x; body = b }) (parsed_lines.Head (head_lines.Log n) ∷ [])) p.1
+    subst (λ (x : Stage). GrowsBy (record { head = heads.Data d; body = b }) (record { head = x; body = b }) (parsed_lines.Head (head_lines.Log n) ∷ [])) p.1
     ((begun.0, p.0, subst (IsSound d) (sym begun.1) (no_body_sound d)), rw begun.1 refl)
 head_grows heads.Empty k b (head_lines.Log n) e begun = absurd (cc e)
 head_grows (heads.Data d) k b (head_lines.Data n) e begun = absurd (cc e)
 head_grows (heads.Whole d l) k b line e begun = absurd (cc e)
+head_grows (heads.Ended d l picks) k b line e begun = absurd (cc e)
 
 -- a head that was read
-pub with_head_ok : (p q : Progress) (o : Option Head) → with_head p o ≡ Ok q → (h : Head) × (o ≡ Some h) × (record p { head = h } ≡ q)
+pub with_head_ok : (p q : Progress) (o : Option Stage) → with_head p o ≡ Ok q → (h : Stage) × (o ≡ Some h) × (record p { head = h } ≡ q)
 with_head_ok p q (Some h) e = (h, refl, cc)
 with_head_ok p q None e = absurd (cc)
 
@@ -111,7 +138,7 @@ with_body_ok p q (Ok b) e = (b, refl, cc)
 with_body_ok p q (Err refusal) e = absurd (cc)
 
 -- one more line of the body
-body_grows : (h : Head) (b : Body) (q : Progress) (line : BodyLine) → body_line kinds.Record h (record { head = h; body = b }) line ≡ Ok q → IsFine line → IsBegun h b
+body_grows : (h : Stage) (b : Body) (q : Progress) (line : BodyLine) → body_line kinds.Record h (record { head = h; body = b }) line ≡ Ok q → IsFine line → IsBegun h b
     → GrowsBy (record { head = h; body = b }) q (parsed_lines.Body line ∷ [])
 body_grows heads.Empty b q line e fine begun = absurd (cc e)
 body_grows (heads.Data d) b q line e fine begun = absurd (cc e)
@@ -120,17 +147,31 @@ body_grows (heads.Whole d l) b q line e fine begun =
     let r = with_body_ok p q (body_step d b line) e in
     let g = step_grows d b r.0 line r.1 fine begun.2 in
     subst (λ (x : Progress). GrowsBy p x (parsed_lines.Body line ∷ [])) r.2
-    ((begun.0, begun.1, g.0), ap (λ (ls : List Line). lines_of_head (heads.Whole d l) ++ ls) (lines_grow d b r.0 line begun.2 g.1))
+    ((begun.0, begun.1, g.0), ap (λ (ls : List Said). lines_of_head (heads.Whole d l) ++ ls) (lines_grow d b r.0 line begun.2 g.1))
+body_grows (heads.Ended d l picks) b q line e fine begun = absurd (cc e)
+
+-- a crash
+crash_grows : (h : Stage) (b : Body) (q : Progress) (picks : List ℕ) → crash_line kinds.Record h (record { head = h; body = b }) picks ≡ Ok q
+    → AllByRecursion (λ pick. pick < 2 ^ 64) picks → IsBegun h b → GrowsBy (record { head = h; body = b }) q (parsed_lines.Crash picks ∷ [])
+crash_grows heads.Empty b q picks e low begun = absurd (cc e)
+crash_grows (heads.Data d) b q picks e low begun = absurd (cc e)
+crash_grows (heads.Ended d l ended) b q picks e low begun = absurd (cc e)
+crash_grows (heads.Whole d l) b q picks e low begun =
+    let p : Progress = in_draft d l b in
+    let after : Progress = record p { head = heads.Ended d l picks } in
+    let same : after ≡ q = cc in
+    subst (λ (x : Progress). GrowsBy p x (parsed_lines.Crash picks ∷ [])) same ((begun.0, begun.1, begun.2, low), refl)
 
 -- one more line
-step_more : (p q : Progress) (s : Line) → parsed_step kinds.Record p s ≡ Ok q → IsFineLine s → IsBegun p.head p.body → GrowsBy p q (s ∷ [])
+step_more : (p q : Progress) (s : Said) → parsed_step kinds.Record p s ≡ Ok q → IsFineLine s → IsBegun p.head p.body → GrowsBy p q (s ∷ [])
 step_more p q (parsed_lines.Head line) e fine begun =
     let r = with_head_ok p q (head_step p.head line) e in
     subst (λ (x : Progress). GrowsBy p x (parsed_lines.Head line ∷ [])) r.2 (head_grows p.head r.0 p.body line r.1 begun)
 step_more p q (parsed_lines.Body line) e fine begun = body_grows p.head p.body q line e fine begun
+step_more p q (parsed_lines.Crash picks) e fine begun = crash_grows p.head p.body q picks e fine begun
 
 -- the lines that are read are those of what was read
-pub run_more : (p q : Progress) (ss : List Line) → run kinds.Record p ss ≡ Ok q → AllByRecursion IsFineLine ss → IsBegun p.head p.body → GrowsBy p q ss
+pub run_more : (p q : Progress) (ss : List Said) → run kinds.Record p ss ≡ Ok q → AllByRecursion IsFineLine ss → IsBegun p.head p.body → GrowsBy p q ss
 run_more p q [] e fine begun =
     let same : p ≡ q = cc in
     subst (λ (x : Progress). GrowsBy p x []) same (begun, sym (append-nil (lines_of_progress p)))
@@ -138,37 +179,63 @@ run_more p q (s ∷ ss) e fine begun =
     let r = bind_ok (parsed_step kinds.Record p s) _ q e in
     let first = step_more p r.0 s r.1 fine.0 begun in
     let others = run_more r.0 q ss r.2 fine.1 first.0 in
-    (others.0, others.1 ∙ ap (λ (ls : List Line). ls ++ ss) first.1 ∙ append_assoc (lines_of_progress p) (s ∷ []) ss)
+    (others.0, others.1 ∙ ap (λ (ls : List Said). ls ++ ss) first.1 ∙ append_assoc (lines_of_progress p) (s ∷ []) ss)
 
 -- the lines that were read from the start
-pub run_lines : (q : Progress) (ss : List Line) → run kinds.Record nothing ss ≡ Ok q → AllByRecursion IsFineLine ss → GrowsBy nothing q ss
+pub run_lines : (q : Progress) (ss : List Said) → run kinds.Record nothing ss ≡ Ok q → AllByRecursion IsFineLine ss → GrowsBy nothing q ss
 run_lines q ss e fine = run_more nothing q ss e fine refl
 
+-- a sound body makes a script
+sound_plan : (d l : ℕ) (ending : Option (List ℕ)) (b : Body) → is_disk_size d ≡ true → is_disk_size l ≡ true → IsSound d b → ArePicks ending → IsPlan (ended_plan d l ending b)
+sound_plan d l ending b data_size log_size sound picks = record {
+  data_size = data_size;
+  log_size = log_size;
+  ids = sound.ids;
+  distinct = sound.distinct;
+  numbered = sound.numbered;
+  well_formed = sound.well_formed;
+  picks = picks;
+}
+
 -- what was read, at the end of a text
-finished_read : (h : Head) (b : Body) (plan : Plan) → finished kinds.Record h b ≡ Ok plan → IsBegun h b → (lines_of_head h ++ lines_of_draft b ≡ lines_of_script plan) × IsPlan plan
+finished_read : (h : Stage) (b : Body) (plan : Plan) → finished kinds.Record h b ≡ Ok plan → IsBegun h b
+    → (lines_of_head h ++ with_ending (ending_of h) (lines_of_draft b) ≡ lines_of_script plan) × IsPlan plan
 finished_read heads.Empty b plan e begun = absurd (cc e)
 finished_read (heads.Data d) b plan e begun = absurd (cc e)
 finished_read (heads.Whole d l) b plan e begun =
     let same : plan_of d l b ≡ plan = cc in
-    subst (λ (x : Plan). (lines_of_script (plan_of d l b) ≡ lines_of_script x) × IsPlan x) same (
-      refl,
-      record {
-        data_size = begun.0;
-        log_size = begun.1;
-        ids = begun.2.ids;
-        distinct = begun.2.distinct;
-        numbered = begun.2.numbered;
-        well_formed = begun.2.well_formed;
-      },
-    )
+    subst (λ (x : Plan). (lines_of_script (plan_of d l b) ≡ lines_of_script x) × IsPlan x) same (refl, sound_plan d l None b begun.0 begun.1 begun.2 tt)
+finished_read (heads.Ended d l picks) b plan e begun =
+    let same : ended_plan d l (Some picks) b ≡ plan = cc in
+    subst (λ (x : Plan). (lines_of_script (ended_plan d l (Some picks) b) ≡ lines_of_script x) × IsPlan x) same
+    (refl, sound_plan d l (Some picks) b begun.0 begun.1 begun.2 begun.3)
 
 -- the lines that are read as a plan are those of the plan
-pub plan_read : (ss : List Line) (plan : Plan) → AllByRecursion IsFineLine ss → (run kinds.Record nothing ss >>= finish_step kinds.Record) ≡ Ok plan → (ss ≡ lines_of_script plan) × IsPlan plan
+pub plan_read : (ss : List Said) (plan : Plan) → AllByRecursion IsFineLine ss → (run kinds.Record nothing ss >>= finish_step kinds.Record) ≡ Ok plan → (ss ≡ lines_of_script plan) × IsPlan plan
 plan_read ss plan fine e =
     let r = bind_ok (run kinds.Record nothing ss) (finish_step kinds.Record) plan e in
     let g = run_lines r.0 ss r.1 fine in
     let f = finished_read r.0.head r.0.body plan r.2 g.0 in
     (sym g.1 ∙ f.0, f.1)
+
+-- what was read after lines, and then others
+run_append : (p q : Progress) (ss ts : List Said) → run kinds.Record p ss ≡ Ok q → run kinds.Record p (ss ++ ts) ≡ run kinds.Record q ts
+run_append p q [] ts e = let same : p ≡ q = cc in ap (λ (x : Progress). run kinds.Record x ts) same
+run_append p q (s ∷ ss) ts e =
+    let r = bind_ok (parsed_step kinds.Record p s) _ q e in
+    bind_at _ _ _ _ r.1 (run_append r.0 q ss ts r.2)
+
+-- a body's lines and the crash behind them are read as the script that it ends
+ending_again : (d l : ℕ) (b : Body) (ss : List Said) (ending : Option (List ℕ)) → run kinds.Record (in_draft d l no_body) ss ≡ Ok (in_draft d l b)
+    → (run kinds.Record (in_draft d l no_body) (with_ending ending ss) >>= finish_step kinds.Record) ≡ Ok (ended_plan d l ending b)
+ending_again d l b ss None read = bind_at _ _ _ _ read refl
+ending_again d l b ss (Some picks) read =
+    bind_at _ _ _ _ (run_append (in_draft d l no_body) (in_draft d l b) ss (parsed_lines.Crash picks ∷ []) read ∙ refl) refl
+
+-- what goes on twice goes on once
+bind_again : {A B C : Type 0} (r : Result A Refusal) (f : A → Result B Refusal) (g : B → Result C Refusal) (x : A) → r ≡ Ok x → ((r >>= f) >>= g) ≡ (f x >>= g)
+bind_again {A = A} (Ok z) f g x e = let same : z ≡ x = cc in ap (λ (y : A). f y >>= g) same
+bind_again (Err refusal) f g x e = absurd (cc)
 
 -- the lines of a plan are read as it
 pub plan_again : (plan : Plan) → IsPlan plan → (run kinds.Record nothing (lines_of_script plan) >>= finish_step kinds.Record) ≡ Ok plan
@@ -181,12 +248,15 @@ plan_again plan is =
     run_again d l plan.names [] plan.names [] plan.commands refl is.distinct refl is.numbered is.well_formed in
     let one : parsed_step kinds.Record nothing (parsed_lines.Head (head_lines.Data d)) ≡ Ok first = ap (with_head nothing) (cond-true _ _ _ is.data_size) in
     let two : parsed_step kinds.Record first (parsed_lines.Head (head_lines.Log l)) ≡ Ok start = ap (with_head first) (cond-true _ _ _ is.log_size) in
-    bind_at _ _ _ _ (bind_at _ _ _ _ one (bind_at _ _ _ _ two body)) refl
+    let whole : Body = record { names = plan.names; body = plan.commands } in
+    bind_again (parsed_step kinds.Record nothing (parsed_lines.Head (head_lines.Data d))) _ _ first one
+    ∙ bind_again (parsed_step kinds.Record first (parsed_lines.Head (head_lines.Log l))) _ _ start two
+    ∙ ending_again d l whole (lines_of_body plan.names 0 plan.commands) plan.ending body
 
 -- ---- lines
 
 -- plain lines, of which those that aren't skipped say this
-pub record Heard (lines : List (List ℕ)) (ss : List Line) : Type 0 where
+pub record Heard (lines : List (List ℕ)) (ss : List Said) : Type 0 where
   pub plain : AllByRecursion (λ line. is_ascii_line line ≡ true) lines
   pub says : AllZip ParsesAs (unskipped lines) ss
 
@@ -199,14 +269,14 @@ kept_said : (line : List ℕ) (lines : List (List ℕ)) → is_skipped line ≡ 
 kept_said line lines e = cond-true _ _ _ (ap not e)
 
 -- one more line to skip
-heard_skipped : (line : List ℕ) (lines : List (List ℕ)) (ss : List Line) → is_ascii_line line ≡ true → is_skipped line ≡ true → Heard lines ss → Heard (line ∷ lines) ss
+heard_skipped : (line : List ℕ) (lines : List (List ℕ)) (ss : List Said) → is_ascii_line line ≡ true → is_skipped line ≡ true → Heard lines ss → Heard (line ∷ lines) ss
 heard_skipped line lines ss plain skipped h = record {
   plain = (plain, h.plain);
   says = subst (λ (x : List (List ℕ)). AllZip ParsesAs x ss) (sym (kept_skipped line lines skipped)) h.says;
 }
 
 -- one more line that says something
-heard_said : (line : List ℕ) (lines : List (List ℕ)) (s : Line) (ss : List Line) → is_ascii_line line ≡ true → is_skipped line ≡ false → ParsesAs line s → Heard lines ss → Heard (line ∷ lines) (s ∷ ss)
+heard_said : (line : List ℕ) (lines : List (List ℕ)) (s : Said) (ss : List Said) → is_ascii_line line ≡ true → is_skipped line ≡ false → ParsesAs line s → Heard lines ss → Heard (line ∷ lines) (s ∷ ss)
 heard_said line lines s ss plain skipped says h = record {
   plain = (plain, h.plain);
   says = subst (λ (x : List (List ℕ)). AllZip ParsesAs x (s ∷ ss)) (sym (kept_said line lines skipped)) (says, h.says);
@@ -227,10 +297,10 @@ said_step kind p line plain skipped = cond-false _ _ _ (ap not plain) ∙ cond-f
 -- what a line's step that goes on has heard
 pub data LineHeard (kind : Kind) (p q : Progress) (line : List ℕ) : Type 0 where
   nothing_heard : is_ascii_line line ≡ true → is_skipped line ≡ true → p ≡ q → LineHeard kind p q line
-  one_heard : (s : Line) → is_ascii_line line ≡ true → is_skipped line ≡ false → ParsesAs line s → parsed_step kind p s ≡ Ok q → LineHeard kind p q line
+  one_heard : (s : Said) → is_ascii_line line ≡ true → is_skipped line ≡ false → ParsesAs line s → parsed_step kind p s ≡ Ok q → LineHeard kind p q line
 
 -- what was heard of a line that isn't skipped
-parsed_heard : (kind : Kind) (p q : Progress) (line : List ℕ) (o : Option Line) → is_ascii_line line ≡ true → is_skipped line ≡ false → parse_line line ≡ o → step_if_parsed kind p o ≡ Ok q → LineHeard kind p q line
+parsed_heard : (kind : Kind) (p q : Progress) (line : List ℕ) (o : Option Said) → is_ascii_line line ≡ true → is_skipped line ≡ false → parse_line line ≡ o → step_if_parsed kind p o ≡ Ok q → LineHeard kind p q line
 parsed_heard kind p q line None plain skipped is e = absurd (cc)
 parsed_heard kind p q line (Some s) plain skipped is e = one_heard s plain skipped (parsed_read line s is) e
 
@@ -253,7 +323,7 @@ go kind p (line ∷ lines) = line_step kind p line >>= λ q. go kind q lines
 
 -- what lines that are read say, and where that leads
 pub record GoneBy (kind : Kind) (p q : Progress) (lines : List (List ℕ)) : Type 0 where
-  pub ss : List Line
+  pub ss : List Said
   pub step_if_parsed : Heard lines ss
   pub leads : run kind p ss ≡ Ok q
 
@@ -278,8 +348,8 @@ go_heard kind p q (line ∷ lines) e =
     gone_on kind p s.0 q line lines (line_heard kind p s.0 line s.1) (go_heard kind s.0 q lines s.2)
 
 -- a line that says something is read
-said_go : (kind : Kind) (p q : Progress) (line : List ℕ) (lines : List (List ℕ)) (ss : List Line) → is_ascii_line line ≡ true → is_skipped line ≡ false → AllZip ParsesAs (line ∷ unskipped lines) ss → run kind p ss ≡ Ok q →
-    ((r : Progress) (more : List Line) → AllZip ParsesAs (unskipped lines) more → run kind r more ≡ Ok q → go kind r lines ≡ Ok q) → go kind p (line ∷ lines) ≡ Ok q
+said_go : (kind : Kind) (p q : Progress) (line : List ℕ) (lines : List (List ℕ)) (ss : List Said) → is_ascii_line line ≡ true → is_skipped line ≡ false → AllZip ParsesAs (line ∷ unskipped lines) ss → run kind p ss ≡ Ok q →
+    ((r : Progress) (more : List Said) → AllZip ParsesAs (unskipped lines) more → run kind r more ≡ Ok q → go kind r lines ≡ Ok q) → go kind p (line ∷ lines) ≡ Ok q
 said_go kind p q line lines [] plain skipped says e others = absurd says
 said_go kind p q line lines (s ∷ ss) plain skipped says e others =
     let step = bind_ok (parsed_step kind p s) _ q e in
@@ -287,7 +357,7 @@ said_go kind p q line lines (s ∷ ss) plain skipped says e others =
     bind_at _ _ _ _ is (others step.0 ss says.1 step.2)
 
 -- lines that say this are read
-pub heard_go : (kind : Kind) (p q : Progress) (lines : List (List ℕ)) (ss : List Line) → AllByRecursion (λ line. is_ascii_line line ≡ true) lines → AllZip ParsesAs (unskipped lines) ss → run kind p ss ≡ Ok q → go kind p lines ≡ Ok q
+pub heard_go : (kind : Kind) (p q : Progress) (lines : List (List ℕ)) (ss : List Said) → AllByRecursion (λ line. is_ascii_line line ≡ true) lines → AllZip ParsesAs (unskipped lines) ss → run kind p ss ≡ Ok q → go kind p lines ≡ Ok q
 heard_go kind p q [] [] plain says e = e
 heard_go kind p q [] (s ∷ ss) plain says e = absurd says
 heard_go kind p q (line ∷ lines) ss plain says e =
@@ -347,7 +417,7 @@ lines_spell lines number plan e =
     let p = plan_read h.ss plan (all_fine (unskipped lines) h.ss h.step_if_parsed.says) (bind_at _ _ _ _ h.leads s.2) in
     record {
       plain = h.step_if_parsed.plain;
-      says = subst (λ (x : List Line). AllZip ParsesAs (unskipped lines) x) p.0 h.step_if_parsed.says;
+      says = subst (λ (x : List Said). AllZip ParsesAs (unskipped lines) x) p.0 h.step_if_parsed.says;
       script = p.1;
     }
 
@@ -359,7 +429,7 @@ spelled_lines lines number plan spells =
     (bind_at _ _ _ _ (heard_go kinds.Record nothing s.0 lines (lines_of_script plan) spells.plain spells.says s.1) s.2)
 
 -- a run's text doesn't end well
-no_run : (h : Head) (b : Body) (plan : Plan) → finished kinds.Run h b ≡ Ok plan → ⊥
+no_run : (h : Stage) (b : Body) (plan : Plan) → finished kinds.Run h b ≡ Ok plan → ⊥
 no_run h b plan e = cc
 
 -- no text of a run is a script yet

@@ -1,18 +1,19 @@
-use Rattle.std.proofs.Common.{◌≡◌, ℕ, zero, suc, ◌+◌, ◌<◌, ◌≤◌, ◌^◌, Bool, true, false, not, ◌||◌, cond, List, [], ◌∷◌, ◌++◌, length, Some, None, ⊎_elim, get_or, refl, ap, ◌∙◌, sym, subst, arith, append_assoc}
-use Rattle.std.specs.Prelude.{nat_le, nat_lt, slice_get}
+use Rattle.std.proofs.Common.{◌≡◌, ℕ, zero, suc, ◌+◌, ◌<◌, ◌≤◌, ◌^◌, Bool, true, false, not, ◌||◌, cond, List, [], ◌∷◌, ◌++◌, length, Option, Some, None, ⊎_elim, get_or, refl, ap, ◌∙◌, sym, subst, arith, append_assoc}
+use Rattle.std.specs.Prelude.{is_some, nat_le, nat_lt, slice_get}
 use Rattle.std.specs.Char.{is_ascii_digit}
 use Rattle.std.specs.List.{list_all, AllByRecursion, AllZip}
 use Rattle.std.proofs.lemmas.Bool.{and_from, and_parts, cases_lt, eq-eqb, le-leb, lt-ltb}
-use Rattle.std.proofs.lemmas.List.{append-nil}
+use Rattle.std.proofs.lemmas.List.{append-nil, length-append}
 use Rattle.std.proofs.lemmas.Option.{slice_get-get_or, slice_get_past}
 use Rattle.std.proofs.Math.Bool.{or-true}
 use Rattle.dmlw_script.specs.declared.command.Command.{Command}
 use Rattle.dmlw_script.specs.declared.command.Command.TheVariants as commands
 use Rattle.dmlw_script.specs.declared.script_id.ScriptId.{ScriptId}
-use Rattle.dmlw_script.specs.declared.line.Line.{Line}
+use Rattle.dmlw_script.specs.Said.{Said}
+use Rattle.dmlw_script.specs.Said as parsed_lines
 use Rattle.dmlw_script.specs.Grammar.{IsLineOf, IsNumber, ParsesAs, IsTextOf, AreLinesOf}
 use Rattle.dmlw_script.specs.Lines.{command_line, is_ascii_line, is_skipped, unskipped, unskipped_numbers, lines_of}
-use Rattle.dmlw_script.specs.Plans.{count_after_command, lines_of_body, is_end_of, is_ended, lines_of_script, IsWellFormed, IsPlan, CanFollow, Plan}
+use Rattle.dmlw_script.specs.Plans.{count_after_command, count_behind_head, lines_of_body, is_end_of, is_ended, lines_of_script, with_ending, IsWellFormed, IsPlan, CanFollow, Plan}
 use Rattle.dmlw_script.specs.CanonicalText.{canonical_text}
 use Rattle.dmlw_script.specs.Words.{number_value}
 use Rattle.dmlw_script.proofs.CanonicalTextLaws.{spelling_spells}
@@ -139,8 +140,8 @@ kept_at number (first ∷ lines) i n e =
     kept_step number first lines i n (is_skipped first) refl e (λ j found. kept_at (number + 1) lines j n found)
 
 -- what a line says, which has this place among those that say something
-said_at : (lines : List (List ℕ)) (ss : List Line) (i : ℕ) (line : List ℕ) → AllZip ParsesAs lines ss → slice_get lines i ≡ Some line
-    → (s : Line) × (slice_get ss i ≡ Some s) × ParsesAs line s
+said_at : (lines : List (List ℕ)) (ss : List Said) (i : ℕ) (line : List ℕ) → AllZip ParsesAs lines ss → slice_get lines i ≡ Some line
+    → (s : Said) × (slice_get ss i ≡ Some s) × ParsesAs line s
 said_at [] [] i line says e = absurd (cc)
 said_at [] (s ∷ ss) i line says e = absurd (says)
 said_at (first ∷ lines) [] i line says e = absurd (says)
@@ -182,22 +183,28 @@ length-lines_of_body : (names : List ScriptId) (before : ℕ) (body : List Comma
 length-lines_of_body names before [] = refl
 length-lines_of_body names before (command ∷ body) = ap suc (length-lines_of_body names (count_after_command before command) body)
 
--- as many lines are kept as the head and the commands have
-length-unskipped : (text : List ℕ) (plan : Plan) → IsTextOf text plan → length (unskipped_numbers 1 (lines_of text)) ≡ length plan.commands + 2
+-- lines and the crash behind them
+length-with_ending : (ending : Option (List ℕ)) (ss : List Said) → length (with_ending ending ss) ≡ length ss + cond (is_some ending) 1 0
+length-with_ending None ss = omega arith
+length-with_ending (Some picks) ss = length-append ss (parsed_lines.Crash picks ∷ [])
+
+-- as many lines are kept as the head, the commands and the crash have
+length-unskipped : (text : List ℕ) (plan : Plan) → IsTextOf text plan → length (unskipped_numbers 1 (lines_of text)) ≡ count_behind_head plan + 2
 length-unskipped text plan spells =
     let numbers = length-unskipped_numbers 1 (lines_of text) in
     let says = as_many (unskipped (lines_of text)) (lines_of_script plan) spells.says in
     let body = length-lines_of_body plan.names 0 plan.commands in
+    let ending = length-with_ending plan.ending (lines_of_body plan.names 0 plan.commands) in
     omega arith
 
 -- each command of a script has a line
-pub line_found : (text : List ℕ) (plan : Plan) (place : ℕ) → IsTextOf text plan → place < length plan.commands → (number : ℕ) × (command_line text place ≡ Some number)
+pub line_found : (text : List ℕ) (plan : Plan) (place : ℕ) → IsTextOf text plan → place < count_behind_head plan → (number : ℕ) × (command_line text place ≡ Some number)
 line_found text plan place spells within =
     let all = length-unskipped text plan spells in
     (get_or (unskipped_numbers 1 (lines_of text)) (place + 2) 0, slice_get-get_or (unskipped_numbers 1 (lines_of text)) (place + 2) 0 (omega arith))
 
 -- just the commands of a script have a line
-pub lined : (text : List ℕ) (plan : Plan) (place : ℕ) → IsTextOf text plan → length plan.commands ≤ place → command_line text place ≡ None
+pub lined : (text : List ℕ) (plan : Plan) (place : ℕ) → IsTextOf text plan → count_behind_head plan ≤ place → command_line text place ≡ None
 lined text plan place spells past =
     let all = length-unskipped text plan spells in
     slice_get_past (unskipped_numbers 1 (lines_of text)) (place + 2) (omega arith)

@@ -6,24 +6,27 @@ use Rattle.refusals.specs.declared.refusal.Refusal.TheVariants.{BadLine, Memory}
 use Rattle.refusals.specs.declared.fault.Fault.{Fault}
 use Rattle.dmlw_script.specs.declared.reader.Kind.{Kind}
 use Rattle.dmlw_script.specs.declared.reader.Kind.TheVariants as kinds
-use Rattle.dmlw_script.specs.declared.line.Line.{Line}
-use Rattle.dmlw_script.specs.declared.line.Line.TheVariants as parsed_lines
+use Rattle.dmlw_script.specs.Said.{Said}
+use Rattle.dmlw_script.specs.Said as parsed_lines
 use Rattle.dmlw_script.specs.declared.line.BodyLine.{BodyLine}
-use Rattle.dmlw_script.specs.declared.head.Head.{Head}
-use Rattle.dmlw_script.specs.declared.head.Head.TheVariants as heads
+use Rattle.dmlw_script.specs.inside.Stages.{Stage}
+use Rattle.dmlw_script.specs.inside.Stages as heads
 use Rattle.dmlw_script.specs.inside.Heads.{head_step}
 use Rattle.std.specs.List.{AllByRecursion}
 use Rattle.std.proofs.lemmas.List.{append-nil}
 use Rattle.dmlw_script.specs.inside.Drafts.{Body}
 use Rattle.dmlw_script.specs.Grammar.{IsTextOf}
 use Rattle.dmlw_script.specs.Lines.{is_ascii_line, is_skipped, unskipped, lines_of}
-use Rattle.dmlw_script.specs.Plans.{Plan}
-use Rattle.dmlw_script.specs.inside.Readers.{body_line, finished, step_if_parsed, line_step, nothing, read_text, parsed_step, IsFault, Progress, Reads}
+use Rattle.dmlw_script.specs.Plans.{is_disk_size, with_ending, Plan}
+use Rattle.dmlw_script.specs.declared.line.HeadLine.{HeadLine}
+use Rattle.dmlw_script.specs.declared.line.HeadLine.TheVariants as head_kinds
+use Rattle.std.proofs.lemmas.Option.{cond_some}
+use Rattle.dmlw_script.specs.inside.Readers.{body_line, crash_line, finished, step_if_parsed, line_step, nothing, read_text, parsed_step, IsFault, Progress, Reads}
 use Rattle.dmlw_script.specs.Reading.{is_memory, BeginsScript, IsFaultOf, IsReadAs, IsRunFaultOf, RunFaultAfter}
 use Rattle.dmlw_script.specs.inside.Parsing.{parse_line}
 use Rattle.dmlw_script.proofs.BodyLaws.{bind_at, bind_ok, lines_of_draft, run}
 use Rattle.dmlw_script.proofs.FaultLaws.{as_many, faulted, first_fault, gone_begins, refused_ends, with_head_err, EndsAt}
-use Rattle.dmlw_script.proofs.ReadingLaws.{all_fine, go, go_heard, lines_of_head, lines_spell, no_run_text, plain_step, run_lines, said_step, skipped_step, spelled_lines, with_head_ok, IsFineLine}
+use Rattle.dmlw_script.proofs.ReadingLaws.{all_fine, ending_of, go, go_heard, lines_of_head, lines_spell, no_run_text, plain_step, run_lines, said_step, skipped_step, spelled_lines, with_head_ok, IsFineLine}
 
 -- ---- a recorder's texts
 
@@ -64,40 +67,56 @@ reads_fault kinds.Run text (Err fault) reads = λ is. absurd (cc)
 -- ---- a run's texts
 
 -- a line of a run's body leads nowhere
-run_body_step : (h : Head) (p q : Progress) (line : BodyLine) → body_line kinds.Run h p line ≡ Ok q → ⊥
+run_body_step : (h : Stage) (p q : Progress) (line : BodyLine) → body_line kinds.Run h p line ≡ Ok q → ⊥
 run_body_step h p q line e = cc
 
--- what a run's line says is read as a recorder's, and nothing of a body
-head_parsed : (p q : Progress) (s : Line) → parsed_step kinds.Run p s ≡ Ok q → (parsed_step kinds.Record p s ≡ Ok q) × (q.body ≡ p.body)
+-- so does a crash
+run_crash_step : (h : Stage) (p q : Progress) (picks : List ℕ) → crash_line kinds.Run h p picks ≡ Ok q → ⊥
+run_crash_step h p q picks e = cc
+
+-- a line of the head is no crash
+head_unended : (h k : Stage) (line : HeadLine) → head_step h line ≡ Some k → ending_of k ≡ None
+head_unended heads.Empty k (head_kinds.Data n) e = ap ending_of (sym (cond_some (is_disk_size n) (heads.Data n) k e).1)
+head_unended (heads.Data d) k (head_kinds.Log n) e = ap ending_of (sym (cond_some (is_disk_size n) (heads.Whole d n) k e).1)
+head_unended heads.Empty k (head_kinds.Log n) e = absurd (cc e)
+head_unended (heads.Data d) k (head_kinds.Data n) e = absurd (cc e)
+head_unended (heads.Whole d l) k line e = absurd (cc e)
+head_unended (heads.Ended d l picks) k line e = absurd (cc e)
+
+-- what a run's line says is read as a recorder's, and nothing of a body, nor a crash
+head_parsed : (p q : Progress) (s : Said) → parsed_step kinds.Run p s ≡ Ok q → (parsed_step kinds.Record p s ≡ Ok q) × (q.body ≡ p.body) × (ending_of q.head ≡ None)
 head_parsed p q (parsed_lines.Head line) e =
     let r = with_head_ok p q (head_step p.head line) e in
-    (e, ap (λ (x : Progress). x.body) (sym r.2))
+    (e, ap (λ (x : Progress). x.body) (sym r.2), ap (λ (x : Progress). ending_of x.head) (sym r.2) ∙ head_unended p.head r.0 line r.1)
 head_parsed p q (parsed_lines.Body line) e = absurd (run_body_step p.head p q line e)
+head_parsed p q (parsed_lines.Crash picks) e = absurd (run_crash_step p.head p q picks e)
 
 -- so is what its lines say
-head_run : (p q : Progress) (ss : List Line) → run kinds.Run p ss ≡ Ok q → (run kinds.Record p ss ≡ Ok q) × (q.body ≡ p.body)
-head_run p q [] e = let same : p ≡ q = cc in (e, ap (λ (x : Progress). x.body) (sym same))
-head_run p q (s ∷ ss) e =
+head_run : (p q : Progress) (ss : List Said) → run kinds.Run p ss ≡ Ok q → ending_of p.head ≡ None → (run kinds.Record p ss ≡ Ok q) × (q.body ≡ p.body) × (ending_of q.head ≡ None)
+head_run p q [] e none = let same : p ≡ q = cc in (e, ap (λ (x : Progress). x.body) (sym same), ap (λ (x : Progress). ending_of x.head) (sym same) ∙ none)
+head_run p q (s ∷ ss) e none =
     let r = bind_ok (parsed_step kinds.Run p s) _ q e in
     let first = head_parsed p r.0 s r.1 in
-    let others = head_run r.0 q ss r.2 in
-    (bind_at _ _ _ _ first.0 others.0, others.1 ∙ first.1)
+    let others = head_run r.0 q ss r.2 first.2 in
+    (bind_at _ _ _ _ first.0 others.0, others.1 ∙ first.1, others.2)
 
 -- a head has two lines at most
-at_most_two : (h : Head) → length (lines_of_head h) ≤ 2
+at_most_two : (h : Stage) → length (lines_of_head h) ≤ 2
 at_most_two heads.Empty = omega arith
 at_most_two (heads.Data d) = omega arith
 at_most_two (heads.Whole d l) = omega arith
+at_most_two (heads.Ended d l picks) = omega arith
 
 -- as many lines as the head has were read of a run
-run_count : (q : Progress) (ss : List Line) → run kinds.Run nothing ss ≡ Ok q → AllByRecursion IsFineLine ss → length ss ≡ length (lines_of_head q.head)
+run_count : (q : Progress) (ss : List Said) → run kinds.Run nothing ss ≡ Ok q → AllByRecursion IsFineLine ss → length ss ≡ length (lines_of_head q.head)
 run_count q ss e fine =
-    let r = head_run nothing q ss e in
+    let r = head_run nothing q ss e refl in
     let g = run_lines q ss r.0 fine in
-    ap length (sym g.1 ∙ ap (λ (b : Body). lines_of_head q.head ++ lines_of_draft b) r.1 ∙ append-nil (lines_of_head q.head))
+    ap length (sym g.1 ∙ ap (λ (o : Option (List ℕ)). lines_of_head q.head ++ with_ending o (lines_of_draft q.body)) r.2
+    ∙ ap (λ (b : Body). lines_of_head q.head ++ lines_of_draft b) r.1 ∙ append-nil (lines_of_head q.head))
 
 -- what a run's head hears, a recorder's does
-head_heard : (p q : Progress) (o : Option Line) → step_if_parsed kinds.Run p o ≡ Ok q → step_if_parsed kinds.Record p o ≡ Ok q
+head_heard : (p q : Progress) (o : Option Said) → step_if_parsed kinds.Run p o ≡ Ok q → step_if_parsed kinds.Record p o ≡ Ok q
 head_heard p q None e = absurd (cc)
 head_heard p q (Some s) e = (head_parsed p q s e).0
 
@@ -127,25 +146,37 @@ record RunRefused (before : List (List ℕ)) (line : List ℕ) (refusal : Refusa
   fault : ((length (unskipped before) ≡ 2) × (is_skipped line ≡ false)) ⊎ (BeginsScript (before ++ line ∷ []) → ⊥)
 
 -- why a line of a run's body is refused
-run_body_refused : (before : List (List ℕ)) (q : Progress) (line : List ℕ) (s : BodyLine) (refusal : Refusal) (h : Head) → is_skipped line ≡ false
+run_body_refused : (before : List (List ℕ)) (q : Progress) (line : List ℕ) (s : BodyLine) (refusal : Refusal) (h : Stage) → is_skipped line ≡ false
     → length (unskipped before) ≡ length (lines_of_head h)
     → ((x : Refusal) → body_line kinds.Record h q s ≡ Err x → BeginsScript (before ++ line ∷ []) → ⊥)
     → body_line kinds.Run h q s ≡ Err refusal → RunRefused before line refusal
 run_body_refused before q line s refusal heads.Empty kept many ends e = record { bad = cc; fault = inr (ends BadLine refl) }
 run_body_refused before q line s refusal (heads.Data d) kept many ends e = record { bad = cc; fault = inr (ends BadLine refl) }
 run_body_refused before q line s refusal (heads.Whole d l) kept many ends e = record { bad = cc; fault = inl (many, kept) }
+run_body_refused before q line s refusal (heads.Ended d l picks) kept many ends e = record { bad = cc; fault = inr (ends BadLine refl) }
+
+-- why a crash of a run is refused
+run_crash_refused : (before : List (List ℕ)) (q : Progress) (line picks : List ℕ) (refusal : Refusal) (h : Stage) → is_skipped line ≡ false
+    → length (unskipped before) ≡ length (lines_of_head h)
+    → ((x : Refusal) → crash_line kinds.Record h q picks ≡ Err x → BeginsScript (before ++ line ∷ []) → ⊥)
+    → crash_line kinds.Run h q picks ≡ Err refusal → RunRefused before line refusal
+run_crash_refused before q line picks refusal heads.Empty kept many ends e = record { bad = cc; fault = inr (ends BadLine refl) }
+run_crash_refused before q line picks refusal (heads.Data d) kept many ends e = record { bad = cc; fault = inr (ends BadLine refl) }
+run_crash_refused before q line picks refusal (heads.Whole d l) kept many ends e = record { bad = cc; fault = inl (many, kept) }
+run_crash_refused before q line picks refusal (heads.Ended d l ended) kept many ends e = record { bad = cc; fault = inr (ends BadLine refl) }
 
 -- why a run's line that says this is refused
-run_parsed : (before : List (List ℕ)) (q : Progress) (line : List ℕ) (s : Line) (refusal : Refusal) → is_skipped line ≡ false
+run_parsed : (before : List (List ℕ)) (q : Progress) (line : List ℕ) (s : Said) (refusal : Refusal) → is_skipped line ≡ false
     → length (unskipped before) ≡ length (lines_of_head q.head)
     → ((x : Refusal) → parsed_step kinds.Record q s ≡ Err x → BeginsScript (before ++ line ∷ []) → ⊥)
     → parsed_step kinds.Run q s ≡ Err refusal → RunRefused before line refusal
 run_parsed before q line (parsed_lines.Head s) refusal kept many ends e =
     record { bad = sym (with_head_err q (head_step q.head s) refusal e).1; fault = inr (ends refusal e) }
 run_parsed before q line (parsed_lines.Body s) refusal kept many ends e = run_body_refused before q line s refusal q.head kept many ends e
+run_parsed before q line (parsed_lines.Crash picks) refusal kept many ends e = run_crash_refused before q line picks refusal q.head kept many ends e
 
 -- why a run's line that isn't skipped is refused
-run_heard : (before : List (List ℕ)) (q : Progress) (line : List ℕ) (refusal : Refusal) (o : Option Line) → go kinds.Record nothing before ≡ Ok q → is_ascii_line line ≡ true → is_skipped line ≡ false →
+run_heard : (before : List (List ℕ)) (q : Progress) (line : List ℕ) (refusal : Refusal) (o : Option Said) → go kinds.Record nothing before ≡ Ok q → is_ascii_line line ≡ true → is_skipped line ≡ false →
     parse_line line ≡ o → length (unskipped before) ≡ length (lines_of_head q.head) → step_if_parsed kinds.Run q o ≡ Err refusal → RunRefused before line refusal
 run_heard before q line refusal None gone plain kept is many e =
     record { bad = cc; fault = inr (refused_ends before q line BadLine gone (said_step kinds.Record q line plain kept ∙ ap (step_if_parsed kinds.Record q) is)) }
@@ -168,7 +199,7 @@ run_refused before q line refusal gone many e =
     (cases_Bool (is_ascii_line line))
 
 -- a run's text is a bad line at its end
-run_finish : (h : Head) (b : Body) (refusal : Refusal) → finished kinds.Run h b ≡ Err refusal → refusal ≡ BadLine
+run_finish : (h : Stage) (b : Body) (refusal : Refusal) → finished kinds.Run h b ≡ Err refusal → refusal ≡ BadLine
 run_finish h b refusal e = cc
 
 -- what is wrong where reading of a run ended

@@ -1,7 +1,7 @@
 -- The one text of a script.
-use Rattle.std.specs.Prelude.{ℕ, List, [], ◌∷◌, ◌++◌, codes, decimal, flat_map}
-use Rattle.dmlw_script.specs.declared.line.Line.{Line}
-use Rattle.dmlw_script.specs.declared.line.Line.TheVariants as parsed_lines
+use Rattle.std.specs.Prelude.{ℕ, List, [], ◌∷◌, ◌++◌, Option, Some, None, codes, decimal, flat_map, map}
+use Rattle.dmlw_script.specs.Said.{Said}
+use Rattle.dmlw_script.specs.Said as parsed_lines
 use Rattle.dmlw_script.specs.declared.line.HeadLine.TheVariants as head_lines
 use Rattle.dmlw_script.specs.declared.line.BodyLine.TheVariants as body_lines
 use Rattle.dmlw_script.specs.declared.command.Submission.{Submission}
@@ -22,18 +22,26 @@ submission_text name submits.Flush = spaced (codes "f" ∷ letters_of name ∷ [
 -- a line that names no request
 abbrev pub step_text : Step → List ℕ
 step_text steps.Close = codes "close"
+step_text (steps.Read first count) = spaced (codes "r" ∷ decimal first ∷ decimal count ∷ [])
+step_text steps.Turn = codes "turn"
 
 -- the line that says this
-abbrev pub line_text : Line → List ℕ
+abbrev pub line_text : Said → List ℕ
 line_text (parsed_lines.Head (head_lines.Data sectors)) = spaced (codes "data" ∷ decimal sectors ∷ [])
 line_text (parsed_lines.Head (head_lines.Log sectors)) = spaced (codes "log" ∷ decimal sectors ∷ [])
 line_text (parsed_lines.Body (body_lines.Submit name submission)) = submission_text name submission
 line_text (parsed_lines.Body (body_lines.Complete name)) = spaced (codes "c" ∷ letters_of name ∷ [])
 line_text (parsed_lines.Body (body_lines.Step step)) = step_text step
+line_text (parsed_lines.Crash picks) = spaced (codes "crash" ∷ map decimal picks)
 
 -- the same, ended by a line feed
-abbrev pub ended_line : Line → List ℕ
+abbrev pub ended_line : Said → List ℕ
 ended_line s = line_text s ++ 10 ∷ []
+
+-- the line of the crash that ends a script, if one does
+abbrev pub ending_text : Option (List ℕ) → List ℕ
+ending_text None = []
+ending_text (Some picks) = ended_line (parsed_lines.Crash picks)
 
 -- the one text of a script
 abbrev pub canonical_text : Plan → List ℕ

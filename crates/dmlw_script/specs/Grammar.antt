@@ -2,15 +2,15 @@
 use Rattle.std.specs.Prelude.{◌≡◌, ℕ, ◌<◌, true, ◌+◌, List, [], ◌∷◌, ◌++◌, Some, codes, length, slice_get}
 use Rattle.std.specs.List.{join_with_byte, AllByRecursion, AllZip}
 use Rattle.dmlw_script.specs.declared.script_id.ScriptId.{ScriptId}
-use Rattle.dmlw_script.specs.declared.line.Line.{Line}
-use Rattle.dmlw_script.specs.declared.line.Line.TheVariants as parsed_lines
+use Rattle.dmlw_script.specs.Said.{Said}
+use Rattle.dmlw_script.specs.Said as parsed_lines
 use Rattle.dmlw_script.specs.declared.line.HeadLine.TheVariants as head_lines
 use Rattle.dmlw_script.specs.declared.line.BodyLine.TheVariants as body_lines
 use Rattle.dmlw_script.specs.declared.command.Submission.TheVariants as submits
 use Rattle.dmlw_script.specs.declared.command.Step.TheVariants as steps
 use Rattle.dmlw_script.specs.Lines.{is_ascii_line, unskipped, lines_of}
 use Rattle.dmlw_script.specs.Ids.{is_id, script_id}
-use Rattle.dmlw_script.specs.Plans.{lines_of_body, lines_of_script, IsPlan, Plan}
+use Rattle.dmlw_script.specs.Plans.{lines_behind_head, lines_of_script, IsPlan, Plan}
 use Rattle.dmlw_script.specs.Words.{byte_text, is_number, number_value}
 
 -- the word is a number of this value
@@ -48,14 +48,31 @@ pub record ParsesAsWrite (line : List ℕ) (name : ScriptId) (first count byte :
   pub is_byte : byte < 256
   pub spelled : line ≡ spaced (codes "w" ∷ id_word ∷ first_word ∷ count_word ∷ byte_text byte ∷ [])
 
+-- the line is a read: its first sector and its number of sectors
+pub record ParsesAsRead (line : List ℕ) (first count : ℕ) : Type 0 where
+  pub first_word : List ℕ
+  pub count_word : List ℕ
+  pub first_number : IsNumber first_word first
+  pub count_number : IsNumber count_word count
+  pub spelled : line ≡ spaced (codes "r" ∷ first_word ∷ count_word ∷ [])
+
+-- the line is a crash: its picks
+pub record ParsesAsCrash (line picks : List ℕ) : Type 0 where
+  pub words : List (List ℕ)
+  pub numbers : AllZip IsNumber words picks
+  pub spelled : line ≡ spaced (codes "crash" ∷ words)
+
 -- what a line says by its words
-abbrev pub ParsesAs : List ℕ → Line → Type 0
+abbrev pub ParsesAs : List ℕ → Said → Type 0
 ParsesAs line (parsed_lines.Head (head_lines.Data sectors)) = ParsesAsNumber (codes "data") line sectors
 ParsesAs line (parsed_lines.Head (head_lines.Log sectors)) = ParsesAsNumber (codes "log") line sectors
 ParsesAs line (parsed_lines.Body (body_lines.Submit name (submits.Write first count byte))) = ParsesAsWrite line name first count byte
 ParsesAs line (parsed_lines.Body (body_lines.Submit name submits.Flush)) = ParsesAsId (codes "f") line name
 ParsesAs line (parsed_lines.Body (body_lines.Complete name)) = ParsesAsId (codes "c") line name
 ParsesAs line (parsed_lines.Body (body_lines.Step steps.Close)) = line ≡ codes "close"
+ParsesAs line (parsed_lines.Body (body_lines.Step (steps.Read first count))) = ParsesAsRead line first count
+ParsesAs line (parsed_lines.Body (body_lines.Step steps.Turn)) = line ≡ codes "turn"
+ParsesAs line (parsed_lines.Crash picks) = ParsesAsCrash line picks
 
 -- the lines are those of a script of a recorder: plain ones, of which those that aren't skipped say what the script's
 -- lines say, one after the other
@@ -68,8 +85,8 @@ pub record AreLinesOf (lines : List (List ℕ)) (plan : Plan) : Type 0 where
 abbrev pub IsTextOf : List ℕ → Plan → Type 0
 IsTextOf text plan = AreLinesOf (lines_of text) plan
 
--- the line of this number, counted from 1, says what the script's command at this place says, and stands there among
--- the lines that aren't skipped: after the two of the head and those of the commands before it
+-- the line of this number, counted from 1, says what the script's command at this place says, or its crash behind the last
+-- command, and stands there among the lines that aren't skipped: after the two of the head and those of the commands before it
 pub record IsLineOf (lines : List (List ℕ)) (plan : Plan) (place number : ℕ) : Type 0 where
   pub before : List (List ℕ)
   pub line : List ℕ
@@ -77,6 +94,6 @@ pub record IsLineOf (lines : List (List ℕ)) (plan : Plan) (place number : ℕ)
   pub split : lines ≡ before ++ line ∷ more
   pub number_is : number ≡ length before + 1
   pub after_byte : length (unskipped before) ≡ place + 2
-  pub parsed : Line
-  pub command : slice_get (lines_of_body plan.names 0 plan.commands) place ≡ Some parsed
+  pub parsed : Said
+  pub command : slice_get (lines_behind_head plan) place ≡ Some parsed
   pub says : ParsesAs line parsed

@@ -2,6 +2,7 @@ pub use Rattle.bio.specs.Refusals
 pub mod Words
 pub mod Ids
 pub mod Lines
+pub mod Said
 pub mod Plans
 pub mod Grammar
 pub mod Reading

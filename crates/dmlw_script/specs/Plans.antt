@@ -1,5 +1,5 @@
 -- What a script is, apart from any text, and what its lines say.
-use Rattle.std.specs.Prelude.{◌≡◌, ℕ, ◌+◌, ◌<◌, ◌==◌, nat_le, Bool, true, false, ◌&&◌, List, [], ◌∷◌, ◌++◌, Option, Result, Ok, length, position, slice_index_or, count_by}
+use Rattle.std.specs.Prelude.{◌≡◌, ℕ, ◌+◌, ◌^◌, ◌<◌, ◌==◌, nat_le, Bool, true, false, ◌&&◌, List, [], ◌∷◌, ◌++◌, Option, Some, None, is_some, Result, Ok, length, position, slice_index_or, count_by, if◌then◌else◌}
 use Rattle.std.specs.List.{list_any, AllByRecursion, IsDistinct}
 use Rattle.bio.specs.Check.{range_answer}
 use Rattle.bio.specs.declared.request.BadBio.{BadBio}
@@ -10,20 +10,21 @@ use Rattle.dmlw_script.specs.declared.command.Submission.TheVariants as submits
 use Rattle.dmlw_script.specs.declared.command.Step.{Step}
 use Rattle.dmlw_script.specs.declared.command.Step.TheVariants as steps
 use Rattle.dmlw_script.specs.declared.script_id.ScriptId.{ScriptId}
-use Rattle.dmlw_script.specs.declared.line.Line.{Line}
-use Rattle.dmlw_script.specs.declared.line.Line.TheVariants as parsed_lines
+use Rattle.dmlw_script.specs.Said.{Said}
+use Rattle.dmlw_script.specs.Said as parsed_lines
 use Rattle.dmlw_script.specs.declared.line.HeadLine.TheVariants as head_lines
 use Rattle.dmlw_script.specs.declared.line.BodyLine.{BodyLine}
 use Rattle.dmlw_script.specs.declared.line.BodyLine.TheVariants as body_lines
 use Rattle.dmlw_script.specs.Ids.{is_id, script_id, same_name}
 
 -- what a script holds: the sizes of the disks, the ids of its requests in the order of their submissions, and the
--- lines of its body
+-- lines of its body, and the picks of the crash of the log disk that ends it, if one does
 pub record Plan : Type 0 where
   pub data_sectors : ℕ
   pub log_sectors : ℕ
   pub names : List ScriptId
   pub commands : List Command
+  pub ending : Option (List ℕ)
 
 -- a disk may have so many sectors
 abbrev pub is_disk_size : ℕ → Bool
@@ -65,6 +66,8 @@ submission_answer sectors submits.Flush = Ok tt
 -- the same of a line that names no request
 abbrev pub step_answer : ℕ → Step → Result (Unit {0}) BadBio
 step_answer sectors steps.Close = Ok tt
+step_answer sectors (steps.Read first count) = range_answer first count sectors
+step_answer sectors steps.Turn = Ok tt
 
 -- what a submission writes is a byte
 abbrev pub WritesByte : Submission → Type 0
@@ -83,8 +86,13 @@ abbrev pub IsWellFormed : ℕ → List Command → List Command → Type 0
 IsWellFormed sectors before [] = Unit {0}
 IsWellFormed sectors before (command ∷ body) = CanFollow sectors before command × IsWellFormed sectors (before ++ command ∷ []) body
 
+-- the picks of a crash are numbers of 64 bits
+abbrev pub ArePicks : Option (List ℕ) → Type 0
+ArePicks None = Unit {0}
+ArePicks (Some picks) = AllByRecursion (λ pick. pick < 2 ^ 64) picks
+
 -- a script of the grammar: its disks have a size that a disk may have, its ids are ids and differ, each submission has
--- one, and its commands come as they may
+-- one, its commands come as they may, and the picks of its crash are numbers
 pub record IsPlan (plan : Plan) : Type 0 where
   pub data_size : is_disk_size plan.data_sectors ≡ true
   pub log_size : is_disk_size plan.log_sectors ≡ true
@@ -92,6 +100,7 @@ pub record IsPlan (plan : Plan) : Type 0 where
   pub distinct : IsDistinct same_name plan.names
   pub numbered : length plan.names ≡ submissions plan.commands
   pub well_formed : IsWellFormed plan.data_sectors [] plan.commands
+  pub picks : ArePicks plan.ending
 
 -- the id of a request
 abbrev pub name_at : List ScriptId → ℕ → ScriptId
@@ -116,13 +125,25 @@ count_after_command before (commands.Complete request) = before
 count_after_command before (commands.Step step) = before
 
 -- what the lines of a body say
-abbrev pub lines_of_body : List ScriptId → ℕ → List Command → List Line
+abbrev pub lines_of_body : List ScriptId → ℕ → List Command → List Said
 lines_of_body names before [] = []
 lines_of_body names before (command ∷ body) =
     parsed_lines.Body (line_at names before command) ∷ lines_of_body names (count_after_command before command) body
 
+-- lines, and behind them the crash that ends the script, if one does
+abbrev pub with_ending : Option (List ℕ) → List Said → List Said
+with_ending None lines = lines
+with_ending (Some picks) lines = lines ++ parsed_lines.Crash picks ∷ []
+
+-- what the lines of a script behind its head say, in their order
+abbrev pub lines_behind_head : Plan → List Said
+lines_behind_head plan = with_ending plan.ending (lines_of_body plan.names 0 plan.commands)
+
+-- how many lines stand behind the head: one for each command, and one for the crash
+abbrev pub count_behind_head : Plan → ℕ
+count_behind_head plan = length plan.commands + (if is_some plan.ending then 1 else 0)
+
 -- what the lines of a script say, in their order
-abbrev pub lines_of_script : Plan → List Line
+abbrev pub lines_of_script : Plan → List Said
 lines_of_script plan =
-    parsed_lines.Head (head_lines.Data plan.data_sectors) ∷ parsed_lines.Head (head_lines.Log plan.log_sectors)
-    ∷ lines_of_body plan.names 0 plan.commands
+    parsed_lines.Head (head_lines.Data plan.data_sectors) ∷ parsed_lines.Head (head_lines.Log plan.log_sectors) ∷ lines_behind_head plan

@@ -6,8 +6,8 @@ use Rattle.refusals.specs.declared.refusal.Refusal.{Refusal}
 use Rattle.refusals.specs.declared.refusal.Refusal.TheVariants.{BadLine, BadId, Memory}
 use Rattle.bio.specs.declared.request.BadBio.{BadBio}
 use Rattle.refusals.specs.declared.fault.Fault.{Fault}
-use Rattle.dmlw_script.specs.declared.line.Line.{Line}
-use Rattle.dmlw_script.specs.declared.line.Line.TheVariants as parsed_lines
+use Rattle.dmlw_script.specs.Said.{Said}
+use Rattle.dmlw_script.specs.Said as parsed_lines
 use Rattle.dmlw_script.specs.declared.line.HeadLine.TheVariants as head_lines
 use Rattle.dmlw_script.specs.declared.line.BodyLine.{BodyLine}
 use Rattle.dmlw_script.specs.declared.line.BodyLine.TheVariants as body_lines
@@ -27,31 +27,34 @@ pub data Phase : Type 0 where
   data_due : Phase
   log_due : Phase
   in_body : Phase
+  at_end : Phase
 
 -- what comes next after a line that says this
-abbrev pub next_phase : Line → Phase
+abbrev pub next_phase : Said → Phase
 next_phase (parsed_lines.Head (head_lines.Data sectors)) = log_due
 next_phase (parsed_lines.Head (head_lines.Log sectors)) = in_body
 next_phase (parsed_lines.Body line) = in_body
+next_phase (parsed_lines.Crash picks) = at_end
 
 -- what comes next after lines that say this, before which this came next
-abbrev pub phase_after : Phase → List Line → Phase
+abbrev pub phase_after : Phase → List Said → Phase
 phase_after phase [] = phase
 phase_after phase (s ∷ ss) = phase_after (next_phase s) ss
 
 -- what a line says may stand where this comes next, as far as its words say: first the size of the data disk, then that of
--- the log disk, then the body
-abbrev pub StandsAfter : Phase → Line → Type 0
+-- the log disk, then the body, and nothing behind a crash
+abbrev pub StandsAfter : Phase → Said → Type 0
 StandsAfter data_due (parsed_lines.Head (head_lines.Data sectors)) = is_disk_size sectors ≡ true
 StandsAfter log_due (parsed_lines.Head (head_lines.Log sectors)) = is_disk_size sectors ≡ true
 StandsAfter in_body (parsed_lines.Body line) = Unit {0}
+StandsAfter in_body (parsed_lines.Crash picks) = Unit {0}
 StandsAfter _ _ = ⊥
 
 -- the line is of the grammar after these, which say this, and says s
-pub record IsLineAfter (before : List (List ℕ)) (line : List ℕ) (s : Line) : Type 0 where
+pub record IsLineAfter (before : List (List ℕ)) (line : List ℕ) (s : Said) : Type 0 where
   pub plain : is_ascii_line line ≡ true
   pub says : ParsesAs line s
-  pub said : List Line
+  pub said : List Said
   pub before_says : AllZip ParsesAs (unskipped before) said
   pub stands : StandsAfter (phase_after data_due said) s
 
@@ -74,14 +77,15 @@ body_refusal plan (body_lines.Complete name) = if is_open (request_of name plan.
 body_refusal plan (body_lines.Step step) = test_refusal (step_answer plan.data_sectors step)
 
 -- why a line is refused after a script, if it is
-abbrev pub line_refusal : Plan → Line → Option Refusal
+abbrev pub line_refusal : Plan → Said → Option Refusal
 line_refusal plan (parsed_lines.Head line) = None
 line_refusal plan (parsed_lines.Body line) = body_refusal plan line
+line_refusal plan (parsed_lines.Crash picks) = None
 
 -- why a line can't stand after these: it isn't of the grammar there; or else these are a script, after which it is refused
 pub data IsLineFault (before : List (List ℕ)) (line : List ℕ) : Refusal → Type 0 where
-  bad_line : ((s : Line) → IsLineAfter before line s → ⊥) → IsLineFault before line BadLine
-  refused : (s : Line) (plan : Plan) (refusal : Refusal) → IsLineAfter before line s → AreLinesOf before plan → line_refusal plan s ≡ Some refusal →
+  bad_line : ((s : Said) → IsLineAfter before line s → ⊥) → IsLineFault before line BadLine
+  refused : (s : Said) (plan : Plan) (refusal : Refusal) → IsLineAfter before line s → AreLinesOf before plan → line_refusal plan s ≡ Some refusal →
       IsLineFault before line refusal
 
 -- what is wrong after lines that begin a script: the text ends inside its head, or no script begins with the next line too

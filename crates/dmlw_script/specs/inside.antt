@@ -1,4 +1,5 @@
 pub mod Parsing
+pub mod Stages
 pub mod Heads
 pub mod Drafts
 pub mod Readers

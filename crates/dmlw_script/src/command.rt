@@ -13,6 +13,11 @@ pub enum Submission {
 pub enum Step {
     /// Ends the recording.
     Close,
+    /// A read of `count` sectors from sector `first` on. In a script it covers 1 to 2,048 sectors, all
+    /// of them on the data disk.
+    Read { first: u64, count: u64 },
+    /// One turn of the writer.
+    Turn,
 }
 
 /// One line of a script's body.

@@ -1,4 +1,4 @@
-ghost use Rattle.std.specs.Prelude.{◌≡◌, ◌<◌, ◌+◌, ℕ, [], Ok, OnOk, false, length};
+ghost use Rattle.std.specs.Prelude.{◌≡◌, ◌<◌, ◌+◌, ℕ, [], Ok, OnOk, false, length, option_map};
 ghost use Rattle.dmlw_script.specs.Plans.{step_answer, submission_answer};
 ghost use Rattle.dmlw_script.specs.inside.Drafts.{as_refusal, Follows};
 
@@ -89,17 +89,22 @@ impl Draft {
         self.say(Command::Step(step))
     }
 
-    /// The script, with disks of these sizes.
-    pub(crate) fn into_script(self, data_sectors: u64, log_sectors: u64) -> Script
-        requires { IsPlan (record { data_sectors = data_sectors; log_sectors = log_sectors; names = (body_of self).names; commands = (body_of self).body }) }
-        ensures { result ≡ record { data_sectors = data_sectors; log_sectors = log_sectors; names = (body_of self).names; commands = (body_of self).body } }
+    /// The script, with disks of these sizes, and the picks of the crash that ends it, if one does.
+    pub(crate) fn into_script(
+        self,
+        data_sectors: u64,
+        log_sectors: u64,
+        ending: Option<Vec<u64>>,
+    ) -> Script
+        requires { IsPlan (record { data_sectors = data_sectors; log_sectors = log_sectors; names = (body_of self).names; commands = (body_of self).body; ending = option_map (λ picks. picks.items) ending }) }
+        ensures { result ≡ record { data_sectors = data_sectors; log_sectors = log_sectors; names = (body_of self).names; commands = (body_of self).body; ending = option_map (λ picks. picks.items) ending } }
     {
         let Draft {
             names,
             has_ended: _,
             commands,
         } = self;
-        Script::new(data_sectors, log_sectors, names, commands)
+        Script::new(data_sectors, log_sectors, names, commands, ending)
     }
 
     // The next request has this id.
@@ -152,10 +157,11 @@ fn check_submission(submission: Submission, sectors: u64) -> Result<(), LineErro
 }
 
 // The same for a line that names no request.
-fn check_step(step: Step, _sectors: u64) -> Result<(), LineError>
-    ensures { Follows result tt (as_refusal (step_answer _sectors step)) }
+fn check_step(step: Step, sectors: u64) -> Result<(), LineError>
+    ensures { Follows result tt (as_refusal (step_answer sectors step)) }
 {
     match step {
-        Step::Close => Ok(()),
+        Step::Read { first, count } => Ok(check(&Bio::Read { first, count }, sectors)?),
+        Step::Close | Step::Turn => Ok(()),
     }
 }

@@ -1,6 +1,6 @@
-ghost use Rattle.std.specs.Prelude.{◌≡◌};
+ghost use Rattle.std.specs.Prelude.{◌≡◌, List, option_map, ℕ};
 ghost use Rattle.dmlw_script.specs.Plans.{is_disk_size as is_a_disk_size};
-ghost use Rattle.dmlw_script.specs.inside.Heads.{head_step};
+ghost use Rattle.dmlw_script.specs.inside.Heads.{head_step, stage_of};
 
 use crate::line::HeadLine;
 use sectors::MAX_DEVICE_SECTORS;
@@ -14,12 +14,14 @@ pub(crate) enum Head {
     Data { data_sectors: u64 },
     /// The body comes next.
     Whole { data_sectors: u64, log_sectors: u64 },
+    /// A crash has ended the script.
+    Ended { data_sectors: u64, log_sectors: u64 },
 }
 
 impl Head {
     /// The head with one more line, where the line may stand there.
     pub(crate) fn with_line(self, line: HeadLine) -> Option<Head>
-        ensures { result ≡ head_step self line }
+        ensures { (picks : List ℕ) → option_map (stage_of picks) result ≡ head_step (stage_of picks self) line }
     {
         match (self, line) {
             (Head::Empty, HeadLine::Data { sectors }) if is_disk_size(sectors) => {

@@ -6,7 +6,7 @@ ghost use Rattle.dmlw_script.specs.declared.command.Command.{Command};
 ghost use Rattle.dmlw_script.specs.declared.command.Command.TheVariants.{Complete};
 ghost use Rattle.dmlw_script.specs.Grammar.{IsLineOf, IsNumber, IsTextOf, AreLinesOf};
 ghost use Rattle.dmlw_script.specs.Lines.{command_line, with_line_feeds, is_ascii_line, is_skipped, IsUnbroken, lines_of};
-ghost use Rattle.dmlw_script.specs.Plans.{IsPlan, CanFollow, Plan};
+ghost use Rattle.dmlw_script.specs.Plans.{IsPlan, CanFollow, Plan, count_behind_head};
 ghost use Rattle.dmlw_script.specs.Reading.{IsFirstFault};
 ghost use Rattle.dmlw_script.specs.CanonicalText.{canonical_text};
 
@@ -45,16 +45,17 @@ pub fn skipped_lines_say_nothing()
 {}
 
 /// The line that is named for a command is the one that says it, after the head and the lines of the
-/// commands before it. Each command has one such line, and after the last command there is none.
+/// commands before it. Each command has one such line, and so has the crash that ends a script, behind
+/// the last command; after that there is none.
 pub fn lines_are_those_of_commands()
     ensures says { (text : List ℕ) (plan : Plan) (place number : ℕ) → IsTextOf text plan →
         command_line text place ≡ Some number → IsLineOf (lines_of text) plan place number }
     ensures found { (text : List ℕ) (plan : Plan) (place : ℕ) → IsTextOf text plan →
-        place < length plan.commands → (number : ℕ) × (command_line text place ≡ Some number) }
+        place < count_behind_head plan → (number : ℕ) × (command_line text place ≡ Some number) }
     ensures one { (lines : List (List ℕ)) (plan : Plan) (place m n : ℕ) →
         IsLineOf lines plan place m → IsLineOf lines plan place n → m ≡ n }
     ensures none { (text : List ℕ) (plan : Plan) (place : ℕ) → IsTextOf text plan →
-        length plan.commands ≤ place → command_line text place ≡ None }
+        count_behind_head plan ≤ place → command_line text place ≡ None }
 {}
 
 /// Each command of a script may come after those before it, and no request ends twice.

@@ -1,8 +1,10 @@
 ghost use Rattle.std.specs.Prelude.{◌≡◌, ◌<◌, ◌+◌, ◌^◌, ◌++◌, ◌∷◌, [], decimal, flat_map, length, IfOk, OnOk};
 ghost use Rattle.dmlw_script.specs.Grammar.{IsTextOf};
+ghost use Rattle.dmlw_script.specs.Said.{as_said};
+ghost use Rattle.dmlw_script.specs.Said as parsed_lines;
 ghost use Rattle.dmlw_script.specs.Ids.{letters_of};
 ghost use Rattle.dmlw_script.specs.Plans.{count_after_command, lines_of_body, line_at as the_parsed_at, HasName};
-ghost use Rattle.dmlw_script.specs.CanonicalText.{ended_line, line_text, step_text, submission_text, canonical_text};
+ghost use Rattle.dmlw_script.specs.CanonicalText.{ended_line, ending_text, line_text, step_text, submission_text, canonical_text};
 ghost use Rattle.dmlw_script.specs.Words.{byte_text, hex_digit as the_hex_digit};
 
 use crate::command::{Command, Step, Submission};
@@ -34,7 +36,39 @@ pub fn print_script(alloc: Global, script: &Script) -> Result<Vec<u8>, AllocErro
         }),
     )?;
     push_body(&mut out, script)?;
+    push_ending(&mut out, script)?;
     Ok(out)
+}
+
+// The line of the crash that ends a script, if one does.
+fn push_ending(out: &mut Vec<u8>, script: &Script) -> Result<(), AllocError>
+    ensures { OnOk result (out.new.items ≡ out.old.items ++ ending_text script.now.ending) }
+{
+    match script.crash() {
+        Some(picks) => push_crash(out, picks),
+        None => Ok(()),
+    }
+}
+
+// The line of a crash.
+fn push_crash(out: &mut Vec<u8>, picks: &[u64]) -> Result<(), AllocError>
+    ensures { OnOk result (out.new.items ≡ out.old.items ++ ended_line (parsed_lines.Crash picks.now)) }
+{
+    push_picks(out, picks)?;
+    out.push(b'\n')?;
+    Ok(())
+}
+
+// The same, but for its line feed.
+fn push_picks(out: &mut Vec<u8>, picks: &[u64]) -> Result<(), AllocError>
+    ensures { OnOk result (out.new.items ≡ out.old.items ++ line_text (parsed_lines.Crash picks.now)) }
+{
+    out.extend_from_slice(b"crash")?;
+    for pick in picks {
+        out.push(b' ')?;
+        push_number(out, *pick)?;
+    }
+    Ok(())
 }
 
 // The lines of a script's body.
@@ -69,7 +103,7 @@ fn line_at(names: &[ScriptId], before: usize, command: Command) -> BodyLine
 
 // A line.
 fn push_line(out: &mut Vec<u8>, parsed: Line) -> Result<(), AllocError>
-    ensures { OnOk result (out.new.items ≡ out.old.items ++ ended_line parsed) }
+    ensures { OnOk result (out.new.items ≡ out.old.items ++ ended_line (as_said parsed)) }
 {
     match parsed {
         Line::Head(line) => push_head_line(out, line)?,
@@ -81,7 +115,7 @@ fn push_line(out: &mut Vec<u8>, parsed: Line) -> Result<(), AllocError>
 
 // A line of the head, but for its line feed.
 fn push_head_line(out: &mut Vec<u8>, line: HeadLine) -> Result<(), AllocError>
-    ensures { OnOk result (out.new.items ≡ out.old.items ++ line_text (Line.Head line)) }
+    ensures { OnOk result (out.new.items ≡ out.old.items ++ line_text (parsed_lines.Head line)) }
 {
     match line {
         HeadLine::Data { sectors } => push_size(out, b"data ", sectors),
@@ -91,7 +125,7 @@ fn push_head_line(out: &mut Vec<u8>, line: HeadLine) -> Result<(), AllocError>
 
 // A line of the body, but for its line feed.
 fn push_body_line(out: &mut Vec<u8>, line: BodyLine) -> Result<(), AllocError>
-    ensures { OnOk result (out.new.items ≡ out.old.items ++ line_text (Line.Body line)) }
+    ensures { OnOk result (out.new.items ≡ out.old.items ++ line_text (parsed_lines.Body line)) }
 {
     match line {
         BodyLine::Submit { name, submission } => push_submission(out, name, submission),
@@ -120,6 +154,8 @@ fn push_step(out: &mut Vec<u8>, step: Step) -> Result<(), AllocError>
 {
     match step {
         Step::Close => out.extend_from_slice(b"close"),
+        Step::Read { first, count } => push_read(out, first, count),
+        Step::Turn => out.extend_from_slice(b"turn"),
     }
 }
 
@@ -156,6 +192,15 @@ fn push_write(
     push_number(out, count)?;
     out.push(b' ')?;
     push_byte(out, byte)
+}
+
+// The line of a read, but for its line feed.
+fn push_read(out: &mut Vec<u8>, first: u64, count: u64) -> Result<(), AllocError>
+    ensures { OnOk result (out.new.items ≡ out.old.items ++ step_text (Step.Read first count)) }
+{
+    push_size(out, b"r ", first)?;
+    out.push(b' ')?;
+    push_number(out, count)
 }
 
 // The decimal digits of a number.

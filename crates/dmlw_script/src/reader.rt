@@ -1,4 +1,7 @@
-ghost use Rattle.std.specs.Prelude.{◌≡◌, ◌<◌, ◌≤◌, ◌∷◌, [], None, IfErr, IfOk, MatchOption, OnOk, length};
+ghost use Rattle.std.specs.Prelude.{◌≡◌, ◌<◌, ◌≤◌, ◌∷◌, [], None, IfErr, IfOk, MatchOption, OnOk, length, option_copied, option_map};
+ghost use Rattle.dmlw_script.specs.Said.{as_said};
+ghost use Rattle.dmlw_script.specs.Said as parsed_lines;
+ghost use Rattle.dmlw_script.specs.inside.Parsing.{parse_parts, picks_of as the_picks, plain_parts};
 ghost use Rattle.dmlw_script.specs.Lines.{command_line, lines_of, is_ascii_line as is_plain_line, is_skipped as is_a_skipped_line};
 ghost use Rattle.dmlw_script.specs.Grammar.{IsTextOf};
 ghost use Rattle.dmlw_script.specs.Plans.{Plan};
@@ -7,10 +10,10 @@ ghost use Rattle.dmlw_script.specs.inside.Readers.{fault_of, read_text, Reads};
 
 use crate::draft::Draft;
 use crate::head::Head;
-use crate::line::{BodyLine, HeadLine, Line, parse_line};
+use crate::line::{BodyLine, HeadLine, Line, parse_parts};
 use crate::line_error::LineError;
 use crate::script::Script;
-use crate::words::cut;
+use crate::words::{cut, picks_of};
 use refusals::{Fault, Refusal};
 use std::alloc::Global;
 
@@ -29,26 +32,31 @@ pub enum Kind {
 // A script, as far as it was read.
 #[derive(Drop)]
 struct Reader {
+    alloc: Global,
     kind: Kind,
     head: Head,
     draft: Draft,
+    // The picks of the crash that ended the script, if one did.
+    picks: Vec<u64>,
 }
 
 impl Reader {
     ghost use Rattle.dmlw_script.specs.inside.Drafts.{Follows};
-    ghost use Rattle.dmlw_script.specs.inside.Readers.{body_line, finish_step, line_step, progress_of, parsed_step, with_head, Finishes, IsReader};
+    ghost use Rattle.dmlw_script.specs.inside.Readers.{body_line, finish_step, line_step, nothing, progress_of, parsed_step, step_if_parsed, with_head, Finishes, IsReader};
     ghost use Rattle.dmlw_script.specs.inside.Heads.{head_step};
     ghost use Rattle.dmlw_script.specs.Plans.{IsPlan};
 
     fn new(alloc: Global, kind: Kind) -> Reader
         ensures reader { IsReader result }
         ensures kind { result.kind ≡ kind }
-        ensures empty { progress_of result ≡ record { head = Head.Empty; body = record { names = []; body = [] } } }
+        ensures empty { progress_of result ≡ nothing }
     {
         Reader {
+            alloc,
             kind,
             head: Head::Empty,
             draft: Draft::new(alloc),
+            picks: Vec::new(alloc),
         }
     }
 
@@ -65,16 +73,77 @@ impl Reader {
         if is_skipped(line) {
             return Ok(());
         }
-        let parsed = parse_line(line).ok_or(Refusal::BadLine)?;
+        let (verb, words) = cut(line, b' ');
+        self.read_words(verb, words)
+    }
+
+    // Reads the next line that isn't skipped, of this first word, with its other words, if it has any.
+    fn read_words(&mut self, verb: &[u8], words: Option<&[u8]>) -> Result<(), LineError>
+        requires { IsReader self.old }
+        ensures reader { OnOk result (IsReader self.new) }
+        ensures kind { OnOk result (self.new.kind ≡ self.old.kind) }
+        ensures step { Follows result (progress_of self.new) (step_if_parsed self.old.kind (progress_of self.old) (parse_parts verb.now (option_copied words.entry))) }
+    {
+        match verb {
+            b"crash" => self.read_crash(words),
+            _ => self.read_plain(verb, words),
+        }
+    }
+
+    // The same, where the first word is another.
+    fn read_plain(&mut self, verb: &[u8], words: Option<&[u8]>) -> Result<(), LineError>
+        requires { IsReader self.old }
+        ensures reader { OnOk result (IsReader self.new) }
+        ensures kind { OnOk result (self.new.kind ≡ self.old.kind) }
+        ensures step { Follows result (progress_of self.new) (step_if_parsed self.old.kind (progress_of self.old) (plain_parts verb.now (option_copied words.entry))) }
+    {
+        let parsed = parse_parts(verb, words).ok_or(Refusal::BadLine)?;
         self.read_parsed(parsed)
     }
 
-    // Reads the next line that isn't skipped.
+    // Reads a crash, whose picks these words are.
+    fn read_crash(&mut self, words: Option<&[u8]>) -> Result<(), LineError>
+        requires { IsReader self.old }
+        ensures reader { OnOk result (IsReader self.new) }
+        ensures kind { OnOk result (self.new.kind ≡ self.old.kind) }
+        ensures step { Follows result (progress_of self.new) (step_if_parsed self.old.kind (progress_of self.old) (option_map parsed_lines.Crash (the_picks (option_copied words.entry)))) }
+    {
+        let picks = picks_of(self.alloc, words)?;
+        self.end(picks)
+    }
+
+    // The script ends by a crash with these picks.
+    fn end(&mut self, picks: Vec<u64>) -> Result<(), LineError>
+        requires { IsReader self.old }
+        ensures reader { OnOk result (IsReader self.new) }
+        ensures kind { OnOk result (self.new.kind ≡ self.old.kind) }
+        ensures step { Follows result (progress_of self.new) (parsed_step self.old.kind (progress_of self.old) (parsed_lines.Crash picks.items)) }
+    {
+        match (self.kind, self.head) {
+            (
+                Kind::Record,
+                Head::Whole {
+                    data_sectors,
+                    log_sectors,
+                },
+            ) => {
+                self.head = Head::Ended {
+                    data_sectors,
+                    log_sectors,
+                };
+                self.picks = picks;
+                Ok(())
+            }
+            _ => Err(LineError::Refused(Refusal::BadLine)),
+        }
+    }
+
+    // Reads the next line that isn't skipped, and is no crash.
     fn read_parsed(&mut self, parsed: Line) -> Result<(), LineError>
         requires { IsReader self.old }
         ensures reader { OnOk result (IsReader self.new) }
         ensures kind { OnOk result (self.new.kind ≡ self.old.kind) }
-        ensures step { Follows result (progress_of self.new) (parsed_step self.old.kind (progress_of self.old) parsed) }
+        ensures step { Follows result (progress_of self.new) (parsed_step self.old.kind (progress_of self.old) (as_said parsed)) }
     {
         match parsed {
             Line::Head(line) => self.read_head(line),
@@ -87,7 +156,7 @@ impl Reader {
         requires { IsReader self.old }
         ensures reader { OnOk result (IsReader self.new) }
         ensures kind { OnOk result (self.new.kind ≡ self.old.kind) }
-        ensures step { Follows result (progress_of self.new) (with_head (progress_of self.old) (head_step self.old.head line)) }
+        ensures step { Follows result (progress_of self.new) (with_head (progress_of self.old) (head_step (progress_of self.old).head line)) }
     {
         self.head = self.head.with_line(line).ok_or(Refusal::BadLine)?;
         Ok(())
@@ -98,7 +167,7 @@ impl Reader {
         requires { IsReader self.old }
         ensures reader { OnOk result (IsReader self.new) }
         ensures kind { OnOk result (self.new.kind ≡ self.old.kind) }
-        ensures step { Follows result (progress_of self.new) (body_line self.old.kind self.old.head (progress_of self.old) line) }
+        ensures step { Follows result (progress_of self.new) (body_line self.old.kind (progress_of self.old).head (progress_of self.old) line) }
     {
         match (self.kind, self.head) {
             (Kind::Record, Head::Whole { data_sectors, .. }) => self.draft.read(line, data_sectors),
@@ -111,7 +180,13 @@ impl Reader {
         requires { IfOk (finish_step self.kind (progress_of self)) IsPlan }
         ensures { Finishes result (finish_step self.kind (progress_of self)) }
     {
-        let Reader { kind, head, draft } = self;
+        let Reader {
+            alloc: _,
+            kind,
+            head,
+            draft,
+            picks,
+        } = self;
         match (kind, head) {
             (
                 Kind::Record,
@@ -119,7 +194,14 @@ impl Reader {
                     data_sectors,
                     log_sectors,
                 },
-            ) => Ok(draft.into_script(data_sectors, log_sectors)),
+            ) => Ok(draft.into_script(data_sectors, log_sectors, None)),
+            (
+                Kind::Record,
+                Head::Ended {
+                    data_sectors,
+                    log_sectors,
+                },
+            ) => Ok(draft.into_script(data_sectors, log_sectors, Some(picks))),
             _ => Err(LineError::Refused(Refusal::BadLine)),
         }
     }
@@ -130,8 +212,8 @@ impl Reader {
 /// A line is refused, in this order, as `BadLine` where it isn't of the grammar at its place (also
 /// in a comment, if a byte is zero or not ASCII; and after the last line, where the head isn't
 /// whole), as `BadId` where an id is submitted again or isn't open at its end, and as `NotWhole`,
-/// `TooLong` or `PastEnd` where `bio::check` refuses a write's sectors for the data disk. Want of
-/// memory is `Memory`, and names no line.
+/// `TooLong` or `PastEnd` where `bio::check` refuses a write's or a read's sectors for the data disk.
+/// Want of memory is `Memory`, and names no line.
 pub fn read_script(alloc: Global, text: &[u8], kind: Kind) -> Result<Script, Fault>
     // What is read is a recorder's script, and this is a text of it.
     ensures found { IfOk result (λ script. (kind ≡ Kind.Record) × IsTextOf text.now script) }
@@ -213,8 +295,8 @@ fn is_skipped(line: &[u8]) -> bool
     }
 }
 
-/// The line, counted from 1, of the command at this place of a text that was read, or none where the
-/// text has no such command. Takes no memory, and one pass over the text.
+/// The line, counted from 1, of the command at this place of a text that was read, or of the crash
+/// behind the last command, or none where the text has no such line. Takes no memory, and one pass over the text.
 pub fn line_of(text: &[u8], place: usize) -> Option<u64>
     ensures { result ≡ command_line text.now place }
 {

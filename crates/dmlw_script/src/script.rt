@@ -1,4 +1,4 @@
-ghost use Rattle.std.specs.Prelude.{◌≡◌};
+ghost use Rattle.std.specs.Prelude.{◌≡◌, option_copied, option_map};
 
 use crate::command::Command;
 use crate::script_id::ScriptId;
@@ -13,16 +13,18 @@ pub struct Script {
     log_sectors: u64,
     names: IndexSet<ScriptId>,
     commands: Vec<Command>,
+    ending: Option<Vec<u64>>,
 }
 
 impl Model for Script {
+    ghost use Rattle.std.specs.Prelude.{option_map};
     ghost use Rattle.dmlw_script.specs.Plans.{Plan, IsPlan};
 
     ghost Value = { Plan };
 
-    ghost view = { λ s. record { data_sectors = s.data_sectors; log_sectors = s.log_sectors; names = s.names.keys; commands = s.commands.items } };
+    ghost view = { λ s. record { data_sectors = s.data_sectors; log_sectors = s.log_sectors; names = s.names.keys; commands = s.commands.items; ending = option_map (λ picks. picks.items) s.ending } };
 
-    ghost invariant = { λ s. IsPlan (record { data_sectors = s.data_sectors; log_sectors = s.log_sectors; names = s.names.keys; commands = s.commands.items }) };
+    ghost invariant = { λ s. IsPlan (record { data_sectors = s.data_sectors; log_sectors = s.log_sectors; names = s.names.keys; commands = s.commands.items; ending = option_map (λ picks. picks.items) s.ending }) };
 }
 
 impl Script {
@@ -34,15 +36,17 @@ impl Script {
         log_sectors: u64,
         names: IndexSet<ScriptId>,
         commands: Vec<Command>,
+        ending: Option<Vec<u64>>,
     ) -> Script
-        requires { IsPlan (record { data_sectors = data_sectors; log_sectors = log_sectors; names = names.keys; commands = commands.items }) }
-        ensures { result ≡ record { data_sectors = data_sectors; log_sectors = log_sectors; names = names.keys; commands = commands.items } }
+        requires { IsPlan (record { data_sectors = data_sectors; log_sectors = log_sectors; names = names.keys; commands = commands.items; ending = option_map (λ picks. picks.items) ending }) }
+        ensures { result ≡ record { data_sectors = data_sectors; log_sectors = log_sectors; names = names.keys; commands = commands.items; ending = option_map (λ picks. picks.items) ending } }
     {
         Script {
             data_sectors,
             log_sectors,
             names,
             commands,
+            ending,
         }
     }
 
@@ -70,11 +74,22 @@ impl Script {
         self.names.as_slice()
     }
 
-    /// The lines of the body.
+    /// The lines of the body, but for a crash.
     pub fn commands(&self) -> &[Command]
         ensures commands { result.now ≡ self.now.commands }
         ensures script { IsPlan self.now }
     {
         self.commands.as_slice()
+    }
+
+    /// The picks of the crash of the log disk that ends the script, or none where no crash does.
+    pub fn crash(&self) -> Option<&[u64]>
+        ensures picks { option_copied result ≡ self.now.ending }
+        ensures script { IsPlan self.now }
+    {
+        match &self.ending {
+            Some(picks) => Some(picks.as_slice()),
+            None => None,
+        }
     }
 }

@@ -33,6 +33,21 @@ fn first_run(rt: HostRuntime) -> Result<(), Fail> {
         line_of(text, 5)
     )?;
     assert_eq!(rt; shown.as_str(), "16 32 a1 b1 5 Some(10) None");
+    assert!(rt; script.crash().is_none());
+    Ok(())
+}
+
+// The picks of a crash, and its line, which no command names.
+#[test]
+fn crashes_end_scripts(rt: HostRuntime) -> Result<(), Fail> {
+    let alloc = rt.alloc();
+    let text = b"data 16\nlog 32\nturn\n#\ncrash 7 0 18446744073709551615\n";
+    let script = read_script(alloc, text, Kind::Record)?;
+    let picks = script.crash().expect(&rt, "a crash");
+    assert_eq!(rt; picks, [7, 0, u64::MAX].as_slice());
+    assert_eq!(rt; script.commands().len(), 1);
+    assert_eq!(rt; line_of(text, 1), Some(5));
+    assert_eq!(rt; line_of(text, 2), None);
     Ok(())
 }
 
@@ -223,6 +238,125 @@ close now
 ~data 16
 log 32
 turn
+r 15 1
+r 00 016
+close
+turn=data 16
+log 32
+turn
+r 15 1
+r 0 16
+close
+turn
+
+~data 16
+log 32
+crash=data 16
+log 32
+crash
+
+~data 16
+log 32
+f a
+c a
+crash 1 01 1
+# the end
+
+=data 16
+log 32
+f a
+c a
+crash 1 1 1
+
+~data 16
+log 32
+crash 18446744073709551615
+=data 16
+log 32
+crash 18446744073709551615
+
+~data 16
+log 32
+crash 18446744073709551616
+=line 3: 30 BadLine
+~data 16
+log 32
+crash  1
+=line 3: 30 BadLine
+~data 16
+log 32
+crash 1\x20
+=line 3: 30 BadLine
+~data 16
+log 32
+crash\x20
+=line 3: 30 BadLine
+~data 16
+log 32
+crash 1 a 2
+=line 3: 30 BadLine
+~data 16
+log 32
+crash1
+=line 3: 30 BadLine
+~data 16
+crash 1
+log 32
+=line 2: 30 BadLine
+~crash
+=line 1: 30 BadLine
+~data 16
+log 32
+crash
+crash 1
+=line 4: 30 BadLine
+~data 16
+log 32
+crash 1
+#
+close
+=line 5: 30 BadLine
+~data 16
+log 32
+crash 1
+log 32
+=line 4: 30 BadLine
+~data 16
+log 32
+turn x
+=line 3: 30 BadLine
+~data 16
+log 32
+r
+=line 3: 30 BadLine
+~data 16
+log 32
+r 1
+=line 3: 30 BadLine
+~data 16
+log 32
+r 1 2 3
+=line 3: 30 BadLine
+~data 16
+log 32
+r 1\x20
+=line 3: 30 BadLine
+~data 16
+log 32
+r 15 2
+=line 3: 3 PastEnd
+~data 4096
+log 32
+r 0 2048
+r 0 2049
+=line 4: 4 TooLong
+~data 16
+log 32
+r 99 0
+=line 3: 5 NotWhole
+~data 16
+log 32
+r 1 18446744073709551616
 =line 3: 30 BadLine
 ~data 16
 log 32
@@ -307,7 +441,13 @@ log 32
 
 # here
 f a
-=line 6: 30 BadLine";
+=line 6: 30 BadLine
+~data 16
+log 32
+crash 1
+=line 3: 30 BadLine
+~crash
+=line 1: 30 BadLine";
 
 // Each text is answered so.
 fn assert_texts(rt: &impl Abort, alloc: Global, texts: &str, kind: Kind) -> Result<(), Fail> {
@@ -330,7 +470,7 @@ fn texts(rt: HostRuntime) -> Result<(), Fail> {
     assert_texts(&rt, alloc, RUN_TEXTS, Kind::Run)
 }
 
-// A script of many requests is read.
+// A script of many requests, and of a crash with many picks, is read.
 #[test]
 fn long_scripts_are_read(rt: HostRuntime) -> Result<(), Fail> {
     let alloc = rt.alloc();
@@ -338,6 +478,11 @@ fn long_scripts_are_read(rt: HostRuntime) -> Result<(), Fail> {
     for number in 0..20_000 {
         text.push_str(format!(in alloc; "f {number}\nc {number}\n")?.as_str())?;
     }
+    text.push_str("crash")?;
+    for number in 0..3_000 {
+        text.push_str(format!(in alloc; " {number}")?.as_str())?;
+    }
+    text.push_str("\n")?;
     assert!(rt; answer(alloc, text.as_bytes(), Kind::Record)?.as_str() == text.as_str());
     Ok(())
 }

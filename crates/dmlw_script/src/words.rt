@@ -1,5 +1,11 @@
-ghost use Rattle.std.specs.Prelude.{◌≡◌, ◌==◌, option_copied, position};
+ghost use Rattle.std.specs.Prelude.{◌≡◌, ◌==◌, IfErr, IfOk, Some, option_copied, position};
+ghost use Rattle.dmlw_script.specs.inside.Readers.{HasNoPicks};
+ghost use Rattle.dmlw_script.specs.inside.Parsing.{picks_of as the_picks};
 ghost use Rattle.dmlw_script.specs.Words.{before_byte, after_byte, half_of, byte_of as the_byte, number_of as the_number, with_digit};
+
+use crate::line_error::LineError;
+use refusals::Refusal;
+use std::alloc::Global;
 
 /// The most digits of a number.
 const NUMBER_DIGITS: usize = 20;
@@ -46,6 +52,24 @@ fn with_digit(number: u64, digit: u8) -> Option<u64>
         b'0'..=b'9' => number.checked_mul(10)?.checked_add(u64::from(digit - b'0')),
         _ => None,
     }
+}
+
+/// The picks that these words say, if there are any: each a number.
+pub(crate) fn picks_of(alloc: Global, words: Option<&[u8]>) -> Result<Vec<u64>, LineError>
+    ensures picks { IfOk result (λ picks. the_picks (option_copied words.entry) ≡ Some picks.items) }
+    ensures none { IfErr result (λ error. HasNoPicks error (the_picks (option_copied words.entry))) }
+{
+    let mut picks = Vec::new(alloc);
+    let mut rest = words;
+    while let Some(words) = rest {
+        let (word, after) = cut(words, b' ');
+        match number_of(word) {
+            Some(pick) => picks.push(pick)?,
+            None => return Err(LineError::Refused(Refusal::BadLine)),
+        }
+        rest = after;
+    }
+    Ok(picks)
 }
 
 /// The byte that a word is: two lower case hexadecimal digits.

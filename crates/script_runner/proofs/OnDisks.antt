@@ -79,7 +79,7 @@ pub is_recorded : (plan : Plan) (text : List ℕ) (start last : DiskRun) (record
     → status ≡ status_of 512 (entries_of (store_of last.recorder.store)) last.recorder.end
     → recorder ≡ last.recorder
     → length image ≡ 512 * (shown_of recorder.store.device).size
-    → AgreeBelow (shown_of recorder.store.device).size (left_on None recorder.store.device) (sector_of image)
+    → AgreeBelow (shown_of recorder.store.device).size (left_on plan.ending recorder.store.device) (sector_of image)
     → CrashReopens (recording_of last.recorder)
     → (IsWritten start.recorder → last.recorder.end ≡ None → has_no_close last.recorder.core.events ≡ false → HasWholeLog (recording_of last.recorder))
     → IsRecorded plan text status image
@@ -87,10 +87,10 @@ is_recorded plan text start last recorder status image starts ran goes tells sam
     let disk = last.recorder.store.device in
     let begun = goes.size ∙ starts.log_disk.made.size ∙ starts.log_disk.blank.size in
     let count : length image ≡ 512 * (shown_of disk).size = subst (λ (r : DiskRecorder). length image ≡ 512 * (shown_of r.store.device).size) same size in
-    let here : AgreeBelow (shown_of disk).size (left_on None disk) (sector_of image) =
-    subst (λ (r : DiskRecorder). AgreeBelow (shown_of r.store.device).size (left_on None r.store.device) (sector_of image)) same bytes in
-    let agree = subst (λ (n : ℕ). AgreeBelow n (left_on None disk) (sector_of image)) begun here in
-    let reopened = reopens refl (left_on None disk) (may_leave None disk) in
+    let here : AgreeBelow (shown_of disk).size (left_on plan.ending disk) (sector_of image) =
+    subst (λ (r : DiskRecorder). AgreeBelow (shown_of r.store.device).size (left_on plan.ending r.store.device) (sector_of image)) same bytes in
+    let agree = subst (λ (n : ℕ). AgreeBelow n (left_on plan.ending disk) (sector_of image)) begun here in
+    let reopened = reopens refl (left_on plan.ending disk) (may_leave plan.ending disk) in
     record {
       start = start;
       starts = starts;
@@ -103,10 +103,10 @@ is_recorded plan text start last recorder status image starts ran goes tells sam
         count = reopened.count;
         least = reopened.least;
         most = reopened.most;
-        log = image_log plan.log_sectors disk None image begun agree reopened.log;
+        log = image_log plan.log_sectors disk plan.ending image begun agree reopened.log;
       };
       whole = λ closed on.
           subst (λ (n : ℕ). IsLogOf n (sector_of image) 512 (log_of last.recorder.core)) begun
-          (image_log plan.log_sectors disk None image begun agree
-          ((whole (new_written plan.log_sectors start.recorder starts.log_disk) on closed).crash (left_on None disk) (may_leave None disk)));
+          (image_log plan.log_sectors disk plan.ending image begun agree
+          ((whole (new_written plan.log_sectors start.recorder starts.log_disk) on closed).crash (left_on plan.ending disk) (may_leave plan.ending disk)));
     }

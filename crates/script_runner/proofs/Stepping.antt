@@ -42,9 +42,9 @@ pub stands_at : (items : List Request) (place : ℕ) (here found : Request) → 
     → slice_get items place ≡ Some found
 stands_at items place here found within is same = slice_get-get_or items place here within ∙ ap Some (sym is ∙ same)
 
--- the only line that names no request is a close
-pub is_close_step : (command : Command) (step : Step) → command ≡ commands.Step step → command ≡ commands.Step steps.Close
-is_close_step command steps.Close is = is
+-- a line whose step is a close is one
+pub is_close_step : (command : Command) (step : Step) → command ≡ commands.Step step → step ≡ steps.Close → command ≡ commands.Step steps.Close
+is_close_step command step is close = is ∙ ap (λ (s : Step). commands.Step s) close
 
 -- what follows from a success, and from an error
 pub on_ok : {T E A B : Type 0} (result : Result T E) → OnOk result A → (A → B) → OnOk result B

@@ -104,6 +104,8 @@ pub record GivesTurn {D L : Type 0} {d : Ghosts D} {l : Ghosts L} (text : List �
 -- A line that names no request.
 abbrev pub TakesStep : {D L : Type 0} {d : Ghosts D} {l : Ghosts L} → Step → List ℕ → Running D L d l → Running D L d l → Type 0
 TakesStep steps.Close text old new = EndsRecording text old new
+TakesStep (steps.Read first count) text old new = ReadsData first count text old new
+TakesStep steps.Turn text old new = GivesTurn text old new
 
 -- What a line does, by its kind.
 abbrev pub Does : {D L : Type 0} {d : Ghosts D} {l : Ghosts L} → List ScriptId → Command → List ℕ → Running D L d l → Running D L d l → Type 0

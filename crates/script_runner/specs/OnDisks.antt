@@ -63,7 +63,8 @@ abbrev pub left_on : Option (List ℕ) → SectorDisk → Content
 left_on None disk = (shown_of disk).content
 left_on (Some picks) disk = left_by (cache_of disk) picks
 
--- A script was recorded: its lines ran and printed this, the log has come so far, and the bytes are those of the log's disk.
+-- A script was recorded: its lines ran and printed this, the log has come so far, and the bytes are those of the log's disk; where the script
+-- ends by a crash, those that its picks leave.
 pub record IsRecorded (plan : Plan) (text : List ℕ) (status : Status) (image : List ℕ) : Type 0 where
   pub start : DiskRun
   pub starts : Starts plan start
@@ -71,7 +72,7 @@ pub record IsRecorded (plan : Plan) (text : List ℕ) (status : Status) (image :
   pub ran : RunsLines plan.names plan.commands text start last
   pub tells : status ≡ status_of 512 (entries_of (store_of last.recorder.store)) last.recorder.end
   pub size : length image ≡ 512 * plan.log_sectors
-  pub bytes : AgreeBelow plan.log_sectors (left_on None last.recorder.store.device) (sector_of image)
+  pub bytes : AgreeBelow plan.log_sectors (left_on plan.ending last.recorder.store.device) (sector_of image)
   -- the bytes have a log, which is a beginning of the completion list of the recorder's events with all that is settled
   pub beginning : Reopens (recording_of last.recorder) last.recorder.store.settled (sector_of image)
   -- where the script closed and logging goes on, it is the whole list

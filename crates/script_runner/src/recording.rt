@@ -1,4 +1,4 @@
-ghost use Rattle.std.specs.Prelude.{◌≡◌, ◌*◌, ◌⊎◌, IfErr, IfOk, List, length, option_map, ℕ};
+ghost use Rattle.std.specs.Prelude.{◌≡◌, ◌*◌, ◌⊎◌, IfErr, IfOk, List, length, option_copied, ℕ};
 ghost use Rattle.std.specs.Io.KnownBytes.{Appends};
 ghost use Rattle.bio.specs.declared.outcome.End.TheVariants as ends;
 ghost use Rattle.sectors.specs.Content.{AgreeBelow, sector_of};
@@ -31,7 +31,7 @@ pub struct Recorded {
 }
 
 /// Records a script, which was read from `text`, on two disks in memory of the sizes that it names. What its lines print is written to
-/// `out`. The log is handed over also where logging ended before the script did. A close that is refused fails at its line; so do want of memory
+/// `out`. Where the script ends by a crash, the log's disk loses power then, with its picks. The log is handed over also where logging ended before the script did. A close that is refused fails at its line; so do want of memory
 /// and an output that can't be written, for which no line is named.
 pub fn record<O: Write>(
     alloc: Global,
@@ -50,7 +50,7 @@ pub fn record<O: Write>(
     let _events = running.recorder().events();
     let status = running.recorder().status();
     let (recorder, _data) = running.into_parts();
-    let image = read_log(recorder, None)?;
+    let image = read_log(recorder, script.crash())?;
     Ok(Recorded { image, status })
 }
 
@@ -88,7 +88,7 @@ fn new_recorder(alloc: Global, sectors: u64) -> Result<Recorder<SectorDisk>, Run
 fn read_log(recorder: Recorder<SectorDisk>, picks: Option<&[u64]>) -> Result<Vec<u8>, AllocError>
     ensures size { IfOk result (λ image. length image.items ≡ 512 * (shown_of recorder.store.device).size) }
     ensures bytes { IfOk result (λ image. AgreeBelow (shown_of recorder.store.device).size
-        (left_on (option_map (λ p. p.now) picks.entry) recorder.store.device) (sector_of image.items)) }
+        (left_on (option_copied picks.entry) recorder.store.device) (sector_of image.items)) }
 {
     let mut disk = recorder.into_device();
     if let Some(picks) = picks {

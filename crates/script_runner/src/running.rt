@@ -119,8 +119,8 @@ impl<D: BlockDev + Drop, L: BlockDev + Drop> Running<D, L> {
         }
     }
 
-    /// Reads `count` sectors from sector `first` on from the data device, and prints the first byte of each, or that the read failed.
-    pub fn read<O: Write>(&mut self, first: u64, count: u64, out: &mut O) -> Result<(), StepError>
+    // Reads `count` sectors from sector `first` on from the data device, and prints the first byte of each, or that the read failed.
+    fn read<O: Write>(&mut self, first: u64, count: u64, out: &mut O) -> Result<(), StepError>
         requires { range_answer first count (D.shown self.old.disk).size ≡ Ok tt }
         ensures runs { OnOk result ((text : List ℕ) × ReadsData first count text self.old self.new
             × Appends (O.contents out.old) (O.contents out.new) text) }
@@ -134,8 +134,8 @@ impl<D: BlockDev + Drop, L: BlockDev + Drop> Running<D, L> {
         print_read(first, count, &bytes, out)
     }
 
-    /// Gives the writer a turn.
-    pub fn turn(&mut self)
+    // Gives the writer a turn.
+    fn turn(&mut self)
         ensures turns { GivesTurn [] self.old self.new }
         ensures goes { RecorderGoes (recording_of self.old.recorder) (recording_of self.new.recorder) }
         ensures size { (D.shown self.new.disk).size ≡ (D.shown self.old.disk).size }
@@ -182,6 +182,11 @@ impl<D: BlockDev + Drop, L: BlockDev + Drop> Running<D, L> {
             Command::Complete { request } => self.complete(request, names, out),
             Command::Step(step) => match step {
                 Step::Close => self.close(),
+                Step::Read { first, count } => self.read(first, count, out),
+                Step::Turn => {
+                    self.turn();
+                    Ok(())
+                }
             },
         }
     }

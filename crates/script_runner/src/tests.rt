@@ -1,9 +1,7 @@
 use super::*;
-use bio::{Event, Ms};
-use blockdev::BlockDev;
 use dmlw_script::{Kind, read_script};
 use log_store::LogStore;
-use recorder::{Recorder, Reply};
+use recorder::Recorder;
 use sector_disk::SectorDisk;
 use std::alloc::{AllocError, Global};
 use std::process::Abort;
@@ -16,7 +14,11 @@ log 5,w a 5 1 41,c a,f b,c b,close=a ok;b ok;2 3 logging_disabled
 log 32,w a 5 1 41,c a=a ok;0 0
 log 32,close,w a 5 1 41,f b,c b,c a=b ok;a ok;1 1
 log 32,w a 5 1 41,c a,w b 6 1 42,close=a ok;line 6: 24 Busy
-log 2,f a,close=line 4: 24 Busy";
+log 2,f a,close=line 4: 24 Busy
+log 32,w a 5 1 41,r 5 1,c a,r 5 1,r 4 4=read 5+1 ok 00;a ok;read 5+1 ok 41;read 4+4 ok 00410000;0 0
+log 32,turn,w a 5 1 41,turn,c a,f b,turn,c b,turn=a ok;b ok;1 2
+log 32,w a 5 1 41,c a,f b,c b,turn,turn,turn=a ok;b ok;2 3
+log 32,w a 5 1 41,c a,f b,c b,turn,close,turn=a ok;b ok;3 4";
 
 // The text of a script of these lines.
 fn text_of(alloc: Global, lines: &str) -> Result<String, AllocError> {
@@ -85,28 +87,12 @@ fn long_scripts_are_run(rt: HostRuntime) -> Result<(), Fail> {
     Ok(())
 }
 
-// Reads of one sector, of those around it, and of as many as a request may have; and a turn.
+// A read of as many sectors as a request may have finds memory.
 #[test]
-fn reads_and_turns_are_taken(rt: HostRuntime) -> Result<(), Fail> {
+fn long_reads_are_taken(rt: HostRuntime) -> Result<(), Fail> {
     let alloc = rt.alloc();
-    let mut data = SectorDisk::new(alloc, 4096)?;
-    let bytes = [0x4f; 1024];
-    assert!(rt; data.write(Ms::new(0), 5, &bytes, false).is_ok());
-    let mut recorder = recorder_over(alloc, 32)?.expect(&rt, "a disk never fails");
-    assert!(rt; recorder.event(Event::Close) == Reply::Closed);
-    let mut running = Running::new(alloc, recorder, data, 0)?;
-    let mut out = Vec::new(alloc);
-    assert!(rt; running.read(5, 1, &mut out).is_ok());
-    assert!(rt; running.read(4, 4, &mut out).is_ok());
-    assert_eq!(rt;
-        out.as_slice(),
-        b"read 5+1 ok 4f\nread 4+4 ok 004f4f00\n".as_slice()
-    );
-    assert!(rt; running.read(2048, 2048, &mut out).is_ok());
-    assert_eq!(rt; out.len(), 36 + 4096 + 19);
-    running.turn();
-    running.turn();
-    let status = running.recorder().status().to_string(alloc)?;
-    assert_eq!(rt; status.as_str(), "1 1");
+    let shown = shown(&rt, alloc, "data 4096\nlog 32\nr 2048 2048\n")?;
+    assert!(rt; shown.as_str().starts_with("read 2048+2048 ok 0000"));
+    assert_eq!(rt; shown.len(), 18 + 4096 + 1 + 3);
     Ok(())
 }

@@ -2,13 +2,16 @@ use std::fmt;
 use std::fmt::Write;
 
 // The lines that a script can have; what stands in angle brackets is a word of that kind.
-const FORMS: [&str; 6] = [
+const FORMS: [&str; 9] = [
     "data <sectors>",
     "log <sectors>",
     "w <id> <first> <count> <byte>",
     "f <id>",
     "c <id>",
+    "r <first> <count>",
+    "turn",
     "close",
+    "crash <pick> ..",
 ];
 
 // The most bytes of a line that are shown.
@@ -21,7 +24,10 @@ pub(crate) fn explain_line<W: Write>(line: &[u8], to: &mut W) -> fmt::Result {
     let first = line.split(is_space).next().unwrap_or_default();
     match form_of(first) {
         Some(form) => {
-            write_flaw(line, form, to)?;
+            // A form that ends in dots has any number of words.
+            if !form.as_bytes().ends_with(b"..".as_slice()) {
+                write_flaw(line, form, to)?;
+            }
             writeln!(to, "  the form of the line: {form}")
         }
         None => {

@@ -5,35 +5,35 @@ use Rattle.refusals.specs.declared.refusal.Refusal.TheVariants.{BadLine, Memory}
 use Rattle.dmlw_script.specs.declared.reader.Kind.{Kind}
 use Rattle.dmlw_script.specs.declared.reader.Kind.TheVariants as kinds
 use Rattle.dmlw_script.specs.declared.reader.Reader.{Reader}
-use Rattle.dmlw_script.specs.declared.line.Line.{Line}
-use Rattle.dmlw_script.specs.declared.line.Line.TheVariants as parsed_lines
+use Rattle.dmlw_script.specs.Said.{Said}
+use Rattle.dmlw_script.specs.Said as parsed_lines
 use Rattle.dmlw_script.specs.declared.line.BodyLine.{BodyLine}
-use Rattle.dmlw_script.specs.declared.head.Head.{Head}
-use Rattle.dmlw_script.specs.declared.head.Head.TheVariants as heads
+use Rattle.dmlw_script.specs.inside.Stages.{Stage}
+use Rattle.dmlw_script.specs.inside.Stages as heads
 use Rattle.dmlw_script.specs.inside.Drafts.{Body, body_of, body_step, IsDraft}
 use Rattle.refusals.specs.declared.fault.Fault.{Fault}
 use Rattle.dmlw_script.specs.declared.line_error.LineError.{LineError}
 use Rattle.dmlw_script.specs.declared.line_error.LineError.TheVariants as line_errors
 use Rattle.dmlw_script.specs.Lines.{is_ascii_line, is_skipped, lines_of}
 use Rattle.dmlw_script.specs.Plans.{Plan}
-use Rattle.dmlw_script.specs.inside.Heads.{head_step}
+use Rattle.dmlw_script.specs.inside.Heads.{head_step, stage_of}
 use Rattle.dmlw_script.specs.inside.Parsing.{parse_line}
 
 -- a script, as far as it was read
 pub record Progress : Type 0 where
-  pub head : Head
+  pub head : Stage
   pub body : Body
 
 -- what a reader has read
 abbrev pub progress_of : Reader → Progress
-progress_of r = record { head = r.head; body = body_of r.draft }
+progress_of r = record { head = stage_of r.picks.items r.head; body = body_of r.draft }
 
 -- a reader's draft is one
 abbrev pub IsReader : Reader → Type 0
 IsReader r = IsDraft r.draft
 
 -- the head after one more line, which must be one of it
-abbrev pub with_head : Progress → Option Head → Result Progress Refusal
+abbrev pub with_head : Progress → Option Stage → Result Progress Refusal
 with_head p None = Err BadLine
 with_head p (Some head) = Ok (record p { head = head })
 
@@ -43,19 +43,29 @@ with_body p (Err refusal) = Err refusal
 with_body p (Ok body) = Ok (record p { body = body })
 
 -- one more line of the body, which comes after a whole head; a run's body has none yet
-abbrev pub body_line : Kind → Head → Progress → BodyLine → Result Progress Refusal
+abbrev pub body_line : Kind → Stage → Progress → BodyLine → Result Progress Refusal
 body_line kinds.Record (heads.Whole data_sectors log_sectors) p line = with_body p (body_step data_sectors p.body line)
 body_line kinds.Record (heads.Data data_sectors) p line = Err BadLine
 body_line kinds.Record heads.Empty p line = Err BadLine
+body_line kinds.Record (heads.Ended data_sectors log_sectors picks) p line = Err BadLine
 body_line kinds.Run head p line = Err BadLine
 
+-- a crash, which comes after a whole head
+abbrev pub crash_line : Kind → Stage → Progress → List ℕ → Result Progress Refusal
+crash_line kinds.Record (heads.Whole data_sectors log_sectors) p picks = Ok (record p { head = heads.Ended data_sectors log_sectors picks })
+crash_line kinds.Record (heads.Data data_sectors) p picks = Err BadLine
+crash_line kinds.Record heads.Empty p picks = Err BadLine
+crash_line kinds.Record (heads.Ended data_sectors log_sectors ended) p picks = Err BadLine
+crash_line kinds.Run head p picks = Err BadLine
+
 -- one more line that is none to skip
-abbrev pub parsed_step : Kind → Progress → Line → Result Progress Refusal
+abbrev pub parsed_step : Kind → Progress → Said → Result Progress Refusal
 parsed_step kind p (parsed_lines.Head line) = with_head p (head_step p.head line)
 parsed_step kind p (parsed_lines.Body line) = body_line kind p.head p line
+parsed_step kind p (parsed_lines.Crash picks) = crash_line kind p.head p picks
 
 -- one more line that isn't skipped, which must say something
-abbrev pub step_if_parsed : Kind → Progress → Option Line → Result Progress Refusal
+abbrev pub step_if_parsed : Kind → Progress → Option Said → Result Progress Refusal
 step_if_parsed kind p None = Err BadLine
 step_if_parsed kind p (Some parsed) = parsed_step kind p parsed
 
@@ -67,9 +77,11 @@ line_step kind p line =
     else step_if_parsed kind p (parse_line line)
 
 -- the text ends here: a whole head stands before it, and a run's script isn't whole yet
-abbrev pub finished : Kind → Head → Body → Result Plan Refusal
+abbrev pub finished : Kind → Stage → Body → Result Plan Refusal
 finished kinds.Record (heads.Whole data_sectors log_sectors) body =
-    Ok (record { data_sectors = data_sectors; log_sectors = log_sectors; names = body.names; commands = body.body })
+    Ok (record { data_sectors = data_sectors; log_sectors = log_sectors; names = body.names; commands = body.body; ending = None })
+finished kinds.Record (heads.Ended data_sectors log_sectors picks) body =
+    Ok (record { data_sectors = data_sectors; log_sectors = log_sectors; names = body.names; commands = body.body; ending = Some picks })
 finished kinds.Record (heads.Data data_sectors) body = Err BadLine
 finished kinds.Record heads.Empty body = Err BadLine
 finished kinds.Run head body = Err BadLine
@@ -122,3 +134,8 @@ Finishes (Err line_errors.Memory) step = Unit {0}
 abbrev pub fault_of : ℕ → LineError → Fault
 fault_of line (line_errors.Refused refusal) = record { line = Some line; refusal = refusal }
 fault_of line line_errors.Memory = record { line = None; refusal = Memory }
+
+-- no picks are read: by a bad line, or memory ran out
+abbrev pub HasNoPicks : LineError → Option (List ℕ) → Type 0
+HasNoPicks (line_errors.Refused refusal) read = (refusal ≡ BadLine) × (read ≡ None)
+HasNoPicks line_errors.Memory read = Unit {0}

@@ -6,3 +6,4 @@ pub use Rattle.blockdev.specs.View
 pub use Rattle.sectors.specs.Content
 pub mod Cut
 pub mod CutLaws
+pub mod Decided

@@ -4,6 +4,10 @@
 //! call whether the device beneath does it, and `Gated` is the one device over them all.
 #![tactic(auto)]
 
+pub use gate::{Gate, Kind, Verdict};
+pub use gated::Gated;
 pub use linear::Linear;
 
+mod gate;
+mod gated;
 mod linear;

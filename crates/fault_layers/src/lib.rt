@@ -4,10 +4,18 @@
 //! call whether the device beneath does it, and `Gated` is the one device over them all.
 #![tactic(auto)]
 
+pub use error_dev::{ErrorDev, ErrorGate};
+pub use feature::Feature;
+pub use flakey::{Flakey, FlakeyGate};
+pub use fuse::{Fuse, FuseGate};
 pub use gate::{Gate, Kind, Verdict};
 pub use gated::Gated;
 pub use linear::Linear;
 
+mod error_dev;
+mod feature;
+mod flakey;
+mod fuse;
 mod gate;
 mod gated;
 mod linear;

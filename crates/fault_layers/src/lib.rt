@@ -19,3 +19,5 @@ mod fuse;
 mod gate;
 mod gated;
 mod linear;
+#[cfg(test)]
+mod tests;

@@ -69,8 +69,13 @@ fn discard<D: BlockDev + Drop>(
 }
 
 // After an error the buffer is as it was.
-fn read<D: BlockDev + Drop>(rt: &impl Abort, device: &mut D, now: Ms, sector: u8, value: u8) -> u8 {
-    let sector = digit(sector);
+fn read<D: BlockDev + Drop>(
+    rt: &impl Abort,
+    device: &mut D,
+    now: Ms,
+    sector: u64,
+    value: u8,
+) -> u8 {
     assert!(rt; sector < device.sectors());
     let mut buffer = [9; 512];
     let end = tell(device.read(now, sector, &mut buffer), now);
@@ -87,8 +92,8 @@ fn step<D: BlockDev + Drop>(rt: &impl Abort, device: &mut D, now: Ms, word: &[u8
         [b'w', sector, value, want] => (write(rt, device, now, *sector, *value, false), *want),
         [b'F', sector, value, want] => (write(rt, device, now, *sector, *value, true), *want),
         [b'd', first, count, want] => (discard(rt, device, now, *first, *count), *want),
-        [b'r', sector, value, want] => (read(rt, device, now, *sector, *value), *want),
-        [b'r', sector, want] => (read(rt, device, now, *sector, b'9'), *want),
+        [b'r', sector, value, want] => (read(rt, device, now, digit(*sector), *value), *want),
+        [b'r', sector, want] => (read(rt, device, now, digit(*sector), b'9'), *want),
         [b'f', want] => (tell(device.flush(now), now), *want),
         _ => (0, 0),
     };
@@ -189,7 +194,7 @@ fn check_disk(rt: &impl Abort, disk: &mut SectorDisk, word: &[u8], line: &str) {
     }
     if let [b'=' | b'!', want @ ..] = word {
         for (sector, value) in want.iter().enumerate() {
-            let end = read(rt, disk, Ms::new(7), sector as u8 + 48, *value);
+            let end = read(rt, disk, Ms::new(7), sector as u64, *value);
             assert_eq!(rt; end, b'+', "{line}");
         }
     }

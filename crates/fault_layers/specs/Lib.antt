@@ -7,6 +7,7 @@ pub use Rattle.sectors.specs.Content
 pub mod Cut
 pub mod CutLaws
 pub mod Decided
+pub mod DelayRule
 pub mod ErrorRule
 pub mod FuseRule
 pub mod FlakeyRule

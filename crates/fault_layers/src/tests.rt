@@ -220,9 +220,31 @@ fn layers_do_what_their_rules_say(rt: HostRuntime) -> Result<(), Fail> {
     Ok(())
 }
 
+// A delayed call ends as much later as its kind is delayed; a discard is delayed as a write is.
+#[test]
+fn delayed_calls_begin_later(rt: HostRuntime) -> Result<(), Fail> {
+    let disk = SectorDisk::new(rt.alloc(), 1)?;
+    let mut device = Delay::new(disk, Ms::new(10), Ms::new(20), Ms::new(30));
+    assert_eq!(rt; device.sectors(), 1);
+    let now = Ms::new(100);
+    let mut buffer = [9; 512];
+    assert_eq!(rt; device.write(now, 0, &[1; 512], false), Ok(Ms::new(120)));
+    assert_eq!(rt; device.read(now, 0, &mut buffer), Ok(Ms::new(110)));
+    assert_eq!(rt; device.discard(now, 0, 1), Ok(Ms::new(120)));
+    assert_eq!(rt; device.flush(now), Ok(Ms::new(130)));
+    assert_eq!(rt; device.flush(Ms::new(u64::MAX - 5)), Ok(Ms::new(u64::MAX)));
+    assert_eq!(rt; (device.faults(), device.lies()), (0, 0));
+    let flakey = Flakey::new(device.into_lower(), 10, 5, Feature::None, Ms::new(0));
+    let mut device = Delay::new(flakey, Ms::new(0), Ms::new(0), Ms::new(20));
+    assert_eq!(rt; device.flush(Ms::new(9_979)), Ok(Ms::new(9_999)));
+    assert_eq!(rt; device.flush(Ms::new(9_980)), Err(DevError::Io));
+    assert_eq!(rt; (device.faults(), device.lies()), (1, 0));
+    Ok(())
+}
+
 // The laws of all devices are laws of a stack of layers.
 #[test]
 fn the_device_laws_hold() {
     blockdev::laws::flushed_writes_outlive_crashes::<Linear<Flakey<Fuse<SectorDisk>>>>();
-    blockdev::laws::calls_tear_their_own_sectors_at_any_moment::<ErrorDev<Linear<SectorDisk>>>();
+    blockdev::laws::calls_tear_their_own_sectors_at_any_moment::<ErrorDev<Delay<SectorDisk>>>();
 }

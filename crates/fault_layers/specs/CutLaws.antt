@@ -4,7 +4,7 @@ use Rattle.std.specs.Prelude.{◌/◌, Option, replicate, unwrap_or}
 use Rattle.blockdev.specs.Calls.{IsRange}
 use Rattle.blockdev.specs.View.{IsLawful, View}
 use Rattle.blockdev.specs.Law.{AfterPatch, Goes, Lands, NoLie}
-use Rattle.sectors.specs.Content.{Content, Patch, Patched, discards, gather, moved, nothing, over, put, sector_of, writes}
+use Rattle.sectors.specs.Content.{Content, Patch, Patched, discards, gather, moved, nothing, put, sector_of, writes}
 use Rattle.sectors.specs.ContentLaws.{over-shift}
 use Rattle.sectors.specs.PlaceLaws.{collect-ext}
 use Rattle.fault_layers.specs.Cut.{SeenFrom, cut}

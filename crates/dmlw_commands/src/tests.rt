@@ -274,7 +274,10 @@ const SCRIPTS: &str = "data 16\nlog 32\nclose;0;1 1\n;
 ~data 16\nlog 1\nclose\n;3;0 0 logging_disabled\n;
 ~data 16\nlog 32\nclose\nf a\nclose\n;0;1 1\n;
 ~data 16\nlog 32\nf a\nclose\nc a\nclose\n;1;;dmlw: line 4: 24 Busy\n
-~data 16\nlog 32\nclose\nw a 5 1 41\nc a\nclose\nf b\n;0;a ok\n1 1\n;";
+~data 16\nlog 32\nclose\nw a 5 1 41\nc a\nclose\nf b\n;0;a ok\n1 1\n;
+~data 16\nlog 32\nr 5 1\nw a 5 1 41\nr 5 1\nc a\nr 4 3\n;0;read 5+1 ok 00\nread 5+1 ok 00\na ok\nread 4+3 ok 004100\n0 0\n;
+~data 16\nlog 32\nr 15 2\n;1;;dmlw: line 3: 3 PastEnd\n
+~data 16\nlog 32\ncrash\nclose\n;1;;dmlw: line 4: 30 BadLine\n";
 
 #[test]
 fn answers_scripts(rt: HostRuntime) {
@@ -289,6 +292,56 @@ fn answers_scripts(rt: HostRuntime) {
         );
         assert!(rt; ran.log.is_some() == (status != 1), "log of {row}");
     }
+}
+
+// Lines of scripts behind `data 16`, between commas; what is printed, the sectors of the log that aren't zeroes, and how many entries it counts.
+const LOGS: &str = "log 32,w a 5 1 41,c a,f b,c b,turn,turn,crash 1 1 1;a ok,b ok,2 3,;0 1 2 3;0
+log 32,w a 5 1 41,c a,f b,c b,turn,turn,crash;a ok,b ok,2 3,;0;0
+log 32,w a 5 1 41,c a,f b,c b,turn,turn,crash 0 1;a ok,b ok,2 3,;0 2;0
+log 32,w a 5 1 41,c a,f b,c b,turn,turn;a ok,b ok,2 3,;0 1 2 3;0
+log 32,w a 5 1 41,c a,f b,c b,close,crash;a ok,b ok,3 4,;0 1 2 3 4;3
+log 5,w a 5 1 41,c a,f b,c b,close;a ok,b ok,2 3 logging_disabled,;0 1 2 3;0
+log 5,w a 5 1 41,c a,f b,c b,close,crash;a ok,b ok,2 3 logging_disabled,;0;0";
+
+// The places of the sectors of a log that aren't zeroes, with spaces between them.
+fn filled(alloc: Global, log: &[u8]) -> Result<String, AllocError> {
+    let mut places = String::new(alloc);
+    for (place, sector) in log.chunks_exact(512).enumerate() {
+        if sector.iter().any(|byte| *byte != 0) {
+            let space = if place == 0 { "" } else { " " };
+            places.push_str(format!(in alloc; "{space}{place}")?.as_str())?;
+        }
+    }
+    Ok(places)
+}
+
+#[test]
+fn leaves_logs_as_they_came(rt: HostRuntime) -> Result<(), Fail> {
+    let alloc = rt.alloc();
+    for row in LOGS.lines() {
+        let mut fields = row.split(';');
+        let mut script = String::from_str(alloc, "data 16")?;
+        for line in fields.next().unwrap_or_default().split(',') {
+            script.push_str("\n")?;
+            script.push_str(line)?;
+        }
+        let ran = recorded(alloc, script.as_bytes());
+        let mut shown = String::new(alloc);
+        for byte in &ran.out {
+            shown.push(if *byte == b'\n' {
+                ','
+            } else {
+                char::from(*byte)
+            })?;
+        }
+        assert_eq!(rt; Some(shown.as_str()), fields.next(), "{row}");
+        let log = ran.log.ok_or("a log")?;
+        assert_eq!(rt; Some(filled(alloc, &log)?.as_str()), fields.next(), "{row}");
+        let counted = log.get(16).copied().unwrap_or_default();
+        let counts = fields.next().unwrap_or_default().parse::<u8>();
+        assert_eq!(rt; Ok(counted), counts, "{row}");
+    }
+    Ok(())
 }
 
 #[test]

@@ -73,22 +73,24 @@ new_written : (sectors : ℕ) (recorder : DiskRecorder) → IsNew sectors record
 new_written sectors recorder new = λ closed on. absurd (let recording = ap (λ (c : CoreState). has_no_close c.events) new.core in cc)
 
 -- what a script's recording leaves
-pub is_recorded : (plan : Plan) (text : List ℕ) (start last : DiskRun) (recorder : DiskRecorder) (status : Status) (image : List ℕ)
+pub is_recorded : (plan : Plan) (text : List ℕ) (start last : DiskRun) (recorder : DiskRecorder) (status : Status) (image : List ℕ) (picks : Option (List ℕ))
     → Starts plan start → RunsLines plan.names plan.commands text start last
     → RecorderGoes (recording_of start.recorder) (recording_of last.recorder)
     → status ≡ status_of 512 (entries_of (store_of last.recorder.store)) last.recorder.end
     → recorder ≡ last.recorder
     → length image ≡ 512 * (shown_of recorder.store.device).size
-    → AgreeBelow (shown_of recorder.store.device).size (left_on plan.ending recorder.store.device) (sector_of image)
+    → picks ≡ plan.ending
+    → AgreeBelow (shown_of recorder.store.device).size (left_on picks recorder.store.device) (sector_of image)
     → CrashReopens (recording_of last.recorder)
     → (IsWritten start.recorder → last.recorder.end ≡ None → has_no_close last.recorder.core.events ≡ false → HasWholeLog (recording_of last.recorder))
     → IsRecorded plan text status image
-is_recorded plan text start last recorder status image starts ran goes tells same size bytes reopens whole =
+is_recorded plan text start last recorder status image picks starts ran goes tells same size ending bytes reopens whole =
     let disk = last.recorder.store.device in
     let begun = goes.size ∙ starts.log_disk.made.size ∙ starts.log_disk.blank.size in
     let count : length image ≡ 512 * (shown_of disk).size = subst (λ (r : DiskRecorder). length image ≡ 512 * (shown_of r.store.device).size) same size in
     let here : AgreeBelow (shown_of disk).size (left_on plan.ending disk) (sector_of image) =
-    subst (λ (r : DiskRecorder). AgreeBelow (shown_of r.store.device).size (left_on plan.ending r.store.device) (sector_of image)) same bytes in
+    subst (λ (r : DiskRecorder). AgreeBelow (shown_of r.store.device).size (left_on plan.ending r.store.device) (sector_of image)) same
+    (subst (λ (o : Option (List ℕ)). AgreeBelow (shown_of recorder.store.device).size (left_on o recorder.store.device) (sector_of image)) ending bytes) in
     let agree = subst (λ (n : ℕ). AgreeBelow n (left_on plan.ending disk) (sector_of image)) begun here in
     let reopened = reopens refl (left_on plan.ending disk) (may_leave plan.ending disk) in
     record {

@@ -1,8 +1,5 @@
 use super::*;
 use dmlw_script::{Kind, read_script};
-use log_store::LogStore;
-use recorder::Recorder;
-use sector_disk::SectorDisk;
 use std::alloc::{AllocError, Global};
 use std::process::Abort;
 use std::test::Fail;
@@ -30,24 +27,15 @@ fn text_of(alloc: Global, lines: &str) -> Result<String, AllocError> {
     Ok(text)
 }
 
-// A recorder over a log of so many sectors.
-fn recorder_over(alloc: Global, sectors: u64) -> Result<Option<Recorder<SectorDisk>>, AllocError> {
-    let disk = SectorDisk::new(alloc, sectors.clamp(1, 65_536))?;
-    Ok(match LogStore::create(disk) {
-        Ok(store) => Recorder::new(alloc, store).ok(),
-        Err(_) => None,
-    })
-}
-
 // What a run of the script prints, and how it ended.
 fn shown(rt: &impl Abort, alloc: Global, text: &str) -> Result<String, Fail> {
     let script = read_script(alloc, text.as_bytes(), Kind::Record)?;
-    let data = SectorDisk::new(alloc, script.data_sectors())?;
-    let recorder = recorder_over(alloc, script.log_sectors())?.expect(rt, "a disk never fails");
-    let mut running = Running::new(alloc, recorder, data, script.names().len())?;
     let mut out = Vec::new(alloc);
-    let ended = match run(text.as_bytes(), &script, &mut running, &mut out) {
-        Ok(()) => running.recorder().status().to_string(alloc)?,
+    let ended = match record(alloc, text.as_bytes(), &script, &mut out) {
+        Ok(recorded) => {
+            assert_eq!(rt; recorded.image.len() as u64, 512 * script.log_sectors());
+            recorded.status.to_string(alloc)?
+        }
         Err(error) => error.to_string(alloc)?,
     };
     let mut shown = String::new(alloc);

@@ -1,8 +1,7 @@
-use Rattle.std.proofs.Common.{◌≡◌, List, Option, refl, subst, sym, inr, ℕ}
-use Rattle.sectors.specs.Content.{AgreeBelow, sector_of}
+use Rattle.std.proofs.Common.{◌≡◌, refl, subst, sym, inr}
 use Rattle.script_runner.specs.CallLaws.{on_error}
 use Rattle.script_runner.specs.declared.error.RunError.{RunError}
-use Rattle.script_runner.specs.OnDisks.{DiskRecorder, FailsOnDisks, file, left_on, run}
+use Rattle.script_runner.specs.OnDisks.{DiskRecorder, FailsOnDisks, file, run}
 use Rattle.log_format.specs.LogOf.{status_of}
 use Rattle.log_store.specs.Shown.{store_of}
 use Rattle.log_store.specs.Store.{entries_of}
@@ -32,11 +31,10 @@ returns-clause-recorded g c =
     let script = c.args.script.now in
     let start = c.in_ok-running.running in
     let last = c.run.new.running in
-    let bytes = subst (λ (ending : Option (List ℕ)). AgreeBelow _ (left_on ending _) (sector_of c.in_ok-image.image.items)) c.crash.ensures.picks c.in_ok-image.ensures.bytes in
     let told = subst (λ (r : DiskRecorder). c.status-status.result ≡ status_of 512 (entries_of (store_of r.store)) r.end) c.recorder-2.ensures (c.status-status.ensures.status refl) in
     let reopens = subst (λ (r : DiskRecorder). CrashReopens (recording_of r)) c.recorder-2.ensures c.status-status.ensures.crash in
     let sound = subst (λ (r : DiskRecorder). IsSound r.core) c.recorder.ensures c.events-events.ensures.core in
-    (ran.0, is_recorded script ran.0 start last _ c.status-status.result c.in_ok-image.image.items c.in_ok-running.ensures.starts ran.1
+    (ran.0, is_recorded script ran.0 start last _ c.status-status.result c.in_ok-image.image.items _ c.in_ok-running.ensures.starts ran.1
     (c.lines_go_as_one_call.ensures script.names script.commands ran.0 start last ran.1)
-    told c.into_parts-recorder.ensures.recorder c.in_ok-image.ensures.size bytes reopens
+    told c.into_parts-recorder.ensures.recorder c.in_ok-image.ensures.size c.crash.ensures.picks c.in_ok-image.ensures.bytes reopens
     (λ written on closed. c.closed_runs_leave_whole_logs.ensures.whole script.names script.commands ran.0 start last ran.1 written sound on closed refl), ran.2)

@@ -1,0 +1,44 @@
+ghost use Rattle.std.specs.Prelude.{◌≡◌, ℕ};
+ghost use Rattle.fault_layers.specs.declared.gate.Kind.{Kind};
+ghost use Rattle.fault_layers.specs.declared.gate.Kind.TheVariants.{Read};
+ghost use Rattle.fault_layers.specs.declared.gate.Verdict.{Verdict};
+ghost use Rattle.fault_layers.specs.declared.gate.Verdict.TheVariants as verdicts;
+
+use bio::Ms;
+
+/// What a call of a device asks for.
+#[derive(Clone, Copy, Debug, PartialEq, Eq)]
+pub enum Kind {
+    Read,
+    Write,
+    Discard,
+    Flush,
+}
+
+/// What becomes of a call.
+#[derive(Clone, Copy, Debug, PartialEq, Eq)]
+pub enum Verdict {
+    /// The device beneath does it, and its answer is the call's.
+    Pass,
+    /// It answers Io, and the device beneath isn't called.
+    Fail,
+    /// It answers that it ended well at once, and the device beneath isn't called: a lie.
+    Drop,
+}
+
+/// What decides which calls reach the device beneath.
+pub trait Gate {
+    /// What becomes of a call of this kind at this moment.
+    ghost verdict: { Self → Kind → ℕ → Verdict };
+
+    /// The gate after it.
+    ghost after: { Self → Kind → ℕ → Self };
+
+    /// Decides about one call, which begins at the moment `now`, in milliseconds.
+    fn decide(&mut self, kind: Kind, now: Ms) -> Verdict
+        ensures verdict { result ≡ verdict self.old kind now }
+        ensures after { self.new ≡ after self.old kind now };
+
+    /// A read can't be dropped: there would be no bytes to answer.
+    ghost keeps_reads: { (gate : Self) (now : ℕ) → verdict gate Read now ≡ verdicts.Drop → ⊥ };
+}

@@ -1,0 +1,124 @@
+use crate::gate::{Gate, Kind, Verdict};
+use bio::{DevError, Ms};
+use blockdev::BlockDev;
+
+/// A device of which a gate decides, call by call, whether the one beneath does it.
+#[derive(Drop)]
+pub struct Gated<D: BlockDev + Drop, G: Gate + Drop> {
+    lower: D,
+    gate: G,
+    // How often it failed a call, and how often it dropped one; both stop at 2^64 - 1.
+    faults: u64,
+    lies: u64,
+}
+
+impl<D: BlockDev + Drop, G: Gate + Drop> Gated<D, G> {
+    ghost use Rattle.std.specs.Prelude.{◌≡◌, Err, Ok};
+    ghost use Rattle.bio.specs.declared.outcome.DevError.TheVariants.{Io};
+    ghost use Rattle.blockdev.specs.Counted.{one_more};
+
+    /// The device under this gate, which has decided about no call yet.
+    pub fn under(lower: D, gate: G) -> Gated<D, G>
+        ensures lower { result.lower ≡ lower }
+        ensures gate { result.gate ≡ gate }
+        ensures faults { result.faults ≡ 0 }
+        ensures lies { result.lies ≡ 0 }
+    {
+        Gated {
+            lower,
+            gate,
+            faults: 0,
+            lies: 0,
+        }
+    }
+
+    /// The device beneath.
+    pub fn into_lower(self) -> D
+        ensures { result ≡ self.lower }
+    {
+        self.lower
+    }
+
+    // The answer to a call that fails.
+    fn fail(&mut self) -> Result<Ms, DevError>
+        ensures io { result ≡ Err Io }
+        ensures faults { self.new.faults ≡ one_more self.old.faults }
+        ensures lies { self.new.lies ≡ self.old.lies }
+        ensures lower { self.new.lower ≡ self.old.lower }
+        ensures gate { self.new.gate ≡ self.old.gate }
+    {
+        self.faults = self.faults.saturating_add(1);
+        Err(DevError::Io)
+    }
+
+    // The answer to a call that is dropped.
+    fn lose(&mut self, now: Ms) -> Result<Ms, DevError>
+        ensures ok { result ≡ Ok now }
+        ensures faults { self.new.faults ≡ self.old.faults }
+        ensures lies { self.new.lies ≡ one_more self.old.lies }
+        ensures lower { self.new.lower ≡ self.old.lower }
+        ensures gate { self.new.gate ≡ self.old.gate }
+    {
+        self.lies = self.lies.saturating_add(1);
+        Ok(now)
+    }
+}
+
+impl<D: BlockDev + Drop, G: Gate + Drop> BlockDev for Gated<D, G> {
+    ghost use Rattle.blockdev.specs.Counted.{counted, lawful_counted};
+    ghost use Rattle.std.specs.Prelude.{◌≡◌};
+    ghost use Rattle.fault_layers.specs.Decided.{IsDecided, kind_of};
+
+    ghost shown = { λ device. counted (D.shown device.lower) device.faults device.lies };
+
+    // What the gate decides about the call, and the gate after it.
+    ghost does = { λ old call now result new.
+        IsDecided (G.verdict old.gate (kind_of call) now) (D.does old.lower call now result new.lower) call now result old new
+        × (new.gate ≡ G.after old.gate (kind_of call) now) };
+
+    fn sectors(&self) -> u64 {
+        self.lower.sectors()
+    }
+
+    fn read(&mut self, now: Ms, first: u64, buffer: &mut [u8]) -> Result<Ms, DevError> {
+        match self.gate.decide(Kind::Read, now) {
+            Verdict::Pass => self.lower.read(now, first, buffer),
+            Verdict::Fail | Verdict::Drop => self.fail(),
+        }
+    }
+
+    fn write(&mut self, now: Ms, first: u64, bytes: &[u8], fua: bool) -> Result<Ms, DevError> {
+        match self.gate.decide(Kind::Write, now) {
+            Verdict::Pass => self.lower.write(now, first, bytes, fua),
+            Verdict::Fail => self.fail(),
+            Verdict::Drop => self.lose(now),
+        }
+    }
+
+    fn discard(&mut self, now: Ms, first: u64, count: u64) -> Result<Ms, DevError> {
+        match self.gate.decide(Kind::Discard, now) {
+            Verdict::Pass => self.lower.discard(now, first, count),
+            Verdict::Fail => self.fail(),
+            Verdict::Drop => self.lose(now),
+        }
+    }
+
+    fn flush(&mut self, now: Ms) -> Result<Ms, DevError> {
+        match self.gate.decide(Kind::Flush, now) {
+            Verdict::Pass => self.lower.flush(now),
+            Verdict::Fail => self.fail(),
+            Verdict::Drop => self.lose(now),
+        }
+    }
+
+    fn faults(&self) -> u64 {
+        self.lower.faults().saturating_add(self.faults)
+    }
+
+    fn lies(&self) -> u64 {
+        self.lower.lies().saturating_add(self.lies)
+    }
+
+    ghost lawful = { λ device.
+        lawful_counted (D.shown device.lower) device.faults device.lies (D.lawful device.lower) };
+}

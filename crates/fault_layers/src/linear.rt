@@ -1,0 +1,87 @@
+ghost use Rattle.std.proofs.Props.{props};
+ghost use Rattle.blockdev.specs.Calls.{IsRange};
+
+use bio::{DevError, Ms};
+use blockdev::BlockDev;
+
+/// A range of another device's sectors, as a device of its own: its sector 0 is the sector `offset` beneath (Linux's
+/// Documentation/admin-guide/device-mapper/linear.rst).
+#[derive(Drop)]
+pub struct Linear<D: BlockDev + Drop> {
+    lower: D,
+    // The first sector of the range, and how many there are.
+    offset: u64,
+    length: u64,
+    ghost fits: { IsRange (D.shown lower).size offset length } by { Prim.hlevel props },
+}
+
+impl<D: BlockDev + Drop> Linear<D> {
+    ghost use Rattle.std.specs.Prelude.{◌≡◌};
+
+    /// The `length` sectors from `offset` on, at least one, and all of them within the lower device.
+    pub fn new(lower: D, offset: u64, length: u64) -> Linear<D>
+        requires { IsRange (D.shown lower).size offset length }
+        ensures lower { result.lower ≡ lower }
+        ensures offset { result.offset ≡ offset }
+        ensures length { result.length ≡ length }
+    {
+        Linear {
+            lower,
+            offset,
+            length,
+        }
+    }
+
+    /// The device beneath.
+    pub fn into_lower(self) -> D
+        ensures { result ≡ self.lower }
+    {
+        self.lower
+    }
+}
+
+impl<D: BlockDev + Drop> BlockDev for Linear<D> {
+    ghost use Rattle.std.specs.Prelude.{◌≡◌};
+    ghost use Rattle.fault_layers.specs.Cut.{call_from, cut};
+    ghost use Rattle.fault_layers.specs.CutLaws.{lawful_cut};
+
+    ghost shown = { λ device. cut (D.shown device.lower) device.offset device.length };
+
+    // What the lower device does at the shifted call, and the range stays.
+    ghost does = { λ old call now result new.
+        D.does old.lower (call_from old.offset call) now result new.lower
+        × (new.offset ≡ old.offset) × (new.length ≡ old.length) };
+
+    fn sectors(&self) -> u64 {
+        self.length
+    }
+
+    fn read(&mut self, now: Ms, first: u64, buffer: &mut [u8]) -> Result<Ms, DevError> {
+        self.lower.read(now, self.offset + first, buffer)
+    }
+
+    #[tactic(auto, using(crate::specs::CutLaws::lands_cut_writes))]
+    fn write(&mut self, now: Ms, first: u64, bytes: &[u8], fua: bool) -> Result<Ms, DevError> {
+        self.lower.write(now, self.offset + first, bytes, fua)
+    }
+
+    #[tactic(auto, using(crate::specs::CutLaws::lands_cut_discards))]
+    fn discard(&mut self, now: Ms, first: u64, count: u64) -> Result<Ms, DevError> {
+        self.lower.discard(now, self.offset + first, count)
+    }
+
+    fn flush(&mut self, now: Ms) -> Result<Ms, DevError> {
+        self.lower.flush(now)
+    }
+
+    fn faults(&self) -> u64 {
+        self.lower.faults()
+    }
+
+    fn lies(&self) -> u64 {
+        self.lower.lies()
+    }
+
+    ghost lawful = { λ device.
+        lawful_cut (D.shown device.lower) device.offset device.length device.fits (D.lawful device.lower) };
+}

@@ -1,0 +1,250 @@
+ghost use Rattle.std.specs.Prelude.{◌<◌};
+
+use super::*;
+use bio::{DevError, Ms};
+use blockdev::BlockDev;
+use sector_disk::SectorDisk;
+use std::process::Abort;
+use std::test::Fail;
+
+// Layers over a disk of 8 sectors of zeroes, a line each: the layer, then its calls. `@12` is the moment from here on, in
+// milliseconds. `w31+` writes 1s to sector 3, `F31+` does with FUA, `d32+` discards 2 sectors from sector 3 on, `f+` flushes and
+// `r31+` reads 1s from sector 3: `+` is an Ok at that moment, and `-` is Io. `#21` is 2 faults and 1 lie. `=` says what the
+// disk beneath holds after it all, and `!` what it holds after a crash with no picks.
+const CALLS: &str = "error w31- F31- d32- r3- f- #50 =00000000
+fuse0 r30+ w31- d31- f- r30+ #30 =00000000
+fuse1 r30+ F31+ r31+ w32- r31+ d31- f- #30 =00010000 !00010000
+fuse2 w31+ f+ r31+ w32- r31+ #10 !00010000
+none @9999 w31+ @10000 w32- r3- d31- f- @14999 f- @15000 r31+ #50 =00010000
+loaded @1000 w31+ @12999 f+ @13000 w32- @17999 f- @18000 r31+ #20 =00010000
+reads w31+ @10000 w32+ f+ r3- d41+ @15000 r32+ #10 !00020000
+writes w31+ @10000 w32- d31- f- r31+ @15000 w42+ #30 =00012000
+drops w31+ @10000 w32+ F32+ d31+ f+ r31+ @15000 r31+ #04 =00010000 !00000000
+never w31- @18446744073709551615 w31- f- #30 =00000000
+linear w01+ F12+ w23+ d31+ r12+ @7 f+ w04+ #00 =12423078 !12123078
+flakey-fuse w31+ w32- @10000 w33+ @15000 r31+ w34- #21 =00010000
+fuse-flakey @10000 w33+ w34- @15000 r30+ #11 =00000000
+linear-linear w01+ F02+ r02+ #00 =12325678 !12325678";
+
+fn digit(byte: u8) -> u64
+    ensures { result < 10 }
+{
+    (byte as u64).saturating_sub(48) % 10
+}
+
+fn tell(end: Result<Ms, DevError>, now: Ms) -> u8 {
+    match end {
+        Ok(end) if end == now => b'+',
+        Ok(_) => b'?',
+        Err(DevError::Io) => b'-',
+        Err(DevError::Memory) => b'm',
+    }
+}
+
+fn write<D: BlockDev + Drop>(
+    rt: &impl Abort,
+    device: &mut D,
+    now: Ms,
+    sector: u8,
+    value: u8,
+    fua: bool,
+) -> u8 {
+    let sector = digit(sector);
+    assert!(rt; sector < device.sectors());
+    let bytes = [digit(value) as u8; 512];
+    tell(device.write(now, sector, &bytes, fua), now)
+}
+
+fn discard<D: BlockDev + Drop>(
+    rt: &impl Abort,
+    device: &mut D,
+    now: Ms,
+    first: u8,
+    count: u8,
+) -> u8 {
+    let first = digit(first);
+    let count = digit(count);
+    assert!(rt; 0 < count && first + count <= device.sectors());
+    tell(device.discard(now, first, count), now)
+}
+
+// After an error the buffer is as it was.
+fn read<D: BlockDev + Drop>(
+    rt: &impl Abort,
+    device: &mut D,
+    now: Ms,
+    sector: u64,
+    value: u8,
+) -> u8 {
+    assert!(rt; sector < device.sectors());
+    let mut buffer = [9; 512];
+    let end = tell(device.read(now, sector, &mut buffer), now);
+    let wanted = digit(value) as u8;
+    assert!(rt;
+        buffer.iter().all(|byte| *byte == wanted),
+        "sector {sector}"
+    );
+    end
+}
+
+fn step<D: BlockDev + Drop>(rt: &impl Abort, device: &mut D, now: Ms, word: &[u8], line: &str) {
+    let (end, want) = match word {
+        [b'w', sector, value, want] => (write(rt, device, now, *sector, *value, false), *want),
+        [b'F', sector, value, want] => (write(rt, device, now, *sector, *value, true), *want),
+        [b'd', first, count, want] => (discard(rt, device, now, *first, *count), *want),
+        [b'r', sector, value, want] => (read(rt, device, now, digit(*sector), *value), *want),
+        [b'r', sector, want] => (read(rt, device, now, digit(*sector), b'9'), *want),
+        [b'f', want] => (tell(device.flush(now), now), *want),
+        _ => (0, 0),
+    };
+    assert_eq!(rt; end, want, "{line}");
+    if let [b'#', faults, lies] = word {
+        let counts = (device.faults(), device.lies());
+        assert_eq!(rt; counts, (digit(*faults), digit(*lies)), "{line}");
+    }
+}
+
+fn play<D: BlockDev + Drop>(rt: &impl Abort, device: D, line: &str) -> D {
+    let mut device = device;
+    let mut now = 0;
+    for word in line.split(' ').skip(1) {
+        match word.strip_prefix('@') {
+            Some(moment) => now = moment.parse::<u64>().unwrap_or(0),
+            None => step(rt, &mut device, Ms::new(now), word.as_bytes(), line),
+        }
+    }
+    device
+}
+
+// The disk after the calls of a line, its layers taken off again.
+fn played(rt: &impl Abort, disk: SectorDisk, line: &str) -> SectorDisk {
+    let start = Ms::new(0);
+    match line.split(' ').next().unwrap_or_default() {
+        "error" => play(rt, ErrorDev::new(disk), line).into_lower(),
+        "fuse0" => play(rt, Fuse::new(disk, 0), line).into_lower(),
+        "fuse1" => play(rt, Fuse::new(disk, 1), line).into_lower(),
+        "fuse2" => play(rt, Fuse::new(disk, 2), line).into_lower(),
+        "none" => play(rt, Flakey::new(disk, 10, 5, Feature::None, start), line).into_lower(),
+        "loaded" => play(
+            rt,
+            Flakey::new(disk, 10, 5, Feature::None, Ms::new(3000)),
+            line,
+        )
+        .into_lower(),
+        "reads" => play(
+            rt,
+            Flakey::new(disk, 10, 5, Feature::ErrorReads, start),
+            line,
+        )
+        .into_lower(),
+        "writes" => play(
+            rt,
+            Flakey::new(disk, 10, 5, Feature::ErrorWrites, start),
+            line,
+        )
+        .into_lower(),
+        "drops" => play(
+            rt,
+            Flakey::new(disk, 10, 5, Feature::DropWrites, start),
+            line,
+        )
+        .into_lower(),
+        "never" => play(
+            rt,
+            Flakey::new(disk, 0, 4_294_967_295, Feature::None, start),
+            line,
+        )
+        .into_lower(),
+        _ => disk,
+    }
+}
+
+// The same for a part of the disk, and for two layers.
+fn played_deep(rt: &impl Abort, disk: SectorDisk, line: &str) -> SectorDisk {
+    let start = Ms::new(0);
+    assert_eq!(rt; disk.sectors(), 8);
+    match line.split(' ').next().unwrap_or_default() {
+        "linear" => play(rt, Linear::new(disk, 2, 4), line).into_lower(),
+        "linear-linear" => play(rt, Linear::new(Linear::new(disk, 2, 4), 1, 1), line)
+            .into_lower()
+            .into_lower(),
+        "flakey-fuse" => {
+            let fuse = Fuse::new(disk, 1);
+            play(
+                rt,
+                Flakey::new(fuse, 10, 5, Feature::DropWrites, start),
+                line,
+            )
+            .into_lower()
+            .into_lower()
+        }
+        "fuse-flakey" => {
+            let flakey = Flakey::new(disk, 10, 5, Feature::DropWrites, start);
+            play(rt, Fuse::new(flakey, 1), line)
+                .into_lower()
+                .into_lower()
+        }
+        _ => disk,
+    }
+}
+
+fn check_disk(rt: &impl Abort, disk: &mut SectorDisk, word: &[u8], line: &str) {
+    if let [b'!', ..] = word {
+        disk.crash(&[]);
+    }
+    if let [b'=' | b'!', want @ ..] = word {
+        for (sector, value) in want.iter().enumerate() {
+            let end = read(rt, disk, Ms::new(7), sector as u64, *value);
+            assert_eq!(rt; end, b'+', "{line}");
+        }
+    }
+}
+
+// What each layer passes, fails and drops was worked out by hand.
+#[test]
+fn layers_do_what_their_rules_say(rt: HostRuntime) -> Result<(), Fail> {
+    for line in CALLS.lines() {
+        let mut disk = SectorDisk::new(rt.alloc(), 8)?;
+        if line.starts_with("linear") {
+            for sector in 0..8 {
+                assert_eq!(rt; disk.sectors(), 8);
+                disk.write(Ms::new(0), sector, &[sector as u8 + 1; 512], true)?;
+            }
+        }
+        let disk = played(&rt, disk, line);
+        let mut disk = played_deep(&rt, disk, line);
+        for word in line.split(' ') {
+            check_disk(&rt, &mut disk, word.as_bytes(), line);
+        }
+    }
+    Ok(())
+}
+
+// A delayed call ends as much later as its kind is delayed; a discard is delayed as a write is.
+#[test]
+fn delayed_calls_begin_later(rt: HostRuntime) -> Result<(), Fail> {
+    let disk = SectorDisk::new(rt.alloc(), 1)?;
+    let mut device = Delay::new(disk, Ms::new(10), Ms::new(20), Ms::new(30));
+    assert_eq!(rt; device.sectors(), 1);
+    let now = Ms::new(100);
+    let mut buffer = [9; 512];
+    assert_eq!(rt; device.write(now, 0, &[1; 512], false), Ok(Ms::new(120)));
+    assert_eq!(rt; device.read(now, 0, &mut buffer), Ok(Ms::new(110)));
+    assert_eq!(rt; device.discard(now, 0, 1), Ok(Ms::new(120)));
+    assert_eq!(rt; device.flush(now), Ok(Ms::new(130)));
+    assert_eq!(rt; device.flush(Ms::new(u64::MAX - 5)), Ok(Ms::new(u64::MAX)));
+    assert_eq!(rt; (device.faults(), device.lies()), (0, 0));
+    let flakey = Flakey::new(device.into_lower(), 10, 5, Feature::None, Ms::new(0));
+    let mut device = Delay::new(flakey, Ms::new(0), Ms::new(0), Ms::new(20));
+    assert_eq!(rt; device.flush(Ms::new(9_979)), Ok(Ms::new(9_999)));
+    assert_eq!(rt; device.flush(Ms::new(9_980)), Err(DevError::Io));
+    assert_eq!(rt; (device.faults(), device.lies()), (1, 0));
+    Ok(())
+}
+
+// The laws of all devices are laws of a stack of layers.
+#[test]
+fn the_device_laws_hold() {
+    blockdev::laws::flushed_writes_outlive_crashes::<Linear<Flakey<Fuse<SectorDisk>>>>();
+    blockdev::laws::calls_tear_their_own_sectors_at_any_moment::<ErrorDev<Delay<SectorDisk>>>();
+}

@@ -8,6 +8,7 @@ ghost use Rattle.script_runner.specs.declared.error.RunError.TheVariants.{Loggin
 ghost use Rattle.script_runner.specs.Errors.{IsFileError};
 ghost use Rattle.script_runner.specs.OnDisks.{FailsOnDisks, IsNew, IsRecorded, Starts, left_on};
 
+use crate::error::RunError;
 use crate::laws::{closed_runs_leave_whole_logs, lines_go_as_one_call};
 use crate::run_script::run;
 use crate::running::Running;
@@ -16,7 +17,6 @@ use dmlw_script::Script;
 use log_store::LogStore;
 use recorder::Recorder;
 use refusals::Refusal;
-use crate::error::RunError;
 use sector_disk::SectorDisk;
 use std::alloc::{AllocError, Global};
 use std::io::Write;
@@ -55,10 +55,7 @@ pub fn record<O: Write>(
 }
 
 // A script's run before its first line.
-fn start(
-    alloc: Global,
-    script: &Script,
-) -> Result<Running<SectorDisk, SectorDisk>, RunError>
+fn start(alloc: Global, script: &Script) -> Result<Running<SectorDisk, SectorDisk>, RunError>
     ensures starts { IfOk result (Starts script.now) }
     ensures faults { IfErr result (λ fault. IsFileError fault ⊎ (fault ≡ LoggingEnded ends.Memory)) }
 {

@@ -1,12 +1,12 @@
 ghost use Rattle.std.specs.Prelude.{◌≡◌, IfErr, OnOk, []};
 ghost use Rattle.script_runner.specs.Runs.{EndsRun, PrintsLines};
 
+use crate::error::RunError;
 use crate::running::Running;
 use crate::step_error::StepError;
 use blockdev::BlockDev;
 use dmlw_script::{Script, laws, line_of};
 use refusals::Fault;
-use crate::error::RunError;
 use std::io::Write;
 
 /// Runs a script, which was read from `text`, on a data device of its size, from before its first line on. What its lines print is

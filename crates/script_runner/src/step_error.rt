@@ -3,8 +3,8 @@ ghost use Rattle.std.specs.IoError.{error_kind};
 ghost use Rattle.script_runner.specs.Errors.{io_refusal, memory_error, refused_by};
 ghost use Rattle.script_runner.specs.declared.step_error.StepError.TheVariants.{AtLine, Whole};
 
-use refusals::Refusal;
 use crate::error::RunError;
+use refusals::Refusal;
 use std::alloc::AllocFailed;
 use std::io;
 

@@ -86,7 +86,9 @@ fn explains_an_empty_log(rt: HostRuntime) {
     assert!(rt; run(alloc, &words, FIRST.as_bytes()).is(0, "a ok\nb ok\n3 4\n", ""));
     let ran = run(alloc, &words, b"data 16\nlog 2\nclose\n".as_slice());
     assert!(rt;
-        ran.err.as_slice().starts_with(b"  script: the entries don't fit".as_slice())
+        ran.err
+            .as_slice()
+            .starts_with(b"  script: the entries don't fit".as_slice())
     );
 }
 

@@ -11,3 +11,7 @@ pub mod Order
 pub mod Lengths
 pub mod Standing
 pub mod Results
+pub mod Tests
+pub mod Lateness
+pub mod HazardSteps
+pub mod HazardRows

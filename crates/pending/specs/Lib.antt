@@ -5,6 +5,7 @@ pub use Rattle.bio.specs.Check
 pub use Rattle.log_format.specs.Entries
 pub mod QueueEvent
 pub mod CompletionList
+pub mod Hazards
 pub mod Results
 pub mod CoreState
 pub mod GrowthLaws

@@ -15,3 +15,4 @@ pub mod Tests
 pub mod Lateness
 pub mod HazardSteps
 pub mod HazardRows
+pub mod HazardWords

@@ -11,7 +11,7 @@ pub mod Order
 pub mod Lengths
 pub mod Standing
 pub mod Results
-pub mod Tests
+pub mod Passing
 pub mod Lateness
 pub mod HazardSteps
 pub mod HazardRows

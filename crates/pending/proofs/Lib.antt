@@ -16,3 +16,6 @@ pub mod Lateness
 pub mod HazardSteps
 pub mod HazardRows
 pub mod HazardWords
+pub mod LastValue
+pub mod Durable
+pub mod Possibles

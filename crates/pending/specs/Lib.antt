@@ -6,6 +6,7 @@ pub use Rattle.log_format.specs.Entries
 pub mod QueueEvent
 pub mod CompletionList
 pub mod Hazards
+pub mod Beginnings
 pub mod Results
 pub mod CoreState
 pub mod GrowthLaws

@@ -1,22 +1,20 @@
 -- Up to the first hazard: a durable request is in the list, and what it replaced is there before it.
-use Rattle.std.proofs.Common.{◌≡◌, ℕ, zero, suc, ◌<◌, ◌≤◌, Bool, true, false, not, ◌&&◌, ◌||◌, Option, Some, None, List, [], ◌∷◌, ◌++◌, length, take, drop, refl, ap, sym, ◌∙◌, subst, inl, inr, arith, append-nil, append_assoc, length-append}
-use Rattle.std.proofs.Math.Nat.{eq-or-lt_of_le}
+use Rattle.std.proofs.Common.{◌≡◌, ℕ, suc, ◌<◌, ◌≤◌, Bool, true, false, ◌&&◌, ◌||◌, Some, None, List, [], ◌∷◌, ◌++◌, length, take, drop, refl, ap, sym, ◌∙◌, inl, inr, arith, append-nil, append_assoc, length-append}
 use Rattle.std.proofs.lemmas.Bool.{and_parts, cases_lt, eq-eqb, lt-ltb, ltb-true}
 use Rattle.std.proofs.lemmas.List.{take-append-drop}
 use Rattle.std.specs.Prelude.{◌⊎◌, slice_get, is_none, nat_lt, if◌then◌else◌}
 use Rattle.bio.specs.declared.request.Bio.{Bio}
 use Rattle.bio.specs.declared.request.Bio.TheVariants as bios
 use Rattle.bio.specs.declared.event.CoreEvent.{CoreEvent}
-use Rattle.bio.specs.declared.event.CoreEvent.TheVariants.{Submit, Complete, Mark, Stop, Close}
-use Rattle.sectors.specs.PlaceLaws.{bool_cases, option_cases, first_below-found, first_below-none, none_first_below, slice_get-within}
+use Rattle.bio.specs.declared.event.CoreEvent.TheVariants.{Submit}
+use Rattle.sectors.specs.PlaceLaws.{bool_cases, option_cases, first_below-found, first_below-none, none_first_below}
 use Rattle.bio.specs.Requests.{covers, has_flush, has_fua, is_change, overlaps}
 use Rattle.bio.specs.RequestLaws.{covers-parts, overlaps-common}
-use Rattle.bio.specs.Events.{end_of, first_place, flush_after, is_close, is_end_of, is_flush_submit, is_stop, submits}
+use Rattle.bio.specs.Events.{end_of, first_place, flush_after, is_close, is_flush_submit, is_stop, submits}
 use Rattle.bio.specs.Lawful.{has_no_stop, is_well_formed}
 use Rattle.bio.specs.EventLaws.{length-beginning, slice_get-take, well_formed-end}
 use Rattle.pending.specs.QueueEvent.{first_need, is_at, queue_event, queue_of, recorded, unless_stopped}
 use Rattle.pending.specs.Hazards.{has_late, hazard_at, hazard_by, hazard_here, hazard_of, is_late}
-use Rattle.pending.specs.declared.hazard.Hazard.{Hazard}
 use Rattle.pending.specs.declared.hazard.HazardKind.TheVariants as kinds
 use Rattle.pending.proofs.Passing.{found-any_below}
 use Rattle.pending.proofs.Prefix.{queue_event_same, recorded_stable}

@@ -1,5 +1,5 @@
 -- Event lists and their first hazards, by computation.
-use Rattle.std.specs.Prelude.{◌≡◌, ℕ, true, false, None, List, [], ◌∷◌, replicate}
+use Rattle.std.specs.Prelude.{◌≡◌, ℕ, true, false, None, [], ◌∷◌, replicate}
 use Rattle.std.proofs.Common.{refl}
 use Rattle.bio.specs.declared.event.CoreEvent.{CoreEvent}
 use Rattle.bio.specs.declared.event.CoreEvent.TheVariants.{Submit, Complete, Mark, Stop, Close}

@@ -1,15 +1,13 @@
 -- What replaying entries leaves in a sector: the value of the last entry that has one.
-use Rattle.std.proofs.Common.{◌≡◌, ℕ, zero, suc, ◌+◌, ◌*◌, ◌/◌, ◌<◌, ◌≤◌, Bool, true, false, Option, Some, None, List, [], ◌∷◌, ◌++◌, length, take, map, replicate, refl, ap, sym, ◌∙◌, inl, inr, arith}
-use Rattle.std.proofs.lemmas.Option.{slice_get-map}
+use Rattle.std.proofs.Common.{◌≡◌, ℕ, zero, suc, ◌*◌, ◌/◌, ◌<◌, Option, Some, None, List, [], ◌∷◌, length, take, replicate, refl, ap, sym, ◌∙◌, inl, inr, arith}
 use Rattle.std.specs.Prelude.{◌⊎◌, slice_get, option_map, unwrap_or}
-use Rattle.sectors.specs.Content.{Content, Patch, nothing, over, put, sector_of}
+use Rattle.sectors.specs.Content.{Content, Patch, over, put, sector_of}
 use Rattle.sectors.specs.ContentLaws.{over_cases}
 use Rattle.sectors.specs.PlaceLaws.{option_cases}
-use Rattle.bio.specs.declared.request.Bio.{Bio}
 use Rattle.bio.specs.declared.request.Bio.TheVariants as bios
 use Rattle.bio.specs.declared.event.CoreEvent.{CoreEvent}
 use Rattle.bio.specs.declared.event.CoreEvent.TheVariants.{Submit, Complete, Mark, Stop, Close}
-use Rattle.bio.specs.Possible.{values_of, values_at}
+use Rattle.bio.specs.Possible.{values_at}
 use Rattle.log_format.specs.declared.entry.Entry.{Entry}
 use Rattle.log_format.specs.Entries.{kind_of}
 use Rattle.log_format.specs.Replay.{kind_values, replay}

@@ -1,17 +1,17 @@
 -- Replaying a beginning of the log, up to the first hazard, gives what the device could hold.
-use Rattle.std.proofs.Common.{◌≡◌, ℕ, zero, suc, ◌+◌, ◌-◌, ◌/◌, ◌<◌, ◌≤◌, Bool, true, false, ◌&&◌, ◌||◌, Option, Some, None, List, [], ◌∷◌, ◌++◌, length, take, drop, replicate, refl, ap, sym, ◌∙◌, inl, inr, arith}
+use Rattle.std.proofs.Common.{◌≡◌, ℕ, suc, ◌+◌, ◌-◌, ◌/◌, ◌<◌, ◌≤◌, Bool, true, false, ◌&&◌, ◌||◌, Option, Some, None, List, length, take, drop, replicate, refl, ap, sym, ◌∙◌, inl, inr, arith}
 use Rattle.std.proofs.Math.Nat.{eq-or-lt_of_le}
 use Rattle.std.proofs.lemmas.Bool.{and_parts, cases_lt}
 use Rattle.std.proofs.lemmas.List.{length-take, take-append-drop}
-use Rattle.std.specs.Prelude.{◌⊎◌, slice_get, unwrap_or, if◌then◌else◌}
-use Rattle.sectors.specs.Content.{Content, nothing, over, sector_of}
+use Rattle.std.specs.Prelude.{slice_get, unwrap_or, if◌then◌else◌}
+use Rattle.sectors.specs.Content.{Content, over, sector_of}
 use Rattle.sectors.specs.ContentLaws.{over-in, over_cases}
 use Rattle.sectors.specs.PlaceLaws.{bool_cases, option_cases, first_below-found, first_below-none, slice_get-append_front, slice_get-within}
 use Rattle.bio.specs.declared.request.Bio.{Bio}
 use Rattle.bio.specs.declared.request.Bio.TheVariants as bios
 use Rattle.bio.specs.declared.event.CoreEvent.{CoreEvent}
 use Rattle.bio.specs.declared.event.CoreEvent.TheVariants.{Submit, Complete, Mark, Stop, Close}
-use Rattle.bio.specs.Requests.{covers, has_flush, has_fua, is_change, overlaps}
+use Rattle.bio.specs.Requests.{covers, has_fua}
 use Rattle.bio.specs.RequestLaws.{covers-parts, covers-within, is_before-end}
 use Rattle.bio.specs.Events.{end_of, first_place, is_before, is_end_of, is_flush_submit, is_stop, submits}
 use Rattle.bio.specs.Lawful.{has_no_stop, is_well_formed}
@@ -20,11 +20,11 @@ use Rattle.bio.specs.Possible.{PossibleAt, covers_at, ended_ok, has_kept, is_dur
 use Rattle.log_format.specs.declared.entry.Entry.{Entry}
 use Rattle.log_format.specs.Replay.{replay}
 use Rattle.pending.specs.QueueEvent.{Needs, queue_event, recorded}
-use Rattle.pending.specs.CompletionList.{IsQueued, Item, completion_list, dm_log_writes, entry_at, own_end}
+use Rattle.pending.specs.CompletionList.{Item, completion_list, dm_log_writes, entry_at, own_end}
 use Rattle.pending.specs.Hazards.{first_hazard, hazard_by, hazard_of, hazard_or_last, last_moment, safe_moment}
 use Rattle.pending.specs.Beginnings.{BelongsTo, entries_of}
 use Rattle.pending.specs.declared.hazard.Hazard.{Hazard}
-use Rattle.pending.proofs.Durable.{EndsBefore, IsDurableBefore, IsReplacedBy, IsSafe, durable-queued, queued-longer, queued-shorter, replaced-first}
+use Rattle.pending.proofs.Durable.{IsDurableBefore, IsReplacedBy, IsSafe, durable-queued, queued-longer, queued-shorter, replaced-first}
 use Rattle.pending.proofs.HazardWords.{ends-there, first-hazardous, none-hazardous, queued-after, queued-within}
 use Rattle.pending.proofs.LastValue.{LastAt, NoneAt, entry-item, entry-values, entry_values, item-entry, last-value}
 use Rattle.pending.proofs.Lateness.{flush_submit-some}

@@ -1,5 +1,5 @@
 -- Event lists and their first hazards, by computation.
-use Rattle.std.specs.Prelude.{◌≡◌, ℕ, true, false, None, [], ◌∷◌, replicate}
+use Rattle.std.specs.Prelude.{◌≡◌, ℕ, true, false, None, List, [], ◌∷◌, replicate}
 use Rattle.std.proofs.Common.{refl}
 use Rattle.bio.specs.declared.event.CoreEvent.{CoreEvent}
 use Rattle.bio.specs.declared.event.CoreEvent.TheVariants.{Submit, Complete, Mark, Stop, Close}
@@ -7,7 +7,12 @@ use Rattle.bio.specs.declared.outcome.End.TheVariants.{Full}
 use Rattle.bio.specs.declared.request.Bio.TheVariants as bios
 use Rattle.bio.specs.declared.request.Bio.TheVariants.{Write, Discard}
 use Rattle.pending.specs.QueueEvent.{recorded}
-use Rattle.pending.specs.Hazards.{first_hazard, hazard_here}
+use Rattle.bio.specs.Possible.{has_kept, is_replaced}
+use Rattle.log_format.specs.Replay.{replay}
+use Rattle.sectors.specs.Content as contents
+use Rattle.pending.specs.Beginnings.{entries_of}
+use Rattle.pending.specs.CompletionList.{completion_list, dm_log_writes}
+use Rattle.pending.specs.Hazards.{first_hazard, hazard_here, safe_moment}
 use Rattle.pending.specs.declared.hazard.HazardKind.TheVariants.{Overlap, Flush}
 
 -- a write of a sector, 0 or 1
@@ -150,3 +155,25 @@ hazard-first-of-others = refl
 -- a mark is none, and waits for nothing
 pub hazard-marks : first_hazard recorded (w0 ∷ c 0 ∷ Mark (65 ∷ []) ∷ c 0 ∷ []) ≡ None
 hazard-marks = refl
+
+-- past its hazard a log is replayed to what the device couldn't have held: the older write stands last, and a durable one replaced it
+abbrev overtaken : List CoreEvent
+overtaken = w0 ∷ c 0 ∷ u0 ∷ c 2 ∷ f ∷ c 4 ∷ Close ∷ []
+
+pub overtaken-replayed : replay 512 (entries_of (completion_list (dm_log_writes 512) overtaken)) (λ sector. []) 0 ≡ replicate 512 65
+unfolding contents.over
+overtaken-replayed = refl
+
+pub overtaken-replaced : is_replaced overtaken 0 0 ≡ true
+overtaken-replaced = refl
+
+pub overtaken-kept : has_kept overtaken 0 ≡ true
+overtaken-kept = refl
+
+-- and the moments before it are safe
+pub overtaken-safe : safe_moment recorded overtaken ≡ 3
+overtaken-safe = refl
+
+-- where logging ends early and there is none, the last safe moment is the Stop's
+pub stopped-safe : safe_moment recorded (w0 ∷ c 0 ∷ Stop Full ∷ Close ∷ []) ≡ 2
+stopped-safe = refl

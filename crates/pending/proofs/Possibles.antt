@@ -310,11 +310,12 @@ order-of events moment sector earlier later i j x y safe both first second =
       | inl less ↦ less
       | inr no_less ↦ elim (eq-or-lt_of_le no_less) [
         | inl same ↦
-            let one : earlier ≡ later =
-            let a = ap (slice_get (completion_list (dm_log_writes 512) events)) same ∙ first in
-            let b = sym second ∙ a in
-            let pair : (later, y) ≡ (earlier, x) = cc in
-            sym (ap (λ (item : Item). item.0) pair) in
+            let items = completion_list (dm_log_writes 512) events in
+            let of_later : Item = (later, y) in
+            let of_earlier : Item = (earlier, x) in
+            let both_there : Some of_later ≡ Some of_earlier = sym second ∙ ap (slice_get items) same ∙ first in
+            let pair : of_later ≡ of_earlier = cc in
+            let one : later ≡ earlier = ap (λ (item : Item). item.0) pair in
             absurd (let a = own.1 in let b = both.before in omega arith)
         | inr swapped ↦
             let sorted = listed-sorted (dm_log_writes 512) events j i (later, y) (earlier, x) safe.well_formed swapped second first in

@@ -5,6 +5,7 @@ pub mod Texts
 pub mod Check
 pub mod Requests
 pub mod Events
+pub mod Possible
 pub mod Lawful
 pub mod EventLaws
 pub mod RequestLaws

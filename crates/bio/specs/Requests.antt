@@ -18,6 +18,12 @@ abbrev pub has_fua : Bio → Bool
 has_fua (Write first bytes flush fua meta) = fua
 has_fua _ = false
 
+-- whether it puts values in sectors: a write or a discard
+abbrev pub is_change : Bio → Bool
+is_change (Write first bytes flush fua meta) = true
+is_change (Discard first count) = true
+is_change _ = false
+
 -- the request has data, a copy of which takes memory
 abbrev pub has_data : Bio → Bool
 has_data (Write first bytes flush fua meta) = true

@@ -11,3 +11,11 @@ pub mod Order
 pub mod Lengths
 pub mod Standing
 pub mod Results
+pub mod Passing
+pub mod Lateness
+pub mod HazardSteps
+pub mod HazardRows
+pub mod HazardWords
+pub mod LastValue
+pub mod Durable
+pub mod Possibles

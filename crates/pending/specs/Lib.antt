@@ -1,10 +1,15 @@
 pub use Rattle.bio.specs.Requests
 pub use Rattle.bio.specs.Events
 pub use Rattle.bio.specs.Lawful
+pub use Rattle.bio.specs.Possible
 pub use Rattle.bio.specs.Check
 pub use Rattle.log_format.specs.Entries
+pub use Rattle.log_format.specs.Replay
+pub use Rattle.sectors.specs.Content
 pub mod QueueEvent
 pub mod CompletionList
+pub mod Hazards
+pub mod Beginnings
 pub mod Results
 pub mod CoreState
 pub mod GrowthLaws

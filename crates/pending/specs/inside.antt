@@ -2,4 +2,5 @@ pub mod Slots
 pub mod Waiting
 pub mod Steps
 pub mod Represents
+pub mod Watching
 pub mod CoreInvariant

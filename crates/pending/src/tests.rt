@@ -19,6 +19,7 @@ fn request(alloc: Global, word: &str, number: u64) -> Result<Bio, AllocError> {
     match word {
         "write" => write(alloc, number, 512, 0),
         "fua" => write(alloc, number, 512, 2),
+        "both" => write(alloc, number, 1024, 1),
         "discard" => Ok(Bio::Discard {
             first: number,
             count: 1,
@@ -134,6 +135,74 @@ fn steps_are_answered(rt: HostRuntime) -> Result<(), Fail> {
     Ok(())
 }
 
+// The first hazard after a row's steps.
+fn hazard_of(alloc: Global, steps: &str) -> Result<String, AllocError> {
+    let mut core = Core::new(alloc)?;
+    for step in steps.split(",") {
+        let mut words = step.split(" ");
+        let word = words.next().unwrap_or_default();
+        let number = words.next().unwrap_or_default().parse::<u64>().unwrap_or(0);
+        play(alloc, &mut core, word, number)?;
+    }
+    match core.hazard() {
+        Some(hazard) => hazard.to_string(alloc),
+        None => String::from_str(alloc, "none"),
+    }
+}
+
+// Steps, and their first hazard: a FUA write overtakes what waits for a flush, of one of its sectors alone, failed or not; a
+// later flush that ends first, with data or not, overtakes what waits for the earlier one; the first hazard stays; and
+// nothing is one where nothing waits, in the order of the flushes, and after a stop.
+const HAZARDS: &str = "write 5,end 0,flush,end 2,close=none
+write 5,end 0,fua 5,end 2,flush,end 4,close=H1 at event 3
+write 5,end 0,fua 5,fail 2,close=H1 at event 3
+discard 5,end 0,flush,fua 5,end 3,end 2=H1 at event 4
+write 5,end 0,fua 6,end 2,write 6,end 4=none
+write 5,fua 5,end 0,end 1=none
+write 5,end 0,flush,flush,end 3,fua 9,end 5,end 2,close=H2 at event 4
+write 5,end 0,flush,flush,fail 3,end 2=H2 at event 4
+write 5,end 0,flush,both 4,end 3=H1 at event 4
+write 5,end 0,flush,both 6,end 3,fua 5,end 5=H2 at event 4
+write 5,end 0,flush,flush,end 2,end 3,write 5,end 6,flush,flush,end 9=H2 at event 10
+flush,flush,end 1,write 5,end 3,flush,end 5,end 0,mark 3=none
+write 5,end 0,both 5,end 2,close=none
+write 5,end 0,fua 5,stop,end 2,close=none
+write 5,end 0,fua 5,end 2,stop,close=H1 at event 3";
+
+#[test]
+fn hazards_are_found(rt: HostRuntime) -> Result<(), Fail> {
+    for row in HAZARDS.split("\n") {
+        let mut parts = row.split("=");
+        let shown = hazard_of(rt.alloc(), parts.next().unwrap_or_default())?;
+        assert_eq!(rt; Some(shown.as_str()), parts.next(), "{row}");
+    }
+    Ok(())
+}
+
+// A FUA write over the sector of one of 8,192 writes that wait is a hazard; over another sector it is none.
+#[test]
+fn hazards_are_found_among_many(rt: HostRuntime) -> Result<(), Fail> {
+    let alloc = rt.alloc();
+    let mut core = Core::new(alloc)?;
+    for sector in 0..8192 {
+        let place = place_of(core.submit(&write(alloc, sector, 512, 0)?)?);
+        end(&mut core, place, true);
+    }
+    let place = place_of(core.submit(&write(alloc, 8192, 512, 2)?)?);
+    end(&mut core, place, true);
+    assert!(rt; core.hazard().is_none());
+    let place = place_of(core.submit(&write(alloc, 8191, 512, 2)?)?);
+    end(&mut core, place, true);
+    assert_eq!(rt;
+        core.hazard(),
+        Some(Hazard {
+            kind: HazardKind::Overlap,
+            event: 16_387,
+        })
+    );
+    Ok(())
+}
+
 // A request of the mix: flushes, and writes with flush, only where they are asked for.
 fn mixed(alloc: Global, random: u64, flushes: bool) -> Result<Bio, AllocError> {
     match random % 4096 {
@@ -202,6 +271,7 @@ fn answers_differ(rt: HostRuntime) -> Result<(), Fail> {
     assert!(rt; CloseError::Busy != CloseError::Memory);
     assert!(rt; MarkError::BadText != MarkError::Memory);
     assert!(rt; Marked::Passed != Marked::Queued(Id::new(0)));
+    assert!(rt; HazardKind::Overlap != HazardKind::Flush);
     let shown = CloseError::Memory.to_string(rt.alloc())?;
     assert_eq!(rt; shown.as_str(), "no memory");
     Ok(())

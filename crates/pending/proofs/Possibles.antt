@@ -1,0 +1,398 @@
+-- Replaying a beginning of the log, up to the first hazard, gives what the device could hold.
+use Rattle.std.proofs.Common.{◌≡◌, ℕ, suc, ◌+◌, ◌-◌, ◌/◌, ◌<◌, ◌≤◌, Bool, true, false, ◌&&◌, ◌||◌, Option, Some, None, List, length, take, drop, replicate, refl, ap, sym, ◌∙◌, inl, inr, arith}
+use Rattle.std.proofs.Math.Nat.{eq-or-lt_of_le}
+use Rattle.std.proofs.lemmas.Bool.{and_parts, cases_lt}
+use Rattle.std.proofs.lemmas.List.{length-take, take-append-drop}
+use Rattle.std.specs.Prelude.{slice_get, unwrap_or, if◌then◌else◌}
+use Rattle.sectors.specs.Content.{Content, over, sector_of}
+use Rattle.sectors.specs.ContentLaws.{over-in, over_cases}
+use Rattle.sectors.specs.PlaceLaws.{bool_cases, option_cases, first_below-found, first_below-none, slice_get-append_front, slice_get-within}
+use Rattle.bio.specs.declared.request.Bio.{Bio}
+use Rattle.bio.specs.declared.request.Bio.TheVariants as bios
+use Rattle.bio.specs.declared.event.CoreEvent.{CoreEvent}
+use Rattle.bio.specs.declared.event.CoreEvent.TheVariants.{Submit, Complete, Mark, Stop, Close}
+use Rattle.bio.specs.Requests.{covers, has_fua}
+use Rattle.bio.specs.RequestLaws.{covers-parts, covers-within, is_before-end}
+use Rattle.bio.specs.Events.{end_of, first_place, is_before, is_end_of, is_flush_submit, is_stop, submits}
+use Rattle.bio.specs.Lawful.{has_no_stop, is_well_formed}
+use Rattle.bio.specs.EventLaws.{is_none-none, length-beginning, slice_get-take}
+use Rattle.bio.specs.Possible.{PossibleAt, covers_at, ended_ok, has_kept, is_durable, is_flushed, is_kept, is_replaced, is_success_at, values_at, values_of}
+use Rattle.log_format.specs.declared.entry.Entry.{Entry}
+use Rattle.log_format.specs.Replay.{replay}
+use Rattle.pending.specs.QueueEvent.{Needs, queue_event, recorded}
+use Rattle.pending.specs.CompletionList.{Item, completion_list, dm_log_writes, entry_at, own_end}
+use Rattle.pending.specs.Hazards.{first_hazard, hazard_by, hazard_of, hazard_or_last, last_moment, safe_moment}
+use Rattle.pending.specs.Beginnings.{BelongsTo, entries_of}
+use Rattle.pending.specs.declared.hazard.Hazard.{Hazard}
+use Rattle.pending.proofs.Durable.{IsDurableBefore, IsReplacedBy, IsSafe, durable-queued, queued-longer, queued-shorter, replaced-first}
+use Rattle.pending.proofs.HazardWords.{ends-there, first-hazardous, none-hazardous, queued-after, queued-within}
+use Rattle.pending.proofs.LastValue.{LastAt, NoneAt, entry-item, entry-values, entry_values, item-entry, last-value}
+use Rattle.pending.proofs.Lateness.{flush_submit-some}
+use Rattle.pending.proofs.Order.{listed-queued, listed-sorted, queued-listed}
+use Rattle.pending.proofs.Passing.{any_below-found, or_cases}
+use Rattle.pending.proofs.PlainQueue.{open-queue_event}
+use Rattle.pending.proofs.Prefix.{recorded_list_grows}
+use Rattle.pending.proofs.Standing.{found-longer, well_formed-beginning}
+
+-- at a hazard logging goes on
+hazard-logging : (needs : Needs) (front : List CoreEvent) (place : ℕ) (there : Option CoreEvent) (hazard : Hazard)
+    → hazard_by needs front place there ≡ Some hazard → has_no_stop front ≡ true
+hazard-logging needs front place (Some (Complete id ok)) hazard e = by_stop (has_no_stop front) e
+  where
+    by_stop : (b : Bool) → (if b then hazard_of needs front place id (slice_get front id) else None) ≡ Some hazard → b ≡ true
+    by_stop true e = refl
+    by_stop false e = cc
+hazard-logging needs front place (Some (Submit bio)) hazard e = cc
+hazard-logging needs front place (Some (Mark text)) hazard e = cc
+hazard-logging needs front place (Some (Stop cause)) hazard e = cc
+hazard-logging needs front place (Some Close) hazard e = cc
+hazard-logging needs front place None hazard e = cc
+
+-- no Stop comes before the end of such a front
+stop-after : (events : List CoreEvent) (n stop : ℕ) → n ≤ length events → has_no_stop (take n events) ≡ true → first_place is_stop events ≡ Some stop → n ≤ stop
+stop-after events n stop within going found = elim (cases_lt stop n) [
+  | inl before ↦
+      let first = first_below-found (λ k. is_stop (slice_get events k)) (length events) stop found in
+      let none = first_below-none (λ k. is_stop (slice_get (take n events) k)) (length (take n events)) (is_none-none (first_place is_stop (take n events)) going) stop
+      (let long = length-beginning events n within in omega arith) in
+      let here = ap is_stop (slice_get-take events n stop before) ∙ first.here in
+      cc
+  | inr after ↦ after
+]
+
+-- a moment that is no later than the last safe one is safe
+pub safe-from : (events : List CoreEvent) (moment : ℕ) → is_well_formed events ≡ true → moment ≤ safe_moment recorded events → IsSafe events moment
+safe-from events moment well_formed until = elim (option_cases (first_hazard recorded events)) [
+  | inl none ↦
+      let last : moment ≤ last_moment events = let same = ap (hazard_or_last events) none in omega arith in
+      let both = until-last last in record {
+        well_formed = well_formed;
+        within = both.0;
+        going = both.1;
+        unhazardous = λ p less. none-hazardous recorded events (length events) none p (let within = both.0 in omega arith);
+      }
+  | inr some ↦
+      let hazard = some.0 in
+      let last : moment ≤ hazard.event = let same = ap (hazard_or_last events) some.1 in omega arith in
+      let first = first-hazardous recorded events (length events) hazard some.1 in record {
+        well_formed = well_formed;
+        within = let within = first.0 in omega arith;
+        going = λ stop found.
+            let after = stop-after events (suc hazard.event) stop first.0
+            (hazard-logging recorded (take (suc hazard.event) events) hazard.event (slice_get events hazard.event) hazard first.1) found in
+            omega arith;
+        unhazardous = λ p less. first.2 p (omega arith);
+      }
+]
+  where
+    until-last : moment ≤ last_moment events → (moment ≤ length events) × ((stop : ℕ) → first_place is_stop events ≡ Some stop → moment ≤ stop)
+    until-last last = elim (option_cases (first_place is_stop events)) [
+      | inl none ↦ (
+        (let same = ap (λ found. unwrap_or found (length events)) none in omega arith),
+        λ stop found. cc,
+      )
+      | inr some ↦
+          let same : last_moment events ≡ some.0 = ap (λ found. unwrap_or found (length events)) some.1 in
+          let within = (first_below-found (λ k. is_stop (slice_get events k)) (length events) some.0 some.1).within in (
+            omega arith,
+            λ stop found. let one : some.0 ≡ stop = let a = some.1 in cc in omega arith,
+          )
+    ]
+
+-- an event that puts a value in a sector
+covers-some : (there : Option CoreEvent) (sector : ℕ) → covers_at sector there ≡ true
+    → (bio : Bio) × (there ≡ Some (Submit bio)) × (covers bio sector ≡ true)
+covers-some (Some (Submit bio)) sector h = (bio, refl, h)
+covers-some (Some (Complete id ok)) sector h = cc
+covers-some (Some (Mark text)) sector h = cc
+covers-some (Some (Stop cause)) sector h = cc
+covers-some (Some Close) sector h = cc
+covers-some None sector h = cc
+
+-- what ended with success ended
+success-end : (events : List CoreEvent) (found : Option ℕ) → is_success_at events found ≡ true → (end : ℕ) × (found ≡ Some end)
+success-end events None h = cc
+success-end events (Some end) h = (end, refl)
+
+-- an end in a beginning of the events
+end-longer : (events : List CoreEvent) (moment id end : ℕ) → moment ≤ length events → end_of (take moment events) id ≡ Some end
+    → (end_of events id ≡ Some end) × (id < end) × (end < moment)
+end-longer events moment id end within ends =
+    let there = ends-there (take moment events) id end ends in
+    let long = length-beginning events moment within in (
+      ap (λ es. end_of es id) (sym (take-append-drop moment events)) ∙ found-longer (is_end_of id) (take moment events) (drop moment events) id end ends,
+      there.1,
+      (let less = there.0 in omega arith),
+    )
+
+-- a durable request over a sector, of the first events
+durable-of : (events : List CoreEvent) (moment sector id : ℕ) → moment ≤ length events → id < length (take moment events)
+    → is_kept (take moment events) sector id ≡ true → IsDurableBefore events moment sector id
+durable-of events moment sector id within inside kept =
+    let front = take moment events in
+    let long = length-beginning events moment within in
+    let parts = and_parts (is_durable front id) (covers_at sector (slice_get front id)) kept in
+    let why = and_parts (ended_ok front id) (submits has_fua (slice_get front id) || is_flushed front id) parts.0 in
+    let there = covers-some (slice_get front id) sector parts.1 in
+    let end = success-end front (end_of front id) why.0 in
+    let ends = end-longer events moment id end.0 within end.1 in record {
+      end = end.0;
+      there = record {
+        bio = there.0;
+        submitted = sym (slice_get-take events moment id (omega arith)) ∙ there.1;
+        ends = ends.0;
+        before = ends.2;
+      };
+      over = there.2;
+      durable = elim (or_cases (submits has_fua (slice_get front id)) (is_flushed front id) why.1) [
+        | inl fua ↦ inl (ap (submits has_fua) (sym there.1) ∙ fua)
+        | inr flushed ↦
+            let found = any_below-found (λ flush. is_flush_submit (slice_get front flush) && (ended_ok front flush && is_before front id flush)) (length front) flushed in
+            let flush = found.0 in
+            let outer = and_parts (is_flush_submit (slice_get front flush)) (ended_ok front flush && is_before front id flush) found.2 in
+            let inner = and_parts (ended_ok front flush) (is_before front id flush) outer.1 in
+            let some = flush_submit-some (slice_get front flush) outer.0 in
+            let flush_end = success-end front (end_of front flush) inner.0 in
+            let flush_ends = end-longer events moment flush flush_end.0 within flush_end.1 in
+            let before = (is_before-end front id flush).0 inner.1 in
+            let same = slice_get-take events moment flush (let less = found.1 in omega arith) in
+            inr (
+              flush,
+              flush_end.0,
+              record { bio = some.0; submitted = sym same ∙ some.1; ends = flush_ends.0; before = flush_ends.2 },
+              ap is_flush_submit (sym same) ∙ outer.0,
+              (let one : before.0 ≡ end.0 = let a = before.1 in let b = end.1 in cc in let less = before.2 in omega arith),
+            )
+      ];
+    }
+
+-- the entry of what is queued before a moment stands among those queued by then
+stands-before : (events : List CoreEvent) (moment id event : ℕ) → moment ≤ length events → queue_event recorded events id ≡ Some event → event < moment
+    → (k : ℕ) × (slice_get (completion_list (dm_log_writes 512) events) k ≡ Some (id, entry_at 512 (slice_get (take moment events) id)))
+    × (k < length (completion_list (dm_log_writes 512) (take moment events)))
+stands-before events moment id event within queued less =
+    let front = take moment events in
+    let listed = queued-listed (dm_log_writes 512) front id event (queued-shorter events moment id event within less queued) in
+    let inside = slice_get-within (completion_list (dm_log_writes 512) front) listed.0 (id, entry_at 512 (slice_get front id)) listed.1 in
+    let grows = recorded_list_grows 512 front (drop moment events) in (
+      listed.0,
+      ap (λ es. slice_get (completion_list (dm_log_writes 512) es) listed.0) (sym (take-append-drop moment events))
+          ∙ ap (λ items. slice_get items listed.0) grows.1
+          ∙ slice_get-append_front (completion_list (dm_log_writes 512) front) grows.0 listed.0 inside
+          ∙ listed.1,
+      inside,
+    )
+
+-- What an item of the first so many is: queued by a moment's next event at the latest, and submitted before the moment.
+record IsItemBy (events : List CoreEvent) (moment : ℕ) (item : Item) : Type 0 where
+  event : ℕ
+  queued : queue_event recorded events item.0 ≡ Some event
+  entry : item.1 ≡ entry_at 512 (slice_get events item.0)
+  by_then : event ≤ moment
+
+item-by : (events : List CoreEvent) (moment k : ℕ) (item : Item) → is_well_formed events ≡ true
+    → slice_get (completion_list (dm_log_writes 512) events) k ≡ Some item
+    → k < length (completion_list (dm_log_writes 512) (take (suc moment) events)) → IsItemBy events moment item
+item-by events moment k item well_formed is inside =
+    let front = take (suc moment) events in
+    let grows = recorded_list_grows 512 front (drop (suc moment) events) in
+    let there : slice_get (completion_list (dm_log_writes 512) front) k ≡ Some item =
+    sym (slice_get-append_front (completion_list (dm_log_writes 512) front) grows.0 k inside)
+    ∙ ap (λ items. slice_get items k) (sym grows.1)
+    ∙ ap (λ es. slice_get (completion_list (dm_log_writes 512) es) k) (take-append-drop (suc moment) events)
+    ∙ is in
+    let front_formed = well_formed-beginning front (drop (suc moment) events) (ap is_well_formed (take-append-drop (suc moment) events) ∙ well_formed) in
+    let listed = listed-queued (dm_log_writes 512) front k item front_formed there in
+    let whole = listed-queued (dm_log_writes 512) events k item well_formed is in
+    let event = listed.1.0 in
+    let less = queued-within front item.0 event listed.1.2.queues in
+    let long = length-take (suc moment) events in record {
+      event = event;
+      queued = queued-longer events (suc moment) item.0 event listed.1.2.queues;
+      entry = whole.0;
+      by_then = omega arith;
+    }
+
+-- what is queued by a moment's next event was submitted before the moment
+item-before : (events : List CoreEvent) (moment id : ℕ) (bio : Bio) (event : ℕ) → is_well_formed events ≡ true → slice_get events id ≡ Some (Submit bio)
+    → queue_event recorded events id ≡ Some event → event ≤ moment → id < moment
+item-before events moment id bio event well_formed is queued by_then = elim (option_cases (end_of events id)) [
+  | inl endless ↦ absurd (let none = open-queue_event events id bio is endless in cc)
+  | inr some ↦
+      let after = queued-after events id some.0 event (Some (Submit bio)) is refl some.1 queued in
+      let ended = (ends-there events id some.0 some.1).1 in
+      omega arith
+]
+
+-- a value that a request puts in a sector covers it
+value-covers : (bio : Bio) (sector : ℕ) (now : List ℕ) → values_of bio sector ≡ Some now → covers bio sector ≡ true
+value-covers (bios.Write first bytes flush fua meta) sector now e = elim (over_cases first (length bytes / 512) (sector_of bytes) sector) [
+  | inl within ↦ covers-within (bios.Write first bytes flush fua meta) sector refl (let at = within.2 in omega arith) (let at = within.2 in let less = within.1 in omega arith)
+  | inr none ↦ cc
+]
+value-covers bios.Flush sector now e = cc
+value-covers (bios.Discard first count) sector now e = elim (over_cases first count (λ _. replicate 512 0) sector) [
+  | inl within ↦ covers-within (bios.Discard first count) sector refl (let at = within.2 in omega arith) (let at = within.2 in let less = within.1 in omega arith)
+  | inr none ↦ cc
+]
+value-covers (bios.Read first count) sector now e = cc
+
+-- a request that covers a sector has a value for it
+covers-value : (bio : Bio) (sector : ℕ) → covers bio sector ≡ true → values_of bio sector ≡ None → ⊥
+covers-value (bios.Write first bytes flush fua meta) sector h e =
+    let parts = covers-parts (bios.Write first bytes flush fua meta) sector h in
+    let at : sector ≡ first + (sector - first) = let low = parts.1 in omega arith in
+    let here = ap (over first (length bytes / 512) (sector_of bytes)) at
+    ∙ over-in first (length bytes / 512) (sector_of bytes) (sector - first) (let low = parts.1 in let high = parts.2 in omega arith) in
+    cc
+covers-value bios.Flush sector h e = let parts = covers-parts bios.Flush sector h in let low = parts.1 in let high = parts.2 in omega arith
+covers-value (bios.Discard first count) sector h e =
+    let parts = covers-parts (bios.Discard first count) sector h in
+    let at : sector ≡ first + (sector - first) = let low = parts.1 in omega arith in
+    let here = ap (over first count (λ _. replicate 512 0)) at
+    ∙ over-in first count (λ _. replicate 512 0) (sector - first) (let low = parts.1 in let high = parts.2 in omega arith) in
+    cc
+covers-value (bios.Read first count) sector h e = cc
+
+-- an event that has a value for a sector submits a request
+value-some : (there : Option CoreEvent) (sector : ℕ) (now : List ℕ) → values_at there sector ≡ Some now → (bio : Bio) × (there ≡ Some (Submit bio))
+value-some (Some (Submit bio)) sector now e = (bio, refl)
+value-some (Some (Complete id ok)) sector now e = cc
+value-some (Some (Mark text)) sector now e = cc
+value-some (Some (Stop cause)) sector now e = cc
+value-some (Some Close) sector now e = cc
+value-some None sector now e = cc
+
+-- a durable request over a sector has an entry with a value there, among those queued by the moment
+durable-entry : (events : List CoreEvent) (moment count sector id : ℕ) → IsSafe events moment → BelongsTo (dm_log_writes 512) events moment count
+    → (durable : IsDurableBefore events moment sector id)
+    → (k : ℕ) × (entry : Entry) × (slice_get (completion_list (dm_log_writes 512) events) k ≡ Some (id, entry)) × (k < count)
+    × (slice_get (entries_of (take count (completion_list (dm_log_writes 512) events))) k ≡ Some entry) × (entry_values entry sector ≡ None → ⊥)
+durable-entry events moment count sector id safe belongs durable =
+    let items = completion_list (dm_log_writes 512) events in
+    let there = durable.there in
+    let queued = durable-queued events moment sector id safe durable in
+    let stands = stands-before events moment id queued.0 safe.within queued.1 queued.2 in
+    let entry = entry_at 512 (slice_get (take moment events) id) in
+    let before : id < moment = let a = (ends-there events id durable.end there.ends).1 in let b = there.before in omega arith in
+    let less : stands.0 < count = let a = stands.2 in let b = belongs.from in omega arith in (
+      stands.0,
+      entry,
+      stands.1,
+      less,
+      item-entry items count stands.0 (id, entry) stands.1 less,
+      λ none. covers-value there.bio sector durable.over (
+          ap (λ found. values_at found sector) (sym (slice_get-take events moment id before ∙ there.submitted))
+          ∙ sym (entry-values (slice_get (take moment events) id) sector)
+          ∙ none),
+    )
+
+-- where no entry has a value for the sector, nothing durable covers it
+none-kept : (events : List CoreEvent) (moment count sector : ℕ) → IsSafe events moment → BelongsTo (dm_log_writes 512) events moment count
+    → NoneAt (entries_of (take count (completion_list (dm_log_writes 512) events))) sector → has_kept (take moment events) sector ≡ false
+none-kept events moment count sector safe belongs none = elim (bool_cases (has_kept (take moment events) sector)) [
+  | inl some ↦
+      let found = any_below-found (is_kept (take moment events) sector) (length (take moment events)) some in
+      let entry = durable-entry events moment count sector found.0 safe belongs (durable-of events moment sector found.0 safe.within found.1 found.2) in
+      absurd (entry.5 (none entry.0 entry.1 entry.4))
+  | inr other ↦ other
+]
+
+-- what is queued first stands first
+order-of : (events : List CoreEvent) (moment sector earlier later i j : ℕ) (x y : Entry) → IsSafe events moment
+    → (both : IsReplacedBy events moment sector earlier later)
+    → slice_get (completion_list (dm_log_writes 512) events) i ≡ Some (earlier, x)
+    → slice_get (completion_list (dm_log_writes 512) events) j ≡ Some (later, y) → i < j
+order-of events moment sector earlier later i j x y safe both first second =
+    let queued = replaced-first events moment sector earlier later safe both in
+    let own = ends-there events earlier both.end both.ends in
+    elim (cases_lt i j) [
+      | inl less ↦ less
+      | inr no_less ↦ elim (eq-or-lt_of_le no_less) [
+        | inl same ↦
+            let items = completion_list (dm_log_writes 512) events in
+            let of_later : Item = (later, y) in
+            let of_earlier : Item = (earlier, x) in
+            let both_there : Some of_later ≡ Some of_earlier = sym second ∙ ap (slice_get items) same ∙ first in
+            let pair : of_later ≡ of_earlier = cc in
+            let one : later ≡ earlier = ap (λ (item : Item). item.0) pair in
+            absurd (let a = own.1 in let b = both.before in omega arith)
+        | inr swapped ↦
+            let sorted = listed-sorted (dm_log_writes 512) events j i (later, y) (earlier, x) safe.well_formed swapped second first in
+            let first_same : sorted.first_event ≡ both.event = let a = sorted.first_queued.queues in let b = both.queued in cc in
+            let second_same : sorted.second_event ≡ queued.first_event = let a = sorted.second_queued.queues in let b = queued.queued in cc in
+            let early_end : own_end events earlier (slice_get events earlier) ≡ Some both.end = ap (own_end events earlier) both.first_is ∙ both.ends in
+            let ends_same : sorted.second_end ≡ both.end = let a = sorted.second_queued.ends in cc in
+            let late_end : end_of events later ≡ Some sorted.first_end = sym (ap (own_end events later) both.second_is) ∙ sorted.first_queued.ends in
+            let after = (ends-there events later sorted.first_end late_end).1 in
+            elim sorted.earlier [
+              | inl sooner ↦ absurd (let a = queued.order in omega arith)
+              | inr twice ↦ absurd (let a = twice.1 in let b = both.before in omega arith)
+            ]
+      ]
+    ]
+
+-- the request whose value is last is replaced by none that is durable
+last-unreplaced : (events : List CoreEvent) (moment count sector id place : ℕ) (now : List ℕ) (entry : Entry) → IsSafe events moment
+    → BelongsTo (dm_log_writes 512) events moment count
+    → (last : LastAt (entries_of (take count (completion_list (dm_log_writes 512) events))) sector now)
+    → slice_get (completion_list (dm_log_writes 512) events) last.place ≡ Some (id, entry)
+    → (bio : Bio) → slice_get events id ≡ Some (Submit bio) → covers bio sector ≡ true
+    → is_replaced (take moment events) sector id ≡ false
+last-unreplaced events moment count sector id place now entry safe belongs last stands bio submitted over =
+    let front = take moment events in
+    elim (bool_cases (is_replaced front sector id)) [
+      | inl replaced ↦
+          let found = any_below-found (λ later. is_kept front sector later && is_before front id later) (length front) replaced in
+          let later = found.0 in
+          let parts = and_parts (is_kept front sector later) (is_before front id later) found.2 in
+          let durable = durable-of events moment sector later safe.within found.1 parts.0 in
+          let queued = durable-queued events moment sector later safe durable in
+          let before = (is_before-end front id later).0 parts.1 in
+          let both : IsReplacedBy events moment sector id later = record {
+            first = bio;
+            second = durable.there.bio;
+            first_is = submitted;
+            second_is = durable.there.submitted;
+            first_over = over;
+            second_over = durable.over;
+            end = before.0;
+            ends = (end-longer events moment id before.0 safe.within before.1).0;
+            before = before.2;
+            event = queued.0;
+            queued = queued.1;
+            in_time = queued.2;
+          } in
+          let there = durable-entry events moment count sector later safe belongs durable in
+          let less = order-of events moment sector id later last.place there.0 entry there.1 safe both stands there.2 in
+          absurd (there.5 (last.after there.0 there.1 less there.4))
+      | inr other ↦ other
+    ]
+
+-- Each sector of what is replayed up to the first hazard is possible.
+pub possible-at : (events : List CoreEvent) (first : Content) (moment count sector : ℕ) → is_well_formed events ≡ true
+    → moment ≤ safe_moment recorded events → BelongsTo (dm_log_writes 512) events moment count
+    → PossibleAt (take moment events) first (replay 512 (entries_of (take count (completion_list (dm_log_writes 512) events))) first) sector
+possible-at events first moment count sector well_formed until belongs =
+    let safe = safe-from events moment well_formed until in
+    let items = completion_list (dm_log_writes 512) events in
+    let es = entries_of (take count items) in
+    elim (last-value es sector first) [
+      | inl none ↦ inl (none.0, none-kept events moment count sector safe belongs none.1)
+      | inr last ↦
+          let item = entry-item items count last.place last.entry last.is in
+          let id = item.0.0 in
+          let by = item-by events moment last.place item.0 well_formed item.1 (let a = item.3 in let b = belongs.to in omega arith) in
+          let value : values_at (slice_get events id) sector ≡ Some (replay 512 es first sector) =
+          sym (entry-values (slice_get events id) sector)
+          ∙ ap (λ e. entry_values e sector) (sym by.entry ∙ item.2)
+          ∙ last.value in
+          let some = value-some (slice_get events id) sector (replay 512 es first sector) value in
+          let over = value-covers some.0 sector (replay 512 es first sector) (ap (λ there. values_at there sector) (sym some.1) ∙ value) in
+          let before = item-before events moment id some.0 by.event well_formed some.1 by.queued by.by_then in
+          inr (
+            id,
+            ap (λ there. values_at there sector) (slice_get-take events moment id before) ∙ value,
+            last-unreplaced events moment count sector id last.place (replay 512 es first sector) item.0.1 safe belongs last item.1 some.0 some.1 over,
+          )
+    ]

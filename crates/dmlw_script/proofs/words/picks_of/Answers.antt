@@ -1,7 +1,7 @@
-use Rattle.std.proofs.Common.{◌≡◌, ◌≤◌, ◌+◌, ◌<◌, None, Some, Option, List, ℕ, refl, ap, sym, ◌∙◌, rules, arith, length}
+use Rattle.std.proofs.Common.{◌≡◌, ◌+◌, List, ℕ, refl, ap, sym, ◌∙◌, arith, length}
 use Rattle.std.specs.Prelude.{option_copied}
 use Rattle.dmlw_script.specs.inside.Parsing.{picks_of as the_picks}
-use Rattle.dmlw_script.specs.Words.{after_byte, before_byte, number_of as the_number}
+use Rattle.dmlw_script.specs.Words.{after_byte, number_of as the_number}
 use Rattle.dmlw_script.proofs.PickLaws.{left_behind, left_of, no_pick, pick_read, picks_after}
 use Rattle.dmlw_script.proofs.words.picks_of.Goals as goal
 

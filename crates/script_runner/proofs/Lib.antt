@@ -6,3 +6,4 @@ mod Reading
 mod Writing
 mod Logs
 mod OnDisks
+mod Following

@@ -17,4 +17,5 @@ pub mod Texts
 pub mod Lines
 pub mod Runs
 pub mod Written
+pub mod Followed
 pub mod OnDisks

@@ -1,4 +1,4 @@
-ghost use Rattle.std.specs.Prelude.{◌≡◌, ◌≤◌, List, None, false, length, take, ℕ};
+ghost use Rattle.std.specs.Prelude.{◌++◌, ◌≡◌, ◌≤◌, List, None, false, length, take, ℕ};
 ghost use Rattle.dmlw_script.specs.declared.command.Command.{Command};
 ghost use Rattle.dmlw_script.specs.declared.script_id.ScriptId.{ScriptId};
 ghost use Rattle.log_format.specs.LogOf.{IsLogOf};
@@ -8,6 +8,9 @@ ghost use Rattle.recorder.specs.Growth.{HasWholeLog, RecorderGoes};
 ghost use Rattle.recorder.specs.Recording.{log_of};
 ghost use Rattle.recorder.specs.Shown.{recording_of};
 ghost use Rattle.sectors.specs.Content.{Content};
+ghost use Rattle.std.specs.List.{AllZip};
+ghost use Rattle.script_runner.specs.declared.request.Request.{Request};
+ghost use Rattle.script_runner.specs.Followed.{IsFollowed, StandsFor, submissions_of};
 ghost use Rattle.script_runner.specs.Runs.{RunsLines};
 ghost use Rattle.script_runner.specs.Written.{IsWritten};
 
@@ -21,6 +24,16 @@ pub fn lines_go_as_one_call<D: BlockDev + Drop, L: BlockDev + Drop>()
 {
     recorder::laws::several_calls_go_as_one::<L>();
 }
+
+/// Each line that submits asks the recorder of the request that it says, in the order of the lines, unless there is no memory for it. And each
+/// request that the recorder follows stands in its events, at its id, as it was asked.
+pub fn requests_stand_in_the_events<D: BlockDev + Drop, L: BlockDev + Drop>()
+    ensures asked { (names : List ScriptId) (body : List Command) (text : List ℕ) (old new : Running D L D.BlockDev L.BlockDev) →
+        RunsLines names body text old new → (more : List Request) × (new.requests.items ≡ old.requests.items ++ more)
+        × AllZip StandsFor (submissions_of body) more }
+    ensures recorded { (names : List ScriptId) (body : List Command) (text : List ℕ) (old new : Running D L D.BlockDev L.BlockDev) →
+        RunsLines names body text old new → IsFollowed old → IsFollowed new }
+{}
 
 /// Where the log's device told no lie: whatever a crash at any moment of a script's run may have left has a log, and that is a beginning of
 /// the completion list of the recorder's events, with all that was settled when the run began.

@@ -1,5 +1,5 @@
 -- What becomes of the requests that the lines of a script submit.
-use Rattle.std.proofs.Common.{◌≡◌, ◌∙◌, ◌<◌, List, [], ◌∷◌, ◌++◌, ℕ, Bool, true, false, Option, Some, None, append_assoc, ap, inl, inr, length, refl, subst, sym, arith}
+use Rattle.std.proofs.Common.{◌≡◌, ◌∙◌, ◌<◌, ◌⊎◌, List, [], ◌∷◌, ◌++◌, ℕ, Bool, true, false, Option, Some, None, append_assoc, ap, inl, inr, length, refl, subst, sym, arith}
 use Rattle.std.specs.List.{AllZip}
 use Rattle.std.specs.Prelude.{slice_get}
 use Rattle.std.proofs.lemmas.List.{append-nil}

@@ -29,11 +29,15 @@ ends as it stands, and that is no fault: what wasn't written to the log by then 
 
 | Command | Prints |
 |---|---|
-| `record` | at `c`: `<id> ok` or `<id> failed`; `<id> failed` at a submission that found no memory; at `r`: `read <first>+<count> ok ` and the first byte of each sector as two digits, joined, or `read <first>+<count> failed`; at the end the status, with ` logging_disabled` behind it where logging ended before its time |
+| `record` | at `c`: `<id> ok` or `<id> failed`; `<id> failed` at a submission that found no memory; at `r`: `read <first>+<count> ok ` and the first byte of each sector as two digits, joined, or `read <first>+<count> failed`; at the end `hazard H1 at event <n>` or `hazard H2 at event <n>` where there is one, and the status, with ` logging_disabled` behind it where logging ended before its time |
 | `list` | `super version 1 entries <n> sectorsize <S>`, then a line of each entry: `<number> @<log sector>`, and `mark <text>`, `discard <sector>+<sectors>`, `flush` or `write <sector>+<sectors>`, the last two with ` flush` (of a write), ` fua`, ` meta` where set |
 | `status` | `<entries> <sector>`: how many entries the log counts, and the highest sector of 512 bytes that they use; `0 0` of an empty log |
 
 `help formats` prints this page.
+
+A hazard is the first end of a request, among the submissions, ends and the close counted from 0, at which the log's order gives up what a disk
+promises: H1 where a FUA write or a write with flush overtakes a write over one of its sectors, H2 where a flush overtakes a write that it made
+sure. Up to it each beginning of the log replays to what the data disk could hold had power failed there.
 
 `3 4` is a status: three entries, of which the last uses sector 4. A mark's bytes outside 20 to 7e, and the backslash, stand as a backslash
 and two lower case hexadecimal digits.

@@ -46,6 +46,7 @@ prints_kept contents log writes_old writes_new old middle new status (bytes, out
     text = output.text;
     script = output.script;
     lines = output.lines;
+    hazard = output.hazard;
     read = output.read;
     spelled = output.spelled;
     recorded = output.recorded;

@@ -6,6 +6,7 @@ use Rattle.std.specs.declared.io.ErrorKind.{ErrorKind}
 use Rattle.std.specs.declared.io.ErrorKind.TheVariants as kinds
 use Rattle.script_runner.specs.CallLaws.{appends_twice, keeps_same}
 use Rattle.bio.specs.declared.outcome.Status.{Status}
+use Rattle.pending.specs.declared.hazard.Hazard.{Hazard}
 use Rattle.refusals.specs.declared.fault.Fault.{Fault}
 use Rattle.dmlw_script.specs.Grammar.{IsTextOf}
 use Rattle.dmlw_script.specs.Plans.{Plan}
@@ -19,7 +20,7 @@ use Rattle.dmlw_commands.specs.declared.files.FileError.{FileError}
 use Rattle.dmlw_commands.specs.declared.files.FileError.TheVariants as errors
 use Rattle.dmlw_commands.specs.FileErrors.{file_refusal}
 use Rattle.dmlw_commands.specs.Files.{MatchesContents, Write, one_more}
-use Rattle.dmlw_commands.specs.Records.{FailsRecording, IsPrintedLog, WritesLog, file, run as run_fails, status_line, text as unread}
+use Rattle.dmlw_commands.specs.Records.{FailsRecording, IsPrintedLog, WritesLog, end_lines, file, run as run_fails, text as unread}
 
 -- a file's error is printed as such
 file_told : (error : FileError) → IsFileError (refused_by (file_refusal error))
@@ -77,18 +78,19 @@ fails_of_file contents before after text fault is (unread bytes line refusal sam
 fails_of_file contents before after text fault is (run_fails bytes plan f same spells ends) =
     run_fails bytes plan f (subst (MatchesContents contents) (sym same) is) spells ends
 
--- a script was recorded, and then the status of its log was printed
-pub printed : (text : List ℕ) (plan : Plan) (before ran now : Option (List ℕ)) (status : Status) (image : List ℕ) → IsTextOf text plan
-    → (lines : List ℕ) × IsRecorded plan lines status image × Appends before ran lines → Appends ran now (status_line status)
+-- a script was recorded, and then the lines at the end were printed
+pub printed : (text : List ℕ) (plan : Plan) (before ran now : Option (List ℕ)) (hazard : Option Hazard) (status : Status) (image : List ℕ) → IsTextOf text plan
+    → (lines : List ℕ) × IsRecorded plan lines hazard status image × Appends before ran lines → Appends ran now (end_lines hazard status)
     → IsPrintedLog (Some text) status image before now
-printed text plan before ran now status image spells (lines, recorded, first) second = record {
+printed text plan before ran now hazard status image spells (lines, recorded, first) second = record {
   text = text;
   script = plan;
   lines = lines;
+  hazard = hazard;
   read = refl;
   spelled = spells;
   recorded = recorded;
-  output = appends_twice before ran now lines (status_line status) first second;
+  output = appends_twice before ran now lines (end_lines hazard status) first second;
 }
 
 -- what was printed of a text that is a file's was printed of the file's script
@@ -99,6 +101,7 @@ printed_of_text contents items text before after (Ok recorded) is same log = rec
   text = log.text;
   script = log.script;
   lines = log.lines;
+  hazard = log.hazard;
   read = subst (MatchesContents contents) (sym same ∙ sym log.read) is;
   spelled = log.spelled;
   recorded = log.recorded;

@@ -4,6 +4,8 @@ use Rattle.std.specs.Io.KnownBytes.{Appends, Keeps}
 use Rattle.bio.specs.Texts.{status_text}
 use Rattle.bio.specs.declared.outcome.Status.{Status}
 use Rattle.refusals.specs.declared.refusal.Refusal.{Refusal}
+use Rattle.pending.specs.declared.hazard.Hazard.{Hazard}
+use Rattle.pending.specs.Hazards.{hazard_text}
 use Rattle.dmlw_script.specs.Grammar.{IsTextOf}
 use Rattle.dmlw_script.specs.Lines.{lines_of}
 use Rattle.dmlw_script.specs.Plans.{Plan}
@@ -18,16 +20,22 @@ use Rattle.dmlw_commands.specs.Files.{MatchesContents, Write, one_more}
 abbrev pub status_line : Status → List ℕ
 status_line status = status_text status ++ codes "\n"
 
+-- the lines at the end of a recording: of the first hazard, if there is one, and of how far the log has come
+abbrev pub end_lines : Option Hazard → Status → List ℕ
+end_lines None status = status_line status
+end_lines (Some hazard) status = codes "hazard " ++ (hazard_text hazard ++ (codes "\n" ++ status_line status))
+
 -- The script that a file's bytes spell was recorded, its log has come so far, and these are the bytes of the log's disk. Known bytes grew by
--- what its lines print and by the line that says how far the log has come.
+-- what its lines print and by the lines at the end.
 pub record IsPrintedLog (contents : Option (List ℕ)) (status : Status) (bytes : List ℕ) (before after : Option (List ℕ)) : Type 0 where
   pub text : List ℕ
   pub script : Plan
   pub lines : List ℕ
+  pub hazard : Option Hazard
   pub read : MatchesContents contents text
   pub spelled : IsTextOf text script
-  pub recorded : IsRecorded script lines status bytes
-  pub output : Appends before after (lines ++ status_line status)
+  pub recorded : IsRecorded script lines hazard status bytes
+  pub output : Appends before after (lines ++ end_lines hazard status)
 
 -- one more write was asked for, of the file of this name, which is to hold the log of that script; and what happened was printed
 abbrev pub PrintsLog : Option (List ℕ) → List ℕ → Option (List Write) → Option (List Write) → Option (List ℕ) → Option (List ℕ) → Status → Type 0

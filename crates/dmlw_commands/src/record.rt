@@ -7,13 +7,14 @@ ghost use Rattle.dmlw_commands.specs.declared.exit.Exit.{Exit};
 ghost use Rattle.dmlw_commands.specs.Exits.{IsRefusal, exit_after, exit_of};
 ghost use Rattle.std.specs.Result.{IsErrAnd};
 ghost use Rattle.dmlw_commands.specs.Files.{IsTooLong, IsWithin, KeepsFiles, MatchesContents};
-ghost use Rattle.dmlw_commands.specs.Records.{FailsRecording, IsPrintedLog, WritesLog, status_line};
+ghost use Rattle.dmlw_commands.specs.Records.{FailsRecording, IsPrintedLog, WritesLog, end_lines};
 
 use crate::ending::{Ended, end_recording};
 use crate::explain::explain_recording;
 use crate::files::{FileError, Files};
 use bio::Status;
 use dmlw_script::{Kind, Script, read_script};
+use pending::Hazard;
 use refusals::Refusal;
 use script_runner::{Recorded, RunError};
 use std::alloc::Global;
@@ -67,7 +68,7 @@ fn record_script<F: Files, O: Write>(
     if files.is_same(script, log) {
         return Err(RunError::from(Refusal::File));
     }
-    let Recorded { image, status } = run_file(alloc, script, files, out)?;
+    let Recorded { image, status, .. } = run_file(alloc, script, files, out)?;
     files.write(alloc, log, &image)?;
     Ok(status)
 }
@@ -125,16 +126,19 @@ fn run_script<O: Write>(
     ensures faults { IfErr result (FailsRecording (Some text.now) (O.contents out.old) (O.contents out.new)) }
 {
     let recorded = script_runner::record(alloc, text, script, out)?;
-    print_status(recorded.status, out)?;
+    print_end(recorded.hazard, recorded.status, out)?;
     Ok(recorded)
 }
 
-// Prints how far a log has come.
-fn print_status<O: Write>(status: Status, out: &mut O) -> Result<(), RunError>
-    ensures printed { OnOk result (Appends (O.contents out.old) (O.contents out.new) (status_line status)) }
+// Prints the first hazard, if there is one, and how far a log has come.
+fn print_end<O: Write>(hazard: Option<Hazard>, status: Status, out: &mut O) -> Result<(), RunError>
+    ensures printed { OnOk result (Appends (O.contents out.old) (O.contents out.new) (end_lines hazard status)) }
     ensures faults { IfErr result IsFileError }
 {
-    writeln!(out, "{status}")?;
+    match hazard {
+        Some(hazard) => writeln!(out, "hazard {hazard}\n{status}")?,
+        None => writeln!(out, "{status}")?,
+    }
     out.flush()?;
     Ok(())
 }

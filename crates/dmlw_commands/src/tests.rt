@@ -276,6 +276,7 @@ const SCRIPTS: &str = "data 16\nlog 32\nclose;0;1 1\n;
 ~data 16\nlog 32\nf a\nclose\nc a\nclose\n;1;;dmlw: line 4: 24 Busy\n
 ~data 16\nlog 32\nclose\nw a 5 1 41\nc a\nclose\nf b\n;0;a ok\n1 1\n;
 ~data 16\nlog 32\nr 5 1\nw a 5 1 41\nr 5 1\nc a\nr 4 3\n;0;read 5+1 ok 00\nread 5+1 ok 00\na ok\nread 4+3 ok 004100\n0 0\n;
+~data 16\nlog 32\nw a 5 1 41\nc a\nf b\nf c\nc c\nc b\nclose\n;0;a ok\nc ok\nb ok\nhazard H2 at event 4\n4 5\n;
 ~data 16\nlog 32\nr 15 2\n;1;;dmlw: line 3: 3 PastEnd\n
 ~data 16\nlog 32\ncrash\nclose\n;1;;dmlw: line 4: 30 BadLine\n";
 

@@ -21,6 +21,9 @@ use Rattle.log_store.specs.declared.store.LogStore.{LogStore}
 use Rattle.log_store.specs.Shown.{store_of}
 use Rattle.log_store.specs.Store.{entries_of}
 use Rattle.pending.specs.CoreState.{CoreState, IsSound, new_state}
+use Rattle.pending.specs.declared.hazard.Hazard.{Hazard}
+use Rattle.pending.specs.Hazards.{first_hazard}
+use Rattle.pending.specs.QueueEvent.{recorded}
 use Rattle.dmlw_script.specs.Plans.{Plan}
 use Rattle.recorder.specs.Growth.{CrashReopens, HasWholeLog, RecorderGoes}
 use Rattle.recorder.specs.Recording.{Reopens, log_of}
@@ -73,9 +76,10 @@ new_written : (sectors : ℕ) (recorder : DiskRecorder) → IsNew sectors record
 new_written sectors recorder new = λ closed on. absurd (let recording = ap (λ (c : CoreState). has_no_close c.events) new.core in cc)
 
 -- what a script's recording leaves
-pub is_recorded : (plan : Plan) (text : List ℕ) (start last : DiskRun) (recorder : DiskRecorder) (status : Status) (image : List ℕ) (picks : Option (List ℕ))
+pub is_recorded : (plan : Plan) (text : List ℕ) (start last : DiskRun) (recorder : DiskRecorder) (hazard : Option Hazard) (status : Status) (image : List ℕ) (picks : Option (List ℕ))
     → Starts plan start → RunsLines plan.names plan.commands text start last
     → RecorderGoes (recording_of start.recorder) (recording_of last.recorder)
+    → hazard ≡ first_hazard recorded last.recorder.core.events
     → status ≡ status_of 512 (entries_of (store_of last.recorder.store)) last.recorder.end
     → recorder ≡ last.recorder
     → length image ≡ 512 * (shown_of recorder.store.device).size
@@ -83,8 +87,8 @@ pub is_recorded : (plan : Plan) (text : List ℕ) (start last : DiskRun) (record
     → AgreeBelow (shown_of recorder.store.device).size (left_on picks recorder.store.device) (sector_of image)
     → CrashReopens (recording_of last.recorder)
     → (IsWritten start.recorder → last.recorder.end ≡ None → has_no_close last.recorder.core.events ≡ false → HasWholeLog (recording_of last.recorder))
-    → IsRecorded plan text status image
-is_recorded plan text start last recorder status image picks starts ran goes tells same size ending bytes reopens whole =
+    → IsRecorded plan text hazard status image
+is_recorded plan text start last recorder hazard status image picks starts ran goes first tells same size ending bytes reopens whole =
     let disk = last.recorder.store.device in
     let begun = goes.size ∙ starts.log_disk.made.size ∙ starts.log_disk.blank.size in
     let count : length image ≡ 512 * (shown_of disk).size = subst (λ (r : DiskRecorder). length image ≡ 512 * (shown_of r.store.device).size) same size in
@@ -98,6 +102,7 @@ is_recorded plan text start last recorder status image picks starts ran goes tel
       starts = starts;
       last = last;
       ran = ran;
+      first = first;
       tells = tells;
       size = count ∙ ap (λ (n : ℕ). 512 * n) begun;
       bytes = agree;

@@ -5,6 +5,7 @@ pub use Rattle.recorder.specs.Calls as RecorderCalls
 pub use Rattle.recorder.specs.Growth
 pub use Rattle.refusals.specs.Texts as RefusalTexts
 pub use Rattle.log_format.specs.LogOf
+pub use Rattle.pending.specs.Hazards
 pub use Rattle.recorder.specs.Recording
 pub use Rattle.sector_disk.specs.Candidates
 pub use Rattle.sector_disk.specs.Shown as DiskShown

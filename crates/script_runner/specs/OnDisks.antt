@@ -16,6 +16,9 @@ use Rattle.log_format.specs.Placing.{first_sector}
 use Rattle.log_store.specs.Shown.{store_of}
 use Rattle.log_store.specs.Store.{entries_of}
 use Rattle.pending.specs.CoreState.{new_state}
+use Rattle.pending.specs.declared.hazard.Hazard.{Hazard}
+use Rattle.pending.specs.Hazards.{first_hazard}
+use Rattle.pending.specs.QueueEvent.{recorded}
 use Rattle.dmlw_script.specs.Plans.{Plan}
 use Rattle.recorder.specs.declared.recorder.Recorder.{Recorder}
 use Rattle.recorder.specs.Recording.{Reopens, log_of}
@@ -63,13 +66,14 @@ abbrev pub left_on : Option (List ℕ) → SectorDisk → Content
 left_on None disk = (shown_of disk).content
 left_on (Some picks) disk = left_by (cache_of disk) picks
 
--- A script was recorded: its lines ran and printed this, the log has come so far, and the bytes are those of the log's disk; where the script
--- ends by a crash, those that its picks leave.
-pub record IsRecorded (plan : Plan) (text : List ℕ) (status : Status) (image : List ℕ) : Type 0 where
+-- A script was recorded: its lines ran and printed this, its events have this first hazard, the log has come so far, and the bytes are those of
+-- the log's disk; where the script ends by a crash, those that its picks leave.
+pub record IsRecorded (plan : Plan) (text : List ℕ) (hazard : Option Hazard) (status : Status) (image : List ℕ) : Type 0 where
   pub start : DiskRun
   pub starts : Starts plan start
   pub last : DiskRun
   pub ran : RunsLines plan.names plan.commands text start last
+  pub first : hazard ≡ first_hazard recorded last.recorder.core.events
   pub tells : status ≡ status_of 512 (entries_of (store_of last.recorder.store)) last.recorder.end
   pub size : length image ≡ 512 * plan.log_sectors
   pub bytes : AgreeBelow plan.log_sectors (left_on plan.ending last.recorder.store.device) (sector_of image)

@@ -15,6 +15,7 @@ use crate::running::Running;
 use bio::Status;
 use dmlw_script::Script;
 use log_store::LogStore;
+use pending::Hazard;
 use recorder::Recorder;
 use refusals::Refusal;
 use sector_disk::SectorDisk;
@@ -28,6 +29,8 @@ pub struct Recorded {
     pub image: Vec<u8>,
     /// How far the log has come.
     pub status: Status,
+    /// The first hazard of the recorder's events, if there is one.
+    pub hazard: Option<Hazard>,
 }
 
 /// Records a script, which was read from `text`, on two disks in memory of the sizes that it names. What its lines print is written to
@@ -39,7 +42,7 @@ pub fn record<O: Write>(
     script: &Script,
     out: &mut O,
 ) -> Result<Recorded, RunError>
-    ensures recorded { IfOk result (λ recorded. (printed : List ℕ) × IsRecorded script.now printed recorded.status recorded.image.items
+    ensures recorded { IfOk result (λ recorded. (printed : List ℕ) × IsRecorded script.now printed recorded.hazard recorded.status recorded.image.items
         × Appends (O.contents out.old) (O.contents out.new) printed) }
     ensures faults { IfErr result (FailsOnDisks text.now script.now (O.contents out.old) (O.contents out.new)) }
 {
@@ -49,9 +52,14 @@ pub fn record<O: Write>(
     run(text, script, &mut running, out)?;
     let _events = running.recorder().events();
     let status = running.recorder().status();
+    let hazard = running.recorder().hazard();
     let (recorder, _data) = running.into_parts();
     let image = read_log(recorder, script.crash())?;
-    Ok(Recorded { image, status })
+    Ok(Recorded {
+        image,
+        status,
+        hazard,
+    })
 }
 
 // A script's run before its first line.

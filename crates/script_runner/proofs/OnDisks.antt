@@ -1,7 +1,6 @@
 -- The start of a run on disks in memory, and what its log's disk holds at the end.
-use Rattle.std.proofs.Common.{◌≡◌, ◌∙◌, ◌⊎◌, ◌<◌, ◌≤◌, ◌*◌, ℕ, Option, None, Some, List, [], false, true, length, refl, sym, ap, subst, inl, inr, arith}
+use Rattle.std.proofs.Common.{◌≡◌, ◌∙◌, ◌⊎◌, ◌*◌, ℕ, Option, None, Some, List, [], false, length, refl, sym, ap, subst, inl, inr, arith}
 use Rattle.std.proofs.Math.Nat.{mul-div_cancel}
-use Rattle.std.specs.Io.KnownBytes.{Keeps}
 use Rattle.script_runner.specs.CallLaws.{keeps_same}
 use Rattle.bio.specs.declared.outcome.End.TheVariants as ends
 use Rattle.bio.specs.declared.outcome.Status.{Status}
@@ -20,13 +19,13 @@ use Rattle.log_format.specs.Placing.{first_sector}
 use Rattle.log_store.specs.declared.store.LogStore.{LogStore}
 use Rattle.log_store.specs.Shown.{store_of}
 use Rattle.log_store.specs.Store.{entries_of}
-use Rattle.pending.specs.CoreState.{CoreState, IsSound, new_state}
+use Rattle.pending.specs.CoreState.{CoreState, new_state}
 use Rattle.pending.specs.declared.hazard.Hazard.{Hazard}
 use Rattle.pending.specs.Hazards.{first_hazard}
 use Rattle.pending.specs.QueueEvent.{recorded}
 use Rattle.dmlw_script.specs.Plans.{Plan}
 use Rattle.recorder.specs.Growth.{CrashReopens, HasWholeLog, RecorderGoes}
-use Rattle.recorder.specs.Recording.{Reopens, log_of}
+use Rattle.recorder.specs.Recording.{log_of}
 use Rattle.recorder.specs.Shown.{recording_of}
 use Rattle.script_runner.specs.declared.error.RunError.{RunError}
 use Rattle.script_runner.specs.declared.error.RunError.TheVariants.{LoggingEnded}

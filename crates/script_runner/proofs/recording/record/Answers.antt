@@ -1,6 +1,5 @@
 use Rattle.std.proofs.Common.{◌≡◌, refl, subst, sym, inr}
 use Rattle.script_runner.specs.CallLaws.{on_error}
-use Rattle.script_runner.specs.declared.error.RunError.{RunError}
 use Rattle.script_runner.specs.OnDisks.{DiskRecorder, FailsOnDisks, file, run}
 use Rattle.log_format.specs.LogOf.{status_of}
 use Rattle.log_store.specs.Shown.{store_of}

@@ -13,20 +13,21 @@ import tempfile
 from measure import MIB, base, build, build_peer, measure
 
 SECTOR = 512
+DATA_SECTORS = 1048576
 
 # The kinds of small scripts, and how many of their requests come to a flush.
 KINDS = {"writes of a sector": 0, "a flush every 10": 10, "flushes alone": 1}
 
 
 class Script:
-    """A script: its bytes, its requests, the bytes of data that they write, and the log's sectors that it needs."""
+    """A script: its bytes, its requests, the bytes of the log that it needs, and the sectors of both disks."""
 
     def __init__(self, lines, requests, sectors_written):
         log = 3 + requests + sectors_written
-        self.text = f"data 1048576\nlog {log:07d}\n{''.join(lines)}close\n".encode()
+        self.text = f"data {DATA_SECTORS}\nlog {log:07d}\n{''.join(lines)}close\n".encode()
         self.requests = requests
-        self.data = sectors_written * SECTOR
         self.image = log * SECTOR
+        self.sectors = DATA_SECTORS + log
 
 
 def small(size, flush_every):
@@ -54,7 +55,7 @@ def large(writes):
 
 
 def sizes(program, always):
-    """The most bytes that a request takes, over scripts of 0.25 to 4 MiB: a list that grows has more room than it needs
+    """The most bytes that a request takes beside the log and the sectors, over scripts of 0.25 to 4 MiB: a list that grows has more room than it needs
     just after it has grown."""
     for kind, flush_every in KINDS.items():
         each = []
@@ -65,8 +66,9 @@ def sizes(program, always):
 
 
 def bytes_of_request(script, measured, always):
-    """What a request takes beside the image, the data, three scripts and what any run holds."""
-    return (measured.peak - always - script.image - script.data - 3 * len(script.text)) / script.requests
+    """What a request takes beside what any run holds, 3.5 times the log (the data in the events, on the data disk and on the log's, the entries
+    there, and the file), and 16 bytes for each sector of the two disks."""
+    return (measured.peak - always - 3.5 * script.image - 16 * script.sectors) / script.requests
 
 
 def main():
@@ -75,7 +77,7 @@ def main():
     if sys.argv[1:] == ["--sizes"]:
         return sizes(program, always)
     print(f"any run holds {always / MIB:.1f} MiB")
-    print("script                         requests  CPU s  ratio  times the peer   peak MiB = image + data + rest   rest a request")
+    print("script                         requests  CPU s  ratio  times the peer   peak MiB   log MiB   rest a request")
     kinds = [(kind, [small(size, flush_every) for size in (MIB, 2 * MIB, 4 * MIB)]) for kind, flush_every in KINDS.items()]
     kinds += [("writes of 1 MiB", [large(writes) for writes in (255, 511)])]
     with tempfile.TemporaryDirectory() as folder:
@@ -88,12 +90,11 @@ def main():
                 theirs = peer and measure(peer, ["record", "script", "log"], files)
                 ratio = f"{ours.seconds / before:5.2f}" if before else "     "
                 before = ours.seconds
-                rest = ours.peak - script.image - script.data
                 each = bytes_of_request(script, ours, always)
                 print(
                     f"{kind:19}{len(script.text) / MIB:6.2f} MiB {script.requests:9d} {ours.seconds:6.2f}  {ratio}  {ours.beside(theirs)}"
-                    f"         {ours.peak / MIB:10.1f} = {script.image / MIB:.1f} + {script.data / MIB:.1f} + {rest / MIB:.1f}"
-                    f"   {each:6.0f} bytes beside 3 scripts and what any run holds"
+                    f"         {ours.peak / MIB:10.1f} {script.image / MIB:9.1f}"
+                    f"   {each:6.0f} bytes beside 3.5 times the log and 16 bytes a sector"
                 )
 
 

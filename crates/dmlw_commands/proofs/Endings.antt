@@ -25,7 +25,7 @@ run_kept text script old middle new start fault (close place refusal printed is 
 disks_kept : (text : List ℕ) (script : Plan) (old middle new : Option (List ℕ)) (fault : RunError) → FailsOnDisks text script old middle fault
     → Keeps middle new → FailsOnDisks text script old new fault
 disks_kept text script old middle new fault (no_file f is) kept = no_file f is
-disks_kept text script old middle new fault (unmade none) kept = unmade (keeps_twice old middle new none kept)
+disks_kept text script old middle new fault (unmade f is none) kept = unmade f is (keeps_twice old middle new none kept)
 disks_kept text script old middle new fault (no_run start f starts ends) kept = no_run start f starts (run_kept text script old middle new start f ends kept)
 
 -- why a recording failed is kept

@@ -2,6 +2,7 @@
 use Rattle.std.proofs.Common.{◌≡◌, ◌∙◌, ◌⊎◌, ◌*◌, ℕ, Option, None, Some, List, [], false, length, refl, sym, ap, subst, inl, inr, arith}
 use Rattle.std.proofs.Math.Nat.{mul-div_cancel}
 use Rattle.script_runner.specs.CallLaws.{keeps_same}
+use Rattle.bio.specs.declared.outcome.End.{End}
 use Rattle.bio.specs.declared.outcome.End.TheVariants as ends
 use Rattle.bio.specs.declared.outcome.Status.{Status}
 use Rattle.bio.specs.Lawful.{has_no_close}
@@ -10,13 +11,14 @@ use Rattle.blockdev.specs.Law.{Goes}
 use Rattle.sector_disk.specs.declared.disk.SectorDisk.{SectorDisk}
 use Rattle.sector_disk.specs.CandidateLaws.{is_current}
 use Rattle.sector_disk.specs.PickLaws.{picks_leave_one}
-use Rattle.sector_disk.specs.Shown.{cache_of, shown_of, start_of, steps_of}
+use Rattle.sector_disk.specs.Shown.{Does, cache_of, shown_of, start_of, steps_of}
 use Rattle.sector_disk.specs.ShownLaws.{disk_lawful}
 use Rattle.sector_disk.specs.Sizes.{Begins}
 use Rattle.log_format.specs.LogLaws.{log_within}
 use Rattle.log_format.specs.LogOf.{IsLogOf, log_sectors, status_of}
 use Rattle.log_format.specs.Placing.{first_sector}
 use Rattle.log_store.specs.declared.store.LogStore.{LogStore}
+use Rattle.log_store.specs.Calls.{HasFaulted, TellsNoMemory}
 use Rattle.log_store.specs.Shown.{store_of}
 use Rattle.log_store.specs.Store.{entries_of}
 use Rattle.pending.specs.CoreState.{CoreState, new_state}
@@ -29,8 +31,8 @@ use Rattle.recorder.specs.Recording.{log_of}
 use Rattle.recorder.specs.Shown.{recording_of}
 use Rattle.script_runner.specs.declared.error.RunError.{RunError}
 use Rattle.script_runner.specs.declared.error.RunError.TheVariants.{LoggingEnded}
-use Rattle.script_runner.specs.Errors.{IsFileError}
-use Rattle.script_runner.specs.OnDisks.{DiskRecorder, DiskRun, FailsOnDisks, IsNew, IsRecorded, Starts, file, in_memory, left_on, unmade, zeroes}
+use Rattle.script_runner.specs.Errors.{memory_error}
+use Rattle.script_runner.specs.OnDisks.{DiskRecorder, DiskRun, FailsOnDisks, IsNew, IsRecorded, IsUnmade, Starts, file, in_memory, left_on, unmade, zeroes}
 use Rattle.script_runner.specs.Runs.{RunsLines}
 use Rattle.script_runner.specs.Written.{IsWritten}
 
@@ -51,10 +53,23 @@ new_log sectors disk store recorder blank none goes empty (core, same, end) = re
 }
 
 -- a run that can't be started fails, and has printed nothing
-pub fails_to_start : (text : List ℕ) (plan : Plan) (known : Option (List ℕ)) (fault : RunError) → IsFileError fault ⊎ (fault ≡ LoggingEnded ends.Memory)
+pub fails_to_start : (text : List ℕ) (plan : Plan) (known : Option (List ℕ)) (fault : RunError) → (fault ≡ memory_error) ⊎ IsUnmade plan.log_sectors fault
     → FailsOnDisks text plan known known fault
-fails_to_start text plan known fault (inl is_file) = file fault is_file
-fails_to_start text plan known fault (inr ended) = subst (FailsOnDisks text plan known known) (sym ended) (unmade (keeps_same known))
+fails_to_start text plan known fault (inl memory) = file fault (inr memory)
+fails_to_start text plan known fault (inr none) = unmade fault none (keeps_same known)
+
+-- where a log can't be made on a disk in memory, the disk told that it has no memory
+pub unmade_log : (sectors : ℕ) (disk last : SectorDisk) (end : End) (fault : RunError) → Begins sectors zeroes (shown_of disk)
+    → (end ≡ ends.Device → HasFaulted (shown_of disk) (shown_of last)) → (end ≡ ends.Full → ⊥) → (end ≡ ends.Memory → TellsNoMemory Does 0 disk last)
+    → fault ≡ LoggingEnded end → (fault ≡ memory_error) ⊎ IsUnmade sectors fault
+unmade_log sectors disk last ends.Full fault blank failed fits memory is = absurd (fits refl)
+unmade_log sectors disk last ends.Device fault blank failed fits memory is = absurd (no_fault (failed refl))
+  where
+    no_fault : HasFaulted (shown_of disk) (shown_of last) → ⊥
+    no_fault (inl more) = omega arith
+    no_fault (inr full) = omega arith
+unmade_log sectors disk last ends.Memory fault blank failed fits memory is =
+    inr (record { disk = disk; blank = blank; last = last; told = memory refl; ends = is })
 
 -- what is on a disk a crash may leave
 may_leave : (ending : Option (List ℕ)) (disk : SectorDisk) → (shown_of disk).crash (left_on ending disk)

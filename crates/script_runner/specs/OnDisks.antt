@@ -13,6 +13,7 @@ use Rattle.sector_disk.specs.Shown.{Does, cache_of, shown_of}
 use Rattle.sector_disk.specs.Sizes.{Begins}
 use Rattle.log_format.specs.LogOf.{IsLogOf, status_of}
 use Rattle.log_format.specs.Placing.{first_sector}
+use Rattle.log_store.specs.Calls.{TellsNoMemory}
 use Rattle.log_store.specs.Shown.{store_of}
 use Rattle.log_store.specs.Store.{entries_of}
 use Rattle.pending.specs.CoreState.{new_state}
@@ -55,6 +56,14 @@ pub record IsNew (sectors : ℕ) (recorder : DiskRecorder) : Type 0 where
   pub made : Goes (writes 0 (first_sector 512 0)) (shown_of disk) (shown_of recorder.store.device)
   pub empty : (left : Content) → (shown_of recorder.store.device).crash left → IsLogOf sectors left 512 []
 
+-- No log could be made on a disk of so many sectors of zeroes, which told that it has no memory.
+pub record IsUnmade (sectors : ℕ) (fault : RunError) : Type 0 where
+  pub disk : SectorDisk
+  pub blank : Begins sectors zeroes (shown_of disk)
+  pub last : SectorDisk
+  pub told : TellsNoMemory Does 0 disk last
+  pub ends : fault ≡ LoggingEnded ends.Memory
+
 -- A script's run before its first line: on a data disk of zeroes and a new log, of the sizes that the script names.
 pub record Starts (plan : Plan) (run : DiskRun) : Type 0 where
   pub data_disk : Begins plan.data_sectors zeroes (shown_of run.disk)
@@ -83,9 +92,9 @@ pub record IsRecorded (plan : Plan) (text : List ℕ) (hazard : Option Hazard) (
   pub whole : has_no_close last.recorder.core.events ≡ false → last.recorder.end ≡ None →
       IsLogOf plan.log_sectors (sector_of image) 512 (log_of last.recorder.core)
 
--- Why recording a script, which was read from a text, fails: there is no memory, or the output can't be written; no log could be made, for
--- want of memory, and nothing was printed; or its run ends before its last line.
+-- Why recording a script, which was read from a text, fails: there is no memory, or the output can't be written; no log could be made, and nothing
+-- was printed; or its run ends before its last line.
 pub data FailsOnDisks (text : List ℕ) (plan : Plan) (before after : Option (List ℕ)) : RunError → Type 0 where
   file : (fault : RunError) → IsFileError fault → FailsOnDisks text plan before after fault
-  unmade : Keeps before after → FailsOnDisks text plan before after (LoggingEnded ends.Memory)
+  unmade : (fault : RunError) → IsUnmade plan.log_sectors fault → Keeps before after → FailsOnDisks text plan before after fault
   run : (start : DiskRun) (fault : RunError) → Starts plan start → EndsRun text plan before after start fault → FailsOnDisks text plan before after fault

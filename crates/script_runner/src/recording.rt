@@ -1,12 +1,10 @@
 ghost use Rattle.std.specs.Prelude.{◌≡◌, ◌*◌, ◌⊎◌, IfErr, IfOk, List, length, option_copied, ℕ};
 ghost use Rattle.std.specs.Io.KnownBytes.{Appends};
-ghost use Rattle.bio.specs.declared.outcome.End.TheVariants as ends;
 ghost use Rattle.sectors.specs.Content.{AgreeBelow, sector_of};
 ghost use Rattle.sector_disk.specs.Shown.{shown_of};
 ghost use Rattle.sector_disk.specs.Sizes.{IsDiskSize};
-ghost use Rattle.script_runner.specs.declared.error.RunError.TheVariants.{LoggingEnded};
-ghost use Rattle.script_runner.specs.Errors.{IsFileError};
-ghost use Rattle.script_runner.specs.OnDisks.{FailsOnDisks, IsNew, IsRecorded, Starts, left_on};
+ghost use Rattle.script_runner.specs.Errors.{memory_error};
+ghost use Rattle.script_runner.specs.OnDisks.{FailsOnDisks, IsNew, IsRecorded, IsUnmade, Starts, left_on};
 
 use crate::error::RunError;
 use crate::laws::{closed_runs_leave_whole_logs, lines_go_as_one_call};
@@ -65,7 +63,7 @@ pub fn record<O: Write>(
 // A script's run before its first line.
 fn start(alloc: Global, script: &Script) -> Result<Running<SectorDisk, SectorDisk>, RunError>
     ensures starts { IfOk result (Starts script.now) }
-    ensures faults { IfErr result (λ fault. IsFileError fault ⊎ (fault ≡ LoggingEnded ends.Memory)) }
+    ensures faults { IfErr result (λ fault. (fault ≡ memory_error) ⊎ IsUnmade script.now.log_sectors fault) }
 {
     let recorder = new_recorder(alloc, script.log_sectors())?;
     let data = SectorDisk::new(alloc, script.data_sectors())?;
@@ -77,7 +75,7 @@ fn start(alloc: Global, script: &Script) -> Result<Running<SectorDisk, SectorDis
 fn new_recorder(alloc: Global, sectors: u64) -> Result<Recorder<SectorDisk>, RunError>
     requires { IsDiskSize sectors }
     ensures made { IfOk result (IsNew sectors) }
-    ensures faults { IfErr result (λ fault. IsFileError fault ⊎ (fault ≡ LoggingEnded ends.Memory)) }
+    ensures faults { IfErr result (λ fault. (fault ≡ memory_error) ⊎ IsUnmade sectors fault) }
 {
     let disk = SectorDisk::new(alloc, sectors)?;
     match LogStore::create(disk) {

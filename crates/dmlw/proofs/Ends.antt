@@ -1,5 +1,5 @@
 -- How every task ends.
-use Rattle.std.proofs.Common.{◌≡◌, ◌≤◌, ◌++◌, ℕ, [], append-nil, Bool, false, true, List, Option, Some, None, Result, Ok, Err, arith, inl, inr, refl, subst, sym}
+use Rattle.std.proofs.Common.{◌≡◌, ◌≤◌, ◌⊎◌, ◌++◌, ℕ, [], append-nil, Bool, false, true, List, Option, Some, None, Result, Ok, Err, arith, inl, inr, refl, subst, sym}
 use Rattle.bio.specs.declared.outcome.End.{End}
 use Rattle.bio.specs.declared.outcome.Status.{Status}
 use Rattle.script_runner.specs.declared.error.RunError.{RunError}
@@ -7,12 +7,12 @@ use Rattle.script_runner.specs.declared.error.RunError.TheVariants as faults
 use Rattle.script_runner.specs.Errors.{IsFileError, memory_error}
 use Rattle.dmlw_commands.specs.declared.exit.Exit.{Exit}
 use Rattle.dmlw_commands.specs.declared.exit.Exit.TheVariants.{Done, LoggingEnded, Refused, Usage}
-use Rattle.dmlw_commands.specs.Exits.{exit_after, exit_at, exit_by, exit_of, fault_line, status_of, told_line}
+use Rattle.dmlw_commands.specs.Exits.{exit_after, exit_at, exit_of, fault_line, status_of, told_line}
 use Rattle.dmlw_commands.specs.declared.ending.Ended.{Ended}
 use Rattle.dmlw_commands.specs.Endings.{Telling, Tells, TellsLine}
-use Rattle.dmlw_commands.specs.Files.{Write, one_more}
+use Rattle.dmlw_commands.specs.Files.{AsksFor, Write}
 use Rattle.dmlw_commands.specs.Records.{Records, WritesLog}
-use Rattle.dmlw.specs.Commands.{EndsCommand, EndsTask, EndsUntasked, TellsBy, TellsOneLine, TellsUntasked}
+use Rattle.dmlw.specs.Commands.{AsksForOne, EndsCommand, EndsTask, EndsUntasked, TellsBy, TellsOneLine, TellsUntasked}
 use Rattle.clap.specs.Words.{Text, kind_of}
 use Rattle.clap.specs.declared.error.Error.{Error}
 use Rattle.dmlw.specs.CommandLine.{is_formats}
@@ -45,12 +45,12 @@ refused_recording : (contents : Option (List ℕ)) (log : List ℕ) (writes_old 
 refused_recording contents log writes_old writes_new old new fault (inl same) = ends_silently writes_old writes_new Refused same
 refused_recording contents log writes_old writes_new old new fault (inr (file, status, asked)) = record {
   known = omega arith;
-  once = inr (log, asked.0, asked.2);
+  once = inr (log, (asked.0, asked.2));
   unwritten = λ usage. absurd (omega arith);
 }
 
 -- a recording that came so far has asked for its log
-ends_logged : (end : Option End) (writes_old writes_new : Option (List Write)) → (name : List ℕ) × (bytes : List ℕ) × (writes_new ≡ one_more writes_old name bytes)
+ends_logged : (end : Option End) (writes_old writes_new : Option (List Write)) → AsksForOne writes_old writes_new
     → EndsCommand writes_old writes_new (status_of (exit_at end))
 ends_logged None writes_old writes_new asked = record { known = omega arith; once = inr asked; unwritten = λ usage. absurd (omega arith) }
 ends_logged (Some cause) writes_old writes_new asked = record { known = omega arith; once = inr asked; unwritten = λ usage. absurd (omega arith) }
@@ -59,7 +59,7 @@ ends_logged (Some cause) writes_old writes_new asked = record { known = omega ar
 ends_recorded : (contents : Option (List ℕ)) (log : List ℕ) (writes_old writes_new : Option (List Write)) (old new : Option (List ℕ))
     (done : Result Status RunError) → Records contents log writes_old writes_new old new done
     → EndsCommand writes_old writes_new (status_of (exit_after done))
-ends_recorded contents log writes_old writes_new old new (Ok status) asked = ends_logged status.end writes_old writes_new (log, asked.0, asked.2)
+ends_recorded contents log writes_old writes_new old new (Ok status) asked = ends_logged status.end writes_old writes_new (log, (asked.0, asked.2))
 ends_recorded contents log writes_old writes_new old new (Err (faults.Refused fault)) (writes, fails) =
     refused_recording contents log writes_old writes_new old new (faults.Refused fault) writes
 ends_recorded contents log writes_old writes_new old new (Err (faults.LoggingEnded end)) (inl same, fails) =
@@ -144,3 +144,8 @@ memory_read words error is = read_as (is_formats words) words error is
     read_as : (formats : Bool) (words : List Text) (error : Error) → kind_of error ≡ OutOfMemory → IsReadAs formats words (tasks.Show error)
     read_as true words error is = is
     read_as false words error is = memory is
+
+-- a log that was asked for is one file
+pub asks_for_one : (log : List ℕ) (kept : Type 0) (old new : Option (List Write)) → kept ⊎ AsksFor log old new → kept ⊎ AsksForOne old new
+asks_for_one log kept old new (inl keeps) = inl keeps
+asks_for_one log kept old new (inr asked) = inr (log, asked)

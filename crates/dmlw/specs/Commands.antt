@@ -15,7 +15,7 @@ use Rattle.dmlw_commands.specs.declared.exit.Exit.TheVariants.{Done, LoggingEnde
 use Rattle.dmlw_commands.specs.declared.ending.Ended.{Ended}
 use Rattle.dmlw_commands.specs.Endings.{EndsRecording, EndsShowing, Telling, Tells, telling}
 use Rattle.dmlw_commands.specs.Exits.{exit_of, fault_line}
-use Rattle.dmlw_commands.specs.Files.{Write, one_more}
+use Rattle.dmlw_commands.specs.Files.{AsksFor, Write}
 use Rattle.dmlw_commands.specs.Lists.{ListsImage, ShowsStatus}
 use Rattle.dmlw.specs.CommandLine.{has_explain, without_explain}
 use Rattle.dmlw.specs.Tasks.{IsRead}
@@ -43,11 +43,15 @@ abbrev pub unread_exit : IoErrorKind → Exit
 unread_exit InvalidData = Usage
 unread_exit _ = Refused
 
+-- one more write was asked for, of a file of some name
+abbrev pub AsksForOne : Option (List Write) → Option (List Write) → Type 0
+AsksForOne old new = (name : List ℕ) × AsksFor name old new
+
 -- How every command line ends: with a status from 0 to 3, and it has asked for one file at most to be written, and
 -- for none where the status is 2.
 pub record EndsCommand (old new : Option (List Write)) (status : ℕ) : Type 0 where
   pub known : status ≤ 3
-  pub once : (new ≡ old) ⊎ ((name bytes : List ℕ) × (new ≡ one_more old name bytes))
+  pub once : (new ≡ old) ⊎ AsksForOne old new
   pub unwritten : status ≡ 2 → new ≡ old
 
 -- What is told on the error stream of a text that is shown, as one of this kind: of a want of memory its line, of help and the

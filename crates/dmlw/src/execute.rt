@@ -1,12 +1,13 @@
-ghost use Rattle.std.specs.Prelude.{◌≡◌, Bool, IfErr, MatchResult, false, map};
+ghost use Rattle.std.specs.Prelude.{◌≡◌, ◌⊎◌, Bool, IfErr, MatchResult, false, map};
 ghost use Rattle.std.specs.Io.KnownBytes.{Appends, Keeps};
 ghost use Rattle.std.specs.IoError.{error_kind};
 ghost use Rattle.clap.specs.Words.{kind_of};
 ghost use Rattle.dmlw.specs.CommandLine.{has_explain};
-ghost use Rattle.dmlw.specs.Commands.{DoesWords, EndsCommand, EndsTask, EndsUntasked, TellsBy, TellsPage, TellsUntasked, is_asked_for, unread_exit};
+ghost use Rattle.dmlw.specs.Commands.{AsksForOne, DoesWords, EndsCommand, EndsTask, EndsUntasked, TellsBy, TellsPage, TellsUntasked, is_asked_for, unread_exit};
 ghost use Rattle.dmlw_commands.specs.Endings.{telling};
 ghost use Rattle.script_runner.specs.Errors.{IsFileError};
 ghost use Rattle.dmlw_commands.specs.Files.{KeepsFiles};
+ghost use Rattle.dmlw_commands.specs.declared.exit.Exit.TheVariants.{LoggingEnded};
 ghost use Rattle.dmlw_commands.specs.Exits.{IsRefusal, status_of};
 
 use crate::command_line::{Task, has_explain, read_words, unread, without_explain};
@@ -42,8 +43,9 @@ pub fn execute<'a, S: AsStr, F: Files, O: Write, E: Write>(
         (O.contents out.old) (O.contents out.new) (E.contents err.old) (E.contents err.new) result }
     ensures command { EndsCommand (F.writes files.old) (F.writes files.new) (status_of result.exit) }
 
-    // Where it is refused each file holds what it held.
+    // Where it is refused each file holds what it held; so it does where logging ended, unless a log was asked to be written.
     ensures kept { IsRefusal result.exit → KeepsFiles (F.contents files.old) (F.contents files.new) }
+    ensures unmade { result.exit ≡ LoggingEnded → KeepsFiles (F.contents files.old) (F.contents files.new) ⊎ AsksForOne (F.writes files.old) (F.writes files.new) }
 
     // Without `--explain` nothing goes to `err` where it is done, and of a refusal its one line, as far as `err` takes it.
     ensures told { has_explain (map S.text words.entry.now) ≡ false → TellsBy result.exit result (E.contents err.old) (E.contents err.new) }
@@ -73,6 +75,7 @@ fn perform<F: Files, O: Write, E: Write>(
     ensures ends { EndsTask task.entry (F.contents files.old) (F.writes files.old) (F.writes files.new)
         (O.contents out.old) (O.contents out.new) (telling explains (E.contents err.old) (E.contents err.new)) result }
     ensures kept { IsRefusal result.exit → KeepsFiles (F.contents files.old) (F.contents files.new) }
+    ensures unmade { result.exit ≡ LoggingEnded → KeepsFiles (F.contents files.old) (F.contents files.new) ⊎ AsksForOne (F.writes files.old) (F.writes files.new) }
 {
     match task {
         Task::Record { script, log } => record(alloc, explains, script, log, files, out, err),

@@ -8,36 +8,42 @@ What dmlw reads and prints. Every line ends with a line feed. The log's own byte
 
 A script is ASCII text without zero bytes, at most 4,194,304 bytes long. Lines end with a line feed; the last may lack it. Empty lines and
 lines that begin with `#` are skipped. One space stands between words. So these are refused as 30 BadLine at their line: a carriage return at
-a line's end, a byte order mark, a tab, two spaces, an upper case letter in a word.
+a line's end, a byte order mark, a tab, two spaces, an upper case letter in a word. Only a mark's text is taken as it stands.
 
 | Line | Meaning | Range |
 |---|---|---|
 | `data <sectors>` | the data disk's size; the first line | 1 to 1,048,576 |
 | `log <sectors>` | the log's size; the second line | 1 to 1,048,576 |
-| `w <id> <first> <count> <byte>` | submits a write of that byte | 1 to 2,048 sectors, two lower case hexadecimal digits |
+| `w <id> <first> <count> <byte> [flush] [fua] [meta]` | submits a write of that byte, with these options in this order | 1 to 2,048 sectors, two lower case hexadecimal digits |
 | `f <id>` | submits a flush | |
+| `d <id> <first> <count>` | submits a discard | 1 to 2,048 sectors |
 | `c <id>` | ends that request | an open one |
 | `r <first> <count>` | reads from the data disk | 1 to 2,048 sectors |
 | `turn` | one turn of the log's writer | |
+| `mark <text>` | a mark of this text goes into the log | all that stands behind `mark` and one space; may be empty |
 | `close` | ends recording, and writes the log to its end, with its end mark | no request is open |
 | `crash <pick> ..` | the log's disk loses power, with none or more picks; the last line | each a number |
 
 Sizes and places are in sectors of 512 bytes. An id is 1 to 16 of `a` to `z` and `0` to `9`, and is submitted once. A script without `close`
 ends as it stands, and that is no fault: what wasn't written to the log by then isn't in it.
 
+With `flush` the data disk is flushed and then written, where the flush succeeded; a flush makes sure what ended before it. With `fua` the write is
+sure at its own end. `meta` is a note in the log. A mark waits for nothing, and has no `c`; a log keeps the first 479 bytes of its text.
+
 ## What is printed
 
 | Command | Prints |
 |---|---|
-| `record` | at `c`: `<id> ok` or `<id> failed`; `<id> failed` at a submission that found no memory; at `r`: `read <first>+<count> ok ` and the first byte of each sector as two digits, joined, or `read <first>+<count> failed`; at the end `hazard H1 at event <n>` or `hazard H2 at event <n>` where there is one, and the status, with ` logging_disabled` behind it where logging ended before its time |
+| `record` | at `c`: `<id> ok` or `<id> failed`; `<id> failed` at a submission that found no memory, and `mark failed` at such a mark; at `r`: `read <first>+<count> ok ` and the first byte of each sector as two digits, joined, or `read <first>+<count> failed`; at the end `hazard H1 at event <n>` or `hazard H2 at event <n>` where there is one, and the status, with ` logging_disabled` behind it where logging ended before its time |
 | `list` | `super version 1 entries <n> sectorsize <S>`, then a line of each entry: `<number> @<log sector>`, and `mark <text>`, `discard <sector>+<sectors>`, `flush` or `write <sector>+<sectors>`, the last two with ` flush` (of a write), ` fua`, ` meta` where set |
 | `status` | `<entries> <sector>`: how many entries the log counts, and the highest sector of 512 bytes that they use; `0 0` of an empty log |
 
 `help formats` prints this page.
 
-A hazard is the first end of a request, among the submissions, ends and the close counted from 0, at which the log's order gives up what a disk
+A hazard is the first end of a request, among the submissions, ends, marks and the close counted from 0, at which the log's order gives up what a disk
 promises: H1 where a FUA write or a write with flush overtakes a write over one of its sectors, H2 where a flush overtakes a write that it made
-sure. Up to it each beginning of the log replays to what the data disk could hold had power failed there.
+sure. Up to it each beginning of the log replays to a content that flush, FUA and completion allow a disk to hold, to which these requests were
+sent, had power failed there.
 
 `3 4` is a status: three entries, of which the last uses sector 4. A mark's bytes outside 20 to 7e, and the backslash, stand as a backslash
 and two lower case hexadecimal digits.

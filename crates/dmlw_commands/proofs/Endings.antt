@@ -1,4 +1,4 @@
-use Rattle.std.proofs.Common.{◌≡◌, ℕ, List, Option, Result, Ok, Err, IfErr, inl, inr, subst, sym}
+use Rattle.std.proofs.Common.{◌≡◌, ◌∙◌, ◌⊎◌, ℕ, List, Option, Result, Ok, Err, IfErr, OnErr, inl, inr, subst, sym}
 use Rattle.std.specs.Io.KnownBytes.{Keeps}
 use Rattle.dmlw_commands.specs.declared.ending.Ended.{Ended}
 use Rattle.script_runner.specs.declared.error.RunError.{RunError}
@@ -7,7 +7,7 @@ use Rattle.script_runner.specs.Runs.{EndsRun, close, file as by_file}
 use Rattle.bio.specs.declared.outcome.Status.{Status}
 use Rattle.dmlw_commands.specs.Endings.{EndsRecording, EndsShowing, Telling, Tells, TellsLine}
 use Rattle.dmlw_commands.specs.Exits.{exit_after, told_line}
-use Rattle.dmlw_commands.specs.Files.{Write}
+use Rattle.dmlw_commands.specs.Files.{AsksFor, KeepsFiles, Write}
 use Rattle.dmlw_commands.specs.Lists.{Shows, ShowsFile}
 use Rattle.dmlw_commands.specs.Records.{FailsRecording, Records, PrintsLog, WritesLog, file, run as ran, text as unread}
 use Rattle.dmlw_script.specs.Plans.{Plan}
@@ -96,3 +96,10 @@ showing_ends shows stable contents writes_old writes_new old middle new t done e
   shown = shows_kept shows stable contents old middle new done shown kept;
   tells = tells;
 }
+
+-- a recording has asked for its log, or each file holds what it held, also after a call that asks for none and leaves them
+pub keeps_or_asks : (contents : Option (List ℕ)) (log : List ℕ) (writes_old writes_mid writes_new : Option (List Write)) (before after : Option (List ℕ))
+    (old mid new : List ℕ → Option (List ℕ)) (done : Result Status RunError) → WritesLog contents log writes_old writes_mid before after done
+    → OnErr done (KeepsFiles old mid) → KeepsFiles mid new → writes_new ≡ writes_mid → KeepsFiles old new ⊎ AsksFor log writes_old writes_new
+keeps_or_asks contents log writes_old writes_mid writes_new before after old mid new (Ok status) asked kept same unwritten = inr (asked.0, unwritten ∙ asked.2)
+keeps_or_asks contents log writes_old writes_mid writes_new before after old mid new (Err fault) asked kept same unwritten = inl (λ name. same name ∙ kept name)

@@ -1,5 +1,5 @@
 -- How the recording of the script in a file ends.
-use Rattle.std.proofs.Common.{◌≡◌, ◌∙◌, ℕ, ◌++◌, Err, IfErr, IfOk, List, None, Ok, Option, Result, Some, ap, inl, inr, refl, subst, sym}
+use Rattle.std.proofs.Common.{◌≡◌, ◌∙◌, ℕ, Err, IfErr, IfOk, List, None, Ok, Option, Result, Some, ap, inl, inr, refl, subst, sym}
 use Rattle.std.specs.Io.KnownBytes.{Appends}
 use Rattle.std.specs.Result.{IsErrAnd}
 use Rattle.std.specs.declared.io.ErrorKind.{ErrorKind}

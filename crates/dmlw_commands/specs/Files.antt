@@ -9,6 +9,10 @@ pub record Write : Type 0 where
 abbrev pub one_more : Option (List Write) → List ℕ → List ℕ → Option (List Write)
 one_more writes name bytes = option_map (λ before. before ++ record { name = name; bytes = bytes } ∷ []) writes
 
+-- one more write was asked for, of the file of this name
+abbrev pub AsksFor : List ℕ → Option (List Write) → Option (List Write) → Type 0
+AsksFor name old new = (bytes : List ℕ) × (new ≡ one_more old name bytes)
+
 -- these are the bytes that a file holds, where they are known
 abbrev pub MatchesContents : Option (List ℕ) → List ℕ → Type 0
 MatchesContents None bytes = Unit {0}

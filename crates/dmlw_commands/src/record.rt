@@ -1,4 +1,4 @@
-ghost use Rattle.std.specs.Prelude.{◌≡◌, ◌≤◌, IfErr, IfOk, OnErr, OnOk, Some, length};
+ghost use Rattle.std.specs.Prelude.{◌≡◌, ◌≤◌, ◌⊎◌, IfErr, IfOk, OnErr, OnOk, Some, length};
 ghost use Rattle.std.specs.Io.KnownBytes.{Appends};
 ghost use Rattle.script_runner.specs.Errors.{IsFileError};
 ghost use Rattle.dmlw_script.specs.Grammar.{IsTextOf};
@@ -6,7 +6,7 @@ ghost use Rattle.dmlw_commands.specs.Endings.{EndsRecording, telling};
 ghost use Rattle.dmlw_commands.specs.declared.exit.Exit.{Exit};
 ghost use Rattle.dmlw_commands.specs.Exits.{IsRefusal, exit_after, exit_of};
 ghost use Rattle.std.specs.Result.{IsErrAnd};
-ghost use Rattle.dmlw_commands.specs.Files.{IsTooLong, IsWithin, KeepsFiles, MatchesContents};
+ghost use Rattle.dmlw_commands.specs.Files.{AsksFor, IsTooLong, IsWithin, KeepsFiles, MatchesContents};
 ghost use Rattle.dmlw_commands.specs.Records.{FailsRecording, IsPrintedLog, WritesLog, end_lines};
 
 use crate::ending::{Ended, end_recording};
@@ -38,8 +38,11 @@ pub fn record<F: Files, O: Write, E: Write>(
 ) -> Ended
     ensures ends { EndsRecording (F.contents files.old script.now) log.now (F.writes files.old) (F.writes files.new)
         (O.contents out.old) (O.contents out.new) (telling explains (E.contents err.old) (E.contents err.new)) result }
-    // Where it is refused each file holds what it held, and a script isn't written over.
+    // Where it is refused each file holds what it held, and a script isn't written over. So it does where logging ended, unless the log was
+    // asked to be written.
     ensures kept { IsRefusal result.exit → KeepsFiles (F.contents files.old) (F.contents files.new) }
+    ensures unmade { result.exit ≡ Exit.LoggingEnded →
+        KeepsFiles (F.contents files.old) (F.contents files.new) ⊎ AsksFor log.now (F.writes files.old) (F.writes files.new) }
     ensures apart { script.now ≡ log.now → F.writes files.new ≡ F.writes files.old }
     // A script whose bytes are known, and too many, is refused as a file, and nothing is printed.
     ensures within { IsTooLong 4194304 (F.contents files.old script.now) → result.exit ≡ Exit.Refused }

@@ -11,6 +11,7 @@ use std::test::Fail;
 
 mod explain;
 mod host;
+mod lines;
 mod reading;
 
 // The files "script" and "image" can be read, and the file "log" written.

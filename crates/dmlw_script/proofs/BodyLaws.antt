@@ -26,7 +26,7 @@ use Rattle.dmlw_script.specs.declared.reader.Kind.{Kind}
 use Rattle.dmlw_script.specs.declared.reader.Kind.TheVariants as kinds
 use Rattle.dmlw_script.specs.inside.Drafts.{◌>>=◌, body_step, ended_next, named_next, as_refusal, with_command, with_name, Body}
 use Rattle.dmlw_script.specs.Ids.{script_id, same_name}
-use Rattle.dmlw_script.specs.Plans.{count_after_command, lines_of_body, is_ended, is_submission, name_at, request_of, line_at, step_answer, submission_answer, submissions, IsName, IsWellFormed, CanFollow, WritesByte}
+use Rattle.dmlw_script.specs.Plans.{count_after_command, lines_of_body, is_ended, is_submission, name_at, request_of, line_at, step_answer, submission_answer, submissions, HasLineText, IsName, IsWellFormed, CanFollow, WritesByte}
 use Rattle.dmlw_script.specs.inside.Readers.{parsed_step, with_body, Progress}
 use Rattle.dmlw_script.proofs.DraftLemmas.{listed, with_new_name}
 
@@ -102,7 +102,7 @@ pub record IsSound (sectors : ℕ) (b : Body) : Type 0 where
 abbrev pub IsFine : BodyLine → Type 0
 IsFine (body_lines.Submit name submission) = IsName name × WritesByte submission
 IsFine (body_lines.Complete name) = Unit {0}
-IsFine (body_lines.Step step) = Unit {0}
+IsFine (body_lines.Step step) = HasLineText step
 
 -- the requests that one command submits
 abbrev pub submits : Command → ℕ
@@ -229,7 +229,7 @@ step_grows sectors b c (body_lines.Submit name submission) e fine sound =
 step_grows sectors b c (body_lines.Complete name) e fine sound = end_grows sectors b c name (request_of name b.names) refl e sound
 step_grows sectors b c (body_lines.Step step) e fine sound =
     let q = bind_ok (as_refusal (step_answer sectors step)) _ c e in
-    other_grows sectors b (commands.Step step) (body_lines.Step step) (told_ok (step_answer sectors step) q.0 q.1) refl refl sound c (let last = q.2 in cc)
+    other_grows sectors b (commands.Step step) (body_lines.Step step) (told_ok (step_answer sectors step) q.0 q.1, fine) refl refl sound c (let last = q.2 in cc)
 
 -- ---- the lines of a body
 
@@ -403,6 +403,6 @@ run_again d l names before_byte rest before (commands.Complete request ∷ body)
     (run_again d l names before_byte rest (before ++ commands.Complete request ∷ []) body whole distinct
     (numbered ∙ sym (submissions-push before (commands.Complete request) ∙ omega arith)) (left ∙ submissions-cons (commands.Complete request) body ∙ omega arith) well_formed.1)
 run_again d l names before_byte rest before (commands.Step step ∷ body) whole distinct numbered left well_formed =
-    again_step d l names before_byte before_byte before body (commands.Step step) (bind_at _ _ _ _ (ap as_refusal well_formed.0) refl) refl
+    again_step d l names before_byte before_byte before body (commands.Step step) (bind_at _ _ _ _ (ap as_refusal well_formed.0.0) refl) refl
     (run_again d l names before_byte rest (before ++ commands.Step step ∷ []) body whole distinct
     (numbered ∙ sym (submissions-push before (commands.Step step) ∙ omega arith)) (left ∙ submissions-cons (commands.Step step) body ∙ omega arith) well_formed.1)

@@ -1,14 +1,13 @@
-use Rattle.std.proofs.Common.{◌≡◌, ◌≢◌, ℕ, zero, suc, ◌+◌, ◌-◌, ◌^◌, ◌<◌, ◌≤◌, Bool, true, false, not, ◌&&◌, cond, List, [], ◌∷◌, ◌++◌, length, Option, Some, None, Ok, Err, refl, ap, ◌∙◌, sym, subst, arith, rules, append_assoc, lit<}
-use Rattle.std.specs.Prelude.{◌/◌, ◌%◌, ◌==◌, codes, decimal, flat_map, map, nat_le, nat_lt, replicate, Result}
+use Rattle.std.proofs.Common.{◌≡◌, ◌≢◌, ℕ, zero, suc, ◌+◌, ◌-◌, ◌^◌, ◌<◌, ◌≤◌, Bool, true, false, not, ◌&&◌, cond, List, [], ◌∷◌, ◌++◌, length, Option, Some, None, Ok, Err, refl, ap, ◌∙◌, sym, subst, arith, append_assoc}
+use Rattle.std.specs.Prelude.{◌/◌, ◌%◌, ◌==◌, codes, decimal, flat_map, map, nat_lt, replicate, Result}
 use Rattle.std.specs.Char.{is_ascii_digit}
-use Rattle.std.specs.List.{list_all, onto_first, AllByRecursion, AllZip}
-use Rattle.std.proofs.lemmas.Bool.{and_from, and_parts, cond-true, le-leb, leb-true, lt-ltb, ltb-false}
+use Rattle.std.specs.List.{onto_first, AllByRecursion, AllZip}
+use Rattle.std.proofs.lemmas.Bool.{and_from, and_parts, cond-true, leb-true, ltb-false}
 use Rattle.std.proofs.lemmas.Bool.Decides.{nat_tests}
-use Rattle.std.proofs.lemmas.Fmt.{decimal_nonempty, digits_decimal, digits_value-decimal, length-decimal-le}
+use Rattle.std.proofs.lemmas.Fmt.{digits_decimal}
 use Rattle.std.proofs.lemmas.List.{append-nil}
 use Rattle.std.proofs.lemmas.List.Concat.{flat_map-append}
 use Rattle.std.proofs.lemmas.List.Elements.{All-from_recursion}
-use Rattle.std.proofs.lemmas.Str.Parse.{numerals_by_fold, IsNumeralModel}
 use Rattle.bio.specs.Check.{range_answer}
 use Rattle.bio.specs.declared.request.BadBio.{BadBio}
 use Rattle.dmlw_script.specs.declared.command.Command.{Command}
@@ -23,30 +22,20 @@ use Rattle.dmlw_script.specs.declared.command.Submission.TheVariants as submits
 use Rattle.dmlw_script.specs.declared.command.Step.{Step}
 use Rattle.dmlw_script.specs.declared.command.Step.TheVariants as steps
 use Rattle.dmlw_script.specs.inside.Parsing.{step, submit}
-use Rattle.dmlw_script.specs.Grammar.{spaced, IsId, IsNumber, ParsesAs, IsTextOf, AreLinesOf}
-use Rattle.dmlw_script.specs.Lines.{with_line_feeds, is_ascii_line, unskipped, lines_of, IsUnbroken}
+use Rattle.dmlw_script.specs.Grammar.{spaced, IsId, ParsesAs, IsTextOf, AreLinesOf}
+use Rattle.words.specs.WordLaws.{decimal_number, number_model}
+use Rattle.dmlw_script.specs.Lines.{with_line_feeds, is_ascii_line, is_line_byte, is_line_text, unskipped, lines_of, IsUnbroken}
 use Rattle.dmlw_script.specs.Ids.{is_id, is_name_byte, letters_of, script_id}
-use Rattle.dmlw_script.specs.Plans.{ArePicks, CanFollow, count_after_command, line_at, lines_of_body, name_at, lines_of_script, step_answer, submission_answer, submissions, with_ending, IsName, IsWellFormed, IsPlan, Plan, WritesByte}
+use Rattle.dmlw_script.specs.Plans.{ArePicks, CanFollow, count_after_command, line_at, lines_of_body, name_at, lines_of_script, step_answer, submission_answer, submissions, with_ending, HasLineText, IsName, IsWellFormed, IsPlan, Plan, WritesByte}
 use Rattle.dmlw_script.specs.CanonicalText.{ended_line, ending_text, line_text, canonical_text}
-use Rattle.dmlw_script.specs.Words.{byte_text, before_byte, hex_digit, number_after, number_value}
+use Rattle.dmlw_script.specs.Words.{byte_text, hex_digit}
+use Rattle.words.specs.Words.{before_byte, IsNumber}
 use Rattle.dmlw_script.proofs.BodyLaws.{count_after_command-is, submissions-cons, submissions-push}
-use Rattle.dmlw_script.proofs.ParsingLaws.{all_weaker, lacks, said_kept}
+use Rattle.dmlw_script.specs.declared.command.WriteOptions.{WriteOptions}
+use Rattle.dmlw_script.specs.Options.{option_text, option_words, options_text}
+use Rattle.dmlw_script.proofs.ParsingLaws.{all_weaker, lacks, options_spelled, said_kept}
 
 -- ---- words
-
--- the decimal digits of std are ours
-number_model : IsNumeralModel (λ ds. list_all is_ascii_digit ds ≡ true) number_value
-number_model = numerals_by_fold _ (search rules) number_after (search rules)
-
--- what is written of a number is that number
-pub decimal_number : (n : ℕ) → n < 2 ^ 64 → IsNumber (decimal n) n
-decimal_number n low =
-    let value : number_value (decimal n) ≡ n = digits_value-decimal number_model n low in
-    let some : nat_lt 0 (length (decimal n)) ≡ true = lt-ltb _ _ (decimal_nonempty n low) in
-    let short : nat_le (length (decimal n)) 20 ≡ true = le-leb _ _ (length-decimal-le 20 n (lit< tt) (omega (arith, low)) low) in
-    let digits : list_all is_ascii_digit (decimal n) ≡ true = digits_decimal number_model n low in
-    let below : nat_lt (number_value (decimal n)) (2 ^ 64) ≡ true = lt-ltb _ _ (subst (λ (k : ℕ). k < 2 ^ 64) (sym value) low) in
-    (and_from _ _ (and_from _ _ (and_from _ _ some short) digits) below, value)
 
 -- one more byte before the zeroes
 zeros_step : (t : Bool) (b : ℕ) (word f : List ℕ) → not t ≡ true → f ≡ word → cond t [] (b ∷ f) ≡ b ∷ word
@@ -74,81 +63,114 @@ letters_id name is =
 
 -- ---- lines
 
--- a byte of a printed line
-abbrev is_visible : ℕ → Bool
-is_visible byte = nat_le 32 byte && nat_lt byte 127
-
--- each byte is one of a printed line
-abbrev IsVisible : List ℕ → Type 0
-IsVisible word = list_all is_visible word ≡ true
+-- each byte may stand in a line
+abbrev IsLineText : List ℕ → Type 0
+IsLineText word = is_line_text word ≡ true
 
 -- two such texts in a row
-visible_append : (a b : List ℕ) → IsVisible a → IsVisible b → IsVisible (a ++ b)
-visible_append [] b first second = second
-visible_append (x ∷ a) b first second =
-    let parts : (is_visible x ≡ true) × IsVisible a = and_parts _ _ first in
-    and_from _ _ parts.0 (visible_append a b parts.1 second)
+line_text_append : (a b : List ℕ) → IsLineText a → IsLineText b → IsLineText (a ++ b)
+line_text_append [] b first second = second
+line_text_append (x ∷ a) b first second =
+    let parts : (is_line_byte x ≡ true) × IsLineText a = and_parts _ _ first in
+    and_from _ _ parts.0 (line_text_append a b parts.1 second)
 
 -- a digit is one
-visible_digit : (b : ℕ) → is_ascii_digit b ≡ true → is_visible b ≡ true
-visible_digit b digit = grind (arith, nat_tests)
+line_digit : (b : ℕ) → is_ascii_digit b ≡ true → is_line_byte b ≡ true
+line_digit b digit = grind (arith, nat_tests)
 
 -- a character of an id is one
-visible_name_byte : (b : ℕ) → is_name_byte b ≡ true → is_visible b ≡ true
-visible_name_byte b letter = grind (arith, nat_tests)
+line_name_byte : (b : ℕ) → is_name_byte b ≡ true → is_line_byte b ≡ true
+line_name_byte b letter = grind (arith, nat_tests)
 
 -- a line feed isn't one
-visible_not_feed : (b : ℕ) → is_visible b ≡ true → not (b == 10) ≡ true
-visible_not_feed b visible = grind (arith, nat_tests)
+line_not_feed : (b : ℕ) → is_line_byte b ≡ true → not (b == 10) ≡ true
+line_not_feed b good = grind (arith, nat_tests)
 
 -- such a byte is plain
-visible_plain : (b : ℕ) → is_visible b ≡ true → (nat_lt 0 b && nat_lt b 128) ≡ true
-visible_plain b visible = grind (arith, nat_tests)
+line_plain : (b : ℕ) → is_line_byte b ≡ true → (nat_lt 0 b && nat_lt b 128) ≡ true
+line_plain b good = grind (arith, nat_tests)
 
 -- a hexadecimal digit is one
-visible_hex : (half : ℕ) → half < 16 → is_visible (hex_digit half) ≡ true
-visible_hex half low = grind (arith, nat_tests)
+line_hex : (half : ℕ) → half < 16 → is_line_byte (hex_digit half) ≡ true
+line_hex half low = grind (arith, nat_tests)
 
 -- a number's digits are such bytes
-visible_number : (n : ℕ) → n < 2 ^ 64 → IsVisible (decimal n)
-visible_number n low = all_weaker _ _ visible_digit (decimal n) (digits_decimal number_model n low)
+line_number : (n : ℕ) → n < 2 ^ 64 → IsLineText (decimal n)
+line_number n low = all_weaker _ _ line_digit (decimal n) (digits_decimal number_model n low)
 
 -- an id's characters are such bytes
-visible_id : (name : ScriptId) → IsName name → IsVisible (letters_of name)
-visible_id name is = all_weaker is_name_byte is_visible visible_name_byte (letters_of name) (and_parts _ _ (letters_id name is).0).1
+line_id : (name : ScriptId) → IsName name → IsLineText (letters_of name)
+line_id name is = all_weaker is_name_byte is_line_byte line_name_byte (letters_of name) (and_parts _ _ (letters_id name is).0).1
 
 -- a byte's digits are such bytes
-visible_byte : (byte : ℕ) → byte < 256 → IsVisible (byte_text byte)
-visible_byte byte low = and_from _ _ (visible_hex (byte / 16) (omega arith)) (and_from _ _ (visible_hex (byte % 16) (omega arith)) refl)
+line_byte : (byte : ℕ) → byte < 256 → IsLineText (byte_text byte)
+line_byte byte low = and_from _ _ (line_hex (byte / 16) (omega arith)) (and_from _ _ (line_hex (byte % 16) (omega arith)) refl)
 
 -- what can be written of what a line says
 pub record IsWritten (s : Said) : Type 0 where
   pub says : ParsesAs (line_text s) s
-  pub visible : IsVisible (line_text s)
+  pub good : IsLineText (line_text s)
 
 -- a first word and a number
-written_number : (verb : List ℕ) (n : ℕ) → IsVisible verb → n < 2 ^ 64 → IsVisible (verb ++ 32 ∷ decimal n)
-written_number verb n visible low = visible_append verb (32 ∷ decimal n) visible (visible_number n low)
+written_number : (verb : List ℕ) (n : ℕ) → IsLineText verb → n < 2 ^ 64 → IsLineText (verb ++ 32 ∷ decimal n)
+written_number verb n good low = line_text_append verb (32 ∷ decimal n) good (line_number n low)
 
 -- a first word and an id
-written_id : (verb : List ℕ) (name : ScriptId) → IsVisible verb → IsName name → IsVisible (verb ++ 32 ∷ letters_of name)
-written_id verb name visible is = visible_append verb (32 ∷ letters_of name) visible (visible_id name is)
+written_id : (verb : List ℕ) (name : ScriptId) → IsLineText verb → IsName name → IsLineText (verb ++ 32 ∷ letters_of name)
+written_id verb name good is = line_text_append verb (32 ∷ letters_of name) good (line_id name is)
 
 -- the data disk's line
 pub data_written : (n : ℕ) → n < 2 ^ 64 → IsWritten (parsed_lines.Head (head_lines.Data n))
-data_written n low = record { says = record { word = decimal n; number = decimal_number n low; spelled = refl }; visible = written_number (codes "data") n refl low }
+data_written n low = record { says = record { word = decimal n; number = decimal_number n low; spelled = refl }; good = written_number (codes "data") n refl low }
 
 -- the log disk's line
 pub log_written : (n : ℕ) → n < 2 ^ 64 → IsWritten (parsed_lines.Head (head_lines.Log n))
-log_written n low = record { says = record { word = decimal n; number = decimal_number n low; spelled = refl }; visible = written_number (codes "log") n refl low }
+log_written n low = record { says = record { word = decimal n; number = decimal_number n low; spelled = refl }; good = written_number (codes "log") n refl low }
 
 -- an end's line
 pub complete_written : (name : ScriptId) → IsName name → IsWritten (parsed_lines.Body (body_lines.Complete name))
-complete_written name is = record { says = record { word = letters_of name; id = letters_id name is; spelled = refl }; visible = written_id (codes "c") name refl is }
+complete_written name is = record { says = record { word = letters_of name; id = letters_id name is; spelled = refl }; good = written_id (codes "c") name refl is }
+
+-- options may stand in a line
+line_options : (options : WriteOptions) → IsLineText (options_text options)
+line_options options = by_each options.flush options.fua options.meta
+  where
+    by_each : (flush fua meta : Bool) → IsLineText (option_text flush (codes " flush") ++ (option_text fua (codes " fua") ++ option_text meta (codes " meta")))
+    by_each false false false = refl
+    by_each false false true = refl
+    by_each false true false = refl
+    by_each false true true = refl
+    by_each true false false = refl
+    by_each true false true = refl
+    by_each true true false = refl
+    by_each true true true = refl
 
 -- a write's line
-write_written : (name : ScriptId) (first count byte : ℕ) → IsName name → first < 2 ^ 64 → count < 2 ^ 64 → byte < 256 → IsWritten (submit name (submits.Write first count byte))
-write_written name first count byte is first_low count_low byte_low = record {
+write_written : (name : ScriptId) (first count byte : ℕ) (options : WriteOptions) → IsName name → first < 2 ^ 64 → count < 2 ^ 64 → byte < 256 → IsWritten (submit name (submits.Write first count byte options))
+write_written name first count byte options is first_low count_low byte_low =
+    let last : IsLineText (spaced (byte_text byte ∷ option_words options)) =
+    subst (λ (x : List ℕ). IsLineText x) (sym (options_spelled (byte_text byte) options)) (line_text_append (byte_text byte) (options_text options) (line_byte byte byte_low) (line_options options)) in
+    record {
+      says = record {
+        id_word = letters_of name;
+        first_word = decimal first;
+        count_word = decimal count;
+        id = letters_id name is;
+        first_number = decimal_number first first_low;
+        count_number = decimal_number count count_low;
+        is_byte = byte_low;
+        spelled = refl;
+      };
+      good =
+          line_text_append (codes "w") (32 ∷ (letters_of name ++ 32 ∷ (decimal first ++ 32 ∷ (decimal count ++ 32 ∷ spaced (byte_text byte ∷ option_words options))))) refl
+          (line_text_append (letters_of name) (32 ∷ (decimal first ++ 32 ∷ (decimal count ++ 32 ∷ spaced (byte_text byte ∷ option_words options)))) (line_id name is)
+          (line_text_append (decimal first) (32 ∷ (decimal count ++ 32 ∷ spaced (byte_text byte ∷ option_words options))) (line_number first first_low)
+          (line_text_append (decimal count) (32 ∷ spaced (byte_text byte ∷ option_words options)) (line_number count count_low) last)));
+    }
+
+-- a discard's line
+discard_written : (name : ScriptId) (first count : ℕ) → IsName name → first < 2 ^ 64 → count < 2 ^ 64 → IsWritten (submit name (submits.Discard first count))
+discard_written name first count is first_low count_low = record {
   says = record {
     id_word = letters_of name;
     first_word = decimal first;
@@ -156,14 +178,12 @@ write_written name first count byte is first_low count_low byte_low = record {
     id = letters_id name is;
     first_number = decimal_number first first_low;
     count_number = decimal_number count count_low;
-    is_byte = byte_low;
     spelled = refl;
   };
-  visible =
-      visible_append (codes "w") (32 ∷ (letters_of name ++ 32 ∷ (decimal first ++ 32 ∷ (decimal count ++ 32 ∷ byte_text byte)))) refl
-      (visible_append (letters_of name) (32 ∷ (decimal first ++ 32 ∷ (decimal count ++ 32 ∷ byte_text byte))) (visible_id name is)
-      (visible_append (decimal first) (32 ∷ (decimal count ++ 32 ∷ byte_text byte)) (visible_number first first_low)
-      (visible_append (decimal count) (32 ∷ byte_text byte) (visible_number count count_low) (visible_byte byte byte_low))));
+  good =
+      line_text_append (codes "d") (32 ∷ (letters_of name ++ 32 ∷ (decimal first ++ 32 ∷ decimal count))) refl
+      (line_text_append (letters_of name) (32 ∷ (decimal first ++ 32 ∷ decimal count)) (line_id name is)
+      (line_text_append (decimal first) (32 ∷ decimal count) (line_number first first_low) (line_number count count_low)));
 }
 
 -- a read's line
@@ -176,9 +196,9 @@ read_written first count first_low count_low = record {
     count_number = decimal_number count count_low;
     spelled = refl;
   };
-  visible =
-      visible_append (codes "r") (32 ∷ (decimal first ++ 32 ∷ decimal count)) refl
-      (visible_append (decimal first) (32 ∷ decimal count) (visible_number first first_low) (visible_number count count_low));
+  good =
+      line_text_append (codes "r") (32 ∷ (decimal first ++ 32 ∷ decimal count)) refl
+      (line_text_append (decimal first) (32 ∷ decimal count) (line_number first first_low) (line_number count count_low));
 }
 
 -- picks are written as numbers
@@ -187,16 +207,16 @@ picks_numbers [] low = tt
 picks_numbers (pick ∷ picks) low = (decimal_number pick low.0, picks_numbers picks low.1)
 
 -- a first word and picks
-visible_picks : (word : List ℕ) (picks : List ℕ) → IsVisible word → AllByRecursion (λ pick. pick < 2 ^ 64) picks → IsVisible (spaced (word ∷ map decimal picks))
-visible_picks word [] visible low = visible
-visible_picks word (pick ∷ picks) visible low =
-    visible_append word (32 ∷ spaced (decimal pick ∷ map decimal picks)) visible (visible_picks (decimal pick) picks (visible_number pick low.0) low.1)
+line_picks : (word : List ℕ) (picks : List ℕ) → IsLineText word → AllByRecursion (λ pick. pick < 2 ^ 64) picks → IsLineText (spaced (word ∷ map decimal picks))
+line_picks word [] good low = good
+line_picks word (pick ∷ picks) good low =
+    line_text_append word (32 ∷ spaced (decimal pick ∷ map decimal picks)) good (line_picks (decimal pick) picks (line_number pick low.0) low.1)
 
 -- a crash's line
 crash_written : (picks : List ℕ) → AllByRecursion (λ pick. pick < 2 ^ 64) picks → IsWritten (parsed_lines.Crash picks)
 crash_written picks low = record {
   says = record { words = map decimal picks; numbers = picks_numbers picks low; spelled = refl };
-  visible = visible_picks (codes "crash") picks refl low;
+  good = line_picks (codes "crash") picks refl low;
 }
 
 -- lines that can be written, and one more
@@ -239,19 +259,23 @@ range_ok first count sectors e =
 -- a submission's line
 submission_written : (sectors : ℕ) (name : ScriptId) (submission : Submission) → sectors ≤ 1048576 → IsName name → submission_answer sectors submission ≡ Ok tt → WritesByte submission
     → IsWritten (submit name submission)
-submission_written sectors name (submits.Write first count byte) small is passes low =
+submission_written sectors name (submits.Write first count byte options) small is passes low =
     let r = range_ok first count sectors passes in
-    write_written name first count byte is (omega (arith, r.1)) (omega (arith, r.0)) low
+    write_written name first count byte options is (omega (arith, r.1)) (omega (arith, r.0)) low
+submission_written sectors name (submits.Discard first count) small is passes low =
+    let r = range_ok first count sectors passes in
+    discard_written name first count is (omega (arith, r.1)) (omega (arith, r.0))
 submission_written sectors name submits.Flush small is passes low =
-    record { says = record { word = letters_of name; id = letters_id name is; spelled = refl }; visible = written_id (codes "f") name refl is }
+    record { says = record { word = letters_of name; id = letters_id name is; spelled = refl }; good = written_id (codes "f") name refl is }
 
 -- a line that names no request
-step_written : (sectors : ℕ) (it : Step) → sectors ≤ 1048576 → step_answer sectors it ≡ Ok tt → IsWritten (step it)
-step_written sectors steps.Close small passes = record { says = refl; visible = refl }
-step_written sectors (steps.Read first count) small passes =
+step_written : (sectors : ℕ) (it : Step) → sectors ≤ 1048576 → step_answer sectors it ≡ Ok tt → HasLineText it → IsWritten (step it)
+step_written sectors steps.Close small passes text = record { says = refl; good = refl }
+step_written sectors (steps.Read first count) small passes text =
     let r = range_ok first count sectors passes in
     read_written first count (omega (arith, r.1)) (omega (arith, r.0))
-step_written sectors steps.Turn small passes = record { says = refl; visible = refl }
+step_written sectors steps.Turn small passes text = record { says = refl; good = refl }
+step_written sectors (steps.Mark mark) small passes text = record { says = record { plain = text; spelled = refl }; good = text }
 
 -- a request's id is one
 id_at : (names : List ScriptId) (request : ℕ) → AllByRecursion IsName names → request < length names → IsName (name_at names request)
@@ -269,7 +293,7 @@ command_written sectors names done (commands.Submit submission) rest small ids n
     submission_written sectors (name_at names (submissions done)) submission small (submission_id names (submissions done) rest submission ids numbered) may.0 may.1
 command_written sectors names done (commands.Complete request) rest small ids numbered may =
     complete_written (name_at names request) (id_at names request ids (omega (arith, numbered, may.0)))
-command_written sectors names done (commands.Step it) rest small ids numbered may = step_written sectors it small may
+command_written sectors names done (commands.Step it) rest small ids numbered may = step_written sectors it small may.0 may.1
 
 -- each line of a body can be written
 body_written : (sectors : ℕ) (names : List ScriptId) (n : ℕ) (done body : List Command) → sectors ≤ 1048576 → AllByRecursion IsName names → n ≡ submissions done → length names ≡ n + submissions body →
@@ -313,13 +337,13 @@ spelled_lines_are : (ss : List Said) → AllByRecursion IsWritten ss → lines_o
 spelled_lines_are [] written = refl
 spelled_lines_are (s ∷ ss) written =
     ap lines_of (append_assoc (line_text s) (10 ∷ []) (flat_map ended_line ss))
-    ∙ fed_line (line_text s) (flat_map ended_line ss) (all_weaker _ _ visible_not_feed (line_text s) written.0.visible)
+    ∙ fed_line (line_text s) (flat_map ended_line ss) (all_weaker _ _ line_not_feed (line_text s) written.0.good)
     ∙ ap (λ x. line_text s ∷ x) (spelled_lines_are ss written.1)
 
 -- they are plain
 plain_lines : (ss : List Said) → AllByRecursion IsWritten ss → AllByRecursion (λ line. is_ascii_line line ≡ true) (map line_text ss)
 plain_lines [] written = tt
-plain_lines (s ∷ ss) written = (all_weaker _ _ visible_plain (line_text s) written.0.visible, plain_lines ss written.1)
+plain_lines (s ∷ ss) written = (all_weaker _ _ line_plain (line_text s) written.0.good, plain_lines ss written.1)
 
 -- none of them is skipped
 kept_lines : (ss : List Said) → AllByRecursion IsWritten ss → unskipped (map line_text ss) ≡ map line_text ss

@@ -1,4 +1,3 @@
-pub mod WordLemmas
 pub mod DraftLemmas
 pub mod PickLaws
 pub mod LineLemmas
@@ -10,3 +9,4 @@ pub mod TextLaws
 pub mod CanonicalTextLaws
 pub mod ScriptLaws
 pub mod OneFault
+pub mod Examples

@@ -16,11 +16,15 @@ use Rattle.dmlw_script.specs.declared.line.HeadLine.TheVariants as head_lines
 use Rattle.dmlw_script.specs.declared.line.BodyLine.TheVariants as body_lines
 use Rattle.dmlw_script.specs.declared.command.Submission.TheVariants as submits
 use Rattle.dmlw_script.specs.declared.command.Step.TheVariants as steps
-use Rattle.dmlw_script.specs.Grammar.{spaced, IsId, IsNumber, ParsesAs, ParsesAsCrash, ParsesAsId, ParsesAsNumber}
-use Rattle.dmlw_script.specs.Lines.{is_skipped}
+use Rattle.dmlw_script.specs.declared.command.WriteOptions.{WriteOptions}
+use Rattle.dmlw_script.specs.Grammar.{spaced, IsId, ParsesAs, ParsesAsCrash, ParsesAsId, ParsesAsNumber}
+use Rattle.words.specs.WordLaws.{number_again, number_read}
+use Rattle.dmlw_script.specs.Lines.{is_line_text, is_skipped}
 use Rattle.dmlw_script.specs.Ids.{is_id, is_name_byte, id_of_word}
-use Rattle.dmlw_script.specs.inside.Parsing.{◌>>=◌, lone_word, numbers_of, parse_parts, parse_words, parse_line, picks_of, plain_parts, read_of, split_words, step, submit, with_number, write_of}
-use Rattle.dmlw_script.specs.Words.{after_byte, byte_from, byte_of, byte_text, before_byte, half_of, hex_digit, is_number, number_of}
+use Rattle.dmlw_script.specs.inside.Parsing.{◌>>=◌, body_words, discard_of, found_options, lone_word, mark_of, numbers_of, options_of, take_word, parse_parts, parse_words, parse_line, picks_of, plain_parts, read_of, split_words, step, submit, with_number, write_of}
+use Rattle.dmlw_script.specs.Options.{option_text, option_word, option_words, options_text}
+use Rattle.dmlw_script.specs.Words.{byte_from, byte_of, byte_text, half_of, hex_digit}
+use Rattle.words.specs.Words.{after_byte, before_byte, is_number, number_of, IsNumber}
 
 -- ---- choices
 
@@ -95,14 +99,6 @@ id_lacks_space word id = all_weaker _ _ name_byte_not_space word (and_parts _ _ 
 
 -- ---- numbers, ids and bytes
 
--- what is read as a number is one
-pub number_read : (word : List ℕ) (n : ℕ) → number_of word ≡ Some n → IsNumber word n
-number_read word n e = cond_some _ _ _ e
-
--- a number is read as it is
-pub number_again : (word : List ℕ) (n : ℕ) → IsNumber word n → number_of word ≡ Some n
-number_again word n is = cond-true _ _ _ is.0 ∙ ap Some is.1
-
 -- what is read as an id is one
 pub id_read : (word : List ℕ) (name : ScriptId) → id_of_word word ≡ Some name → IsId word name
 id_read word name e = let parts = cond_some _ _ _ e in (parts.0, sym parts.1)
@@ -172,11 +168,112 @@ byte_again byte low =
     let whole : 16 * (byte / 16) + byte % 16 ≡ byte = omega arith in
     rw (half_again (byte / 16) (omega arith), half_again (byte % 16) (omega arith), whole) refl
 
--- ---- sentences
+-- ---- options
 
 -- the test of two texts says whether they are one
 same_bytes : (xs ys : List ℕ) → bytes_eq xs ys ≡ true → xs ≡ ys
 same_bytes xs ys e = (bytes_eq-Decides xs ys).0 e
+
+-- what is left of words, behind a space
+abbrev behind : Option (List ℕ) → List ℕ
+behind None = []
+behind (Some words) = 32 ∷ words
+
+-- one more byte before the first space, or that is one
+cut_step : (t : Bool) (b : ℕ) (bytes front : List ℕ) (rest : Option (List ℕ)) → (t ≡ true → b ≡ 32) → bytes ≡ front ++ behind rest
+    → b ∷ bytes ≡ cond t [] (b ∷ front) ++ behind (cond t (Some bytes) rest)
+cut_step true b bytes front rest here same = ap (λ (x : ℕ). x ∷ bytes) (here refl)
+cut_step false b bytes front rest here same = ap (λ (x : List ℕ). b ∷ x) same
+
+-- the first word and what is left behind it make up the words
+before_and_behind : (bytes : List ℕ) → bytes ≡ before_byte 32 bytes ++ behind (after_byte 32 bytes)
+before_and_behind [] = refl
+before_and_behind (b ∷ bytes) = cut_step (b == 32) b bytes _ _ (eqb-true b 32) (before_and_behind bytes)
+
+-- a word that is taken off the front stood there
+taken_read : (word : List ℕ) (words : Option (List ℕ)) → behind words ≡ option_text (take_word word words).0 (32 ∷ word) ++ behind (take_word word words).1
+taken_read word None = refl
+taken_read word (Some words) = by_test (bytes_eq (before_byte 32 words) word) (same_bytes (before_byte 32 words) word)
+  where
+    by_test : (t : Bool) → (t ≡ true → before_byte 32 words ≡ word) →
+        let rest : Bool × Option (List ℕ) = cond t (true, after_byte 32 words) (false, Some words) in 32 ∷ words ≡ option_text rest.0 (32 ∷ word) ++ behind rest.1
+    by_test true is = ap (λ (x : List ℕ). 32 ∷ x) (before_and_behind words ∙ ap (λ (x : List ℕ). x ++ behind (after_byte 32 words)) (is refl))
+    by_test false is = refl
+
+-- a write that asks for this
+abbrev asks_for : Bool → Bool → Bool → WriteOptions
+asks_for flush fua meta = record { flush = flush; fua = fua; meta = meta }
+
+-- options are found where no word is left
+found_read : (flush fua meta : Bool) (rest : Option (List ℕ)) (options : WriteOptions) → found_options flush fua meta rest ≡ Some options
+    → option_text flush (codes " flush") ++ (option_text fua (codes " fua") ++ (option_text meta (codes " meta") ++ behind rest)) ≡ options_text options
+found_read flush fua meta (Some words) options e = absurd (cc)
+found_read flush fua meta None options e =
+    let same : asks_for flush fua meta ≡ options = cc in
+    let whole : option_text flush (codes " flush") ++ (option_text fua (codes " fua") ++ (option_text meta (codes " meta") ++ [])) ≡ options_text (asks_for flush fua meta) =
+    ap (λ (x : List ℕ). option_text flush (codes " flush") ++ (option_text fua (codes " fua") ++ x)) (append-nil (option_text meta (codes " meta"))) in
+    whole ∙ ap options_text same
+
+-- what is read as options is their text
+options_read : (words : Option (List ℕ)) (options : WriteOptions) → options_of words ≡ Some options → behind words ≡ options_text options
+options_read words options e =
+    let flush = take_word (codes "flush") words in
+    let fua = take_word (codes "fua") flush.1 in
+    let meta = take_word (codes "meta") fua.1 in
+    taken_read (codes "flush") words
+    ∙ ap (λ (x : List ℕ). option_text flush.0 (codes " flush") ++ x) (taken_read (codes "fua") flush.1
+    ∙ ap (λ (x : List ℕ). option_text fua.0 (codes " fua") ++ x) (taken_read (codes "meta") fua.1))
+    ∙ found_read flush.0 fua.0 meta.0 meta.1 options e
+
+-- options behind a word, each behind a space
+pub options_spelled : (word : List ℕ) (options : WriteOptions) → spaced (word ∷ option_words options) ≡ word ++ options_text options
+options_spelled word options = by_each options.flush options.fua options.meta
+  where
+    by_each : (flush fua meta : Bool) → spaced (word ∷ (option_word flush (codes "flush") ++ (option_word fua (codes "fua") ++ option_word meta (codes "meta"))))
+        ≡ word ++ (option_text flush (codes " flush") ++ (option_text fua (codes " fua") ++ option_text meta (codes " meta")))
+    by_each false false false = sym (append-nil word)
+    by_each false false true = refl
+    by_each false true false = refl
+    by_each false true true = refl
+    by_each true false false = refl
+    by_each true false true = refl
+    by_each true true false = refl
+    by_each true true true = refl
+
+-- a word with nothing behind it is all
+cut_alone : (word : List ℕ) → lacks 32 word ≡ true → (before_byte 32 word ≡ word) × (after_byte 32 word ≡ None)
+cut_alone [] lack = (refl, refl)
+cut_alone (b ∷ word) lack =
+    let parts : (not (b == 32) ≡ true) × (lacks 32 word ≡ true) = and_parts _ _ lack in
+    let more = cut_alone word parts.1 in
+    alone_step (b == 32) b word _ _ parts.0 more.0 more.1
+  where
+    alone_step : (t : Bool) (b : ℕ) (word front : List ℕ) (rest : Option (List ℕ)) → not t ≡ true → front ≡ word → rest ≡ None
+        → (cond t [] (b ∷ front) ≡ b ∷ word) × (cond t (Some word) rest ≡ None)
+    alone_step true b word front rest apart same none = absurd (cc)
+    alone_step false b word front rest apart same none = (ap (λ (x : List ℕ). b ∷ x) same, none)
+
+-- options behind a word are read as they are
+options_again : (word : List ℕ) (options : WriteOptions) → lacks 32 word ≡ true
+    → (before_byte 32 (spaced (word ∷ option_words options)) ≡ word) × (options_of (after_byte 32 (spaced (word ∷ option_words options))) ≡ Some options)
+options_again word options lack = by_each options.flush options.fua options.meta
+  where
+    behind_word : (rest : List ℕ) (o : WriteOptions) → options_of (Some rest) ≡ Some o
+        → (before_byte 32 (word ++ 32 ∷ rest) ≡ word) × (options_of (after_byte 32 (word ++ 32 ∷ rest)) ≡ Some o)
+    behind_word rest o e = let c = cut_at 32 word rest lack in (c.0, ap options_of c.1 ∙ e)
+
+    by_each : (flush fua meta : Bool) → (before_byte 32 (spaced (word ∷ option_words (asks_for flush fua meta))) ≡ word)
+        × (options_of (after_byte 32 (spaced (word ∷ option_words (asks_for flush fua meta)))) ≡ Some (asks_for flush fua meta))
+    by_each false false false = let c = cut_alone word lack in (c.0, ap options_of c.1)
+    by_each false false true = behind_word (codes "meta") (asks_for false false true) refl
+    by_each false true false = behind_word (codes "fua") (asks_for false true false) refl
+    by_each false true true = behind_word (codes "fua meta") (asks_for false true true) refl
+    by_each true false false = behind_word (codes "flush") (asks_for true false false) refl
+    by_each true false true = behind_word (codes "flush meta") (asks_for true false true) refl
+    by_each true true false = behind_word (codes "flush fua") (asks_for true true false) refl
+    by_each true true true = behind_word (codes "flush fua meta") (asks_for true true true) refl
+
+-- ---- sentences
 
 -- the first word and the others
 abbrev first_word : List ℕ → List ℕ → List ℕ
@@ -186,58 +283,71 @@ first_word verb words = verb ++ 32 ∷ words
 record WriteParts (words : List ℕ) (s : Said) : Type 0 where
   from_first : List ℕ
   from_count : List ℕ
-  byte_word : List ℕ
+  from_byte : List ℕ
   name : ScriptId
   first : ℕ
   count : ℕ
   byte : ℕ
+  options : WriteOptions
   cut_first : after_byte 32 words ≡ Some from_first
   cut_count : after_byte 32 from_first ≡ Some from_count
-  cut_byte : after_byte 32 from_count ≡ Some byte_word
+  cut_byte : after_byte 32 from_count ≡ Some from_byte
   is_name : id_of_word (before_byte 32 words) ≡ Some name
   is_first : number_of (before_byte 32 from_first) ≡ Some first
   is_count : number_of (before_byte 32 from_count) ≡ Some count
-  is_byte : byte_of byte_word ≡ Some byte
-  is : s ≡ submit name (submits.Write first count byte)
+  is_byte : byte_of (before_byte 32 from_byte) ≡ Some byte
+  are_options : options_of (after_byte 32 from_byte) ≡ Some options
+  is : s ≡ submit name (submits.Write first count byte options)
+
+-- what is there is one
+same_said : (s t : Said) → Some s ≡ Some t → t ≡ s
+same_said s t e = cc
 
 -- a write was read by its parts
 write_parts : (words : List ℕ) (s : Said) → write_of words ≡ Some s → WriteParts words s
 write_parts words s e =
     let a = bind_some (after_byte 32 words) _ s e in
     let b = bind_some (after_byte 32 a.0) _ s a.2 in
-    let c = bind_some (id_of_word (before_byte 32 words)) _ s b.2 in
-    let d = bind_some (number_of (before_byte 32 a.0)) _ s c.2 in
-    let f = bind_some (number_of (before_byte 32 b.0)) _ s d.2 in
-    let g = bind_some (after_byte 32 b.0) _ s f.2 in
-    let h = bind_some (byte_of g.0) _ s g.2 in
+    let c = bind_some (after_byte 32 b.0) _ s b.2 in
+    let d = bind_some (id_of_word (before_byte 32 words)) _ s c.2 in
+    let f = bind_some (number_of (before_byte 32 a.0)) _ s d.2 in
+    let g = bind_some (number_of (before_byte 32 b.0)) _ s f.2 in
+    let h = bind_some (byte_of (before_byte 32 c.0)) _ s g.2 in
+    let o = bind_some (options_of (after_byte 32 c.0)) _ s h.2 in
     record {
       from_first = a.0;
       from_count = b.0;
-      byte_word = g.0;
-      name = c.0;
-      first = d.0;
-      count = f.0;
+      from_byte = c.0;
+      name = d.0;
+      first = f.0;
+      count = g.0;
       byte = h.0;
+      options = o.0;
       cut_first = a.1;
       cut_count = b.1;
-      cut_byte = g.1;
-      is_name = c.1;
-      is_first = d.1;
-      is_count = f.1;
+      cut_byte = c.1;
+      is_name = d.1;
+      is_first = f.1;
+      is_count = g.1;
       is_byte = h.1;
-      is = let last = h.2 in cc;
+      are_options = o.1;
+      is = same_said _ s o.2;
     }
 
 -- what is heard as a write is said
 write_read : (words : List ℕ) (s : Said) → write_of words ≡ Some s → ParsesAs (first_word (codes "w") words) s
 write_read words s e =
     let p = write_parts words s e in
-    let b = byte_read p.byte_word p.byte p.is_byte in
-    let whole : words ≡ before_byte 32 words ++ 32 ∷ (before_byte 32 p.from_first ++ 32 ∷ (before_byte 32 p.from_count ++ 32 ∷ byte_text p.byte)) =
+    let b = byte_read (before_byte 32 p.from_byte) p.byte p.is_byte in
+    let last : p.from_byte ≡ spaced (byte_text p.byte ∷ option_words p.options) =
+    before_and_behind p.from_byte ∙ ap (λ (x : List ℕ). x ++ behind (after_byte 32 p.from_byte)) b.1
+    ∙ ap (λ (x : List ℕ). byte_text p.byte ++ x) (options_read (after_byte 32 p.from_byte) p.options p.are_options)
+    ∙ sym (options_spelled (byte_text p.byte) p.options) in
+    let whole : words ≡ before_byte 32 words ++ 32 ∷ (before_byte 32 p.from_first ++ 32 ∷ (before_byte 32 p.from_count ++ 32 ∷ spaced (byte_text p.byte ∷ option_words p.options))) =
     cut_joined 32 words p.from_first p.cut_first
     ∙ ap (λ x. before_byte 32 words ++ 32 ∷ x) (cut_joined 32 p.from_first p.from_count p.cut_count
-    ∙ ap (λ x. before_byte 32 p.from_first ++ 32 ∷ x) (cut_joined 32 p.from_count p.byte_word p.cut_byte
-    ∙ ap (λ x. before_byte 32 p.from_count ++ 32 ∷ x) b.1)) in
+    ∙ ap (λ x. before_byte 32 p.from_first ++ 32 ∷ x) (cut_joined 32 p.from_count p.from_byte p.cut_byte
+    ∙ ap (λ x. before_byte 32 p.from_count ++ 32 ∷ x) last)) in
     rw p.is record {
       id_word = before_byte 32 words;
       first_word = before_byte 32 p.from_first;
@@ -248,6 +358,25 @@ write_read words s e =
       is_byte = b.0;
       spelled = ap (λ x. first_word (codes "w") x) whole;
     }
+
+-- what is heard as a discard is said
+discard_read : (words : List ℕ) (s : Said) → discard_of words ≡ Some s → ParsesAs (first_word (codes "d") words) s
+discard_read words s e =
+    let a = bind_some (after_byte 32 words) _ s e in
+    let b = bind_some (id_of_word (before_byte 32 words)) _ s a.2 in
+    let c = bind_some (number_of (before_byte 32 a.0)) _ s b.2 in
+    let d = bind_some (after_byte 32 a.0) _ s c.2 in
+    let f = bind_some (number_of d.0) _ s d.2 in
+    let is : submit b.0 (submits.Discard c.0 f.0) ≡ s = let last = f.2 in cc in
+    subst (λ (x : Said). ParsesAs (first_word (codes "d") words) x) is (record {
+      id_word = before_byte 32 words;
+      first_word = before_byte 32 a.0;
+      count_word = d.0;
+      id = id_read (before_byte 32 words) b.0 b.1;
+      first_number = number_read (before_byte 32 a.0) c.0 c.1;
+      count_number = number_read d.0 f.0 f.1;
+      spelled = ap (λ x. first_word (codes "d") x) (cut_joined 32 words a.0 a.1 ∙ ap (λ x. before_byte 32 words ++ 32 ∷ x) (cut_joined 32 a.0 d.0 d.1));
+    })
 
 -- what is heard as a read is said
 read_read : (words : List ℕ) (s : Said) → read_of words ≡ Some s → ParsesAs (first_word (codes "r") words) s
@@ -295,16 +424,22 @@ id_line verb words f s says e =
     let p = map_some f (id_of_word words) s e in
     subst (λ (x : Said). ParsesAs (first_word verb words) x) p.2 (says p.0 (said_id verb words p.0 p.1))
 
+-- what is heard of the words of a line of the body is said
+body_read : (verb words : List ℕ) (s : Said) → body_words verb words ≡ Some s → ParsesAs (first_word verb words) s
+body_read verb words s =
+    verb_read verb (codes "w") words _ _ s (write_read words s)
+    (verb_read verb (codes "f") words _ _ s (id_line (codes "f") words (λ name. submit name submits.Flush) s (λ name says. says))
+    (verb_read verb (codes "d") words _ _ s (discard_read words s)
+    (verb_read verb (codes "c") words _ _ s (id_line (codes "c") words (λ name. parsed_lines.Body (body_lines.Complete name)) s (λ name says. says))
+    (verb_read verb (codes "r") words _ _ s (read_read words s)
+    (λ e. absurd (cc e))))))
+
 -- what is heard of the words is said
 said_read : (verb words : List ℕ) (s : Said) → parse_words verb words ≡ Some s → ParsesAs (first_word verb words) s
 said_read verb words s =
     verb_read verb (codes "data") words _ _ s (number_line (codes "data") words (λ n. parsed_lines.Head (head_lines.Data n)) s (λ n says. says))
     (verb_read verb (codes "log") words _ _ s (number_line (codes "log") words (λ n. parsed_lines.Head (head_lines.Log n)) s (λ n says. says))
-    (verb_read verb (codes "w") words _ _ s (write_read words s)
-    (verb_read verb (codes "f") words _ _ s (id_line (codes "f") words (λ name. submit name submits.Flush) s (λ name says. says))
-    (verb_read verb (codes "c") words _ _ s (id_line (codes "c") words (λ name. parsed_lines.Body (body_lines.Complete name)) s (λ name says. says))
-    (verb_read verb (codes "r") words _ _ s (read_read words s)
-    (λ e. absurd (cc e)))))))
+    (body_read verb words s))
 
 -- what is heard of one word is said
 word_read : (verb word : List ℕ) (x s : Said) (y : Option Said) → ParsesAs word x → (y ≡ Some s → ParsesAs verb s) → cond (bytes_eq verb word) (Some x) y ≡ Some s → ParsesAs verb s
@@ -332,7 +467,7 @@ before_all : (mark : ℕ) (bytes : List ℕ) → after_byte mark bytes ≡ None 
 before_all mark [] none = refl
 before_all mark (b ∷ bytes) none = all_step (b == mark) b bytes _ _ none (before_all mark bytes)
 
--- what is heard of the parts of a line that is no crash is said
+-- what is heard of the parts of a line that is neither a crash nor a mark is said
 plain_read : (line : List ℕ) (rest : Option (List ℕ)) (s : Said) → after_byte 32 line ≡ rest → plain_parts (before_byte 32 line) rest ≡ Some s → ParsesAs line s
 plain_read line (Some words) s cut e = subst (λ (x : List ℕ). ParsesAs x s) (sym (cut_joined 32 line words cut)) (said_read (before_byte 32 line) words s e)
 plain_read line None s cut e = subst (λ (x : List ℕ). ParsesAs x s) (before_all 32 line cut) (lone_read (before_byte 32 line) s e)
@@ -448,6 +583,23 @@ crash_read line (Some words) picks cut verb e =
           ∙ ap (λ (ws : List (List ℕ)). spaced (codes "crash" ∷ ws)) (sym s.split);
     }
 
+-- what is heard as a mark is said
+mark_read : (line : List ℕ) (rest : Option (List ℕ)) (s : Said) → after_byte 32 line ≡ rest → before_byte 32 line ≡ codes "mark" → mark_of rest ≡ Some s → ParsesAs line s
+mark_read line None s cut verb e = absurd (cc)
+mark_read line (Some text) s cut verb e =
+    let p = cond_some (is_line_text text) (step (steps.Mark text)) s e in
+    subst (λ (x : Said). ParsesAs line x) p.1
+    (record { plain = p.0; spelled = cut_joined 32 line text cut ∙ ap (λ (v : List ℕ). v ++ 32 ∷ text) verb })
+
+-- what is heard of the parts of a line that is no crash is said
+uncrashed_read : (line : List ℕ) (rest : Option (List ℕ)) (s : Said) → after_byte 32 line ≡ rest
+    → cond (bytes_eq (before_byte 32 line) (codes "mark")) (mark_of rest) (plain_parts (before_byte 32 line) rest) ≡ Some s → ParsesAs line s
+uncrashed_read line rest s cut e =
+    ⊎_elim
+    (λ (h : (bytes_eq (before_byte 32 line) (codes "mark") ≡ true) × (mark_of rest ≡ Some s)). mark_read line rest s cut (same_bytes _ _ h.0) h.1)
+    (λ (h : (bytes_eq (before_byte 32 line) (codes "mark") ≡ false) × (plain_parts (before_byte 32 line) rest ≡ Some s)). plain_read line rest s cut h.1)
+    (chosen (bytes_eq (before_byte 32 line) (codes "mark")) _ _ (Some s) e)
+
 -- what is heard of the parts of a line is said
 parts_read : (line : List ℕ) (rest : Option (List ℕ)) (s : Said) → after_byte 32 line ≡ rest → parse_parts (before_byte 32 line) rest ≡ Some s → ParsesAs line s
 parts_read line rest s cut e =
@@ -455,7 +607,8 @@ parts_read line rest s cut e =
     (λ (h : (bytes_eq (before_byte 32 line) (codes "crash") ≡ true) × (option_map (λ (ps : List ℕ). parsed_lines.Crash ps) (picks_of rest) ≡ Some s)).
     let p = map_some (λ (ps : List ℕ). parsed_lines.Crash ps) (picks_of rest) s h.1 in
     subst (λ (x : Said). ParsesAs line x) p.2 (crash_read line rest p.0 cut (same_bytes _ _ h.0) p.1))
-    (λ (h : (bytes_eq (before_byte 32 line) (codes "crash") ≡ false) × (plain_parts (before_byte 32 line) rest ≡ Some s)). plain_read line rest s cut h.1)
+    (λ (h : (bytes_eq (before_byte 32 line) (codes "crash") ≡ false)
+    × (cond (bytes_eq (before_byte 32 line) (codes "mark")) (mark_of rest) (plain_parts (before_byte 32 line) rest) ≡ Some s)). uncrashed_read line rest s cut h.1)
     (chosen (bytes_eq (before_byte 32 line) (codes "crash")) _ _ (Some s) e)
 
 -- what is heard is said
@@ -467,20 +620,42 @@ bind_at : {A B : Type 0} (o : Option A) (f : A → Option B) (x : A) (y : Option
 bind_at None f x y e g = absurd (cc)
 bind_at (Some z) f x y e g = let same : z ≡ x = cc in ap f same ∙ g
 
+-- a byte's digits are no spaces
+byte_lacks_space : (byte : ℕ) → byte < 256 → lacks 32 (byte_text byte) ≡ true
+byte_lacks_space byte low = and_from _ _ (hex_not_space (byte / 16) (omega arith)) (and_from _ _ (hex_not_space (byte % 16) (omega arith)) refl)
+  where
+    hex_not_space : (half : ℕ) → half < 16 → not (hex_digit half == 32) ≡ true
+    hex_not_space half low = grind (arith, nat_tests)
+
 -- a write is heard as it is
-write_again : (id fw cw : List ℕ) (name : ScriptId) (first count byte : ℕ) → IsId id name → IsNumber fw first → IsNumber cw count → byte < 256 →
-    write_of (id ++ 32 ∷ (fw ++ 32 ∷ (cw ++ 32 ∷ byte_text byte))) ≡ Some (submit name (submits.Write first count byte))
-write_again id fw cw name first count byte is_id is_first is_count low =
-    let a = cut_at 32 id (fw ++ 32 ∷ (cw ++ 32 ∷ byte_text byte)) (id_lacks_space id is_id.0) in
-    let b = cut_at 32 fw (cw ++ 32 ∷ byte_text byte) (number_lacks_space fw is_first.0) in
-    let c = cut_at 32 cw (byte_text byte) (number_lacks_space cw is_count.0) in
+write_again : (id fw cw : List ℕ) (name : ScriptId) (first count byte : ℕ) (options : WriteOptions) → IsId id name → IsNumber fw first → IsNumber cw count → byte < 256 →
+    write_of (id ++ 32 ∷ (fw ++ 32 ∷ (cw ++ 32 ∷ spaced (byte_text byte ∷ option_words options)))) ≡ Some (submit name (submits.Write first count byte options))
+write_again id fw cw name first count byte options is_id is_first is_count low =
+    let last = spaced (byte_text byte ∷ option_words options) in
+    let a = cut_at 32 id (fw ++ 32 ∷ (cw ++ 32 ∷ last)) (id_lacks_space id is_id.0) in
+    let b = cut_at 32 fw (cw ++ 32 ∷ last) (number_lacks_space fw is_first.0) in
+    let c = cut_at 32 cw last (number_lacks_space cw is_count.0) in
+    let d = options_again (byte_text byte) options (byte_lacks_space byte low) in
     bind_at _ _ _ _ a.1
     (bind_at _ _ _ _ b.1
+    (bind_at _ _ _ _ c.1
     (bind_at _ _ _ _ (ap id_of_word a.0 ∙ id_again id name is_id)
     (bind_at _ _ _ _ (ap number_of b.0 ∙ number_again fw first is_first)
     (bind_at _ _ _ _ (ap number_of c.0 ∙ number_again cw count is_count)
-    (bind_at _ _ _ _ c.1
-    (bind_at _ _ _ _ (byte_again byte low) refl))))))
+    (bind_at _ _ _ _ (ap byte_of d.0 ∙ byte_again byte low)
+    (bind_at _ _ _ _ d.1 refl)))))))
+
+-- a discard is heard as it is
+discard_again : (id fw cw : List ℕ) (name : ScriptId) (first count : ℕ) → IsId id name → IsNumber fw first → IsNumber cw count →
+    discard_of (id ++ 32 ∷ (fw ++ 32 ∷ cw)) ≡ Some (submit name (submits.Discard first count))
+discard_again id fw cw name first count is_id is_first is_count =
+    let a = cut_at 32 id (fw ++ 32 ∷ cw) (id_lacks_space id is_id.0) in
+    let b = cut_at 32 fw cw (number_lacks_space fw is_first.0) in
+    bind_at _ _ _ _ a.1
+    (bind_at _ _ _ _ (ap id_of_word a.0 ∙ id_again id name is_id)
+    (bind_at _ _ _ _ (ap number_of b.0 ∙ number_again fw first is_first)
+    (bind_at _ _ _ _ b.1
+    (bind_at _ _ _ _ (number_again cw count is_count) refl))))
 
 -- a read is heard as it is
 read_again : (fw cw : List ℕ) (first count : ℕ) → IsNumber fw first → IsNumber cw count → read_of (fw ++ 32 ∷ cw) ≡ Some (step (steps.Read first count))
@@ -496,8 +671,10 @@ parsed_again line (parsed_lines.Head (head_lines.Data n)) says =
     rw says.spelled (ap (option_map (λ k. parsed_lines.Head (head_lines.Data k))) (number_again says.word n says.number))
 parsed_again line (parsed_lines.Head (head_lines.Log n)) says =
     rw says.spelled (ap (option_map (λ k. parsed_lines.Head (head_lines.Log k))) (number_again says.word n says.number))
-parsed_again line (parsed_lines.Body (body_lines.Submit name (submits.Write first count byte))) says =
-    rw says.spelled (write_again says.id_word says.first_word says.count_word name first count byte says.id says.first_number says.count_number says.is_byte)
+parsed_again line (parsed_lines.Body (body_lines.Submit name (submits.Write first count byte options))) says =
+    rw says.spelled (write_again says.id_word says.first_word says.count_word name first count byte options says.id says.first_number says.count_number says.is_byte)
+parsed_again line (parsed_lines.Body (body_lines.Submit name (submits.Discard first count))) says =
+    rw says.spelled (discard_again says.id_word says.first_word says.count_word name first count says.id says.first_number says.count_number)
 parsed_again line (parsed_lines.Body (body_lines.Submit name submits.Flush)) says =
     rw says.spelled (ap (option_map (λ k. submit k submits.Flush)) (id_again says.word name says.id))
 parsed_again line (parsed_lines.Body (body_lines.Complete name)) says =
@@ -506,6 +683,7 @@ parsed_again line (parsed_lines.Body (body_lines.Step steps.Close)) says = rw sa
 parsed_again line (parsed_lines.Body (body_lines.Step (steps.Read first count))) says =
     rw says.spelled (read_again says.first_word says.count_word first count says.first_number says.count_number)
 parsed_again line (parsed_lines.Body (body_lines.Step steps.Turn)) says = rw says refl
+parsed_again line (parsed_lines.Body (body_lines.Step (steps.Mark text))) says = rw says.spelled (cond-true _ _ _ says.plain)
 parsed_again line (parsed_lines.Crash picks) says = rw says.spelled (crash_again says.words picks says.numbers)
 
 -- a line says one thing

@@ -16,14 +16,15 @@ use Rattle.dmlw_script.specs.declared.line.HeadLine.TheVariants as head_lines
 use Rattle.dmlw_script.specs.declared.line.BodyLine.{BodyLine}
 use Rattle.dmlw_script.specs.declared.line.BodyLine.TheVariants as body_lines
 use Rattle.dmlw_script.specs.declared.command.Submission.TheVariants as submits
+use Rattle.dmlw_script.specs.declared.command.Step.TheVariants as steps
 use Rattle.dmlw_script.specs.inside.Stages.{Stage}
 use Rattle.dmlw_script.specs.inside.Stages as heads
 use Rattle.dmlw_script.specs.inside.Heads.{head_step}
 use Rattle.dmlw_script.specs.inside.Drafts.{◌>>=◌, body_step, Body}
-use Rattle.dmlw_script.specs.Grammar.{IsNumber, ParsesAs, AreLinesOf}
+use Rattle.dmlw_script.specs.Grammar.{ParsesAs, AreLinesOf}
 use Rattle.dmlw_script.specs.Lines.{is_ascii_line, is_skipped, unskipped, lines_of}
 use Rattle.dmlw_script.specs.Plans.{lines_of_body, is_disk_size, lines_of_script, with_ending, ArePicks, IsPlan, Plan}
-use Rattle.dmlw_script.specs.Words.{number_value}
+use Rattle.words.specs.Words.{number_value, IsNumber}
 use Rattle.dmlw_script.specs.inside.Readers.{and_then, at_line, body_line, crash_line, finish_step, finished, step_if_parsed, line_step, nothing, read_lines, read_text, parsed_step, with_body, with_head, Progress}
 use Rattle.dmlw_script.specs.inside.Parsing.{parse_line}
 use Rattle.dmlw_script.proofs.BodyLaws.{bind_at, bind_ok, in_draft, lines_grow, lines_of_draft, run, run_again, step_grows, IsFine, IsSound}
@@ -49,10 +50,14 @@ numbers_low (word ∷ words) (pick ∷ picks) says =
 -- what a line says is fine
 pub fine_said : (line : List ℕ) (s : Said) → ParsesAs line s → IsFineLine s
 fine_said line (parsed_lines.Head head) says = tt
-fine_said line (parsed_lines.Body (body_lines.Submit name (submits.Write first count byte))) says = ((says.id_word, says.id.0, says.id.1), says.is_byte)
+fine_said line (parsed_lines.Body (body_lines.Submit name (submits.Write first count byte options))) says = ((says.id_word, says.id.0, says.id.1), says.is_byte)
 fine_said line (parsed_lines.Body (body_lines.Submit name submits.Flush)) says = ((says.word, says.id.0, says.id.1), tt)
+fine_said line (parsed_lines.Body (body_lines.Submit name (submits.Discard first count))) says = ((says.id_word, says.id.0, says.id.1), tt)
 fine_said line (parsed_lines.Body (body_lines.Complete name)) says = tt
-fine_said line (parsed_lines.Body (body_lines.Step step)) says = tt
+fine_said line (parsed_lines.Body (body_lines.Step steps.Close)) says = tt
+fine_said line (parsed_lines.Body (body_lines.Step (steps.Read first count))) says = tt
+fine_said line (parsed_lines.Body (body_lines.Step steps.Turn)) says = tt
+fine_said line (parsed_lines.Body (body_lines.Step (steps.Mark text))) says = says.plain
 fine_said line (parsed_lines.Crash picks) says = numbers_low says.words picks says.numbers
 
 -- what lines say is fine

@@ -1,8 +1,7 @@
-use Rattle.std.proofs.Common.{◌≡◌, ℕ, zero, suc, ◌+◌, ◌<◌, ◌≤◌, ◌^◌, Bool, true, false, not, ◌||◌, cond, List, [], ◌∷◌, ◌++◌, length, Option, Some, None, ⊎_elim, get_or, refl, ap, ◌∙◌, sym, subst, arith, append_assoc}
-use Rattle.std.specs.Prelude.{is_some, nat_le, nat_lt, slice_get}
-use Rattle.std.specs.Char.{is_ascii_digit}
-use Rattle.std.specs.List.{list_all, AllByRecursion, AllZip}
-use Rattle.std.proofs.lemmas.Bool.{and_from, and_parts, cases_lt, eq-eqb, le-leb, lt-ltb}
+use Rattle.std.proofs.Common.{◌≡◌, ℕ, zero, suc, ◌+◌, ◌<◌, ◌≤◌, Bool, true, false, not, ◌||◌, cond, List, [], ◌∷◌, ◌++◌, length, Option, Some, None, ⊎_elim, get_or, refl, ap, ◌∙◌, sym, subst, arith, append_assoc}
+use Rattle.std.specs.Prelude.{is_some, slice_get}
+use Rattle.std.specs.List.{AllByRecursion, AllZip}
+use Rattle.std.proofs.lemmas.Bool.{cases_lt, eq-eqb}
 use Rattle.std.proofs.lemmas.List.{append-nil, length-append}
 use Rattle.std.proofs.lemmas.Option.{slice_get-get_or, slice_get_past}
 use Rattle.std.proofs.Math.Bool.{or-true}
@@ -11,11 +10,10 @@ use Rattle.dmlw_script.specs.declared.command.Command.TheVariants as commands
 use Rattle.dmlw_script.specs.declared.script_id.ScriptId.{ScriptId}
 use Rattle.dmlw_script.specs.Said.{Said}
 use Rattle.dmlw_script.specs.Said as parsed_lines
-use Rattle.dmlw_script.specs.Grammar.{IsLineOf, IsNumber, ParsesAs, IsTextOf, AreLinesOf}
+use Rattle.dmlw_script.specs.Grammar.{IsLineOf, ParsesAs, IsTextOf, AreLinesOf}
 use Rattle.dmlw_script.specs.Lines.{command_line, is_ascii_line, is_skipped, unskipped, unskipped_numbers, lines_of}
 use Rattle.dmlw_script.specs.Plans.{count_after_command, count_behind_head, lines_of_body, is_end_of, is_ended, lines_of_script, with_ending, IsWellFormed, IsPlan, CanFollow, Plan}
 use Rattle.dmlw_script.specs.CanonicalText.{canonical_text}
-use Rattle.dmlw_script.specs.Words.{number_value}
 use Rattle.dmlw_script.proofs.CanonicalTextLaws.{spelling_spells}
 use Rattle.dmlw_script.proofs.TextLaws.{one_script_of}
 use Rattle.dmlw_script.proofs.FaultLaws.{as_many}
@@ -279,16 +277,3 @@ ends_once plan before between rest request is split =
     let closed = ended_behind request before between in
     let not_ended = may.1 in
     cc
-
--- ---- numbers
-
--- a zero in front of a number doesn't count
-pub zero_in_front : (word : List ℕ) (n : ℕ) → IsNumber word n → length word < 20 → IsNumber (48 ∷ word) n
-zero_in_front word n number short =
-    let parts = and_parts _ _ number.0 in
-    let digits = and_parts _ _ parts.0 in
-    let some : nat_lt 0 (length (48 ∷ word)) ≡ true = lt-ltb _ _ (omega arith) in
-    let lens : nat_le (length (48 ∷ word)) 20 ≡ true = le-leb _ _ (omega arith) in
-    let all : list_all is_ascii_digit (48 ∷ word) ≡ true = digits.1 in
-    let low : nat_lt (number_value (48 ∷ word)) (2 ^ 64) ≡ true = parts.1 in
-    (and_from _ _ (and_from _ _ (and_from _ _ some lens) all) low, number.1)

@@ -11,19 +11,23 @@ use Rattle.dmlw_script.specs.declared.command.Step.TheVariants as steps
 use Rattle.dmlw_script.specs.declared.script_id.ScriptId.{ScriptId}
 use Rattle.dmlw_script.specs.Grammar.{spaced}
 use Rattle.dmlw_script.specs.Ids.{letters_of}
+use Rattle.dmlw_script.specs.Options.{option_words}
 use Rattle.dmlw_script.specs.Plans.{lines_of_script, Plan}
 use Rattle.dmlw_script.specs.Words.{byte_text}
 
 -- the line of a submission, with no leading zeroes
 abbrev pub submission_text : ScriptId → Submission → List ℕ
-submission_text name (submits.Write first count byte) = spaced (codes "w" ∷ letters_of name ∷ decimal first ∷ decimal count ∷ byte_text byte ∷ [])
+submission_text name (submits.Write first count byte options) =
+    spaced (codes "w" ∷ letters_of name ∷ decimal first ∷ decimal count ∷ byte_text byte ∷ option_words options)
 submission_text name submits.Flush = spaced (codes "f" ∷ letters_of name ∷ [])
+submission_text name (submits.Discard first count) = spaced (codes "d" ∷ letters_of name ∷ decimal first ∷ decimal count ∷ [])
 
 -- a line that names no request
 abbrev pub step_text : Step → List ℕ
 step_text steps.Close = codes "close"
 step_text (steps.Read first count) = spaced (codes "r" ∷ decimal first ∷ decimal count ∷ [])
 step_text steps.Turn = codes "turn"
+step_text (steps.Mark text) = codes "mark " ++ text
 
 -- the line that says this
 abbrev pub line_text : Said → List ℕ

@@ -8,14 +8,13 @@ use Rattle.dmlw_script.specs.declared.line.HeadLine.TheVariants as head_lines
 use Rattle.dmlw_script.specs.declared.line.BodyLine.TheVariants as body_lines
 use Rattle.dmlw_script.specs.declared.command.Submission.TheVariants as submits
 use Rattle.dmlw_script.specs.declared.command.Step.TheVariants as steps
-use Rattle.dmlw_script.specs.Lines.{is_ascii_line, unskipped, lines_of}
+use Rattle.dmlw_script.specs.declared.command.WriteOptions.{WriteOptions}
+use Rattle.dmlw_script.specs.Lines.{is_ascii_line, is_line_text, unskipped, lines_of}
 use Rattle.dmlw_script.specs.Ids.{is_id, script_id}
+use Rattle.dmlw_script.specs.Options.{option_words}
 use Rattle.dmlw_script.specs.Plans.{lines_behind_head, lines_of_script, IsPlan, Plan}
-use Rattle.dmlw_script.specs.Words.{byte_text, is_number, number_value}
-
--- the word is a number of this value
-abbrev pub IsNumber : List ℕ → ℕ → Type 0
-IsNumber word n = (is_number word ≡ true) × (number_value word ≡ n)
+use Rattle.dmlw_script.specs.Words.{byte_text}
+use Rattle.words.specs.Words.{IsNumber}
 
 -- the word is the id of this name
 abbrev pub IsId : List ℕ → ScriptId → Type 0
@@ -37,8 +36,8 @@ pub record ParsesAsId (verb line : List ℕ) (name : ScriptId) : Type 0 where
   pub id : IsId word name
   pub spelled : line ≡ spaced (verb ∷ word ∷ [])
 
--- the line is a write: its id, its first sector, its number of sectors and its byte
-pub record ParsesAsWrite (line : List ℕ) (name : ScriptId) (first count byte : ℕ) : Type 0 where
+-- the line is a write: its id, its first sector, its number of sectors, its byte, and behind these its options in their order
+pub record ParsesAsWrite (line : List ℕ) (name : ScriptId) (first count byte : ℕ) (options : WriteOptions) : Type 0 where
   pub id_word : List ℕ
   pub first_word : List ℕ
   pub count_word : List ℕ
@@ -46,7 +45,17 @@ pub record ParsesAsWrite (line : List ℕ) (name : ScriptId) (first count byte :
   pub first_number : IsNumber first_word first
   pub count_number : IsNumber count_word count
   pub is_byte : byte < 256
-  pub spelled : line ≡ spaced (codes "w" ∷ id_word ∷ first_word ∷ count_word ∷ byte_text byte ∷ [])
+  pub spelled : line ≡ spaced (codes "w" ∷ id_word ∷ first_word ∷ count_word ∷ byte_text byte ∷ option_words options)
+
+-- the line is a discard: its id, its first sector and its number of sectors
+pub record ParsesAsDiscard (line : List ℕ) (name : ScriptId) (first count : ℕ) : Type 0 where
+  pub id_word : List ℕ
+  pub first_word : List ℕ
+  pub count_word : List ℕ
+  pub id : IsId id_word name
+  pub first_number : IsNumber first_word first
+  pub count_number : IsNumber count_word count
+  pub spelled : line ≡ spaced (codes "d" ∷ id_word ∷ first_word ∷ count_word ∷ [])
 
 -- the line is a read: its first sector and its number of sectors
 pub record ParsesAsRead (line : List ℕ) (first count : ℕ) : Type 0 where
@@ -55,6 +64,11 @@ pub record ParsesAsRead (line : List ℕ) (first count : ℕ) : Type 0 where
   pub first_number : IsNumber first_word first
   pub count_number : IsNumber count_word count
   pub spelled : line ≡ spaced (codes "r" ∷ first_word ∷ count_word ∷ [])
+
+-- the line is a mark: its text is all that stands behind the first word and one space, and may be empty
+pub record ParsesAsMark (line text : List ℕ) : Type 0 where
+  pub plain : is_line_text text ≡ true
+  pub spelled : line ≡ codes "mark " ++ text
 
 -- the line is a crash: its picks
 pub record ParsesAsCrash (line picks : List ℕ) : Type 0 where
@@ -66,12 +80,15 @@ pub record ParsesAsCrash (line picks : List ℕ) : Type 0 where
 abbrev pub ParsesAs : List ℕ → Said → Type 0
 ParsesAs line (parsed_lines.Head (head_lines.Data sectors)) = ParsesAsNumber (codes "data") line sectors
 ParsesAs line (parsed_lines.Head (head_lines.Log sectors)) = ParsesAsNumber (codes "log") line sectors
-ParsesAs line (parsed_lines.Body (body_lines.Submit name (submits.Write first count byte))) = ParsesAsWrite line name first count byte
+ParsesAs line (parsed_lines.Body (body_lines.Submit name (submits.Write first count byte options))) =
+    ParsesAsWrite line name first count byte options
 ParsesAs line (parsed_lines.Body (body_lines.Submit name submits.Flush)) = ParsesAsId (codes "f") line name
+ParsesAs line (parsed_lines.Body (body_lines.Submit name (submits.Discard first count))) = ParsesAsDiscard line name first count
 ParsesAs line (parsed_lines.Body (body_lines.Complete name)) = ParsesAsId (codes "c") line name
 ParsesAs line (parsed_lines.Body (body_lines.Step steps.Close)) = line ≡ codes "close"
 ParsesAs line (parsed_lines.Body (body_lines.Step (steps.Read first count))) = ParsesAsRead line first count
 ParsesAs line (parsed_lines.Body (body_lines.Step steps.Turn)) = line ≡ codes "turn"
+ParsesAs line (parsed_lines.Body (body_lines.Step (steps.Mark text))) = ParsesAsMark line text
 ParsesAs line (parsed_lines.Crash picks) = ParsesAsCrash line picks
 
 -- the lines are those of a script of a recorder: plain ones, of which those that aren't skipped say what the script's

@@ -3,6 +3,7 @@ pub mod Words
 pub mod Ids
 pub mod Lines
 pub mod Said
+pub mod Options
 pub mod Plans
 pub mod Grammar
 pub mod Reading

@@ -11,6 +11,14 @@ lines_of (byte ∷ bytes) = if byte == 10 then [] ∷ lines_of bytes else onto_f
 abbrev pub is_ascii_line : List ℕ → Bool
 is_ascii_line line = list_all (λ byte. nat_lt 0 byte && nat_lt byte 128) line
 
+-- the byte may stand in a line: it is ASCII, and neither zero nor a line feed
+abbrev pub is_line_byte : ℕ → Bool
+is_line_byte byte = nat_lt 0 byte && nat_lt byte 128 && not (byte == 10)
+
+-- each byte of the text may stand in a line
+abbrev pub is_line_text : List ℕ → Bool
+is_line_text text = list_all is_line_byte text
+
 -- an empty line, or a comment
 abbrev pub is_skipped : List ℕ → Bool
 is_skipped [] = true

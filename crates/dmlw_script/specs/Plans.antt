@@ -16,6 +16,7 @@ use Rattle.dmlw_script.specs.declared.line.HeadLine.TheVariants as head_lines
 use Rattle.dmlw_script.specs.declared.line.BodyLine.{BodyLine}
 use Rattle.dmlw_script.specs.declared.line.BodyLine.TheVariants as body_lines
 use Rattle.dmlw_script.specs.Ids.{is_id, script_id, same_name}
+use Rattle.dmlw_script.specs.Lines.{is_line_text}
 
 -- what a script holds: the sizes of the disks, the ids of its requests in the order of their submissions, and the
 -- lines of its body, and the picks of the crash of the log disk that ends it, if one does
@@ -60,26 +61,36 @@ is_ended request body = list_any (is_end_of request) body
 
 -- what a test of the sectors that a submission covers answers, on a data disk of so many
 abbrev pub submission_answer : ℕ → Submission → Result (Unit {0}) BadBio
-submission_answer sectors (submits.Write first count byte) = range_answer first count sectors
+submission_answer sectors (submits.Write first count byte options) = range_answer first count sectors
 submission_answer sectors submits.Flush = Ok tt
+submission_answer sectors (submits.Discard first count) = range_answer first count sectors
 
 -- the same of a line that names no request
 abbrev pub step_answer : ℕ → Step → Result (Unit {0}) BadBio
 step_answer sectors steps.Close = Ok tt
 step_answer sectors (steps.Read first count) = range_answer first count sectors
 step_answer sectors steps.Turn = Ok tt
+step_answer sectors (steps.Mark text) = Ok tt
 
 -- what a submission writes is a byte
 abbrev pub WritesByte : Submission → Type 0
-WritesByte (submits.Write first count byte) = byte < 256
+WritesByte (submits.Write first count byte options) = byte < 256
 WritesByte submits.Flush = Unit {0}
+WritesByte (submits.Discard first count) = Unit {0}
+
+-- the text of a mark may stand in a line
+abbrev pub HasLineText : Step → Type 0
+HasLineText steps.Close = Unit {0}
+HasLineText (steps.Read first count) = Unit {0}
+HasLineText steps.Turn = Unit {0}
+HasLineText (steps.Mark text) = is_line_text text ≡ true
 
 -- the command may come after these, for a data disk of so many sectors: what it covers passes the test of its sectors, a
--- write writes a byte, and an end is that of a request that was submitted and hasn't ended
+-- write writes a byte, a mark's text may stand in a line, and an end is that of a request that was submitted and hasn't ended
 abbrev pub CanFollow : ℕ → List Command → Command → Type 0
 CanFollow sectors before (commands.Submit submission) = (submission_answer sectors submission ≡ Ok tt) × WritesByte submission
 CanFollow sectors before (commands.Complete request) = (request < submissions before) × (is_ended request before ≡ false)
-CanFollow sectors before (commands.Step step) = step_answer sectors step ≡ Ok tt
+CanFollow sectors before (commands.Step step) = (step_answer sectors step ≡ Ok tt) × HasLineText step
 
 -- each command may come after those before it
 abbrev pub IsWellFormed : ℕ → List Command → List Command → Type 0

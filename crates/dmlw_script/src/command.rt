@@ -1,15 +1,38 @@
+use bio::Bytes;
+
+/// What a write asks for beside its sectors.
+#[derive(Clone, Copy, Debug, PartialEq, Eq)]
+pub struct WriteOptions {
+    /// The device's cache is flushed before the write.
+    pub flush: bool,
+    /// The data is durable at the write's end.
+    pub fua: bool,
+    /// The data is marked as metadata.
+    pub meta: bool,
+}
+
 /// What a line of a script submits. Sectors are of 512 bytes.
 #[derive(Clone, Copy, Debug)]
 pub enum Submission {
     /// A write of `count` sectors of `byte` from sector `first` on. In a script it covers 1 to 2,048
     /// sectors, all of them on the data disk.
-    Write { first: u64, count: u64, byte: u8 },
+    Write {
+        first: u64,
+        count: u64,
+        byte: u8,
+        options: WriteOptions,
+    },
     /// An empty flush.
     Flush,
+    /// A discard of `count` sectors from sector `first` on, in the same range as a write.
+    Discard {
+        first: u64,
+        count: u64,
+    },
 }
 
 /// What a line of a script does that names no request.
-#[derive(Clone, Copy, Debug)]
+#[derive(Debug, Drop)]
 pub enum Step {
     /// Ends the recording.
     Close,
@@ -18,10 +41,13 @@ pub enum Step {
     Read { first: u64, count: u64 },
     /// One turn of the writer.
     Turn,
+    /// A mark of this text, which may be empty. In a script its bytes are those of a line: ASCII, no
+    /// zero byte and no line feed. They are shared: a clone of them takes no memory.
+    Mark { text: Bytes },
 }
 
 /// One line of a script's body.
-#[derive(Clone, Copy, Debug)]
+#[derive(Debug, Drop)]
 pub enum Command {
     /// Submits the next request.
     Submit(Submission),

@@ -85,7 +85,7 @@ impl Draft {
         ensures draft { OnOk result (IsDraft self.new) }
         ensures step { Follows result (body_of self.new) (body_step sectors (body_of self.old) (BodyLine.Step step)) }
     {
-        check_step(step, sectors)?;
+        check_step(&step, sectors)?;
         self.say(Command::Step(step))
     }
 
@@ -151,17 +151,25 @@ fn check_submission(submission: Submission, sectors: u64) -> Result<(), LineErro
     ensures { Follows result tt (as_refusal (submission_answer sectors submission)) }
 {
     match submission {
-        Submission::Write { first, count, .. } => Ok(check(&Bio::Read { first, count }, sectors)?),
+        Submission::Write { first, count, .. } | Submission::Discard { first, count } => {
+            Ok(check(&Bio::Read { first, count }, sectors)?)
+        }
         Submission::Flush => Ok(()),
     }
 }
 
 // The same for a line that names no request.
-fn check_step(step: Step, sectors: u64) -> Result<(), LineError>
-    ensures { Follows result tt (as_refusal (step_answer sectors step)) }
+fn check_step(step: &Step, sectors: u64) -> Result<(), LineError>
+    ensures { Follows result tt (as_refusal (step_answer sectors step.now)) }
 {
     match step {
-        Step::Read { first, count } => Ok(check(&Bio::Read { first, count }, sectors)?),
-        Step::Close | Step::Turn => Ok(()),
+        Step::Read { first, count } => {
+            let read = Bio::Read {
+                first: *first,
+                count: *count,
+            };
+            Ok(check(&read, sectors)?)
+        }
+        Step::Close | Step::Turn | Step::Mark { .. } => Ok(()),
     }
 }

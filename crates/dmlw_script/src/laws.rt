@@ -4,7 +4,8 @@ ghost use Rattle.std.specs.List.{AllByRecursion};
 ghost use Rattle.refusals.specs.declared.refusal.Refusal.{Refusal};
 ghost use Rattle.dmlw_script.specs.declared.command.Command.{Command};
 ghost use Rattle.dmlw_script.specs.declared.command.Command.TheVariants.{Complete};
-ghost use Rattle.dmlw_script.specs.Grammar.{IsLineOf, IsNumber, IsTextOf, AreLinesOf};
+ghost use Rattle.dmlw_script.specs.Grammar.{IsLineOf, IsTextOf, AreLinesOf};
+ghost use Rattle.words.specs.Words.{IsNumber};
 ghost use Rattle.dmlw_script.specs.Lines.{command_line, with_line_feeds, is_ascii_line, is_skipped, IsUnbroken, lines_of};
 ghost use Rattle.dmlw_script.specs.Plans.{IsPlan, CanFollow, Plan, count_behind_head};
 ghost use Rattle.dmlw_script.specs.Reading.{IsFirstFault};
@@ -65,12 +66,6 @@ pub fn requests_end_once()
         IsPlan plan → plan.commands ≡ before ++ command ∷ rest → CanFollow plan.data_sectors before command }
     ensures once { (plan : Plan) (before between rest : List Command) (request : ℕ) → IsPlan plan →
         plan.commands ≡ before ++ Complete request ∷ (between ++ Complete request ∷ rest) → ⊥ }
-{}
-
-/// The decimal digits of a number are read as it, and a zero in front doesn't count.
-pub fn numbers_are_decimal()
-    ensures digits { (n : ℕ) → n < 2 ^ 64 → IsNumber (decimal n) n }
-    ensures zero { (word : List ℕ) (n : ℕ) → IsNumber word n → length word < 20 → IsNumber (48 ∷ word) n }
 {}
 
 /// A text is a script's or has a first fault: one, its line and its reason. The text of a script has

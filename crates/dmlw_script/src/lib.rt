@@ -7,10 +7,10 @@
 //!
 //! `specs/Grammar` is the grammar, a relation between texts and scripts, and `specs/Plans` says what
 //! a script is, `specs/Texts` what is shown of an id and of a fault. A new kind of line is a case of
-//! `Submission` or of `Step`, and of `ParsesAs`.
+//! `Submission` or of `Step`, and of `ParsesAs`; an option of a write a word of `option_words`.
 #![tactic(auto)]
 
-pub use command::{Command, Step, Submission};
+pub use command::{Command, Step, Submission, WriteOptions};
 pub use printer::print_script;
 pub use reader::{Kind, line_of, read_script};
 pub use script::Script;
@@ -22,10 +22,11 @@ mod head;
 pub mod laws;
 mod line;
 mod line_error;
+mod options;
 mod printer;
 mod reader;
 mod script;
 mod script_id;
 #[cfg(test)]
 mod tests;
-mod words;
+mod values;

@@ -1,13 +1,16 @@
 ghost use Rattle.std.specs.Prelude.{◌≡◌, option_copied, option_map};
 ghost use Rattle.dmlw_script.specs.Said.{as_said};
-ghost use Rattle.dmlw_script.specs.inside.Parsing.{lone_word, parse_words, plain_parts, read_of as the_read, write_of as the_write};
+ghost use Rattle.dmlw_script.specs.Lines.{is_line_byte as is_a_line_byte, is_line_text as is_a_line_text};
+ghost use Rattle.dmlw_script.specs.inside.Parsing.{body_words, discard_of as the_discard, lone_word, parse_words, plain_parts, read_of as the_read, write_of as the_write};
 
 use crate::command::{Step, Submission};
+use crate::options::options_of;
 use crate::script_id::ScriptId;
-use crate::words::{byte_of, cut, number_of};
+use crate::values::byte_of;
+use words::{cut, number_of};
 
 /// What a line that is no crash says by its words alone.
-#[derive(Clone, Copy)]
+#[derive(Drop)]
 pub(crate) enum Line {
     /// A line of the head.
     Head(HeadLine),
@@ -25,9 +28,9 @@ pub(crate) enum HeadLine {
 }
 
 /// What a line of a body says.
-#[derive(Clone, Copy)]
+#[derive(Drop)]
 pub(crate) enum BodyLine {
-    /// `w <id> <first> <count> <byte>`, or `f <id>`
+    /// `w <id> <first> <count> <byte> [flush] [fua] [meta]`, `f <id>`, or `d <id> <first> <count>`
     Submit {
         name: ScriptId,
         submission: Submission,
@@ -36,12 +39,12 @@ pub(crate) enum BodyLine {
     Complete {
         name: ScriptId,
     },
-    /// `close`, `r <first> <count>`, or `turn`
+    /// `close`, `r <first> <count>`, `turn`, or `mark <text>`
     Step(Step),
 }
 
-/// What a line of this first word says that is no crash, whose other words are these, if it is of the
-/// grammar.
+/// What a line of this first word says that is neither a crash nor a mark, whose other words are
+/// these, if it is of the grammar.
 pub(crate) fn parse_parts(verb: &[u8], words: Option<&[u8]>) -> Option<Line>
     ensures { option_map as_said result ≡ plain_parts verb.now (option_copied words.entry) }
 {
@@ -73,11 +76,21 @@ fn parse_words(verb: &[u8], words: &[u8]) -> Option<Line>
         b"log" => Some(Line::Head(HeadLine::Log {
             sectors: number_of(words)?,
         })),
+        _ => body_words(verb, words),
+    }
+}
+
+// What a line of the body says, of this first word, whose other words are these.
+fn body_words(verb: &[u8], words: &[u8]) -> Option<Line>
+    ensures { option_map as_said result ≡ body_words verb.now words.now }
+{
+    match verb {
         b"w" => write_of(words),
         b"f" => Some(Line::Body(BodyLine::Submit {
             name: ScriptId::of_word(words)?,
             submission: Submission::Flush,
         })),
+        b"d" => discard_of(words),
         b"c" => Some(Line::Body(BodyLine::Complete {
             name: ScriptId::of_word(words)?,
         })),
@@ -86,19 +99,36 @@ fn parse_words(verb: &[u8], words: &[u8]) -> Option<Line>
     }
 }
 
-// The write whose id, first sector, number of sectors and byte these words are.
+// The write whose id, first sector, number of sectors, byte and options these words are.
 fn write_of(words: &[u8]) -> Option<Line>
     ensures { option_map as_said result ≡ the_write words.now }
 {
     let (name, rest) = cut(words, b' ');
     let (first, rest) = cut(rest?, b' ');
-    let (count, byte) = cut(rest?, b' ');
+    let (count, rest) = cut(rest?, b' ');
+    let (byte, options) = cut(rest?, b' ');
     Some(Line::Body(BodyLine::Submit {
         name: ScriptId::of_word(name)?,
         submission: Submission::Write {
             first: number_of(first)?,
             count: number_of(count)?,
-            byte: byte_of(byte?)?,
+            byte: byte_of(byte)?,
+            options: options_of(options)?,
+        },
+    }))
+}
+
+// The discard whose id, first sector and number of sectors these words are.
+fn discard_of(words: &[u8]) -> Option<Line>
+    ensures { option_map as_said result ≡ the_discard words.now }
+{
+    let (name, rest) = cut(words, b' ');
+    let (first, count) = cut(rest?, b' ');
+    Some(Line::Body(BodyLine::Submit {
+        name: ScriptId::of_word(name)?,
+        submission: Submission::Discard {
+            first: number_of(first)?,
+            count: number_of(count?)?,
         },
     }))
 }
@@ -112,4 +142,18 @@ fn read_of(words: &[u8]) -> Option<Line>
         first: number_of(first)?,
         count: number_of(count?)?,
     })))
+}
+
+/// Whether each byte of a text may stand in a line.
+pub(crate) fn is_line_text(text: &[u8]) -> bool
+    ensures { result ≡ is_a_line_text text.now }
+{
+    text.iter().all(|byte| is_line_byte(*byte))
+}
+
+// Whether a byte may stand in a line: it is ASCII, and neither zero nor a line feed.
+fn is_line_byte(byte: u8) -> bool
+    ensures { result ≡ is_a_line_byte byte }
+{
+    0 < byte && byte < 128 && byte != b'\n'
 }

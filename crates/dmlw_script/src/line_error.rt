@@ -5,7 +5,7 @@ ghost use Rattle.bio.specs.Refusals.{bad_bio_refusal};
 
 use bio::BadBio;
 use refusals::Refusal;
-use std::alloc::AllocFailed;
+use std::alloc::{AllocError, AllocFailed};
 
 /// Why reading ends at a line.
 #[derive(Clone, Copy)]
@@ -20,6 +20,14 @@ impl<T: Drop> From<AllocFailed<T>> for LineError {
     ghost from_gives = { λ _ stop. stop ≡ Memory };
 
     fn from(_failed: AllocFailed<T>) -> LineError {
+        LineError::Memory
+    }
+}
+
+impl From<AllocError> for LineError {
+    ghost from_gives = { λ _ stop. stop ≡ Memory };
+
+    fn from(_error: AllocError) -> LineError {
         LineError::Memory
     }
 }

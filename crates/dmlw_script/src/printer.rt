@@ -1,17 +1,18 @@
-ghost use Rattle.std.specs.Prelude.{◌≡◌, ◌<◌, ◌+◌, ◌^◌, ◌++◌, ◌∷◌, [], decimal, flat_map, length, IfOk, OnOk};
+ghost use Rattle.std.specs.Prelude.{◌≡◌, ◌<◌, ◌+◌, ◌^◌, ◌++◌, ◌∷◌, [], codes, decimal, flat_map, length, IfOk, OnOk};
 ghost use Rattle.dmlw_script.specs.Grammar.{IsTextOf};
-ghost use Rattle.dmlw_script.specs.Said.{as_said};
 ghost use Rattle.dmlw_script.specs.Said as parsed_lines;
 ghost use Rattle.dmlw_script.specs.Ids.{letters_of};
-ghost use Rattle.dmlw_script.specs.Plans.{count_after_command, lines_of_body, line_at as the_parsed_at, HasName};
+ghost use Rattle.dmlw_script.specs.Plans.{count_after_command, lines_of_body, line_at, HasName};
 ghost use Rattle.dmlw_script.specs.CanonicalText.{ended_line, ending_text, line_text, step_text, submission_text, canonical_text};
+ghost use Rattle.dmlw_script.specs.Options.{option_text, options_text};
 ghost use Rattle.dmlw_script.specs.Words.{byte_text, hex_digit as the_hex_digit};
 
-use crate::command::{Command, Step, Submission};
-use crate::line::{BodyLine, HeadLine, Line};
+use crate::command::{Command, Step, Submission, WriteOptions};
+use crate::line::HeadLine;
 use crate::script::Script;
 use crate::script_id::ScriptId;
 use std::alloc::{AllocError, Global};
+use words::push_number;
 
 /// The one text of a script: no comments, no empty lines, no leading zeroes, and a line feed
 /// after each line. Reading it gives the same script.
@@ -22,18 +23,18 @@ pub fn print_script(alloc: Global, script: &Script) -> Result<Vec<u8>, AllocErro
 {
     let mut out = Vec::new(alloc);
     let data_sectors = script.data_sectors();
-    push_line(
+    push_head_line(
         &mut out,
-        Line::Head(HeadLine::Data {
+        HeadLine::Data {
             sectors: data_sectors,
-        }),
+        },
     )?;
     let log_sectors = script.log_sectors();
-    push_line(
+    push_head_line(
         &mut out,
-        Line::Head(HeadLine::Log {
+        HeadLine::Log {
             sectors: log_sectors,
-        }),
+        },
     )?;
     push_body(&mut out, script)?;
     push_ending(&mut out, script)?;
@@ -78,60 +79,41 @@ fn push_body(out: &mut Vec<u8>, script: &Script) -> Result<(), AllocError>
     let names = script.names();
     let mut before = 0;
     for command in script.commands() {
-        push_line(out, Line::Body(line_at(names, before, *command)))?;
-        before = submitted_after(before, *command);
+        push_command(out, names, before, command)?;
+        before = submitted_after(before, command);
     }
     Ok(())
 }
 
-// What the line of a command says, before which so many requests were submitted.
-fn line_at(names: &[ScriptId], before: usize, command: Command) -> BodyLine
-    requires { HasName (length names.now) before command }
-    ensures { result ≡ the_parsed_at names.now before command }
+// The line of a command, before which so many requests were submitted.
+fn push_command(
+    out: &mut Vec<u8>,
+    names: &[ScriptId],
+    before: usize,
+    command: &Command,
+) -> Result<(), AllocError>
+    requires { HasName (length names.now) before command.now }
+    ensures { OnOk result (out.new.items ≡ out.old.items ++ ended_line (parsed_lines.Body (line_at names.now before command.now))) }
 {
     match command {
-        Command::Submit(submission) => BodyLine::Submit {
-            name: names[before],
-            submission,
-        },
-        Command::Complete { request } => BodyLine::Complete {
-            name: names[request],
-        },
-        Command::Step(step) => BodyLine::Step(step),
-    }
-}
-
-// A line.
-fn push_line(out: &mut Vec<u8>, parsed: Line) -> Result<(), AllocError>
-    ensures { OnOk result (out.new.items ≡ out.old.items ++ ended_line (as_said parsed)) }
-{
-    match parsed {
-        Line::Head(line) => push_head_line(out, line)?,
-        Line::Body(line) => push_body_line(out, line)?,
+        Command::Submit(submission) => push_submission(out, names[before], *submission)?,
+        Command::Complete { request } => push_name(out, b"c ", names[*request])?,
+        Command::Step(step) => push_step(out, step)?,
     }
     out.push(b'\n')?;
     Ok(())
 }
 
-// A line of the head, but for its line feed.
+// A line of the head.
 fn push_head_line(out: &mut Vec<u8>, line: HeadLine) -> Result<(), AllocError>
-    ensures { OnOk result (out.new.items ≡ out.old.items ++ line_text (parsed_lines.Head line)) }
+    ensures { OnOk result (out.new.items ≡ out.old.items ++ ended_line (parsed_lines.Head line)) }
 {
     match line {
-        HeadLine::Data { sectors } => push_size(out, b"data ", sectors),
-        HeadLine::Log { sectors } => push_size(out, b"log ", sectors),
+        HeadLine::Data { sectors } => push_size(out, b"data ", sectors)?,
+        HeadLine::Log { sectors } => push_size(out, b"log ", sectors)?,
     }
-}
-
-// A line of the body, but for its line feed.
-fn push_body_line(out: &mut Vec<u8>, line: BodyLine) -> Result<(), AllocError>
-    ensures { OnOk result (out.new.items ≡ out.old.items ++ line_text (parsed_lines.Body line)) }
-{
-    match line {
-        BodyLine::Submit { name, submission } => push_submission(out, name, submission),
-        BodyLine::Complete { name } => push_name(out, b"c ", name),
-        BodyLine::Step(step) => push_step(out, step),
-    }
+    out.push(b'\n')?;
+    Ok(())
 }
 
 // The line of a submission, but for its line feed.
@@ -143,19 +125,26 @@ fn push_submission(
     ensures { OnOk result (out.new.items ≡ out.old.items ++ submission_text name submission) }
 {
     match submission {
-        Submission::Write { first, count, byte } => push_write(out, name, first, count, byte),
+        Submission::Write {
+            first,
+            count,
+            byte,
+            options,
+        } => push_write(out, name, first, count, byte, options),
         Submission::Flush => push_name(out, b"f ", name),
+        Submission::Discard { first, count } => push_range(out, b"d ", name, first, count),
     }
 }
 
 // A line that names no request, but for its line feed.
-fn push_step(out: &mut Vec<u8>, step: Step) -> Result<(), AllocError>
-    ensures { OnOk result (out.new.items ≡ out.old.items ++ step_text step) }
+fn push_step(out: &mut Vec<u8>, step: &Step) -> Result<(), AllocError>
+    ensures { OnOk result (out.new.items ≡ out.old.items ++ step_text step.now) }
 {
     match step {
         Step::Close => out.extend_from_slice(b"close"),
-        Step::Read { first, count } => push_read(out, first, count),
+        Step::Read { first, count } => push_read(out, *first, *count),
         Step::Turn => out.extend_from_slice(b"turn"),
+        Step::Mark { text } => push_mark(out, text.as_slice()),
     }
 }
 
@@ -182,16 +171,59 @@ fn push_write(
     first: u64,
     count: u64,
     byte: u8,
+    options: WriteOptions,
 ) -> Result<(), AllocError>
-    ensures { OnOk result (out.new.items ≡ out.old.items ++ submission_text name (Submission.Write first count byte)) }
+    ensures { OnOk result (out.new.items ≡ out.old.items ++ submission_text name (Submission.Write first count byte options)) }
 {
-    push_name(out, b"w ", name)?;
+    push_range(out, b"w ", name, first, count)?;
+    out.push(b' ')?;
+    push_byte(out, byte)?;
+    push_options(out, options)
+}
+
+// A line's first word and space, an id, a first sector and a number of sectors.
+fn push_range(
+    out: &mut Vec<u8>,
+    verb: &[u8],
+    name: ScriptId,
+    first: u64,
+    count: u64,
+) -> Result<(), AllocError>
+    ensures { OnOk result (out.new.items ≡ out.old.items ++ (verb.now ++ (letters_of name ++ 32 ∷ (decimal first ++ 32 ∷ decimal count)))) }
+{
+    push_name(out, verb, name)?;
     out.push(b' ')?;
     push_number(out, first)?;
     out.push(b' ')?;
-    push_number(out, count)?;
-    out.push(b' ')?;
-    push_byte(out, byte)
+    push_number(out, count)
+}
+
+// A write's options, each behind a space.
+fn push_options(out: &mut Vec<u8>, options: WriteOptions) -> Result<(), AllocError>
+    ensures { OnOk result (out.new.items ≡ out.old.items ++ options_text options) }
+{
+    push_option(out, options.flush, b" flush")?;
+    push_option(out, options.fua, b" fua")?;
+    push_option(out, options.meta, b" meta")
+}
+
+// An option with the space before it, where it is asked for.
+fn push_option(out: &mut Vec<u8>, given: bool, text: &[u8]) -> Result<(), AllocError>
+    ensures { OnOk result (out.new.items ≡ out.old.items ++ option_text given text.now) }
+{
+    if given {
+        out.extend_from_slice(text)
+    } else {
+        Ok(())
+    }
+}
+
+// The line of a mark, but for its line feed.
+fn push_mark(out: &mut Vec<u8>, text: &[u8]) -> Result<(), AllocError>
+    ensures { OnOk result (out.new.items ≡ out.old.items ++ (codes "mark " ++ text.now)) }
+{
+    out.extend_from_slice(b"mark ")?;
+    out.extend_from_slice(text)
 }
 
 // The line of a read, but for its line feed.
@@ -201,27 +233,6 @@ fn push_read(out: &mut Vec<u8>, first: u64, count: u64) -> Result<(), AllocError
     push_size(out, b"r ", first)?;
     out.push(b' ')?;
     push_number(out, count)
-}
-
-// The decimal digits of a number.
-#[tactic(auto, using(std::proofs::lemmas::Fmt::decimal_step, std::proofs::lemmas::Fmt::decimal_digit))]
-fn push_number(out: &mut Vec<u8>, number: u64) -> Result<(), AllocError>
-    ensures { OnOk result (out.new.items ≡ out.old.items ++ decimal number) }
-{
-    if number < 10 {
-        return push_digit(out, number as u8);
-    }
-    push_number(out, number / 10)?;
-    push_digit(out, (number % 10) as u8)
-}
-
-// A decimal digit.
-fn push_digit(out: &mut Vec<u8>, digit: u8) -> Result<(), AllocError>
-    requires { digit < 10 }
-    ensures { OnOk result (out.new.items ≡ out.old.items ++ (48 + digit) ∷ []) }
-{
-    out.push(b'0' + digit)?;
-    Ok(())
 }
 
 // Two hexadecimal digits.
@@ -246,9 +257,9 @@ fn hex_digit(half: u8) -> u8
 }
 
 // How many requests were submitted after a command, before which there were so many.
-fn submitted_after(before: usize, command: Command) -> usize
+fn submitted_after(before: usize, command: &Command) -> usize
     requires { before + 1 < 2 ^ 64 }
-    ensures { result ≡ count_after_command before command }
+    ensures { result ≡ count_after_command before command.now }
 {
     match command {
         Command::Submit(_) => before + 1,

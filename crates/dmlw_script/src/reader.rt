@@ -1,21 +1,24 @@
 ghost use Rattle.std.specs.Prelude.{◌≡◌, ◌<◌, ◌≤◌, ◌∷◌, [], None, IfErr, IfOk, MatchOption, OnOk, length, option_copied, option_map};
 ghost use Rattle.dmlw_script.specs.Said.{as_said};
 ghost use Rattle.dmlw_script.specs.Said as parsed_lines;
-ghost use Rattle.dmlw_script.specs.inside.Parsing.{parse_parts, picks_of as the_picks, plain_parts};
+ghost use Rattle.dmlw_script.specs.inside.Parsing.{mark_of, parse_parts, picks_of as the_picks, plain_parts};
 ghost use Rattle.dmlw_script.specs.Lines.{command_line, lines_of, is_ascii_line as is_plain_line, is_skipped as is_a_skipped_line};
 ghost use Rattle.dmlw_script.specs.Grammar.{IsTextOf};
 ghost use Rattle.dmlw_script.specs.Plans.{Plan};
 ghost use Rattle.dmlw_script.specs.Reading.{IsFaultOf, IsReadAs, IsRunFaultOf};
 ghost use Rattle.dmlw_script.specs.inside.Readers.{fault_of, read_text, Reads};
 
+use crate::command::Step;
 use crate::draft::Draft;
 use crate::head::Head;
-use crate::line::{BodyLine, HeadLine, Line, parse_parts};
+use crate::line::{BodyLine, HeadLine, Line, is_line_text, parse_parts};
 use crate::line_error::LineError;
 use crate::script::Script;
-use crate::words::{cut, picks_of};
+use crate::values::picks_of;
+use bio::Bytes;
 use refusals::{Fault, Refusal};
-use std::alloc::Global;
+use std::alloc::{AllocError, Global};
+use words::cut;
 
 // The lines of a head.
 const HEAD_LINES: usize = 2;
@@ -86,6 +89,7 @@ impl Reader {
     {
         match verb {
             b"crash" => self.read_crash(words),
+            b"mark" => self.read_mark(words),
             _ => self.read_plain(verb, words),
         }
     }
@@ -133,6 +137,22 @@ impl Reader {
                 };
                 self.picks = picks;
                 Ok(())
+            }
+            _ => Err(LineError::Refused(Refusal::BadLine)),
+        }
+    }
+
+    // Reads a mark, whose text this is, if a space stands behind its first word.
+    fn read_mark(&mut self, text: Option<&[u8]>) -> Result<(), LineError>
+        requires { IsReader self.old }
+        ensures reader { OnOk result (IsReader self.new) }
+        ensures kind { OnOk result (self.new.kind ≡ self.old.kind) }
+        ensures step { Follows result (progress_of self.new) (step_if_parsed self.old.kind (progress_of self.old) (mark_of (option_copied text.entry))) }
+    {
+        match text {
+            Some(text) if is_line_text(text) => {
+                let text = shared_text(self.alloc, text)?;
+                self.read_parsed(Line::Body(BodyLine::Step(Step::Mark { text })))
             }
             _ => Err(LineError::Refused(Refusal::BadLine)),
         }
@@ -212,7 +232,8 @@ impl Reader {
 /// A line is refused, in this order, as `BadLine` where it isn't of the grammar at its place (also
 /// in a comment, if a byte is zero or not ASCII; and after the last line, where the head isn't
 /// whole), as `BadId` where an id is submitted again or isn't open at its end, and as `NotWhole`,
-/// `TooLong` or `PastEnd` where `bio::check` refuses a write's or a read's sectors for the data disk.
+/// `TooLong` or `PastEnd` where `bio::check` refuses the sectors of a write, a discard or a read for
+/// the data disk.
 /// Want of memory is `Memory`, and names no line.
 pub fn read_script(alloc: Global, text: &[u8], kind: Kind) -> Result<Script, Fault>
     // What is read is a recorder's script, and this is a text of it.
@@ -245,6 +266,13 @@ fn read(alloc: Global, text: &[u8], kind: Kind) -> Result<Script, Fault>
         Ok(script) => Ok(script),
         Err(error) => Err(fault_at(number, error)),
     }
+}
+
+// A text of its own, of which clones take no memory.
+fn shared_text(alloc: Global, text: &[u8]) -> Result<Bytes, AllocError>
+    ensures { IfOk result (λ shared. shared ≡ text.now) }
+{
+    Bytes::from_vec(text.to_vec(alloc)?).into_shared()
 }
 
 // The next line and the text after it, if there is a line.

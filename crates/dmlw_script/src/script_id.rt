@@ -3,8 +3,8 @@ ghost use Rattle.std.specs.List.{list_all};
 ghost use Rattle.dmlw_script.specs.Ids.{is_name_byte as is_id_byte, is_id as is_an_id, letters_of, id_of_word, script_id};
 ghost use Rattle.dmlw_script.specs.Texts.{id_text};
 
-use crate::words::cut;
 use std::fmt;
+use words::cut;
 
 /// The most characters of an id.
 pub(crate) const NAME_BYTES: usize = 16;

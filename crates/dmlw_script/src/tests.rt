@@ -159,7 +159,87 @@ w a 5 1
 =line 3: 30 BadLine
 ~data 16
 log 32
-w a 5 1 41 fua
+w a 0 1 41 meta
+w b 1 1 41 fua
+w c 2 1 41 fua meta
+w d 3 1 41 flush
+w e 4 1 41 flush meta
+w f 5 1 41 flush fua
+w g 6 1 41 flush fua meta
+w h 07 01 ff=data 16
+log 32
+w a 0 1 41 meta
+w b 1 1 41 fua
+w c 2 1 41 fua meta
+w d 3 1 41 flush
+w e 4 1 41 flush meta
+w f 5 1 41 flush fua
+w g 6 1 41 flush fua meta
+w h 7 1 ff
+
+~data 16
+log 32
+w a 5 1 41 fua flush
+=line 3: 30 BadLine
+~data 16
+log 32
+w a 5 1 41 meta fua
+=line 3: 30 BadLine
+~data 16
+log 32
+w a 5 1 41 meta flush
+=line 3: 30 BadLine
+~data 16
+log 32
+w a 5 1 41 flush flush
+=line 3: 30 BadLine
+~data 16
+log 32
+w a 5 1 41 fua fua
+=line 3: 30 BadLine
+~data 16
+log 32
+w a 5 1 41 flush fua meta meta
+=line 3: 30 BadLine
+~data 16
+log 32
+w a 5 1 41 sync
+=line 3: 30 BadLine
+~data 16
+log 32
+w a 5 1 41 fu
+=line 3: 30 BadLine
+~data 16
+log 32
+w a 5 1 41 fuaa
+=line 3: 30 BadLine
+~data 16
+log 32
+w a 5 1 41 FUA
+=line 3: 30 BadLine
+~data 16
+log 32
+w a 5 1 41  fua
+=line 3: 30 BadLine
+~data 16
+log 32
+w a 5 1 41 flush  fua
+=line 3: 30 BadLine
+~data 16
+log 32
+w a 5 1 41 fua\x20
+=line 3: 30 BadLine
+~data 16
+log 32
+w a 5 1 fua
+=line 3: 30 BadLine
+~data 16
+log 32
+w a 15 2 41 fua
+=line 3: 3 PastEnd
+~data 16
+log 32
+w a 15 2 41 fua flush
 =line 3: 30 BadLine
 ~data 16
 log 32
@@ -231,6 +311,138 @@ f 0123456789abcdez
 log 32
 f 0123456789abcdefg
 =line 3: 30 BadLine
+~data 16
+log 32
+d a 0015 01
+c a
+d b 0 16=data 16
+log 32
+d a 15 1
+c a
+d b 0 16
+
+~data 16
+log 32
+d
+=line 3: 30 BadLine
+~data 16
+log 32
+d a
+=line 3: 30 BadLine
+~data 16
+log 32
+d a 1
+=line 3: 30 BadLine
+~data 16
+log 32
+d a 1 1 00
+=line 3: 30 BadLine
+~data 16
+log 32
+d a 1 1 fua
+=line 3: 30 BadLine
+~data 16
+log 32
+d a 1 1\x20
+=line 3: 30 BadLine
+~data 16
+log 32
+d a 1  1
+=line 3: 30 BadLine
+~data 16
+log 32
+d A 1 1
+=line 3: 30 BadLine
+~data 16
+log 32
+d a x 1
+=line 3: 30 BadLine
+~data 16
+log 32
+d a 1 18446744073709551616
+=line 3: 30 BadLine
+~data 16
+log 32
+d a 15 2
+=line 3: 3 PastEnd
+~data 4096
+log 32
+d a 0 2048
+d b 0 2049
+=line 4: 4 TooLong
+~data 16
+log 32
+d a 99 0
+=line 3: 5 NotWhole
+~data 16
+log 32
+f a
+d a 0 1
+=line 4: 31 BadId
+~data 16
+log 32
+mark here
+mark\x20
+mark  two  spaces\x20
+mark # no comment
+#mark a comment
+mark\x20\x20
+mark Upper-Case 0..9 ~ \t \x01 \x7f
+mark mark=data 16
+log 32
+mark here
+mark\x20
+mark  two  spaces\x20
+mark # no comment
+mark\x20\x20
+mark Upper-Case 0..9 ~ \t \x01 \x7f
+mark mark
+
+~data 16
+log 32
+mark
+=line 3: 30 BadLine
+~data 16
+log 32
+markx
+=line 3: 30 BadLine
+~data 16
+log 32
+markx y
+=line 3: 30 BadLine
+~data 16
+log 32
+Mark here
+=line 3: 30 BadLine
+~data 16
+log 32
+ mark here
+=line 3: 30 BadLine
+~data 16
+log 32
+mark\there
+=line 3: 30 BadLine
+~data 16
+log 32
+mark a\0b
+=line 3: 30 BadLine
+~data 16
+log 32
+mark caf\u{e9}
+=line 3: 30 BadLine
+~mark here
+data 16
+log 32
+=line 1: 30 BadLine
+~data 16
+mark here
+log 32
+=line 2: 30 BadLine
+~data 16
+log 32
+crash
+mark here
+=line 4: 30 BadLine
 ~data 16
 log 32
 close now
@@ -483,6 +695,30 @@ fn long_scripts_are_read(rt: HostRuntime) -> Result<(), Fail> {
         text.push_str(format!(in alloc; " {number}")?.as_str())?;
     }
     text.push_str("\n")?;
+    assert!(rt; answer(alloc, text.as_bytes(), Kind::Record)?.as_str() == text.as_str());
+    Ok(())
+}
+
+// Marks of any length are read, each with its own text.
+#[test]
+fn marks_keep_their_texts(rt: HostRuntime) -> Result<(), Fail> {
+    let alloc = rt.alloc();
+    let mut text = String::from_str(alloc, "data 16\nlog 32\n")?;
+    for length in [0, 1, 479, 480, 600, 70_000] {
+        text.push_str("mark ")?;
+        for _ in 0..length {
+            text.push_str("x")?;
+        }
+        text.push_str("\n")?;
+    }
+    let script = read_script(alloc, text.as_bytes(), Kind::Record)?;
+    let mut total: usize = 0;
+    for command in script.commands() {
+        if let Command::Step(Step::Mark { text }) = command {
+            total = total.saturating_add(text.len());
+        }
+    }
+    assert_eq!(rt; total, 71_560);
     assert!(rt; answer(alloc, text.as_bytes(), Kind::Record)?.as_str() == text.as_str());
     Ok(())
 }

@@ -1,13 +1,13 @@
 -- Worked decisions, by computation.
-use Rattle.std.proofs.Common.{◌≡◌, ℕ, true, false, [], ◌∷◌, refl, arith}
+use Rattle.std.proofs.Common.{◌≡◌, ℕ, true, false, [], ◌∷◌, refl}
 use Rattle.std.specs.Prelude.{◌-◌, ◌^◌}
 use Rattle.blockdev.specs.Calls.{Discards, Flushes}
 use Rattle.sectors.specs.Content.{Content, moved}
-use Rattle.fault_layers.specs.declared.feature.Feature.TheVariants as features
+use Rattle.table_line.specs.declared.feature.Feature.TheVariants as features
 use Rattle.fault_layers.specs.declared.gate.Kind.TheVariants.{Discard, Flush, Read, Write}
 use Rattle.fault_layers.specs.declared.gate.Verdict.TheVariants.{Drop, Fail, Pass}
 use Rattle.fault_layers.specs.Cut.{call_from}
-use Rattle.fault_layers.specs.FlakeyRule.{Cycle, IsCycle, flakey_verdict, is_up}
+use Rattle.fault_layers.specs.FlakeyRule.{Cycle, flakey_verdict, is_up}
 use Rattle.fault_layers.specs.FuseRule.{fuse_after, fuse_verdict}
 
 -- up for 10 seconds and down for 5, from this moment on
@@ -133,14 +133,6 @@ fuse-two = refl
 
 fuse-two-after : fuse_verdict (fuse_after (fuse_after 2 Write 7) Discard 8) Write 9 ≡ Fail
 fuse-two-after = refl
-
--- no seconds at all are no cycle
-no-cycle : IsCycle 0 0 → ⊥
-no-cycle cycle = let some = cycle.some in omega arith
-
--- up and down are counted together
-whole-cycle : IsCycle 4294967290 5
-whole-cycle = record { some = omega arith; few = omega arith }
 
 -- a call four sectors further on; a flush has no sectors
 four-on : call_from 4 (Discards 3 2) ≡ Discards 7 2

@@ -1,16 +1,11 @@
 -- The rule of the flakey device.
-use Rattle.std.specs.Prelude.{ℕ, ◌+◌, ◌-◌, ◌*◌, ◌%◌, ◌≤◌, Bool, true, false, nat_lt}
-use Rattle.fault_layers.specs.declared.feature.Feature.{Feature}
-use Rattle.fault_layers.specs.declared.feature.Feature.TheVariants as features
+use Rattle.std.specs.Prelude.{ℕ, ◌+◌, ◌-◌, ◌*◌, ◌%◌, Bool, true, false, nat_lt}
+use Rattle.table_line.specs.declared.feature.Feature.{Feature}
+use Rattle.table_line.specs.declared.feature.Feature.TheVariants as features
 use Rattle.fault_layers.specs.declared.gate.Kind.{Kind}
 use Rattle.fault_layers.specs.declared.gate.Kind.TheVariants.{Discard, Flush, Read, Write}
 use Rattle.fault_layers.specs.declared.gate.Verdict.{Verdict}
 use Rattle.fault_layers.specs.declared.gate.Verdict.TheVariants.{Drop, Fail, Pass}
-
--- how long it is up and down, in seconds: at least one together, and not more than 32 bits hold
-pub record IsCycle (up down : ℕ) : Type 0 where
-  pub some : 1 ≤ up + down
-  pub few : up + down ≤ 4294967295
 
 -- what a flakey device looks at: seconds up and down, what it does while down, and the moment of its load
 pub record Cycle : Type 0 where

@@ -4,6 +4,7 @@ pub use Rattle.blockdev.specs.Counted
 pub use Rattle.blockdev.specs.Law
 pub use Rattle.blockdev.specs.View
 pub use Rattle.sectors.specs.Content
+pub use Rattle.table_line.specs.Ranges
 pub mod Cut
 pub mod CutLaws
 pub mod Decided

@@ -1,11 +1,12 @@
-ghost use Rattle.fault_layers.specs.FlakeyRule.{Cycle, IsCycle};
+ghost use Rattle.fault_layers.specs.FlakeyRule.{Cycle};
+ghost use Rattle.table_line.specs.Ranges.{IsCycle};
 
-use crate::feature::Feature;
 use crate::gate::{Gate, Kind, Verdict};
 use crate::gated::Gated;
 use bio::Ms;
 use blockdev::BlockDev;
 use std::marker::Model;
+use table_line::Feature;
 
 /// The gate that is up for some seconds, then down for some, and so on. What it does while it is down its feature says.
 /// Contracts see its `Cycle`.
@@ -31,6 +32,20 @@ impl Model for FlakeyGate {
 impl FlakeyGate {
     ghost use Rattle.std.specs.Prelude.{◌≡◌};
     ghost use Rattle.fault_layers.specs.FlakeyRule.{is_up};
+
+    /// The gate that is up for `up` seconds from the moment `load` on, then down for `down` seconds, and so on; a moment before
+    /// the load counts as the load. The two come to 1 to 4294967295 seconds.
+    pub fn new(up: u64, down: u64, feature: Feature, load: Ms) -> FlakeyGate
+        requires { IsCycle up down }
+        ensures { result ≡ record { up = up; down = down; feature = feature; load = load } }
+    {
+        FlakeyGate {
+            up,
+            down,
+            feature,
+            load,
+        }
+    }
 
     // Whether it is up at this moment.
     fn is_up(&self, now: Ms) -> bool
@@ -82,14 +97,6 @@ impl<D: BlockDev + Drop> Flakey<D> {
         ensures faults { result.faults ≡ 0 }
         ensures lies { result.lies ≡ 0 }
     {
-        Gated::under(
-            lower,
-            FlakeyGate {
-                up,
-                down,
-                feature,
-                load,
-            },
-        )
+        Gated::under(lower, FlakeyGate::new(up, down, feature, load))
     }
 }

@@ -21,6 +21,17 @@ impl Model for FuseGate {
     ghost inverse = { λ calls. record { calls = calls } };
 }
 
+impl FuseGate {
+    ghost use Rattle.std.specs.Prelude.{◌≡◌};
+
+    /// The gate that passes the first `calls` writes, discards and flushes.
+    pub fn new(calls: u64) -> FuseGate
+        ensures { result ≡ calls }
+    {
+        FuseGate { calls }
+    }
+}
+
 impl Gate for FuseGate {
     ghost use Rattle.fault_layers.specs.FuseRule.{fuse_after, fuse_verdict};
     ghost use Rattle.fault_layers.specs.ReadLaws.{fuse_keeps_reads};
@@ -56,6 +67,6 @@ impl<D: BlockDev + Drop> Fuse<D> {
         ensures faults { result.faults ≡ 0 }
         ensures lies { result.lies ≡ 0 }
     {
-        Gated::under(lower, FuseGate { calls })
+        Gated::under(lower, FuseGate::new(calls))
     }
 }

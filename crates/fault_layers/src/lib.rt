@@ -6,7 +6,6 @@
 
 pub use delay::Delay;
 pub use error_dev::{ErrorDev, ErrorGate};
-pub use feature::Feature;
 pub use flakey::{Flakey, FlakeyGate};
 pub use fuse::{Fuse, FuseGate};
 pub use gate::{Gate, Kind, Verdict};
@@ -15,7 +14,6 @@ pub use linear::Linear;
 
 mod delay;
 mod error_dev;
-mod feature;
 mod flakey;
 mod fuse;
 mod gate;

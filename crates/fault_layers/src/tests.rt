@@ -6,6 +6,7 @@ use blockdev::BlockDev;
 use sector_disk::SectorDisk;
 use std::process::Abort;
 use std::test::Fail;
+use table_line::Feature;
 
 // Layers over a disk of 8 sectors of zeroes, a line each: the layer, then its calls. `@12` is the moment from here on, in
 // milliseconds. `w31+` writes 1s to sector 3, `F31+` does with FUA, `d32+` discards 2 sectors from sector 3 on, `f+` flushes and

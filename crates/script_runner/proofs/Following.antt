@@ -19,7 +19,9 @@ use Rattle.dmlw_script.specs.Plans.{name_at}
 use Rattle.pending.specs.CoreState.{CoreState, records}
 use Rattle.recorder.specs.declared.recorder.Recorder.{Recorder}
 use Rattle.recorder.specs.declared.reply.Reply.TheVariants as replies
-use Rattle.recorder.specs.Calls.{Submits}
+use Rattle.bio.specs.Lawful.{is_recording, is_text}
+use Rattle.recorder.specs.declared.reply.Reply.{Reply}
+use Rattle.recorder.specs.Calls.{Marks, Submits}
 use Rattle.recorder.specs.Recording.{EventsGrow}
 use Rattle.script_runner.specs.declared.request.Request.{Request}
 use Rattle.script_runner.specs.declared.request.Request.TheVariants as requests
@@ -48,6 +50,7 @@ step_keeps : {D L : Type 0} {d : Ghosts D} {l : Ghosts L} (step : Step) (text : 
 step_keeps steps.Close text old new does = does.keeps.kept
 step_keeps (steps.Read first count) text old new does = does.kept
 step_keeps steps.Turn text old new does = does.keeps.kept
+step_keeps (steps.Mark mark) text old new does = does.kept
 
 -- the requests that the lines submit, behind those before
 abbrev Adds : {D L : Type 0} {d : Ghosts D} {l : Ghosts L} → List Submission → Running D L d l → Running D L d l → Type 0
@@ -79,9 +82,35 @@ lines_ask {D} {L} {d} {l} names (commands.Step step ∷ body) text old new ran =
     (lines_ask {d = d} {l = l} names body ran.2 ran.0 new ran.5)
 
 -- events that stand stay as more are recorded
-stays : (old new : List CoreEvent) (id : ℕ) (event : CoreEvent) → EventsGrow old new → slice_get old id ≡ Some event → slice_get new id ≡ Some event
+pub stays : (old new : List CoreEvent) (id : ℕ) (event : CoreEvent) → EventsGrow old new → slice_get old id ≡ Some event → slice_get new id ≡ Some event
 stays old new id event (more, is) stands =
     ap (λ (es : List CoreEvent). slice_get es id) is ∙ slice_get-append_front old more id (slice_get_within old id event stands) ∙ stands
+
+-- a mark that is queued stands at its place
+pub queued_stands : {L : Type 0} {l : Ghosts L} (text : List ℕ) (reply : Reply) (id : ℕ) (old new : Recorder L l) → Marks text reply old new → reply ≡ replies.Queued id
+    → slice_get new.core.events id ≡ Some (core_events.Mark text)
+queued_stands {L} {l} text reply id old new marks queued = elim (bool_cases (is_text text)) [
+  | inl heard ↦ elim (bool_cases (is_recording old.core.events)) [
+    | inl going ↦ elim (marks.recorded heard going) [
+      | inl (place, is) ↦
+          ap (λ (n : ℕ). slice_get new.core.events n) (queued_id id (length old.core.events) (sym queued ∙ place))
+          ∙ ap (λ (c : CoreState). slice_get c.events (length old.core.events)) is
+          ∙ slice_get-append_here old.core.events (core_events.Mark text) []
+      | inr refused ↦ absurd (not_refused id (sym queued ∙ refused.0))
+    ]
+    | inr over ↦ absurd (not_passed id (sym queued ∙ (marks.passed heard over).0))
+  ]
+  | inr bad ↦ absurd (not_refused id (sym queued ∙ marks.bad_text.1 bad))
+]
+  where
+    queued_id : (m n : ℕ) → replies.Queued m ≡ replies.Queued n → m ≡ n
+    queued_id m n is = cc
+
+    not_refused : {refusal : _} (m : ℕ) → replies.Queued m ≡ replies.Refused refusal → ⊥
+    not_refused m is = cc
+
+    not_passed : (m : ℕ) → replies.Queued m ≡ replies.Passed → ⊥
+    not_passed m is = cc
 
 -- a submission that is followed stands at its id
 tracked_stands : {L : Type 0} {l : Ghosts L} (bio : Bio) (id : ℕ) (old new : Recorder L l) → Submits bio (reply_of (Some id)) old new

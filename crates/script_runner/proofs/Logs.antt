@@ -12,7 +12,7 @@ use Rattle.script_runner.specs.declared.request.Request.TheVariants as requests
 use Rattle.script_runner.specs.Lines.{Asks, EndsRequest, HearsEnd, RunsLine, reply_of}
 use Rattle.script_runner.specs.Submitted.{bio_of}
 use Rattle.script_runner.specs.Written.{IsWritten}
-use Rattle.script_runner.proofs.Writing.{kept_close, kept_complete, kept_submit, kept_turn}
+use Rattle.script_runner.proofs.Writing.{kept_close, kept_complete, kept_mark, kept_submit, kept_turn}
 use Rattle.blockdev.specs.declared.device.BlockDev.{Ghosts}
 use Rattle.dmlw_script.specs.declared.command.Command.{Command}
 use Rattle.dmlw_script.specs.declared.script_id.ScriptId.{ScriptId}
@@ -71,6 +71,8 @@ line_written {D} {L} {d} {l} names (commands.Step (steps.Read first count)) text
     subst (λ (r : Recorder L l). IsWritten r) (sym line.does.log) written
 line_written {D} {L} {d} {l} names (commands.Step steps.Turn) text old new line written =
     kept_turn {l = l} line.does.turn old.recorder new.recorder line.does.turns written
+line_written {D} {L} {d} {l} names (commands.Step (steps.Mark mark)) text old new line written =
+    kept_mark {l = l} mark line.does.reply old.recorder new.recorder line.does.marks written
 
 -- and all lines do
 pub lines_written : {D L : Type 0} {d : Ghosts D} {l : Ghosts L} (names : List ScriptId) (body : List Command) (text : List ℕ) (old new : Running D L d l)

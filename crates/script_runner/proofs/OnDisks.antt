@@ -26,8 +26,9 @@ use Rattle.pending.specs.declared.hazard.Hazard.{Hazard}
 use Rattle.pending.specs.Hazards.{first_hazard}
 use Rattle.pending.specs.QueueEvent.{recorded}
 use Rattle.dmlw_script.specs.Plans.{Plan}
-use Rattle.recorder.specs.Growth.{CrashReopens, HasWholeLog, RecorderGoes}
+use Rattle.recorder.specs.Growth.{HasWholeLog, RecorderGoes}
 use Rattle.recorder.specs.Recording.{log_of}
+use Rattle.recorder.specs.Replayed.{ReplaysToWhatCouldBe}
 use Rattle.recorder.specs.Shown.{recording_of}
 use Rattle.script_runner.specs.declared.error.RunError.{RunError}
 use Rattle.script_runner.specs.declared.error.RunError.TheVariants.{LoggingEnded}
@@ -99,7 +100,8 @@ pub is_recorded : (plan : Plan) (text : List ℕ) (start last : DiskRun) (record
     → length image ≡ 512 * (shown_of recorder.store.device).size
     → picks ≡ plan.ending
     → AgreeBelow (shown_of recorder.store.device).size (left_on picks recorder.store.device) (sector_of image)
-    → CrashReopens (recording_of last.recorder)
+    → ((left : Content) → (shown_of last.recorder.store.device).crash left
+        → ReplaysToWhatCouldBe (recording_of last.recorder) (recording_of last.recorder) left)
     → (IsWritten start.recorder → last.recorder.end ≡ None → has_no_close last.recorder.core.events ≡ false → HasWholeLog (recording_of last.recorder))
     → IsRecorded plan text hazard status image
 is_recorded plan text start last recorder hazard status image picks starts ran goes first tells same size ending bytes reopens whole =
@@ -110,7 +112,7 @@ is_recorded plan text start last recorder hazard status image picks starts ran g
     subst (λ (r : DiskRecorder). AgreeBelow (shown_of r.store.device).size (left_on plan.ending r.store.device) (sector_of image)) same
     (subst (λ (o : Option (List ℕ)). AgreeBelow (shown_of recorder.store.device).size (left_on o recorder.store.device) (sector_of image)) ending bytes) in
     let agree = subst (λ (n : ℕ). AgreeBelow n (left_on plan.ending disk) (sector_of image)) begun here in
-    let reopened = reopens refl (left_on plan.ending disk) (may_leave plan.ending disk) in
+    let reopened = reopens (left_on plan.ending disk) (may_leave plan.ending disk) in
     record {
       start = start;
       starts = starts;
@@ -125,6 +127,8 @@ is_recorded plan text start last recorder hazard status image picks starts ran g
         least = reopened.least;
         most = reopened.most;
         log = image_log plan.log_sectors disk plan.ending image begun agree reopened.log;
+        acknowledged = reopened.acknowledged;
+        possible = reopened.possible;
       };
       whole = λ closed on.
           subst (λ (n : ℕ). IsLogOf n (sector_of image) 512 (log_of last.recorder.core)) begun

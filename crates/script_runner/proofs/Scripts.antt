@@ -15,7 +15,7 @@ use Rattle.script_runner.specs.declared.error.RunError.TheVariants.{Refused}
 use Rattle.script_runner.specs.CallLaws.{appends_kept, appends_twice}
 use Rattle.script_runner.specs.declared.running.Running.{Running}
 use Rattle.script_runner.specs.declared.step_error.StepError.TheVariants.{AtLine, Whole}
-use Rattle.script_runner.specs.Lines.{EndsSubmitted, FitsDevice, PrintsLine, RunsLine, StopsLine, count_of}
+use Rattle.script_runner.specs.Lines.{EndsSubmitted, FitsDevice, HasScriptText, PrintsLine, RunsLine, StopsLine, count_of}
 use Rattle.script_runner.specs.Runs.{EndsRun, PrintsLines, close, file}
 use Rattle.script_runner.proofs.Chaining.{chain_snoc}
 
@@ -52,7 +52,13 @@ command_next plan items place other same orderly within =
 pub next_fits : (sectors : ℕ) (before : List Command) (command : Command) → CanFollow sectors before command → FitsDevice sectors command
 next_fits sectors before (commands.Submit submission) comes = comes.0
 next_fits sectors before (commands.Complete request) comes = tt
-next_fits sectors before (commands.Step step) comes = comes
+next_fits sectors before (commands.Step step) comes = comes.0
+
+-- its text is one of a script
+pub next_text : (sectors : ℕ) (before : List Command) (command : Command) → CanFollow sectors before command → HasScriptText command
+next_text sectors before (commands.Submit submission) comes = tt
+next_text sectors before (commands.Complete request) comes = tt
+next_text sectors before (commands.Step step) comes = comes.1
 
 -- the request that it ends was submitted
 pub next_submitted : (sectors : ℕ) (before : List Command) (command : Command) → CanFollow sectors before command
@@ -132,6 +138,12 @@ next_line_fits plan items place sectors other same orderly within size =
     subst (λ (n : ℕ). FitsDevice n (slice_index_or items place other)) (sym size)
     (next_fits plan.data_sectors (take place plan.commands) (slice_index_or items place other) next.comes)
 
+pub next_line_text : (plan : Plan) (items : List Command) (place : ℕ) (other : Command) → items ≡ plan.commands → IsOrderlyScript plan → place < length items
+    → HasScriptText (slice_index_or items place other)
+next_line_text plan items place other same orderly within =
+    let next = command_next plan items place other same orderly within in
+    next_text plan.data_sectors (take place plan.commands) (slice_index_or items place other) next.comes
+
 pub next_line_submitted : (plan : Plan) (items : List Command) (place requests : ℕ) (other : Command) → items ≡ plan.commands → IsOrderlyScript plan → place < length items
     → requests ≡ submissions (take place plan.commands) → EndsSubmitted requests (slice_index_or items place other)
 next_line_submitted plan items place requests other same orderly within counted =
@@ -177,6 +189,15 @@ stops_at_close text plan place line command before mid after refusal start now n
       ran = ran.1;
       refused = stops.closes;
     }) (appends_kept before mid after ran.0 ran.2 stops.printed)))
+
+-- what is true of the item at a place is true of one that is it, and the other way round
+pub of_item : (P : Command → Type 0) (items : List Command) (place : ℕ) (command : Command) → command ≡ slice_index_or items place command
+    → P (slice_index_or items place command) → P command
+of_item P items place command is holds = subst P (sym is) holds
+
+pub of_place : (P : Command → Type 0) (items : List Command) (place : ℕ) (command : Command) → command ≡ slice_index_or items place command
+    → P command → P (slice_index_or items place command)
+of_place P items place command is holds = subst P is holds
 
 -- how many lines have run
 pub lines_run : (items body : List Command) (place : ℕ) → items ≡ body → place < length items → place ≡ length (take place body)

@@ -1,7 +1,7 @@
 -- What one line does.
-use Rattle.std.proofs.Common.{◌≡◌, ◌∙◌, ◌<◌, ℕ, Some, List, ap, length, subst, sym, inl, inr}
+use Rattle.std.proofs.Common.{◌≡◌, ◌∙◌, ◌<◌, ℕ, true, not, Some, List, [], ◌∷◌, ap, arith, length, refl, subst, sym, inl, inr}
 use Rattle.std.proofs.lemmas.Option.{slice_get-get_or}
-use Rattle.std.specs.Prelude.{Err, IfErr, Ok, OnOk, Result, slice_get, slice_index_or}
+use Rattle.std.specs.Prelude.{◌==◌, Err, IfErr, Ok, OnOk, Result, slice_get, slice_index_or}
 use Rattle.sectors.specs.PlaceLaws.{bool_cases}
 use Rattle.bio.specs.declared.request.Bio.{Bio}
 use Rattle.refusals.specs.declared.refusal.Refusal.{Refusal}
@@ -15,7 +15,13 @@ use Rattle.pending.specs.CoreState.{records}
 use Rattle.recorder.specs.declared.recorder.Recorder.{Recorder}
 use Rattle.recorder.specs.declared.reply.Reply.{Reply}
 use Rattle.recorder.specs.declared.reply.Reply.TheVariants as replies
-use Rattle.recorder.specs.Calls.{Closes, Submits}
+use Rattle.recorder.specs.Calls.{Closes, Marks, Submits}
+use Rattle.bio.specs.Lawful.{is_recording, is_text}
+use Rattle.dmlw_script.specs.Lines.{is_line_byte, is_line_text}
+use Rattle.script_runner.specs.Lines.{PrintsMark}
+use Rattle.script_runner.specs.inside.Replies.{mark_outcome}
+use Rattle.std.proofs.lemmas.Bool.{and_from, and_parts}
+use Rattle.std.proofs.lemmas.Bool.Decides.{nat_tests}
 use Rattle.script_runner.specs.declared.request.Request.{Request}
 
 -- a reply to a submission that names no id and passes nothing says that there is no memory
@@ -36,6 +42,31 @@ closed-only reply old new closes refused = elim closes.answer [
   | inl done ↦ subst (λ (answer : Reply). Closes answer old new) done.0 closes
   | inr other ↦ elim other [ inl busy ↦ absurd (refused _ busy.0) | inr memory ↦ absurd (refused _ memory.0) ]
 ]
+
+-- a byte that may stand in a line isn't zero
+byte_is_text : (byte : ℕ) → is_line_byte byte ≡ true → not (byte == 0) ≡ true
+byte_is_text byte plain = grind (arith, nat_tests)
+
+-- a text that may stand in a line is one that a mark may have
+line_is_text : (text : List ℕ) → is_line_text text ≡ true → is_text text ≡ true
+line_is_text [] plain = refl
+line_is_text (byte ∷ text) plain =
+    let parts = and_parts (is_line_byte byte) (is_line_text text) plain in
+    and_from _ _ (byte_is_text byte parts.0) (line_is_text text parts.1)
+
+-- what is printed of a mark is what its reply says
+pub mark_prints : {L : Type 0} {g : Ghosts L} (text : List ℕ) (reply : Reply) (old new : Recorder L g) → Marks text reply old new → is_line_text text ≡ true
+    → PrintsMark reply (mark_outcome reply)
+mark_prints text reply old new marks plain = elim (bool_cases (is_recording old.core.events)) [
+  | inl going ↦ elim (marks.recorded heard going) [
+    | inl queued ↦ subst (λ (r : Reply). PrintsMark r (mark_outcome r)) (sym queued.0) refl
+    | inr refused ↦ subst (λ (r : Reply). PrintsMark r (mark_outcome r)) (sym refused.0) (refl, refl)
+  ]
+  | inr over ↦ subst (λ (r : Reply). PrintsMark r (mark_outcome r)) (sym (marks.passed heard over).0) refl
+]
+  where
+    heard : is_text text ≡ true
+    heard = line_is_text text plain
 
 -- what stands at a place
 pub stands_at : (items : List Request) (place : ℕ) (here found : Request) → place < length items → here ≡ slice_index_or items place here → here ≡ found

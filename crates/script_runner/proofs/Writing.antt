@@ -10,7 +10,7 @@ use Rattle.bio.specs.declared.outcome.End.{End}
 use Rattle.bio.specs.declared.request.Bio.{Bio}
 use Rattle.bio.specs.Events.{is_close, is_open_at}
 use Rattle.bio.specs.EventLaws.{is_well_formed-snoc}
-use Rattle.bio.specs.Lawful.{can_follow, has_no_close, has_no_stop, is_recording, is_well_formed}
+use Rattle.bio.specs.Lawful.{can_follow, has_no_close, has_no_stop, is_recording, is_text, is_well_formed}
 use Rattle.bio.specs.Requests.{is_tracked}
 use Rattle.blockdev.specs.declared.device.BlockDev.{Ghosts}
 use Rattle.log_format.specs.declared.entry.Entry.{Entry}
@@ -20,7 +20,7 @@ use Rattle.recorder.specs.declared.recorder.Recorder.{Recorder}
 use Rattle.recorder.specs.declared.reply.Reply.{Reply}
 use Rattle.recorder.specs.declared.reply.Turn.{Turn}
 use Rattle.recorder.specs.declared.reply.Turn.TheVariants as turns
-use Rattle.recorder.specs.Calls.{Completes, Drains, IsUnchanged, Submits, Turns}
+use Rattle.recorder.specs.Calls.{Completes, Drains, IsUnchanged, Marks, Submits, Turns}
 use Rattle.recorder.specs.Recording.{log_of}
 use Rattle.script_runner.specs.Written.{IsWritten}
 
@@ -73,6 +73,21 @@ kept_complete {L} {l} id ok reply old new completes written = elim (bool_cases (
       let recording = (and_parts (has_no_close old.core.events) (is_open_at old.core.events id) parts.1).0 in
       kept_recording {l = l} new (unclosed old.core new.core (events.Complete id ok) is refl recording)
   | inr other ↦ kept_unchanged {l = l} old new written (record { core = (completes.unknown other).1; store = completes.log; end = completes.end })
+]
+
+-- a mark keeps it
+pub kept_mark : {L : Type 0} {l : Ghosts L} (text : List ℕ) (reply : Reply) (old new : Recorder L l) → Marks text reply old new → IsWritten old → IsWritten new
+kept_mark {L} {l} text reply old new marks written = elim (bool_cases (is_text text)) [
+  | inl heard ↦ elim (bool_cases (is_recording old.core.events)) [
+    | inl going ↦ elim (marks.recorded heard going) [
+      | inl queued ↦
+          let recording = (and_parts (has_no_stop old.core.events) (has_no_close old.core.events) going).1 in
+          kept_recording {l = l} new (unclosed old.core new.core (events.Mark text) queued.1 refl recording)
+      | inr refused ↦ kept_unchanged {l = l} old new written (record { core = refused.1; store = marks.log; end = marks.end })
+    ]
+    | inr over ↦ kept_unchanged {l = l} old new written (record { core = (marks.passed heard over).1; store = marks.log; end = marks.end })
+  ]
+  | inr bad ↦ kept_unchanged {l = l} old new written (record { core = marks.unheard bad; store = marks.log; end = marks.end })
 ]
 
 -- no entry stands behind the last

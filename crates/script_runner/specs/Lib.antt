@@ -6,7 +6,9 @@ pub use Rattle.recorder.specs.Growth
 pub use Rattle.refusals.specs.Texts as RefusalTexts
 pub use Rattle.log_format.specs.LogOf
 pub use Rattle.pending.specs.Hazards
+pub use Rattle.recorder.specs.Acknowledged
 pub use Rattle.recorder.specs.Recording
+pub use Rattle.recorder.specs.Replayed
 pub use Rattle.sector_disk.specs.Candidates
 pub use Rattle.sector_disk.specs.Shown as DiskShown
 pub use Rattle.sector_disk.specs.Sizes
@@ -20,3 +22,4 @@ pub mod Runs
 pub mod Written
 pub mod Followed
 pub mod OnDisks
+pub mod inside

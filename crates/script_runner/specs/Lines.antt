@@ -13,11 +13,11 @@ use Rattle.dmlw_script.specs.declared.command.Command.TheVariants as commands
 use Rattle.dmlw_script.specs.declared.command.Step.{Step}
 use Rattle.dmlw_script.specs.declared.command.Step.TheVariants as steps
 use Rattle.dmlw_script.specs.declared.script_id.ScriptId.{ScriptId}
-use Rattle.dmlw_script.specs.Plans.{is_submission, name_at, step_answer, submission_answer}
+use Rattle.dmlw_script.specs.Plans.{is_submission, name_at, step_answer, submission_answer, HasLineText}
 use Rattle.recorder.specs.declared.recorder.Recorder.{Recorder}
 use Rattle.recorder.specs.declared.reply.Reply.{Reply}
 use Rattle.recorder.specs.declared.reply.Reply.TheVariants as replies
-use Rattle.recorder.specs.Calls.{Turns, Closes, Completes, Drains, Submits}
+use Rattle.recorder.specs.Calls.{Turns, Closes, Completes, Drains, Marks, Submits}
 use Rattle.recorder.specs.Growth.{RecorderGoes}
 use Rattle.recorder.specs.Shown.{recording_of}
 use Rattle.script_runner.specs.declared.request.Request.{Request}
@@ -28,7 +28,7 @@ use Rattle.script_runner.specs.declared.step_error.StepError.TheVariants.{AtLine
 use Rattle.script_runner.specs.Errors.{IsFileError}
 use Rattle.script_runner.specs.HandOver.{ReadsSectors, HandsOver}
 use Rattle.script_runner.specs.Submitted.{bio_of}
-use Rattle.script_runner.specs.Texts.{read_line, outcome_line}
+use Rattle.script_runner.specs.Texts.{mark_failed, read_line, outcome_line}
 
 -- what the recorder answers to a submission that it doesn't refuse
 abbrev pub reply_of : Option ℕ → Reply
@@ -101,11 +101,28 @@ pub record GivesTurn {D L : Type 0} {d : Ghosts D} {l : Ghosts L} (text : List �
   pub turn : Turn
   pub turns : Turns turn old.recorder new.recorder
 
+-- what the line of a mark prints by the recorder's reply: nothing where the mark is queued or passed; and that it failed where there is no
+-- memory for it, which is the only refusal
+abbrev pub PrintsMark : Reply → List ℕ → Type 0
+PrintsMark (replies.Queued id) printed = printed ≡ []
+PrintsMark replies.Passed printed = printed ≡ []
+PrintsMark (replies.Refused refusal) printed = (refusal ≡ refusals.Memory) × (printed ≡ mark_failed)
+PrintsMark _ printed = ⊥
+
+-- A line tells the recorder of a mark; the data device isn't called.
+pub record TellsMark {D L : Type 0} {d : Ghosts D} {l : Ghosts L} (mark text : List ℕ) (old new : Running D L d l) : Type 0 where
+  pub device : new.disk ≡ old.disk
+  pub kept : new.requests.items ≡ old.requests.items
+  pub reply : Reply
+  pub marks : Marks mark reply old.recorder new.recorder
+  pub prints : PrintsMark reply text
+
 -- A line that names no request.
 abbrev pub TakesStep : {D L : Type 0} {d : Ghosts D} {l : Ghosts L} → Step → List ℕ → Running D L d l → Running D L d l → Type 0
 TakesStep steps.Close text old new = EndsRecording text old new
 TakesStep (steps.Read first count) text old new = ReadsData first count text old new
 TakesStep steps.Turn text old new = GivesTurn text old new
+TakesStep (steps.Mark mark) text old new = TellsMark mark text old new
 
 -- What a line does, by its kind.
 abbrev pub Does : {D L : Type 0} {d : Ghosts D} {l : Ghosts L} → List ScriptId → Command → List ℕ → Running D L d l → Running D L d l → Type 0
@@ -132,6 +149,12 @@ abbrev pub FitsDevice : ℕ → Command → Type 0
 FitsDevice sectors (commands.Submit submission) = submission_answer sectors submission ≡ Ok tt
 FitsDevice sectors (commands.Complete request) = Unit {0}
 FitsDevice sectors (commands.Step step) = step_answer sectors step ≡ Ok tt
+
+-- a mark's text may stand in a line of a script
+abbrev pub HasScriptText : Command → Type 0
+HasScriptText (commands.Submit submission) = Unit {0}
+HasScriptText (commands.Complete request) = Unit {0}
+HasScriptText (commands.Step step) = HasLineText step
 
 -- the run of a line stops, since the output can't be written or there is no memory
 abbrev pub StopsForFile : StepError → Type 0

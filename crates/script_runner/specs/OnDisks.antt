@@ -22,7 +22,8 @@ use Rattle.pending.specs.Hazards.{first_hazard}
 use Rattle.pending.specs.QueueEvent.{recorded}
 use Rattle.dmlw_script.specs.Plans.{Plan}
 use Rattle.recorder.specs.declared.recorder.Recorder.{Recorder}
-use Rattle.recorder.specs.Recording.{Reopens, log_of}
+use Rattle.recorder.specs.Recording.{log_of}
+use Rattle.recorder.specs.Replayed.{ReplaysToWhatCouldBe}
 use Rattle.recorder.specs.Shown.{recording_of}
 use Rattle.script_runner.specs.declared.error.RunError.{RunError}
 use Rattle.script_runner.specs.declared.error.RunError.TheVariants.{LoggingEnded}
@@ -86,8 +87,9 @@ pub record IsRecorded (plan : Plan) (text : List ℕ) (hazard : Option Hazard) (
   pub tells : status ≡ status_of 512 (entries_of (store_of last.recorder.store)) last.recorder.end
   pub size : length image ≡ 512 * plan.log_sectors
   pub bytes : AgreeBelow plan.log_sectors (left_on plan.ending last.recorder.store.device) (sector_of image)
-  -- the bytes have a log, which is a beginning of the completion list of the recorder's events with all that is settled
-  pub beginning : Reopens (recording_of last.recorder) last.recorder.store.settled (sector_of image)
+  -- the bytes have a log, which is a beginning of the completion list of the recorder's events with all that is settled and all that is
+  -- acknowledged; up to the first hazard each beginning of it replays to what the recorded device could hold
+  pub beginning : ReplaysToWhatCouldBe (recording_of last.recorder) (recording_of last.recorder) (sector_of image)
   -- where the script closed and logging goes on, it is the whole list
   pub whole : has_no_close last.recorder.core.events ≡ false → last.recorder.end ≡ None →
       IsLogOf plan.log_sectors (sector_of image) 512 (log_of last.recorder.core)

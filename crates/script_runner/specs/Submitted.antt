@@ -1,5 +1,5 @@
 -- What a script's line submits.
-use Rattle.std.specs.Prelude.{ℕ, ◌*◌, Bool, true, false, is_ok, replicate}
+use Rattle.std.specs.Prelude.{ℕ, ◌*◌, Bool, true, is_ok, replicate}
 use Rattle.bio.specs.declared.request.Bio.{Bio}
 use Rattle.bio.specs.declared.request.Bio.TheVariants as bios
 use Rattle.bio.specs.Check.{check_answer}
@@ -8,10 +8,11 @@ use Rattle.dmlw_script.specs.declared.command.Submission.TheVariants as submits
 use Rattle.script_runner.specs.declared.request.Request.{Request}
 use Rattle.script_runner.specs.declared.request.Request.TheVariants as requests
 
--- the request that a line submits: a write's sectors are of its byte
+-- the request that a line submits: a write's sectors are of its byte, and it asks for what its options say
 abbrev pub bio_of : Submission → Bio
-bio_of (submits.Write first count byte) = bios.Write first (replicate (count * 512) byte) false false false
+bio_of (submits.Write first count byte options) = bios.Write first (replicate (count * 512) byte) options.flush options.fua options.meta
 bio_of submits.Flush = bios.Flush
+bio_of (submits.Discard first count) = bios.Discard first count
 
 -- the request passes the test of a device of so many sectors
 abbrev pub fits_device : ℕ → Request → Bool

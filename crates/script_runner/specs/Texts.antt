@@ -26,3 +26,7 @@ read_outcome count None = codes "failed"
 -- the line of a read
 abbrev pub read_line : ℕ → ℕ → Option (List ℕ) → List ℕ
 read_line first count bytes = codes "read " ++ decimal first ++ codes "+" ++ decimal count ++ codes " " ++ read_outcome count bytes ++ codes "\n"
+
+-- the line of a mark for which there was no memory
+abbrev pub mark_failed : List ℕ
+mark_failed = codes "mark failed\n"

@@ -1,4 +1,6 @@
-ghost use Rattle.std.specs.Prelude.{◌++◌, ◌≡◌, ◌≤◌, List, None, false, length, take, ℕ};
+ghost use Rattle.std.specs.Prelude.{◌++◌, ◌≡◌, ◌≤◌, List, None, Some, false, length, slice_get, take, ℕ};
+ghost use Rattle.bio.specs.declared.event.CoreEvent.TheVariants.{Mark};
+ghost use Rattle.recorder.specs.declared.reply.Reply.TheVariants.{Queued};
 ghost use Rattle.dmlw_script.specs.declared.command.Command.{Command};
 ghost use Rattle.dmlw_script.specs.declared.script_id.ScriptId.{ScriptId};
 ghost use Rattle.log_format.specs.LogOf.{IsLogOf};
@@ -11,6 +13,7 @@ ghost use Rattle.sectors.specs.Content.{Content};
 ghost use Rattle.std.specs.List.{AllZip};
 ghost use Rattle.script_runner.specs.declared.request.Request.{Request};
 ghost use Rattle.script_runner.specs.Followed.{IsFollowed, StandsFor, submissions_of};
+ghost use Rattle.script_runner.specs.Lines.{TellsMark};
 ghost use Rattle.script_runner.specs.Runs.{RunsLines};
 ghost use Rattle.script_runner.specs.Written.{IsWritten};
 
@@ -34,6 +37,15 @@ pub fn requests_stand_in_the_events<D: BlockDev + Drop, L: BlockDev + Drop>()
     ensures recorded { (names : List ScriptId) (body : List Command) (text : List ℕ) (old new : Running D L D.BlockDev L.BlockDev) →
         RunsLines names body text old new → IsFollowed old → IsFollowed new }
 {}
+
+/// A mark that a line has queued stands in the recorder's events, at its place and with its text, whatever lines run after it.
+pub fn marks_stand_in_the_events<D: BlockDev + Drop, L: BlockDev + Drop>()
+    ensures { (names : List ScriptId) (body : List Command) (mark text more : List ℕ) (id : ℕ) (old mid new : Running D L D.BlockDev L.BlockDev) →
+        (line : TellsMark mark text old mid) → line.reply ≡ Queued id → RunsLines names body more mid new →
+        slice_get new.recorder.core.events id ≡ Some (Mark mark) }
+{
+    lines_go_as_one_call::<D, L>();
+}
 
 /// Where the log's device told no lie: whatever a crash at any moment of a script's run may have left has a log, and that is a beginning of
 /// the completion list of the recorder's events, with all that was settled when the run began.

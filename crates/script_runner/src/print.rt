@@ -4,11 +4,13 @@ ghost use Rattle.std.specs.Io.KnownBytes.{Appends};
 ghost use Rattle.dmlw_script.specs.Plans.{IsName, name_at};
 ghost use Rattle.dmlw_script.specs.Words.{hex_digit};
 ghost use Rattle.script_runner.specs.Lines.{StopsForFile, submission_text};
+ghost use Rattle.script_runner.specs.inside.Replies.{mark_outcome};
 ghost use Rattle.script_runner.specs.Texts.{first_bytes, outcome_line, outcome_word, read_line};
 
 use crate::request::Request;
 use crate::step_error::StepError;
 use dmlw_script::ScriptId;
+use recorder::Reply;
 use sectors::SECTOR_BYTES;
 use std::io::Write;
 
@@ -43,6 +45,17 @@ pub(crate) fn print_outcome<O: Write>(
 {
     let word = outcome_word(ok);
     Ok(writeln!(out, "{name} {word}")?)
+}
+
+// Says that there was no memory for a mark, where the recorder refused it.
+pub(crate) fn print_mark<O: Write>(reply: Reply, out: &mut O) -> Result<(), StepError>
+    ensures output { OnOk result (Appends (O.contents out.old) (O.contents out.new) (mark_outcome reply)) }
+    ensures faults { IfErr result StopsForFile }
+{
+    match reply {
+        Reply::Refused(_) => Ok(writeln!(out, "mark failed")?),
+        _ => Ok(()),
+    }
 }
 
 // Says what was read: the first byte of each sector.

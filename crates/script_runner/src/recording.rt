@@ -15,6 +15,7 @@ use dmlw_script::Script;
 use log_store::LogStore;
 use pending::Hazard;
 use recorder::Recorder;
+use recorder::laws::crashed_logs_replay_to_what_could_be;
 use refusals::Refusal;
 use sector_disk::SectorDisk;
 use std::alloc::{AllocError, Global};
@@ -32,8 +33,9 @@ pub struct Recorded {
 }
 
 /// Records a script, which was read from `text`, on two disks in memory of the sizes that it names. What its lines print is written to
-/// `out`. Where the script ends by a crash, the log's disk loses power then, with its picks. The log is handed over also where logging ended before the script did. A close that is refused fails at its line; so do want of memory
-/// and an output that can't be written, for which no line is named.
+/// `out`. Where the script ends by a crash, the log's disk loses power then, with its picks. The log is handed over also where logging ended
+/// before the script did. A close that is refused fails at its line; so do want of memory and an output that can't be written, for which no
+/// line is named.
 pub fn record<O: Write>(
     alloc: Global,
     text: &[u8],
@@ -44,6 +46,7 @@ pub fn record<O: Write>(
         × Appends (O.contents out.old) (O.contents out.new) printed) }
     ensures faults { IfErr result (FailsOnDisks text.now script.now (O.contents out.old) (O.contents out.new)) }
 {
+    crashed_logs_replay_to_what_could_be::<SectorDisk>();
     lines_go_as_one_call::<SectorDisk, SectorDisk>();
     closed_runs_leave_whole_logs::<SectorDisk, SectorDisk>();
     let mut running = start(alloc, script)?;
@@ -51,7 +54,8 @@ pub fn record<O: Write>(
     let _events = running.recorder().events();
     let status = running.recorder().status();
     let hazard = running.recorder().hazard();
-    let (recorder, _data) = running.into_parts();
+    let (recorder, data) = running.into_parts();
+    drop(data);
     let image = read_log(recorder, script.crash())?;
     Ok(Recorded {
         image,

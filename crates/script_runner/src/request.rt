@@ -27,14 +27,20 @@ pub(crate) fn bio_of(alloc: Global, submission: Submission) -> Result<Bio, Alloc
     ensures no_data { has_data (bio_of submission) ≡ false → IsOk result }
 {
     match submission {
-        Submission::Write { first, count, byte } => Ok(Bio::Write {
+        Submission::Write {
+            first,
+            count,
+            byte,
+            options,
+        } => Ok(Bio::Write {
             first,
             bytes: sectors_of(alloc, count, byte)?,
-            flush: false,
-            fua: false,
-            meta: false,
+            flush: options.flush,
+            fua: options.fua,
+            meta: options.meta,
         }),
         Submission::Flush => Ok(Bio::Flush),
+        Submission::Discard { first, count } => Ok(Bio::Discard { first, count }),
     }
 }
 

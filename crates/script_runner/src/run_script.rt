@@ -26,7 +26,7 @@ pub fn run<D: BlockDev + Drop, L: BlockDev + Drop, O: Write>(
 {
     laws::requests_end_once();
     for (place, command) in script.commands().iter().enumerate() {
-        match running.run_line(*command, script.names(), out) {
+        match running.run_line(command, script.names(), out) {
             Ok(()) => {}
             Err(StepError::Whole(fault)) => return Err(fault),
             Err(StepError::AtLine(refusal)) => {

@@ -4,10 +4,10 @@ ghost use Rattle.script_runner.specs.Submitted.{fits_device};
 
 use crate::asking::{ask, tell_end};
 use crate::handing::{hand_over, read_sectors};
-use crate::print::{name_of, print_outcome, print_read, print_submission};
+use crate::print::{name_of, print_mark, print_outcome, print_read, print_submission};
 use crate::request::Request;
 use crate::step_error::StepError;
-use bio::Event;
+use bio::{Bytes, Event};
 use blockdev::BlockDev;
 use dmlw_script::{Command, ScriptId, Step, Submission};
 use recorder::{Recorder, Reply, laws};
@@ -26,17 +26,18 @@ pub struct Running<D: BlockDev + Drop, L: BlockDev + Drop> {
 }
 
 impl<D: BlockDev + Drop, L: BlockDev + Drop> Running<D, L> {
-    ghost use Rattle.std.specs.Prelude.{◌≡◌, ◌+◌, ◌<◌, IfErr, IfOk, List, Ok, OnOk, [], length, ℕ};
+    ghost use Rattle.std.specs.Prelude.{◌≡◌, ◌+◌, ◌<◌, IfErr, IfOk, List, Ok, OnOk, [], length, true, ℕ};
     ghost use Rattle.std.specs.List.{AllByRecursion};
     ghost use Rattle.std.specs.Io.KnownBytes.{Appends, Keeps};
     ghost use Rattle.bio.specs.Check.{range_answer};
+    ghost use Rattle.dmlw_script.specs.Lines.{is_line_text};
     ghost use Rattle.dmlw_script.specs.Plans.{HasName, IsName, submission_answer};
     ghost use Rattle.recorder.specs.declared.reply.Reply.TheVariants as replies;
     ghost use Rattle.recorder.specs.Calls.{Closes};
     ghost use Rattle.recorder.specs.Growth.{RecorderGoes};
     ghost use Rattle.recorder.specs.Shown.{recording_of};
     ghost use Rattle.script_runner.specs.declared.step_error.StepError.TheVariants.{AtLine};
-    ghost use Rattle.script_runner.specs.Lines.{EndsRecording, EndsSubmitted, FitsDevice, GivesTurn, PrintsLine, ReadsData, StopsForFile, StopsLine, count_of};
+    ghost use Rattle.script_runner.specs.Lines.{EndsRecording, EndsSubmitted, FitsDevice, GivesTurn, HasScriptText, PrintsLine, ReadsData, StopsForFile, StopsLine, TellsMark, count_of};
 
     /// The run of a script before its first line, with room for so many requests.
     pub fn new(
@@ -144,6 +145,20 @@ impl<D: BlockDev + Drop, L: BlockDev + Drop> Running<D, L> {
         let _turn = self.recorder.turn();
     }
 
+    // Tells the recorder of a mark, and says so where there is no memory for it.
+    fn mark<O: Write>(&mut self, text: &Bytes, out: &mut O) -> Result<(), StepError>
+        requires { is_line_text text.now ≡ true }
+        ensures runs { OnOk result ((printed : List ℕ) × TellsMark text.now printed self.old self.new
+            × Appends (O.contents out.old) (O.contents out.new) printed) }
+        ensures faults { IfErr result StopsForFile }
+        ensures goes { OnOk result (RecorderGoes (recording_of self.old.recorder) (recording_of self.new.recorder)) }
+        ensures size { (D.shown self.new.disk).size ≡ (D.shown self.old.disk).size }
+        ensures count { length self.new.requests.items ≡ length self.old.requests.items }
+    {
+        let reply = self.recorder.event(Event::Mark(text.clone()?));
+        print_mark(reply, out)
+    }
+
     // Ends the recording, and writes the log to its end.
     fn close(&mut self) -> Result<(), StepError>
         ensures ends { OnOk result (EndsRecording [] self.old self.new) }
@@ -164,25 +179,27 @@ impl<D: BlockDev + Drop, L: BlockDev + Drop> Running<D, L> {
     /// Runs a line: it does what its kind does, and what it prints is written to `out`.
     pub fn run_line<O: Write>(
         &mut self,
-        command: Command,
+        command: &Command,
         names: &[ScriptId],
         out: &mut O,
     ) -> Result<(), StepError>
-        requires fits { FitsDevice (D.shown self.old.disk).size command }
-        requires named { HasName (length names.now) (length self.old.requests.items) command }
-        requires submitted { EndsSubmitted (length self.old.requests.items) command }
+        requires fits { FitsDevice (D.shown self.old.disk).size command.now }
+        requires text { HasScriptText command.now }
+        requires named { HasName (length names.now) (length self.old.requests.items) command.now }
+        requires submitted { EndsSubmitted (length self.old.requests.items) command.now }
         requires ids { AllByRecursion IsName names.now }
-        ensures runs { OnOk result (PrintsLine names.now command (O.contents out.old) (O.contents out.new) self.old self.new) }
-        ensures faults { IfErr result (StopsLine command (O.contents out.old) (O.contents out.new) self.old.recorder) }
+        ensures runs { OnOk result (PrintsLine names.now command.now (O.contents out.old) (O.contents out.new) self.old self.new) }
+        ensures faults { IfErr result (StopsLine command.now (O.contents out.old) (O.contents out.new) self.old.recorder) }
         ensures size { (D.shown self.new.disk).size ≡ (D.shown self.old.disk).size }
-        ensures count { OnOk result (length self.new.requests.items ≡ length self.old.requests.items + count_of command) }
+        ensures count { OnOk result (length self.new.requests.items ≡ length self.old.requests.items + count_of command.now) }
     {
         match command {
-            Command::Submit(submission) => self.submit(submission, names, out),
-            Command::Complete { request } => self.complete(request, names, out),
+            Command::Submit(submission) => self.submit(*submission, names, out),
+            Command::Complete { request } => self.complete(*request, names, out),
             Command::Step(step) => match step {
                 Step::Close => self.close(),
-                Step::Read { first, count } => self.read(first, count, out),
+                Step::Read { first, count } => self.read(*first, *count, out),
+                Step::Mark { text } => self.mark(text, out),
                 Step::Turn => {
                     self.turn();
                     Ok(())

@@ -5,7 +5,7 @@ ghost use Rattle.script_runner.specs.declared.step_error.StepError.TheVariants.{
 
 use crate::error::RunError;
 use refusals::Refusal;
-use std::alloc::AllocFailed;
+use std::alloc::{AllocError, AllocFailed};
 use std::io;
 
 /// Why a line stops the run of its script.
@@ -22,6 +22,14 @@ impl<T: Drop> From<AllocFailed<T>> for StepError {
 
     fn from(_error: AllocFailed<T>) -> StepError {
         StepError::Whole(RunError::from(Refusal::Memory))
+    }
+}
+
+impl From<AllocError> for StepError {
+    ghost from_gives = { λ _ stop. stop ≡ Whole memory_error };
+
+    fn from(error: AllocError) -> StepError {
+        StepError::Whole(RunError::from(error))
     }
 }
 

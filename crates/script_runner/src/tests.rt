@@ -15,7 +15,17 @@ log 2,f a,close=line 4: 24 Busy
 log 32,w a 5 1 41,r 5 1,c a,r 5 1,r 4 4=read 5+1 ok 00;a ok;read 5+1 ok 41;read 4+4 ok 00410000;0 0
 log 32,turn,w a 5 1 41,turn,c a,f b,turn,c b,turn=a ok;b ok;1 2
 log 32,w a 5 1 41,c a,f b,c b,turn,turn,turn=a ok;b ok;2 3
-log 32,w a 5 1 41,c a,f b,c b,turn,close,turn=a ok;b ok;3 4";
+log 32,w a 5 1 41,c a,f b,c b,turn,close,turn=a ok;b ok;3 4
+log 32,w a 5 1 61,c a,w b 5 1 62 fua,c b,f g,c g,close=a ok;b ok;g ok;4 6
+log 32,w a 5 1 61,c a,f f0,f f1,c f1,w x 9 1 63 fua,c x,c f0,close=a ok;f1 ok;x ok;f0 ok;5 7
+log 32,w a 1 1 7f,c a,r 1 1,d b 1 1,r 1 1,c b,r 1 1,f g,c g,close=a ok;read 1+1 ok 7f;read 1+1 ok 7f;b ok;read 1+1 ok 00;g ok;4 5
+log 32,w a 4 1 11,c a,w b 8 2 22 flush fua,c b,turn,turn=a ok;b ok;2 5
+log 32,w a 5 1 41,c a,mark here,close=a ok;3 4
+log 32,mark here,turn=1 1
+log 32,close,mark late,turn=1 1
+log 1,mark a,turn,mark b=0 0 logging_disabled
+log 32,w a 5 1 41 flush meta,c a,close=a ok;2 3
+log 32,w a 5 1 41 flush fua meta,r 5 1,c a,r 5 1,turn=read 5+1 ok 00;a ok;read 5+1 ok 41;1 2";
 
 // The text of a script of these lines.
 fn text_of(alloc: Global, lines: &str) -> Result<String, AllocError> {
@@ -82,5 +92,29 @@ fn long_reads_are_taken(rt: HostRuntime) -> Result<(), Fail> {
     let shown = shown(&rt, alloc, "data 4096\nlog 32\nr 2048 2048\n")?;
     assert!(rt; shown.as_str().starts_with("read 2048+2048 ok 0000"));
     assert_eq!(rt; shown.len(), 18 + 4096 + 1 + 3);
+    Ok(())
+}
+
+// Writes of few sectors and of as many as a request may have find memory: before a close, behind it and without one.
+#[test]
+fn writes_of_any_size_are_taken(rt: HostRuntime) -> Result<(), Fail> {
+    let alloc = rt.alloc();
+    let mut text = String::from_str(alloc, "data 4096\nlog 4096\n")?;
+    for count in [1, 7, 8, 9, 63, 64, 65, 511, 2048] {
+        text.push_str(format!(in alloc; "w a{count} 2000 {count} 41\n")?.as_str())?;
+        text.push_str(format!(in alloc; "c a{count}\n")?.as_str())?;
+    }
+    let open = shown(&rt, alloc, text.as_str())?;
+    assert_eq!(rt;
+        open.as_str(),
+        "a1 ok;a7 ok;a8 ok;a9 ok;a63 ok;a64 ok;a65 ok;a511 ok;a2048 ok;0 0"
+    );
+    text.push_str("close\nw z 0 2048 42\nc z\nr 2047 1\n")?;
+    let closed = shown(&rt, alloc, text.as_str())?;
+    assert!(rt;
+        closed
+            .as_str()
+            .ends_with("a2048 ok;z ok;read 2047+1 ok 42;10 2786")
+    );
     Ok(())
 }

@@ -1,15 +1,17 @@
 use std::fmt;
 use std::fmt::Write;
 
-// The lines that a script can have; what stands in angle brackets is a word of that kind.
-const FORMS: [&str; 9] = [
+// The lines that a script can have; what stands in angle brackets is a word of that kind, and in square ones a word that may be left out.
+const FORMS: [&str; 11] = [
     "data <sectors>",
     "log <sectors>",
-    "w <id> <first> <count> <byte>",
+    "w <id> <first> <count> <byte> [flush] [fua] [meta]",
     "f <id>",
+    "d <id> <first> <count>",
     "c <id>",
     "r <first> <count>",
     "turn",
+    "mark <text>",
     "close",
     "crash <pick> ..",
 ];
@@ -79,13 +81,17 @@ fn cause_of(line: &[u8]) -> Option<&'static str> {
             "it begins with a byte order mark (ef bb bf): save the script as text without one",
         );
     }
+    // A mark's text is taken as it stands.
+    if is_text(line) && line.starts_with(b"mark ".as_slice()) {
+        return None;
+    }
     if line.ends_with(b"\r".as_slice()) {
         return Some("it ends with a carriage return: lines end with a line feed alone");
     }
     if line.contains(&b'\t') {
         return Some("it has a tab: one space stands between words");
     }
-    if !line.is_ascii() || line.contains(&0) {
+    if !is_text(line) {
         return Some("it has a byte that isn't ASCII text");
     }
     if line.split(is_space).any(|word| word.is_empty()) {
@@ -110,21 +116,42 @@ fn form_of(first: &[u8]) -> Option<&'static str> {
 // Writes which word of a line is the first that doesn't fit a form; where all do, that its place or a value isn't right.
 fn write_flaw<W: Write>(line: &[u8], form: &str, to: &mut W) -> fmt::Result {
     let mut words = line.split(is_space);
+    let mut next = words.next();
     for wanted in form.as_bytes().split(is_space) {
-        let kind = Shown(wanted);
-        let Some(word) = words.next() else {
-            return writeln!(to, "  the word {kind} is missing");
-        };
-        if !fits(wanted, word) {
-            let word = Shown(word);
-            let meaning = meaning_of(wanted);
-            return writeln!(to, "  the word `{word}` isn't {kind}: {meaning}");
+        match next {
+            _ if wanted == b"<text>".as_slice() && next.is_some() => return write_place(to),
+            Some(word) if fits(wanted, word) => next = words.next(),
+            _ if wanted.starts_with(b"[".as_slice()) => {}
+            _ => return write_misfit(wanted, next, to),
         }
     }
-    if let Some(word) = words.next() {
-        let word = Shown(word);
-        return writeln!(to, "  the word `{word}` is one too many");
+    match next {
+        Some(word) => {
+            let word = Shown(word);
+            let order = if form.ends_with("]") {
+                ", or isn't in its order"
+            } else {
+                ""
+            };
+            writeln!(to, "  the word `{word}` is one too many{order}")
+        }
+        None => write_place(to),
     }
+}
+
+// Writes that the next word isn't of the kind that a form has in its place, or that there is none.
+fn write_misfit<W: Write>(wanted: &[u8], next: Option<&[u8]>, to: &mut W) -> fmt::Result {
+    let kind = Shown(wanted);
+    let Some(word) = next else {
+        return writeln!(to, "  the word {kind} is missing");
+    };
+    let word = Shown(word);
+    let meaning = meaning_of(wanted);
+    writeln!(to, "  the word `{word}` isn't {kind}: {meaning}")
+}
+
+// Writes where lines stand.
+fn write_place<W: Write>(to: &mut W) -> fmt::Result {
     writeln!(
         to,
         "  `data` is the first line, `log` the second, both of 1 to 1048576 sectors; the others stand after them"
@@ -137,6 +164,7 @@ fn fits(wanted: &[u8], word: &[u8]) -> bool {
         b"<id>" => is_id(word),
         b"<byte>" => word.len() == 2 && word.iter().all(is_digit_of_byte),
         [b'<', ..] => word.len() <= 20 && is_number(word),
+        [b'[', option @ .., b']'] => word == option,
         _ => word == wanted,
     }
 }
@@ -156,6 +184,11 @@ fn is_id(word: &[u8]) -> bool {
 
 fn is_number(word: &[u8]) -> bool {
     !word.is_empty() && word.iter().all(|byte| byte.is_ascii_digit())
+}
+
+// Bytes that a script's line may have.
+fn is_text(line: &[u8]) -> bool {
+    line.is_ascii() && !line.contains(&0)
 }
 
 fn is_space(byte: &u8) -> bool {

@@ -31,6 +31,14 @@ fn explains_lines(rt: HostRuntime) -> Result<(), Fail> {
 w a 5 1 4x|the word `4x` isn't <byte>: two hexadecimal digits
 w a 5 1|the word <byte> is missing
 w a 5 1 41 7|the word `7` is one too many
+w a 5 1 41 fua flush|the word `flush` is one too many, or isn't in its order
+w a 16 1 41 flush fua meta|the data disk
+w a 5 1 fua|the word `fua` isn't <byte>
+d a 5|the word <count> is missing
+d a 5 1 41|the word `41` is one too many
+mark|the word <text> is missing
+markx|no line begins with the word `markx`
+mark café|it has a byte that isn't ASCII text
 w a-b 5 1 41|the word `a-b` isn't <id>: 1 to 16 of
 w a five 1 41|the word `five` isn't <first>: a decimal number
 write a 5 1 41|no line begins with the word `write`; the lines are:

@@ -1,5 +1,5 @@
 -- What a line says, as the reader finds it. `Grammar` says it in the grammar's words; the two agree by proof.
-use Rattle.std.specs.Prelude.{ℕ, ◌==◌, List, [], ◌∷◌, Option, Some, None, codes, if◌then◌else◌}
+use Rattle.std.specs.Prelude.{ℕ, ◌==◌, Bool, true, false, List, [], ◌∷◌, Option, Some, None, codes, if◌then◌else◌}
 use Rattle.std.specs.List.{slice_split}
 use Rattle.std.specs.Option.{option_map}
 use Rattle.std.specs.Str.{bytes_eq}
@@ -12,8 +12,11 @@ use Rattle.dmlw_script.specs.declared.command.Submission.TheVariants as submits
 use Rattle.dmlw_script.specs.declared.command.Step.{Step}
 use Rattle.dmlw_script.specs.declared.command.Step.TheVariants as steps
 use Rattle.dmlw_script.specs.declared.script_id.ScriptId.{ScriptId}
-use Rattle.dmlw_script.specs.Words.{before_byte, after_byte, number_of, byte_of}
+use Rattle.dmlw_script.specs.Words.{byte_of}
+use Rattle.words.specs.Words.{before_byte, after_byte, number_of}
 use Rattle.dmlw_script.specs.Ids.{id_of_word}
+use Rattle.dmlw_script.specs.Lines.{is_line_text}
+use Rattle.dmlw_script.specs.declared.command.WriteOptions.{WriteOptions}
 
 -- goes on with a value that is there
 infixl 10 ◌>>=◌
@@ -29,17 +32,46 @@ submit name submission = parsed_lines.Body (body_lines.Submit name submission)
 abbrev pub step : Step → Said
 step it = parsed_lines.Body (body_lines.Step it)
 
--- the write that these words say: an id, the first sector, the number of sectors and the byte
+-- whether this word stands first among others, and what is left behind it
+abbrev pub take_word : List ℕ → Option (List ℕ) → Bool × Option (List ℕ)
+take_word word None = (false, None)
+take_word word (Some words) = if bytes_eq (before_byte 32 words) word then (true, after_byte 32 words) else (false, Some words)
+
+-- the options that were found, where no word is left
+abbrev pub found_options : Bool → Bool → Bool → Option (List ℕ) → Option WriteOptions
+found_options flush fua meta None = Some (record { flush = flush; fua = fua; meta = meta })
+found_options flush fua meta (Some words) = None
+
+-- the options that these words are, if there are any words
+abbrev pub options_of : Option (List ℕ) → Option WriteOptions
+options_of words =
+    let flush = take_word (codes "flush") words in
+    let fua = take_word (codes "fua") flush.1 in
+    let meta = take_word (codes "meta") fua.1 in
+    found_options flush.0 fua.0 meta.0 meta.1
+
+-- the write that these words say: an id, the first sector, the number of sectors, the byte and the options
 abbrev pub write_of : List ℕ → Option Said
 write_of words = do
   from_first ← after_byte 32 words
   from_count ← after_byte 32 from_first
+  from_byte ← after_byte 32 from_count
   name ← id_of_word (before_byte 32 words)
   first ← number_of (before_byte 32 from_first)
   count ← number_of (before_byte 32 from_count)
-  byte_word ← after_byte 32 from_count
-  byte ← byte_of byte_word
-  Some (submit name (submits.Write first count byte))
+  byte ← byte_of (before_byte 32 from_byte)
+  options ← options_of (after_byte 32 from_byte)
+  Some (submit name (submits.Write first count byte options))
+
+-- the discard that these words say: an id, the first sector and the number of sectors
+abbrev pub discard_of : List ℕ → Option Said
+discard_of words = do
+  from_first ← after_byte 32 words
+  name ← id_of_word (before_byte 32 words)
+  first ← number_of (before_byte 32 from_first)
+  count_word ← after_byte 32 from_first
+  count ← number_of count_word
+  Some (submit name (submits.Discard first count))
 
 -- the read that these words say: the first sector and the number of sectors
 abbrev pub read_of : List ℕ → Option Said
@@ -56,16 +88,22 @@ lone_word verb =
     else if bytes_eq verb (codes "turn") then Some (step steps.Turn)
     else None
 
+-- what a line of the body says, of this first word, whose other words are these
+abbrev pub body_words : List ℕ → List ℕ → Option Said
+body_words verb words =
+    if bytes_eq verb (codes "w") then write_of words
+    else if bytes_eq verb (codes "f") then option_map (λ name. submit name submits.Flush) (id_of_word words)
+    else if bytes_eq verb (codes "d") then discard_of words
+    else if bytes_eq verb (codes "c") then option_map (λ name. parsed_lines.Body (body_lines.Complete name)) (id_of_word words)
+    else if bytes_eq verb (codes "r") then read_of words
+    else None
+
 -- what a line of this first word says, whose other words are these
 abbrev pub parse_words : List ℕ → List ℕ → Option Said
 parse_words verb words =
     if bytes_eq verb (codes "data") then option_map (λ n. parsed_lines.Head (head_lines.Data n)) (number_of words)
     else if bytes_eq verb (codes "log") then option_map (λ n. parsed_lines.Head (head_lines.Log n)) (number_of words)
-    else if bytes_eq verb (codes "w") then write_of words
-    else if bytes_eq verb (codes "f") then option_map (λ name. submit name submits.Flush) (id_of_word words)
-    else if bytes_eq verb (codes "c") then option_map (λ name. parsed_lines.Body (body_lines.Complete name)) (id_of_word words)
-    else if bytes_eq verb (codes "r") then read_of words
-    else None
+    else body_words verb words
 
 -- the words of a text, which stand behind one space each but for the first
 abbrev pub split_words : List ℕ → List (List ℕ)
@@ -87,7 +125,12 @@ abbrev pub picks_of : Option (List ℕ) → Option (List ℕ)
 picks_of None = Some []
 picks_of (Some words) = numbers_of (split_words words)
 
--- what a line of this first word says that is no crash, whose other words are these, if it has any
+-- the mark of this text, where a space stands behind the first word
+abbrev pub mark_of : Option (List ℕ) → Option Said
+mark_of None = None
+mark_of (Some text) = if is_line_text text then Some (step (steps.Mark text)) else None
+
+-- what a line of this first word says that is neither a crash nor a mark, whose other words are these, if it has any
 abbrev pub plain_parts : List ℕ → Option (List ℕ) → Option Said
 plain_parts verb (Some words) = parse_words verb words
 plain_parts verb None = lone_word verb
@@ -95,7 +138,9 @@ plain_parts verb None = lone_word verb
 -- what a line of this first word says, whose other words are these, if it has any
 abbrev pub parse_parts : List ℕ → Option (List ℕ) → Option Said
 parse_parts verb words =
-    if bytes_eq verb (codes "crash") then option_map (λ picks. parsed_lines.Crash picks) (picks_of words) else plain_parts verb words
+    if bytes_eq verb (codes "crash") then option_map (λ picks. parsed_lines.Crash picks) (picks_of words)
+    else if bytes_eq verb (codes "mark") then mark_of words
+    else plain_parts verb words
 
 -- what a line says, if it is of the grammar
 abbrev pub parse_line : List ℕ → Option Said

@@ -7,8 +7,10 @@ use Rattle.log_store.specs.Store.{entries_of}
 use Rattle.pending.specs.CoreState.{IsSound}
 use Rattle.pending.specs.Hazards.{first_hazard}
 use Rattle.pending.specs.QueueEvent.{recorded}
-use Rattle.recorder.specs.Growth.{CrashReopens}
+use Rattle.recorder.specs.Replayed.{ReplaysToWhatCouldBe}
 use Rattle.recorder.specs.Shown.{recording_of}
+use Rattle.sector_disk.specs.Shown.{shown_of}
+use Rattle.sectors.specs.Content.{Content}
 use Rattle.script_runner.proofs.OnDisks.{fails_to_start, is_recorded}
 use Rattle.script_runner.proofs.recording.record.Goals as goal
 
@@ -34,12 +36,13 @@ returns-clause-recorded g c =
     let last = c.run.new.running in
     let told = subst (λ (r : DiskRecorder). c.status-status.result ≡ status_of 512 (entries_of (store_of r.store)) r.end) c.recorder-2.ensures (c.status-status.ensures.status refl) in
     let first = subst (λ (r : DiskRecorder). c.hazard-hazard.result ≡ first_hazard recorded r.core.events) c.recorder-3.ensures c.hazard-hazard.ensures in
-    let reopens = subst (λ (r : DiskRecorder). CrashReopens (recording_of r)) c.recorder-2.ensures c.status-status.ensures.crash in
+    let replays : (left : Content) → (shown_of last.recorder.store.device).crash left → ReplaysToWhatCouldBe (recording_of last.recorder) (recording_of last.recorder) left =
+        λ left may. c.crashed_logs_replay_to_what_could_be.ensures.between last.recorder left refl may in
     let sound = subst (λ (r : DiskRecorder). IsSound r.core) c.recorder.ensures c.events-events.ensures.core in (
       ran.0,
       is_recorded script ran.0 start last _ c.hazard-hazard.result c.status-status.result c.in_ok-image.image.items _ c.in_ok-running.ensures.starts ran.1
           (c.lines_go_as_one_call.ensures script.names script.commands ran.0 start last ran.1)
-          first told c.into_parts-recorder.ensures.recorder c.in_ok-image.ensures.size c.crash.ensures.picks c.in_ok-image.ensures.bytes reopens
+          first told c.into_parts-recorder.ensures.recorder c.in_ok-image.ensures.size c.crash.ensures.picks c.in_ok-image.ensures.bytes replays
           (λ written on closed. c.closed_runs_leave_whole_logs.ensures.whole script.names script.commands ran.0 start last ran.1 written sound on closed refl),
       ran.2,
     )

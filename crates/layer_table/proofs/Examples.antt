@@ -1,0 +1,80 @@
+-- The definitions on examples: what holds, and what doesn't.
+use Rattle.std.proofs.Common.{◌≡◌, true, false, [], ◌∷◌, Some, None, refl}
+use Rattle.blockdev.specs.View.{View}
+use Rattle.fault_layers.specs.declared.gate.Kind.TheVariants as kinds
+use Rattle.fault_layers.specs.declared.gate.Verdict.TheVariants.{Drop, Fail, Pass}
+use Rattle.table_line.specs.declared.feature.Feature.TheVariants as features
+use Rattle.table_line.specs.declared.layer_spec.Target.TheVariants as targets
+use Rattle.layer_table.specs.declared.any_gate.AnyGate.{AnyGate}
+use Rattle.layer_table.specs.declared.any_gate.AnyGate.TheVariants.{Error, Flakey, Fuse}
+use Rattle.layer_table.specs.AnyRule.{any_after, any_verdict}
+use Rattle.layer_table.specs.Layers.{gate_asked, layer_asked, layers_over, Layer}
+use Rattle.layer_table.specs.Slots.{has_no_gap}
+
+-- ---- gates
+
+-- up for 10 seconds from the moment 3000 on, then down for 5, while it drops what is written
+abbrev dropping : AnyGate
+dropping = Flakey (record { up = 10; down = 5; feature = features.DropWrites; load = 3000 })
+
+last-up : any_verdict dropping kinds.Write 12999 ≡ Pass
+last-up = refl
+
+first-down : any_verdict dropping kinds.Write 13000 ≡ Drop
+first-down = refl
+
+last-down : any_verdict dropping kinds.Write 17999 ≡ Drop
+last-down = refl
+
+up-again : any_verdict dropping kinds.Write 18000 ≡ Pass
+up-again = refl
+
+-- a fuse has one call less after a write, and as many after a read; a flakey gate stays
+written : any_after (Fuse 2) kinds.Write 7 ≡ Fuse 1
+written = refl
+
+was-read : any_after (Fuse 2) kinds.Read 7 ≡ Fuse 2
+was-read = refl
+
+stays : any_after dropping kinds.Write 7 ≡ dropping
+stays = refl
+
+fails : any_verdict (Error (record {})) kinds.Read 7 ≡ Fail
+fails = refl
+
+-- ---- what a line asks for
+
+asked : layer_asked (record { length = 8; offset = 4; target = targets.Fuse 3 }) 7 ≡ record { offset = 4; length = 8; gate = Some (Fuse 3); faults = 0; lies = 0 }
+asked = refl
+
+no-gate : gate_asked targets.Linear 7 ≡ None
+no-gate = refl
+
+-- ---- which slots have a layer
+
+two-lowest : has_no_gap (false ∷ false ∷ true ∷ true ∷ []) ≡ true
+two-lowest = refl
+
+none : has_no_gap (false ∷ false ∷ false ∷ false ∷ []) ≡ true
+none = refl
+
+gap-beneath : has_no_gap (false ∷ true ∷ false ∷ true ∷ []) ≡ false
+gap-beneath = refl
+
+-- ---- what layers show
+
+abbrev four-on : Layer
+four-on = record { offset = 4; length = 8; gate = None; faults = 0; lies = 0 }
+
+abbrev two-on : Layer
+two-on = record { offset = 2; length = 3; gate = Some (Fuse 3); faults = 5; lies = 0 }
+
+-- the top's sector 1 is sector 7 of what is shown beneath; its size is its own, and its faults are its own and those beneath
+top-sector : (v : View) → (layers_over (two-on ∷ four-on ∷ []) v).content 1 ≡ v.content 7
+top-sector v = refl
+
+top-size : (v : View) → (layers_over (two-on ∷ four-on ∷ []) v).size ≡ 3
+top-size v = refl
+
+no-layer : (v : View) → (layers_over [] v).content 1 ≡ v.content 1
+no-layer v = refl

@@ -1,0 +1,21 @@
+-- The rule of a gate, by which gate it is.
+use Rattle.std.specs.Prelude.{ℕ}
+use Rattle.fault_layers.specs.declared.gate.Kind.{Kind}
+use Rattle.fault_layers.specs.declared.gate.Verdict.{Verdict}
+use Rattle.fault_layers.specs.ErrorRule.{error_verdict}
+use Rattle.fault_layers.specs.FlakeyRule.{flakey_verdict}
+use Rattle.fault_layers.specs.FuseRule.{fuse_after, fuse_verdict}
+use Rattle.layer_table.specs.declared.any_gate.AnyGate.{AnyGate}
+use Rattle.layer_table.specs.declared.any_gate.AnyGate.TheVariants.{Error, Flakey, Fuse}
+
+-- what becomes of a call
+abbrev pub any_verdict : AnyGate → Kind → ℕ → Verdict
+any_verdict (Error gate) kind now = error_verdict kind now
+any_verdict (Flakey cycle) kind now = flakey_verdict cycle kind now
+any_verdict (Fuse calls) kind now = fuse_verdict calls kind now
+
+-- the gate after a call: only a fuse changes
+abbrev pub any_after : AnyGate → Kind → ℕ → AnyGate
+any_after (Error gate) kind now = Error gate
+any_after (Flakey cycle) kind now = Flakey cycle
+any_after (Fuse calls) kind now = Fuse (fuse_after calls kind now)

@@ -1,0 +1,146 @@
+-- The layers of a stack, and the disk beneath them.
+use Rattle.std.specs.Prelude.{◌≡◌, ◌↔◌, ℕ, ◌+◌, List, [], ◌∷◌, Option, Some, None, Result, Err, Ok}
+use Rattle.bio.specs.declared.outcome.DevError.{DevError}
+use Rattle.bio.specs.declared.outcome.DevError.TheVariants.{Io}
+use Rattle.blockdev.specs.declared.device.BlockDev.{Ghosts}
+use Rattle.blockdev.specs.Calls.{Call}
+use Rattle.blockdev.specs.Counted.{counted, one_more}
+use Rattle.blockdev.specs.View.{View}
+use Rattle.fault_layers.specs.declared.gate.Verdict.{Verdict}
+use Rattle.fault_layers.specs.declared.gate.Verdict.TheVariants.{Drop, Fail, Pass}
+use Rattle.sectors.specs.Content.{Content}
+use Rattle.fault_layers.specs.Cut.{call_from, cut, SeenFrom}
+use Rattle.fault_layers.specs.Decided.{kind_of, KeepsBuffer}
+use Rattle.sector_disk.specs.declared.disk.SectorDisk.{SectorDisk}
+use Rattle.sector_disk.specs.Shown.{Does}
+use Rattle.table_line.specs.declared.layer_spec.LayerSpec.{LayerSpec}
+use Rattle.table_line.specs.declared.layer_spec.Target.{Target}
+use Rattle.table_line.specs.declared.layer_spec.Target.TheVariants as targets
+use Rattle.layer_table.specs.declared.any_gate.AnyGate.{AnyGate}
+use Rattle.layer_table.specs.declared.any_gate.AnyGate.TheVariants as gates
+use Rattle.layer_table.specs.declared.slot.Slot.{Slot}
+use Rattle.layer_table.specs.declared.slot.Slot.TheVariants as slots
+use Rattle.layer_table.specs.declared.stack.Stack.{Stack}
+use Rattle.layer_table.specs.AnyRule.{any_after, any_verdict}
+use Rattle.layer_table.specs.Slots.{device_of, slot_does, slot_shown}
+
+-- A layer: the range that it is of what stands beneath, the gate that decides about its calls, where it has one, and how often
+-- it failed a call, and dropped one, itself.
+pub record Layer : Type 0 where
+  pub offset : ℕ
+  pub length : ℕ
+  pub gate : Option AnyGate
+  pub faults : ℕ
+  pub lies : ℕ
+
+-- the layer that stands in a slot, before those that stand beneath it
+abbrev pub layers_with : {D : Type 0} {g : Ghosts D} → (D → List Layer) → Slot D g → List Layer
+layers_with {D} {g} beneath (slots.Bare device) = beneath device
+layers_with {D} {g} beneath (slots.Linear range) =
+    record { offset = range.offset; length = range.length; gate = None; faults = 0; lies = 0 } ∷ beneath range.lower
+layers_with {D} {g} beneath (slots.Decided layer) =
+    record { offset = layer.lower.offset; length = layer.lower.length; gate = Some layer.gate; faults = layer.faults; lies = layer.lies } ∷ beneath layer.lower.lower
+
+-- the layers of four slots, the top first, and the device beneath them
+abbrev pub layers_in : {D : Type 0} {g : Ghosts D} {h : Ghosts (Slot D g)} {i : Ghosts (Slot (Slot D g) h)}
+    {j : Ghosts (Slot (Slot (Slot D g) h) i)} →
+    Slot (Slot (Slot (Slot D g) h) i) j → List Layer
+layers_in top = layers_with (layers_with (layers_with (layers_with (λ device. [])))) top
+
+abbrev pub device_in : {D : Type 0} {g : Ghosts D} {h : Ghosts (Slot D g)} {i : Ghosts (Slot (Slot D g) h)}
+    {j : Ghosts (Slot (Slot (Slot D g) h) i)} →
+    Slot (Slot (Slot (Slot D g) h) i) j → D
+device_in top = device_of (device_of (device_of (device_of top)))
+
+-- the layers of a stack, the top first, and the disk beneath them
+abbrev pub layers_of : Stack → List Layer
+layers_of stack = layers_in stack.top
+
+abbrev pub disk_of : Stack → SectorDisk
+disk_of stack = device_in stack.top
+
+-- the gate of a target, where it has one: a flakey device's moments count from its load
+abbrev pub gate_asked : Target → ℕ → Option AnyGate
+gate_asked targets.Linear load = None
+gate_asked targets.Error load = Some (gates.Error (record {}))
+gate_asked (targets.Flakey up down feature) load = Some (gates.Flakey (record { up = up; down = down; feature = feature; load = load }))
+gate_asked (targets.Fuse calls) load = Some (gates.Fuse calls)
+
+-- the layer that a line asks for
+abbrev pub layer_asked : LayerSpec → ℕ → Layer
+layer_asked spec load = record { offset = spec.offset; length = spec.length; gate = gate_asked spec.target load; faults = 0; lies = 0 }
+
+-- ---- what is shown
+
+-- what contracts see of a stack, by its slots
+abbrev pub stack_shown : Stack → View
+stack_shown stack = slot_shown stack.top
+
+-- a layer over what shows this: the range, and with a gate its own faults and lies
+abbrev pub layer_over : Option AnyGate → Layer → View → View
+layer_over None layer v = cut v layer.offset layer.length
+layer_over (Some gate) layer v = counted (cut v layer.offset layer.length) layer.faults layer.lies
+
+-- layers over what shows this
+abbrev pub layers_over : List Layer → View → View
+layers_over [] v = v
+layers_over (layer ∷ layers) v = layer_over layer.gate layer (layers_over layers v)
+
+-- two devices show the same
+pub record IsSeenAs (v w : View) : Type 0 where
+  pub size : w.size ≡ v.size
+  pub content : (sector : ℕ) → w.content sector ≡ v.content sector
+  pub crash : (left : Content) → w.crash left ↔ v.crash left
+  pub moment : w.moment ≡ v.moment
+  pub since : (moment : ℕ) (left : Content) → w.since moment left ↔ v.since moment left
+  pub faults : w.faults ≡ v.faults
+  pub lies : w.lies ≡ v.lies
+
+-- a layer that was just put over what shows v shows w
+pub record IsPut (spec : LayerSpec) (v w : View) : Type 0 where
+  pub size : w.size ≡ spec.length
+  pub content : (sector : ℕ) → w.content sector ≡ v.content (spec.offset + sector)
+  pub crash : (left : Content) → w.crash left ↔ SeenFrom spec.offset v.crash left
+  pub moment : w.moment ≡ v.moment
+  pub since : (moment : ℕ) (left : Content) → w.since moment left ↔ SeenFrom spec.offset (v.since moment) left
+  pub faults : w.faults ≡ v.faults
+  pub lies : w.lies ≡ v.lies
+
+-- ---- what calls do
+
+-- what a call of a stack does, by its slots
+abbrev pub stack_does : Stack → Call → ℕ → Result ℕ DevError → Stack → Type 0
+stack_does old call now result new = slot_does old.top call now result new.top
+
+-- What becomes of a call at a layer by its gate's verdict. `below` says that what stands beneath did it, with this answer, and
+-- `same` that it was left as it was.
+pub record Decides (verdict : Verdict) (below same : Type 0) (call : Call) (now : ℕ) (result : Result ℕ DevError) (layer after : Layer) : Type 0 where
+  pub passes : verdict ≡ Pass → below × (after.faults ≡ layer.faults) × (after.lies ≡ layer.lies)
+  pub fails : verdict ≡ Fail → (result ≡ Err Io) × (after.faults ≡ one_more layer.faults) × (after.lies ≡ layer.lies) × same × KeepsBuffer call
+  pub drops : verdict ≡ Drop → (result ≡ Ok now) × (after.faults ≡ layer.faults) × (after.lies ≡ one_more layer.lies) × same
+
+-- a layer without a gate passes each call
+abbrev pub DoesAt : Option AnyGate → Type 0 → Type 0 → Call → ℕ → Result ℕ DevError → Layer → Layer → Type 0
+DoesAt None below same call now result layer after = below × (after.gate ≡ None) × (after.faults ≡ layer.faults) × (after.lies ≡ layer.lies)
+DoesAt (Some gate) below same call now result layer after =
+    Decides (any_verdict gate (kind_of call) now) below same call now result layer after × (after.gate ≡ Some (any_after gate (kind_of call) now))
+
+-- What a call does to layers over a disk: at the top, then beneath it so many sectors further on, and so down to the disk.
+abbrev pub LayersDo : List Layer → SectorDisk → Call → ℕ → Result ℕ DevError → List Layer → SectorDisk → Type 0
+LayersDo [] disk call now result [] new = Does disk call now result new
+LayersDo [] disk call now result (after ∷ others) new = ⊥
+LayersDo (layer ∷ layers) disk call now result [] new = ⊥
+LayersDo (layer ∷ layers) disk call now result (after ∷ others) new =
+    DoesAt layer.gate (LayersDo layers disk (call_from layer.offset call) now result others new)
+    ((others ≡ layers) × (new ≡ disk)) call now result layer after
+    × (after.offset ≡ layer.offset) × (after.length ≡ layer.length)
+
+-- What becomes of a call by a verdict about it at the top of layers over a disk. `next` is the top after it, but for its counts.
+pub record Follows (verdict : Verdict) (next : Layer) (layers : List Layer) (old : SectorDisk) (call : Call) (now : ℕ) (result : Result ℕ DevError)
+    (after : List Layer) (new : SectorDisk) : Type 0 where
+  -- the layers beneath did it, so many sectors further on
+  pub passes : verdict ≡ Pass → (others : List Layer) × (after ≡ next ∷ others) × LayersDo layers old (call_from next.offset call) now result others new
+  -- it failed, and nothing beneath was called
+  pub fails : verdict ≡ Fail → (result ≡ Err Io) × (after ≡ record next { faults = one_more next.faults } ∷ layers) × (new ≡ old) × KeepsBuffer call
+  -- it was dropped, and nothing beneath was called
+  pub drops : verdict ≡ Drop → (result ≡ Ok now) × (after ≡ record next { lies = one_more next.lies } ∷ layers) × (new ≡ old)

@@ -1,0 +1,17 @@
+pub use Rattle.bio.specs.Moments
+pub use Rattle.blockdev.specs.Calls
+pub use Rattle.blockdev.specs.Counted
+pub use Rattle.blockdev.specs.Law
+pub use Rattle.blockdev.specs.View
+pub use Rattle.fault_layers.specs.Cut
+pub use Rattle.fault_layers.specs.Decided
+pub use Rattle.sectors.specs.Content
+pub use Rattle.table_line.specs.Ranges
+pub mod AnyRule
+pub mod AnyLaws
+pub mod Slots
+pub mod SlotLaws
+pub mod Layers
+pub mod LayerLaws
+pub mod TopLaws
+pub mod StackLaws

@@ -1,0 +1,66 @@
+-- A place for a layer: what is shown of it, and what its calls do.
+use Rattle.std.specs.Prelude.{◌≡◌, ℕ, Bool, true, false, List, [], ◌∷◌, Result}
+use Rattle.std.specs.List.{list_all}
+use Rattle.bio.specs.declared.outcome.DevError.{DevError}
+use Rattle.blockdev.specs.declared.device.BlockDev.{Ghosts}
+use Rattle.blockdev.specs.Calls.{Call}
+use Rattle.blockdev.specs.Counted.{counted}
+use Rattle.blockdev.specs.View.{View}
+use Rattle.fault_layers.specs.declared.linear.Linear.{Linear}
+use Rattle.fault_layers.specs.Cut.{call_from, cut}
+use Rattle.fault_layers.specs.Decided.{IsDecided, kind_of}
+use Rattle.layer_table.specs.declared.slot.Slot.{Slot}
+use Rattle.layer_table.specs.declared.slot.Slot.TheVariants as slots
+use Rattle.layer_table.specs.AnyRule.{any_after, any_verdict}
+
+-- a range is seen as the device beneath from its offset on, and a layer with a gate as that with faults and lies of its own
+abbrev pub slot_shown : {D : Type 0} {g : Ghosts D} → Slot D g → View
+slot_shown {D} {g} (slots.Bare device) = g.shown device
+slot_shown {D} {g} (slots.Linear range) = cut (g.shown range.lower) range.offset range.length
+slot_shown {D} {g} (slots.Decided layer) = counted (cut (g.shown layer.lower.lower) layer.lower.offset layer.lower.length) layer.faults layer.lies
+
+-- a range does what the device beneath does at the shifted call, and stays
+abbrev pub IsShifted : {D : Type 0} {g : Ghosts D} → Linear D g → Call → ℕ → Result ℕ DevError → Linear D g → Type 0
+IsShifted {D} {g} range call now result after =
+    g.does range.lower (call_from range.offset call) now result after.lower × (after.offset ≡ range.offset) × (after.length ≡ range.length)
+
+-- the device beneath does a call, or a range of it, or a range as its gate decides
+abbrev pub slot_does : {D : Type 0} {g : Ghosts D} → Slot D g → Call → ℕ → Result ℕ DevError → Slot D g → Type 0
+slot_does {D} {g} (slots.Bare device) call now result (slots.Bare after) = g.does device call now result after
+slot_does {D} {g} (slots.Bare device) call now result (slots.Linear after) = ⊥
+slot_does {D} {g} (slots.Bare device) call now result (slots.Decided after) = ⊥
+slot_does {D} {g} (slots.Linear range) call now result (slots.Bare after) = ⊥
+slot_does {D} {g} (slots.Linear range) call now result (slots.Linear after) = IsShifted range call now result after
+slot_does {D} {g} (slots.Linear range) call now result (slots.Decided after) = ⊥
+slot_does {D} {g} (slots.Decided layer) call now result (slots.Bare after) = ⊥
+slot_does {D} {g} (slots.Decided layer) call now result (slots.Linear after) = ⊥
+slot_does {D} {g} (slots.Decided layer) call now result (slots.Decided after) =
+    IsDecided (any_verdict layer.gate (kind_of call) now) (IsShifted layer.lower call now result after.lower) call now result layer after
+    × (after.gate ≡ any_after layer.gate (kind_of call) now)
+
+-- whether a layer stands there
+abbrev pub has_layer : {D : Type 0} {g : Ghosts D} → Slot D g → Bool
+has_layer {D} {g} (slots.Bare device) = false
+has_layer {D} {g} (slots.Linear range) = true
+has_layer {D} {g} (slots.Decided layer) = true
+
+-- the device beneath
+abbrev pub device_of : {D : Type 0} {g : Ghosts D} → Slot D g → D
+device_of {D} {g} (slots.Bare device) = device
+device_of {D} {g} (slots.Linear range) = range.lower
+device_of {D} {g} (slots.Decided layer) = layer.lower.lower
+
+-- which slots have a layer, the top first, where this is said of the device beneath
+abbrev pub shape_with : {D : Type 0} {g : Ghosts D} → (D → List Bool) → Slot D g → List Bool
+shape_with {D} {g} beneath slot = has_layer slot ∷ beneath (device_of slot)
+
+-- over a disk there are four
+abbrev pub shape_of : {D : Type 0} {g : Ghosts D} {h : Ghosts (Slot D g)} {i : Ghosts (Slot (Slot D g) h)} {j : Ghosts (Slot (Slot (Slot D g) h) i)} →
+    Slot (Slot (Slot (Slot D g) h) i) j → List Bool
+shape_of slot = shape_with (shape_with (shape_with (shape_with (λ disk. [])))) slot
+
+-- beneath a slot with a layer each has one
+abbrev pub has_no_gap : List Bool → Bool
+has_no_gap [] = true
+has_no_gap (false ∷ shape) = has_no_gap shape
+has_no_gap (true ∷ shape) = list_all (λ has. has) shape

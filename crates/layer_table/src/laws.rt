@@ -1,0 +1,57 @@
+//! Laws of stacks, apart from the code: each function does nothing, and its clause is the law.
+ghost use Rattle.std.specs.Prelude.{◌≡◌, ◌∷◌, ℕ, List, None, Result, Some};
+ghost use Rattle.bio.specs.declared.outcome.DevError.{DevError};
+ghost use Rattle.blockdev.specs.Calls.{Call};
+ghost use Rattle.fault_layers.specs.declared.error_dev.ErrorGate.{ErrorGate};
+ghost use Rattle.fault_layers.specs.declared.gate.Verdict.TheVariants.{Fail, Pass};
+ghost use Rattle.fault_layers.specs.Decided.{kind_of};
+ghost use Rattle.fault_layers.specs.FlakeyRule.{flakey_verdict, Cycle};
+ghost use Rattle.fault_layers.specs.FuseRule.{fuse_after, fuse_verdict};
+ghost use Rattle.sector_disk.specs.declared.disk.SectorDisk.{SectorDisk};
+ghost use Rattle.sector_disk.specs.Shown.{shown_of};
+ghost use Rattle.layer_table.specs.declared.any_gate.AnyGate.TheVariants as gates;
+ghost use Rattle.layer_table.specs.declared.stack.Stack.{Stack};
+ghost use Rattle.layer_table.specs.Layers.{disk_of, layers_of, layers_over, stack_does, stack_shown, Follows, IsSeenAs, Layer, LayersDo};
+
+/// What is seen of a stack is what its layers make, from the lowest up, of what is seen of the disk.
+#[tactic(auto, using(crate::specs::StackLaws::seen_by_layers))]
+pub fn stacks_show_their_layers()
+    ensures { (stack : Stack) → IsSeenAs (layers_over (layers_of stack) (shown_of (disk_of stack))) (stack_shown stack) }
+{}
+
+/// A call of a stack is one of its layers over the disk, from the top down.
+#[tactic(auto, using(crate::specs::StackLaws::done_by_layers))]
+pub fn stacks_do_what_their_layers_do()
+    ensures { (old : Stack) (call : Call) (now : ℕ) (result : Result ℕ DevError) (new : Stack) → stack_does old call now result new →
+        LayersDo (layers_of old) (disk_of old) call now result (layers_of new) (disk_of new) }
+{}
+
+/// A linear layer at the top passes each call to the layers beneath, shifted by its offset.
+#[tactic(auto, using(crate::specs::TopLaws::linear_top))]
+pub fn linear_layers_pass()
+    ensures { (layer : Layer) (layers : List Layer) (old : SectorDisk) (call : Call) (now : ℕ) (result : Result ℕ DevError) (after : List Layer)
+        (new : SectorDisk) → layer.gate ≡ None → LayersDo (layer ∷ layers) old call now result after new →
+        Follows Pass layer layers old call now result after new }
+{}
+
+/// An error layer at the top fails each call.
+pub fn error_layers_fail()
+    ensures { (layer : Layer) (layers : List Layer) (old : SectorDisk) (call : Call) (now : ℕ) (result : Result ℕ DevError) (after : List Layer)
+        (new : SectorDisk) (gate : ErrorGate) → layer.gate ≡ Some (gates.Error gate) → LayersDo (layer ∷ layers) old call now result after new →
+        Follows Fail layer layers old call now result after new }
+{}
+
+/// A flakey layer at the top decides by its turns and its feature, and stays as it is but for its counts.
+pub fn flakey_layers_take_turns()
+    ensures { (layer : Layer) (layers : List Layer) (old : SectorDisk) (call : Call) (now : ℕ) (result : Result ℕ DevError) (after : List Layer)
+        (new : SectorDisk) (cycle : Cycle) → layer.gate ≡ Some (gates.Flakey cycle) → LayersDo (layer ∷ layers) old call now result after new →
+        Follows (flakey_verdict cycle (kind_of call) now) layer layers old call now result after new }
+{}
+
+/// A fuse layer at the top decides by how many calls it passes yet, and has one less after each that it counts.
+pub fn fuse_layers_count()
+    ensures { (layer : Layer) (layers : List Layer) (old : SectorDisk) (call : Call) (now : ℕ) (result : Result ℕ DevError) (after : List Layer)
+        (new : SectorDisk) (calls : ℕ) → layer.gate ≡ Some (gates.Fuse calls) → LayersDo (layer ∷ layers) old call now result after new →
+        Follows (fuse_verdict calls (kind_of call) now) (record layer { gate = Some (gates.Fuse (fuse_after calls (kind_of call) now)) })
+        layers old call now result after new }
+{}

@@ -1,0 +1,99 @@
+ghost use Rattle.std.specs.Prelude.{◌≡◌, ◌⊎◌, ◌<◌, ◌≤◌, ◌+◌, [], ◌∷◌, List, IfErr, IfOk, OnErr, OnOk, false, length, true};
+ghost use Rattle.refusals.specs.declared.refusal.Refusal.TheVariants as refusals;
+ghost use Rattle.blockdev.specs.Calls.{IsRange};
+ghost use Rattle.sector_disk.specs.Shown.{shown_of};
+ghost use Rattle.table_line.specs.Ranges.{IsLayerSpec};
+ghost use Rattle.layer_table.specs.Layers.{device_in, disk_of, layer_asked, layers_in, layers_of, layers_with, stack_shown, IsPut, IsSeenAs, Layer};
+ghost use Rattle.layer_table.specs.Slots.{device_of, has_layer, has_no_gap, shape_of, slot_shown};
+
+use crate::any_gate::AnyGate;
+use crate::slot::Slot;
+use crate::stack::{Slots, Stack};
+use bio::Ms;
+use blockdev::BlockDev;
+use fault_layers::{Gated, Linear};
+use refusals::Refusal;
+use sector_disk::SectorDisk;
+use table_line::LayerSpec;
+
+impl Stack {
+    /// The disk under no layer.
+    pub fn new(disk: SectorDisk) -> Stack
+        ensures layers { layers_of result ≡ [] }
+        ensures disk { disk_of result ≡ disk }
+        ensures shown { IsSeenAs (shown_of disk) (stack_shown result) }
+    {
+        Stack {
+            top: Slot::Bare(Slot::Bare(Slot::Bare(Slot::Bare(disk)))),
+        }
+    }
+
+    /// Puts a layer over what stands, loaded at the moment `load`, in milliseconds. It is refused with OutOfRange exactly
+    /// where its last sector is past the end of what stands, or where four layers stand; then the stack is handed back as it was.
+    pub fn over(self, spec: LayerSpec, load: Ms) -> Result<Stack, (Stack, Refusal)>
+        requires { IsLayerSpec spec }
+        ensures layers { IfOk result (λ stack. layers_of stack ≡ layer_asked spec load ∷ layers_of self) }
+        ensures disk { IfOk result (λ stack. disk_of stack ≡ disk_of self) }
+        ensures shown { IfOk result (λ stack. IsPut spec (stack_shown self) (stack_shown stack)) }
+        ensures fits { OnOk result ((spec.offset + spec.length ≤ (stack_shown self).size) × (length (layers_of self) < 4)) }
+        ensures fits_not { OnErr result (((stack_shown self).size < spec.offset + spec.length) ⊎ (length (layers_of self) ≡ 4)) }
+        ensures refused { IfErr result (λ back. (back.0 ≡ self) × (back.1 ≡ refusals.OutOfRange)) }
+    {
+        let sectors = self.sectors();
+        if self.top.has_layer() || spec.offset > sectors || spec.length > sectors - spec.offset {
+            return Err((self, Refusal::OutOfRange));
+        }
+        Ok(Stack {
+            top: put(self.top, spec, load),
+        })
+    }
+
+    /// The disk beneath, with no layer over it.
+    pub fn into_disk(self) -> SectorDisk
+        ensures { result ≡ disk_of self }
+    {
+        self.top
+            .into_device()
+            .into_device()
+            .into_device()
+            .into_device()
+    }
+}
+
+// The layer over the device, in a slot.
+fn layer<D: BlockDev + Drop>(lower: D, spec: LayerSpec, load: Ms) -> Slot<D>
+    requires spec { IsLayerSpec spec }
+    requires fits { IsRange (D.shown lower).size spec.offset spec.length }
+    ensures has_layer { has_layer result ≡ true }
+    ensures device { device_of result ≡ lower }
+    ensures layers { (beneath : D → List Layer) → layers_with beneath result ≡ layer_asked spec load ∷ beneath lower }
+    ensures shown { IsPut spec (D.shown lower) (slot_shown result) }
+{
+    let range = Linear::new(lower, spec.offset, spec.length);
+    match AnyGate::of(spec.offset, spec.target, load) {
+        Some(gate) => Slot::Decided(Gated::under(range, gate)),
+        None => Slot::Linear(range),
+    }
+}
+
+// The layer in the lowest free slot.
+fn put(top: Slots, spec: LayerSpec, load: Ms) -> Slots
+    requires spec { IsLayerSpec spec }
+    requires fits { IsRange (slot_shown top).size spec.offset spec.length }
+    requires free { has_layer top ≡ false }
+    requires filled { has_no_gap (shape_of top) ≡ true }
+    ensures layers { layers_in result ≡ layer_asked spec load ∷ layers_in top }
+    ensures device { device_in result ≡ device_in top }
+    ensures shown { IsPut spec (slot_shown top) (slot_shown result) }
+    ensures filled { has_no_gap (shape_of result) ≡ true }
+{
+    match top {
+        Slot::Bare(Slot::Bare(Slot::Bare(Slot::Bare(disk)))) => {
+            Slot::Bare(Slot::Bare(Slot::Bare(layer(disk, spec, load))))
+        }
+        Slot::Bare(Slot::Bare(Slot::Bare(one))) => Slot::Bare(Slot::Bare(layer(one, spec, load))),
+        Slot::Bare(Slot::Bare(two)) => Slot::Bare(layer(two, spec, load)),
+        Slot::Bare(three) => layer(three, spec, load),
+        full => full,
+    }
+}

@@ -1,0 +1,228 @@
+ghost use Rattle.table_line.specs.Ranges.{IsLayerSpec};
+
+mod plain;
+
+use super::*;
+use bio::Ms;
+use blockdev::BlockDev;
+use fault_layers::Kind;
+use plain::{Plain, plain_call};
+use refusals::Refusal;
+use sector_disk::SectorDisk;
+use std::alloc::Global;
+use std::process::Abort;
+use std::test::Fail;
+use table_line::{LayerSpec, parse_line};
+
+// Lines for the lower layer over a disk of 16 sectors, which count from the moment 0 on, and for the upper one, which counts
+// from 3000 on.
+const LOWER: &str = "0 12 linear disk 2
+0 12 error
+0 12 flakey disk 1 10 5
+0 12 flakey disk 1 10 5 1 error_reads
+0 12 flakey disk 1 10 5 1 error_writes
+0 12 flakey disk 1 10 5 1 drop_writes
+0 12 fuse disk 3 9";
+
+const UPPER: &str = "0 8 linear disk 4
+0 8 error
+0 8 flakey disk 4 10 5
+0 8 flakey disk 4 10 5 1 error_reads
+0 8 flakey disk 4 10 5 1 error_writes
+0 8 flakey disk 4 10 5 1 drop_writes
+0 8 fuse disk 1 6";
+
+// At both sides of each bound of the flakey layers, in milliseconds, and at the last moment.
+const MOMENTS: [u64; 12] = [
+    0,
+    2_999,
+    9_999,
+    10_000,
+    12_999,
+    13_000,
+    14_999,
+    15_000,
+    17_999,
+    18_000,
+    18_446_744_073_709_551_614,
+    18_446_744_073_709_551_615,
+];
+
+// What a line asks for.
+fn spec_of(rt: &impl Abort, line: &str) -> LayerSpec
+    ensures { IsLayerSpec result }
+{
+    match parse_line(line.as_bytes()) {
+        Ok(spec) => spec,
+        Err(_) => panic!(rt; "{line}"),
+    }
+}
+
+// The stack with one more layer.
+fn put(rt: &impl Abort, stack: Stack, line: &str, load: u64) -> Stack {
+    match stack.over(spec_of(rt, line), Ms::new(load)) {
+        Ok(higher) => higher,
+        Err(_) => panic!(rt; "{line}"),
+    }
+}
+
+// What a call of one sector, or a discard of two, answers: the byte that is read or 0, or that it failed.
+fn call(
+    rt: &impl Abort,
+    stack: &mut Stack,
+    kind: Kind,
+    now: Ms,
+    first: u64,
+    value: u8,
+) -> Option<u8> {
+    assert!(rt; first < 4 && stack.sectors() >= 8);
+    let mut buffer = [255; 512];
+    let end = match kind {
+        Kind::Read => stack.read(now, first, &mut buffer),
+        Kind::Write => stack.write(now, first, &[value; 512], first == 1),
+        Kind::Discard => stack.discard(now, first, 2),
+        Kind::Flush => stack.flush(now),
+    };
+    match (end, kind) {
+        (Ok(end), Kind::Read) if end == now => Some(buffer[0]),
+        (Ok(end), _) if end == now => Some(0),
+        _ => None,
+    }
+}
+
+// The same calls of a stack and of its plain layers.
+fn play(rt: &impl Abort, stack: &mut Stack, layers: &mut [Plain], disk: &mut [u8]) {
+    for (place, now) in MOMENTS.into_iter().enumerate() {
+        let first = place as u64 % 4;
+        for kind in [
+            Kind::Read,
+            Kind::Write,
+            Kind::Read,
+            Kind::Discard,
+            Kind::Flush,
+            Kind::Write,
+            Kind::Read,
+        ] {
+            let value = place as u8 % 200 + 1;
+            let got = call(rt, stack, kind, Ms::new(now), first, value);
+            let wanted = plain_call(layers, disk, kind, now, first, value);
+            assert_eq!(rt; got, wanted, "{kind:?} at {now}");
+        }
+    }
+}
+
+// Plays the calls on these layers, and looks at the counts and at the disk beneath.
+fn check(rt: &impl Abort, alloc: Global, lines: &[(&str, u64)]) -> Result<(), Fail> {
+    let mut stack = Stack::new(SectorDisk::new(alloc, 16)?);
+    let mut layers = Vec::new(alloc);
+    for (line, load) in lines {
+        stack = put(rt, stack, line, *load);
+        layers.push(Plain::new(spec_of(rt, line), *load))?;
+    }
+    let mut disk = [0; 16];
+    play(rt, &mut stack, &mut layers, &mut disk);
+    let faults = layers
+        .iter()
+        .fold(0, |sum: u64, layer| sum.saturating_add(layer.faults));
+    let lies = layers
+        .iter()
+        .fold(0, |sum: u64, layer| sum.saturating_add(layer.lies));
+    assert_eq!(rt; (stack.faults(), stack.lies()), (faults, lies));
+    let image = stack.into_disk().bytes()?;
+    for (sector, value) in disk.iter().enumerate() {
+        assert_eq!(rt; image.get(sector * 512), Some(value));
+    }
+    Ok(())
+}
+
+#[test]
+fn layers_over_layers(rt: HostRuntime) -> Result<(), Fail> {
+    let alloc = rt.alloc();
+    for lower in LOWER.split('\n') {
+        for upper in UPPER.split('\n') {
+            check(&rt, alloc, &[(lower, 0), (upper, 3_000)])?;
+        }
+    }
+    Ok(())
+}
+
+#[test]
+fn fuses_over_layers(rt: HostRuntime) -> Result<(), Fail> {
+    let alloc = rt.alloc();
+    for calls in 0..7 {
+        let top = format!(in alloc; "0 8 fuse disk 0 {calls}")?;
+        for lower in LOWER.split('\n') {
+            for upper in UPPER.split('\n') {
+                check(&rt, alloc, &[(lower, 0), (upper, 3_000), (top.as_str(), 0)])?;
+            }
+        }
+    }
+    Ok(())
+}
+
+// A line over a disk of 16 sectors that holds 1s in sector 3, and whether it is put there.
+const ROWS: &str = "0 16 linear disk 0+
+0 16 error+
+0 1 linear disk 15+
+0 13 fuse disk 3 1+
+0 16 linear disk 1-
+0 16 linear disk 8-
+0 1 linear disk 16-
+0 1 linear disk 18446744073709551615-
+0 17 error-
+0 1048576 linear disk 0-
+0 14 flakey disk 3 10 5-";
+
+#[test]
+fn ranges(rt: HostRuntime) -> Result<(), Fail> {
+    let alloc = rt.alloc();
+    for row in ROWS.split('\n') {
+        let line = row.trim_end_matches(['+', '-']);
+        let spec = spec_of(&rt, line);
+        let stack = Stack::new(SectorDisk::new(alloc, 16)?);
+        match stack.over(spec, Ms::new(0)) {
+            Ok(higher) => {
+                assert!(rt; row.ends_with('+'), "{row}");
+                assert_eq!(rt; higher.sectors(), spec.length, "{row}");
+            }
+            Err((same, refusal)) => {
+                assert!(rt; row.ends_with('-'), "{row}");
+                assert_eq!(rt; refusal, Refusal::OutOfRange);
+                assert_eq!(rt; same.sectors(), 16);
+            }
+        }
+    }
+    Ok(())
+}
+
+#[test]
+fn a_fifth_layer_is_refused(rt: HostRuntime) -> Result<(), Fail> {
+    let mut stack = Stack::new(SectorDisk::new(rt.alloc(), 16)?);
+    for line in [
+        "0 15 linear disk 1",
+        "0 14 linear disk 1",
+        "0 13 fuse disk 1 9",
+        "0 12 linear disk 1",
+    ] {
+        stack = put(&rt, stack, line, 0);
+    }
+    assert_eq!(rt;
+        call(&rt, &mut stack, Kind::Write, Ms::new(5), 2, 7),
+        Some(0)
+    );
+    match stack.over(spec_of(&rt, "0 8 linear disk 0"), Ms::new(0)) {
+        Ok(_) => panic!(rt; "a fifth layer"),
+        Err((same, refusal)) => {
+            assert_eq!(rt; refusal, Refusal::OutOfRange);
+            stack = same;
+        }
+    }
+    assert_eq!(rt; stack.sectors(), 12);
+    assert_eq!(rt;
+        call(&rt, &mut stack, Kind::Read, Ms::new(5), 2, 0),
+        Some(7)
+    );
+    let image = stack.into_disk().bytes()?;
+    assert_eq!(rt; image.get(6 * 512), Some(&7));
+    Ok(())
+}

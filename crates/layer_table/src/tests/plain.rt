@@ -1,0 +1,100 @@
+// Layers over a disk, told in plain words: a list of layers, and a byte for each sector.
+use fault_layers::{Kind, Verdict};
+use table_line::{Feature, LayerSpec, Target};
+
+// A layer: what its line asks for, its load, how many calls it passed that a fuse counts, and how often it failed or dropped one.
+#[derive(Debug, Drop)]
+pub(super) struct Plain {
+    spec: LayerSpec,
+    load: u64,
+    passed: u64,
+    pub(super) faults: u64,
+    pub(super) lies: u64,
+}
+
+impl Plain {
+    pub(super) fn new(spec: LayerSpec, load: u64) -> Plain {
+        Plain {
+            spec,
+            load,
+            passed: 0,
+            faults: 0,
+            lies: 0,
+        }
+    }
+}
+
+// Whether a flakey layer is down: the milliseconds since its load, in a turn of so many.
+fn is_down(up: u64, down: u64, since: u64) -> bool {
+    let turn = up.saturating_add(down).saturating_mul(1000);
+    since.checked_rem(turn).unwrap_or(0) >= up.saturating_mul(1000)
+}
+
+fn verdict(layer: &Plain, kind: Kind, now: u64) -> Verdict {
+    let is_read = kind == Kind::Read;
+    match layer.spec.target {
+        Target::Linear => Verdict::Pass,
+        Target::Error => Verdict::Fail,
+        Target::Fuse { calls } if is_read || layer.passed < calls => Verdict::Pass,
+        Target::Fuse { .. } => Verdict::Fail,
+        Target::Flakey { up, down, feature } => {
+            match (is_down(up, down, now.saturating_sub(layer.load)), feature) {
+                (false, _) => Verdict::Pass,
+                (true, Feature::None) => Verdict::Fail,
+                (true, Feature::ErrorReads) if is_read => Verdict::Fail,
+                (true, Feature::ErrorWrites) if !is_read => Verdict::Fail,
+                (true, Feature::DropWrites) if !is_read => Verdict::Drop,
+                (true, _) => Verdict::Pass,
+            }
+        }
+    }
+}
+
+// The call on the disk.
+fn on_disk(disk: &mut [u8], kind: Kind, first: usize, value: u8) -> Option<u8> {
+    match kind {
+        Kind::Read => return disk.get(first).copied(),
+        Kind::Write => put(disk, first, value),
+        Kind::Discard => {
+            put(disk, first, 0);
+            put(disk, first.saturating_add(1), 0);
+        }
+        Kind::Flush => {}
+    }
+    Some(0)
+}
+
+fn put(disk: &mut [u8], sector: usize, value: u8) {
+    if let Some(byte) = disk.get_mut(sector) {
+        *byte = value;
+    }
+}
+
+// What a call answers: the byte that is read or 0, or that it failed.
+pub(super) fn plain_call(
+    layers: &mut [Plain],
+    disk: &mut [u8],
+    kind: Kind,
+    now: u64,
+    first: u64,
+    value: u8,
+) -> Option<u8> {
+    let mut sector = first;
+    for layer in layers.iter_mut().rev() {
+        match verdict(layer, kind, now) {
+            Verdict::Pass => {
+                sector = sector.saturating_add(layer.spec.offset);
+                layer.passed = layer.passed.saturating_add(u64::from(kind != Kind::Read));
+            }
+            Verdict::Fail => {
+                layer.faults = layer.faults.saturating_add(1);
+                return None;
+            }
+            Verdict::Drop => {
+                layer.lies = layer.lies.saturating_add(1);
+                return Some(0);
+            }
+        }
+    }
+    on_disk(disk, kind, sector as usize, value)
+}

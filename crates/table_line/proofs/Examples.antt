@@ -1,0 +1,105 @@
+-- The definitions on lines: those that ask for a layer, and each first test that fails.
+use Rattle.std.proofs.Common.{◌≡◌, List, ℕ, [], ◌∷◌, ◌++◌, Some, None, Option, refl, arith}
+use Rattle.std.specs.Prelude.{codes, decimal}
+use Rattle.words.specs.Words.{words_of}
+use Rattle.table_line.specs.declared.feature.Feature.TheVariants as features
+use Rattle.table_line.specs.declared.layer_spec.Target.TheVariants as targets
+use Rattle.table_line.specs.declared.table_error.TableError.{TableError}
+use Rattle.table_line.specs.declared.table_error.TableError.TheVariants.{BadFeature, BadNumber, OutOfRange, UnknownTarget, WrongCount}
+use Rattle.table_line.specs.Ranges.{IsCycle}
+use Rattle.table_line.specs.Refusals.{refusal_of}
+use Rattle.table_line.specs.TableLines.{IsTableLine}
+use Rattle.table_line.specs.Texts.{line_text}
+
+-- the first test that a line fails
+abbrev refused : List ℕ → Option TableError
+refused line = refusal_of (words_of line)
+
+-- ---- words that ask for a layer
+
+linear : IsTableLine (words_of (codes " 0  16 linear disk 8 ")) (record { length = 16; offset = 8; target = targets.Linear })
+linear = record {
+  start_word = codes "0";
+  length_word = codes "16";
+  target_words = codes "disk" ∷ codes "8" ∷ [];
+  start = (refl, refl);
+  sectors = (refl, refl);
+  range = record { some = omega arith; few = omega arith };
+  asks = record { device_word = codes "disk"; offset_word = codes "8"; number = (refl, refl); spelled = refl };
+  spelled = refl;
+}
+
+-- one space between two words, and no count of features where there is none
+plain_text : line_text (record { length = 16; offset = 0; target = targets.Flakey 10 5 features.None })
+    ≡ codes "0 " ++ (decimal 16 ++ (codes " flakey disk " ++ (decimal 0 ++ (codes " " ++ (decimal 10 ++ (codes " " ++ decimal 5))))))
+plain_text = refl
+
+lying_text : line_text (record { length = 16; offset = 0; target = targets.Flakey 10 5 features.DropWrites })
+    ≡ codes "0 " ++ (decimal 16 ++ (codes " flakey disk " ++ (decimal 0 ++ (codes " " ++ (decimal 10 ++ (codes " " ++ (decimal 5 ++ codes " 1 drop_writes")))))))
+lying_text = refl
+
+fine : refused (codes "0 16 linear disk 8") ≡ None
+fine = refl
+
+fine_count : refused (codes "0 16 flakey disk 0 10 5 0") ≡ None
+fine_count = refl
+
+-- ---- the tests, in their order
+
+short : refused (codes "0 16") ≡ Some WrongCount
+short = refl
+
+unknown : refused (codes "0 16 zero") ≡ Some UnknownTarget
+unknown = refl
+
+few : refused (codes "0 16 linear disk") ≡ Some WrongCount
+few = refl
+
+no_number : refused (codes "0 16 linear disk x") ≡ Some BadNumber
+no_number = refl
+
+no_feature : refused (codes "0 16 flakey disk 0 10 5 1 corrupt_bio_byte") ≡ Some BadFeature
+no_feature = refl
+
+no_count : refused (codes "0 16 flakey disk 0 10 5 2") ≡ Some BadFeature
+no_count = refl
+
+start : refused (codes "1 16 linear disk 0") ≡ Some OutOfRange
+start = refl
+
+no_second : refused (codes "0 16 flakey disk 0 0 0") ≡ Some OutOfRange
+no_second = refl
+
+-- a target that there is none of comes before the number of words, that before a number, that before a feature, and that before a range
+unknown_first : refused (codes "x y zero a b c d e f g") ≡ Some UnknownTarget
+unknown_first = refl
+
+count_first : refused (codes "x 16 linear disk") ≡ Some WrongCount
+count_first = refl
+
+number_first : refused (codes "1 16 flakey disk 0 10 x 1 corrupt_bio_byte") ≡ Some BadNumber
+number_first = refl
+
+feature_first : refused (codes "1 0 flakey disk 0 0 0 1 x") ≡ Some BadFeature
+feature_first = refl
+
+-- the bounds
+last_second : refused (codes "0 16 flakey disk 0 4294967294 1") ≡ None
+last_second = refl
+
+past_second : refused (codes "0 16 flakey disk 0 4294967295 1") ≡ Some OutOfRange
+past_second = refl
+
+last_length : refused (codes "0 1048576 error") ≡ None
+last_length = refl
+
+past_length : refused (codes "0 1048577 error") ≡ Some OutOfRange
+past_length = refl
+
+-- no seconds at all are no cycle
+no-cycle : IsCycle 0 0 → ⊥
+no-cycle cycle = let some = cycle.some in omega arith
+
+-- up and down are counted together
+whole-cycle : IsCycle 4294967290 5
+whole-cycle = record { some = omega arith; few = omega arith }

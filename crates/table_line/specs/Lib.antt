@@ -1,0 +1,7 @@
+pub use Rattle.words.specs.Words
+pub mod Ranges
+pub mod TableLines
+pub mod Refusals
+pub mod Texts
+pub mod LineLaws
+pub mod inside

@@ -1,0 +1,65 @@
+-- Which words ask for which layer.
+use Rattle.std.specs.Prelude.{◌≡◌, ◌⊎◌, ℕ, List, [], ◌∷◌, codes}
+use Rattle.words.specs.Words.{IsNumber}
+use Rattle.table_line.specs.declared.feature.Feature.{Feature}
+use Rattle.table_line.specs.declared.feature.Feature.TheVariants as features
+use Rattle.table_line.specs.declared.layer_spec.LayerSpec.{LayerSpec}
+use Rattle.table_line.specs.declared.layer_spec.Target.{Target}
+use Rattle.table_line.specs.declared.layer_spec.Target.TheVariants as targets
+use Rattle.table_line.specs.Ranges.{IsCycle, IsLength}
+
+-- the name of a target
+abbrev pub name_of : Target → List ℕ
+name_of targets.Linear = codes "linear"
+name_of targets.Error = codes "error"
+name_of (targets.Flakey up down feature) = codes "flakey"
+name_of (targets.Fuse calls) = codes "fuse"
+
+-- the words of a feature: how many there are, and its name; none may go without a count
+abbrev pub IsFeature : List (List ℕ) → Feature → Type 0
+IsFeature words features.None = (words ≡ []) ⊎ (words ≡ codes "0" ∷ [])
+IsFeature words features.ErrorReads = words ≡ codes "1" ∷ codes "error_reads" ∷ []
+IsFeature words features.ErrorWrites = words ≡ codes "1" ∷ codes "error_writes" ∷ []
+IsFeature words features.DropWrites = words ≡ codes "1" ∷ codes "drop_writes" ∷ []
+
+-- a device, which any word may stand for, and the sector there
+pub record IsPlace (words : List (List ℕ)) (offset : ℕ) (more : List (List ℕ)) : Type 0 where
+  pub device_word : List ℕ
+  pub offset_word : List ℕ
+  pub number : IsNumber offset_word offset
+  pub spelled : words ≡ device_word ∷ offset_word ∷ more
+
+-- a place, the seconds up and down, and a feature
+pub record IsFlakey (words : List (List ℕ)) (offset up down : ℕ) (feature : Feature) : Type 0 where
+  pub up_word : List ℕ
+  pub down_word : List ℕ
+  pub feature_words : List (List ℕ)
+  pub place : IsPlace words offset (up_word ∷ down_word ∷ feature_words)
+  pub up_number : IsNumber up_word up
+  pub down_number : IsNumber down_word down
+  pub cycle : IsCycle up down
+  pub named : IsFeature feature_words feature
+
+-- a place, and a number of calls
+pub record IsFuse (words : List (List ℕ)) (offset calls : ℕ) : Type 0 where
+  pub calls_word : List ℕ
+  pub place : IsPlace words offset (calls_word ∷ [])
+  pub number : IsNumber calls_word calls
+
+-- the words behind a target's name say where it is mapped to, and what it has
+abbrev pub IsTarget : List (List ℕ) → ℕ → Target → Type 0
+IsTarget words offset targets.Linear = IsPlace words offset []
+IsTarget words offset targets.Error = (words ≡ []) × (offset ≡ 0)
+IsTarget words offset (targets.Flakey up down feature) = IsFlakey words offset up down feature
+IsTarget words offset (targets.Fuse calls) = IsFuse words offset calls
+
+-- the words ask for this layer: the start, which is 0, the number of sectors, the target's name, and what belongs to it
+pub record IsTableLine (words : List (List ℕ)) (spec : LayerSpec) : Type 0 where
+  pub start_word : List ℕ
+  pub length_word : List ℕ
+  pub target_words : List (List ℕ)
+  pub start : IsNumber start_word 0
+  pub sectors : IsNumber length_word spec.length
+  pub range : IsLength spec.length
+  pub asks : IsTarget target_words spec.offset spec.target
+  pub spelled : words ≡ start_word ∷ length_word ∷ name_of spec.target ∷ target_words

@@ -1,0 +1,35 @@
+-- The one text of a layer.
+use Rattle.std.specs.Prelude.{ℕ, List, [], ◌∷◌, codes, decimal, flat_map}
+use Rattle.std.specs.List.{join_with_byte}
+use Rattle.table_line.specs.declared.feature.Feature.{Feature}
+use Rattle.table_line.specs.declared.feature.Feature.TheVariants as features
+use Rattle.table_line.specs.declared.layer_spec.LayerSpec.{LayerSpec}
+use Rattle.table_line.specs.declared.layer_spec.Target.{Target}
+use Rattle.table_line.specs.declared.layer_spec.Target.TheVariants as targets
+
+-- the words of a feature, with no count where there is none
+abbrev pub feature_words : Feature → List (List ℕ)
+feature_words features.None = []
+feature_words features.ErrorReads = codes "1" ∷ codes "error_reads" ∷ []
+feature_words features.ErrorWrites = codes "1" ∷ codes "error_writes" ∷ []
+feature_words features.DropWrites = codes "1" ∷ codes "drop_writes" ∷ []
+
+-- the words of a target: its name, the device, the sector there, and what it has
+abbrev pub target_words : ℕ → Target → List (List ℕ)
+target_words offset targets.Linear = codes "linear" ∷ codes "disk" ∷ decimal offset ∷ []
+target_words offset targets.Error = codes "error" ∷ []
+target_words offset (targets.Flakey up down feature) =
+    codes "flakey" ∷ codes "disk" ∷ decimal offset ∷ decimal up ∷ decimal down ∷ feature_words feature
+target_words offset (targets.Fuse calls) = codes "fuse" ∷ codes "disk" ∷ decimal offset ∷ decimal calls ∷ []
+
+-- the words of a layer, with no leading zeroes
+abbrev pub line_words : LayerSpec → List (List ℕ)
+line_words spec = codes "0" ∷ decimal spec.length ∷ target_words spec.offset spec.target
+
+-- its text: the words with a space between each two
+abbrev pub line_text : LayerSpec → List ℕ
+line_text spec = join_with_byte 32 (line_words spec)
+
+-- words, each behind a space
+abbrev pub behind_spaces : List (List ℕ) → List ℕ
+behind_spaces words = flat_map (λ word. 32 ∷ word) words

@@ -1,0 +1,59 @@
+ghost use Rattle.std.specs.Prelude.{◌≡◌};
+ghost use Rattle.table_line.specs.Ranges.{is_cycle, is_in_range as is_within, is_target};
+
+use crate::feature::Feature;
+use sectors::MAX_DEVICE_SECTORS;
+
+/// The most seconds of a flakey device's turn, up and down together.
+const MAX_CYCLE_SECONDS: u64 = 4_294_967_295;
+
+/// A layer that a line asks for.
+#[derive(Clone, Copy, Debug, PartialEq, Eq)]
+pub struct LayerSpec {
+    /// Its number of sectors, of 512 bytes each, 1 to 1,048,576.
+    pub length: u64,
+    /// The sector of the device beneath that its first sector is; 0 for a target that maps none.
+    pub offset: u64,
+    /// What it does.
+    pub target: Target,
+}
+
+/// What a layer does.
+#[derive(Clone, Copy, Debug, PartialEq, Eq)]
+pub enum Target {
+    /// It passes each call.
+    Linear,
+    /// It fails each call.
+    Error,
+    /// It works for `up` seconds and is unreliable for `down` seconds, in turn, 1 to 4294967295 together.
+    Flakey {
+        up: u64,
+        down: u64,
+        feature: Feature,
+    },
+    /// It passes so many writes, discards and flushes, and fails each later one. A target of this project's own.
+    Fuse {
+        calls: u64,
+    },
+}
+
+// Whether a line may ask for these values.
+pub(crate) fn is_in_range(spec: LayerSpec) -> bool
+    ensures { result ≡ is_within spec }
+{
+    if spec.length == 0 || spec.length > MAX_DEVICE_SECTORS {
+        return false;
+    }
+    match spec.target {
+        Target::Flakey { up, down, .. } => is_cycle(up, down),
+        Target::Linear | Target::Error | Target::Fuse { .. } => true,
+    }
+}
+
+// Whether a flakey device may have so many seconds up and down.
+fn is_cycle(up: u64, down: u64) -> bool
+    ensures { result ≡ is_cycle up down }
+{
+    let seconds = up.saturating_add(down);
+    seconds > 0 && seconds <= MAX_CYCLE_SECONDS
+}

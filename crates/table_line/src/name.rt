@@ -1,0 +1,42 @@
+ghost use Rattle.std.specs.Prelude.{◌≡◌, Some};
+ghost use Rattle.table_line.specs.Refusals.{named, may_have};
+
+/// The name of a target.
+#[derive(Clone, Copy, Debug, PartialEq, Eq)]
+pub(crate) enum Name {
+    Linear,
+    Error,
+    Flakey,
+    Fuse,
+}
+
+impl Name {
+    /// The name that a word is, if it is one.
+    pub(crate) fn of_word(word: &[u8]) -> Option<Name>
+        ensures { result ≡ named word.now }
+    {
+        if word == b"linear".as_slice() {
+            Some(Name::Linear)
+        } else if word == b"error".as_slice() {
+            Some(Name::Error)
+        } else if word == b"flakey".as_slice() {
+            Some(Name::Flakey)
+        } else if word == b"fuse".as_slice() {
+            Some(Name::Fuse)
+        } else {
+            None
+        }
+    }
+
+    /// Whether a line of this target may have so many words.
+    pub(crate) fn may_have(self, count: usize) -> bool
+        ensures { result ≡ may_have (Some self) count }
+    {
+        match self {
+            Name::Linear => count == 5,
+            Name::Error => count == 3,
+            Name::Flakey => (7..=9).contains(&count),
+            Name::Fuse => count == 6,
+        }
+    }
+}

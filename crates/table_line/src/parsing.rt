@@ -1,0 +1,128 @@
+ghost use Rattle.std.specs.Prelude.{◌≡◌, ◌↔◌, Err, IfOk, Ok};
+ghost use Rattle.words.specs.Words.{words_of};
+ghost use Rattle.table_line.specs.declared.layer_spec.LayerSpec.{LayerSpec};
+ghost use Rattle.table_line.specs.declared.table_error.TableError.{TableError};
+ghost use Rattle.table_line.specs.Ranges.{IsLayerSpec};
+ghost use Rattle.table_line.specs.Refusals.{refusal_of};
+ghost use Rattle.table_line.specs.TableLines.{IsTableLine};
+ghost use Rattle.table_line.specs.inside.Readings.{feature_in, feature_named, name_in, number_in, offset_in, read_words, spec_in, target_in};
+
+use crate::feature::Feature;
+use crate::layer_spec::{LayerSpec, Target, is_in_range};
+use crate::name::Name;
+use crate::table_error::TableError;
+use words::{count_words, number_of, word_at};
+
+/// Reads a line: the layer that its words ask for, or the first thing that is wrong with it. Words stand between
+/// spaces, one or more; spaces before the first word and behind the last say nothing.
+pub fn parse_line(line: &[u8]) -> Result<LayerSpec, TableError>
+    ensures layer { (spec : LayerSpec) → (result ≡ Ok spec) ↔ IsTableLine (words_of line.now) spec }
+    // Its values are in their ranges.
+    ensures range { IfOk result IsLayerSpec }
+    ensures refused { (error : TableError) → (result ≡ Err error) ↔ (refusal_of (words_of line.now) ≡ Some error) }
+{
+    read_words(line)
+}
+
+// The same, step by step.
+fn read_words(line: &[u8]) -> Result<LayerSpec, TableError>
+    ensures { result ≡ read_words (words_of line.now) }
+{
+    let name = name_in(line)?;
+    if !name.may_have(count_words(line)) {
+        return Err(TableError::WrongCount);
+    }
+    let start = number_in(line, 0)?;
+    let spec = spec_in(line, name)?;
+    if start != 0 || !is_in_range(spec) {
+        return Err(TableError::OutOfRange);
+    }
+    Ok(spec)
+}
+
+// The target that the third word names.
+fn name_in(line: &[u8]) -> Result<Name, TableError>
+    ensures { result ≡ name_in (words_of line.now) }
+{
+    match word_at(line, 2) {
+        Some(word) => Name::of_word(word).ok_or(TableError::UnknownTarget),
+        None => Err(TableError::WrongCount),
+    }
+}
+
+// The number that the word at this place is.
+fn number_in(line: &[u8], place: usize) -> Result<u64, TableError>
+    ensures { result ≡ number_in (words_of line.now) place }
+{
+    let word = word_at(line, place).unwrap_or_default();
+    number_of(word).ok_or(TableError::BadNumber)
+}
+
+// What a line of this target asks for, apart from ranges.
+fn spec_in(line: &[u8], name: Name) -> Result<LayerSpec, TableError>
+    ensures { result ≡ spec_in name (words_of line.now) }
+{
+    let length = number_in(line, 1)?;
+    let offset = offset_in(line, name)?;
+    let target = target_in(line, name)?;
+    Ok(LayerSpec {
+        length,
+        offset,
+        target,
+    })
+}
+
+// The sector of the device beneath.
+fn offset_in(line: &[u8], name: Name) -> Result<u64, TableError>
+    ensures { result ≡ offset_in name (words_of line.now) }
+{
+    match name {
+        Name::Error => Ok(0),
+        Name::Linear | Name::Flakey | Name::Fuse => number_in(line, 4),
+    }
+}
+
+// What the layer does.
+fn target_in(line: &[u8], name: Name) -> Result<Target, TableError>
+    ensures { result ≡ target_in name (words_of line.now) }
+{
+    match name {
+        Name::Linear => Ok(Target::Linear),
+        Name::Error => Ok(Target::Error),
+        Name::Flakey => Ok(Target::Flakey {
+            up: number_in(line, 5)?,
+            down: number_in(line, 6)?,
+            feature: feature_in(line)?,
+        }),
+        Name::Fuse => Ok(Target::Fuse {
+            calls: number_in(line, 5)?,
+        }),
+    }
+}
+
+// The feature that a flakey line's last words say.
+fn feature_in(line: &[u8]) -> Result<Feature, TableError>
+    ensures { result ≡ feature_in (words_of line.now) }
+{
+    match (word_at(line, 7), word_at(line, 8)) {
+        (None, _) => Ok(Feature::None),
+        (Some(b"0"), None) => Ok(Feature::None),
+        (Some(b"1"), Some(name)) => feature_of(name).ok_or(TableError::BadFeature),
+        (Some(_), _) => Err(TableError::BadFeature),
+    }
+}
+
+// The feature of this name.
+fn feature_of(name: &[u8]) -> Option<Feature>
+    ensures { result ≡ feature_named name.now }
+{
+    if name == b"error_reads".as_slice() {
+        Some(Feature::ErrorReads)
+    } else if name == b"error_writes".as_slice() {
+        Some(Feature::ErrorWrites)
+    } else if name == b"drop_writes".as_slice() {
+        Some(Feature::DropWrites)
+    } else {
+        None
+    }
+}

@@ -1,0 +1,73 @@
+ghost use Rattle.std.specs.Prelude.{◌≡◌, ◌++◌, ◌∷◌, [], decimal, OnOk};
+ghost use Rattle.table_line.specs.Texts.{behind_spaces, feature_words, line_text, target_words};
+
+use crate::feature::Feature;
+use crate::layer_spec::{LayerSpec, Target};
+use std::alloc::AllocError;
+use words::push_number;
+
+/// Puts the one spelling of a layer behind a text, as `0 16 flakey disk 0 10 5 1 drop_writes`: no leading zeroes, one
+/// space between two words, `disk` for the device's word, and no count of features where there is none. `parse_line`
+/// reads it as that layer, where its values are in their ranges. Want of memory is an error.
+pub fn push_line(out: &mut Vec<u8>, spec: &LayerSpec) -> Result<(), AllocError>
+    ensures { OnOk result (out.new.items ≡ out.old.items ++ line_text spec.now) }
+{
+    out.push(b'0')?;
+    push_value(out, spec.length)?;
+    push_target(out, spec.offset, spec.target)
+}
+
+// A target's words, each behind a space.
+fn push_target(out: &mut Vec<u8>, offset: u64, target: Target) -> Result<(), AllocError>
+    ensures { OnOk result (out.new.items ≡ out.old.items ++ behind_spaces (target_words offset target)) }
+{
+    match target {
+        Target::Linear => push_place(out, b" linear disk", offset),
+        Target::Error => out.extend_from_slice(b" error"),
+        Target::Flakey { up, down, feature } => {
+            push_place(out, b" flakey disk", offset)?;
+            push_turns(out, up, down, feature)
+        }
+        Target::Fuse { calls } => {
+            push_place(out, b" fuse disk", offset)?;
+            push_value(out, calls)
+        }
+    }
+}
+
+// What a flakey device has beside its place.
+fn push_turns(out: &mut Vec<u8>, up: u64, down: u64, feature: Feature) -> Result<(), AllocError>
+    ensures { OnOk result (out.new.items ≡ out.old.items ++ behind_spaces (decimal up ∷ decimal down ∷ feature_words feature)) }
+{
+    push_value(out, up)?;
+    push_value(out, down)?;
+    push_feature(out, feature)
+}
+
+// A target's name and the device's word, and the offset there.
+fn push_place(out: &mut Vec<u8>, place: &[u8], offset: u64) -> Result<(), AllocError>
+    ensures { OnOk result (out.new.items ≡ out.old.items ++ (place.now ++ behind_spaces (decimal offset ∷ []))) }
+{
+    out.extend_from_slice(place)?;
+    push_value(out, offset)
+}
+
+// A space and a number.
+fn push_value(out: &mut Vec<u8>, value: u64) -> Result<(), AllocError>
+    ensures { OnOk result (out.new.items ≡ out.old.items ++ behind_spaces (decimal value ∷ [])) }
+{
+    out.push(b' ')?;
+    push_number(out, value)
+}
+
+// A feature's words.
+fn push_feature(out: &mut Vec<u8>, feature: Feature) -> Result<(), AllocError>
+    ensures { OnOk result (out.new.items ≡ out.old.items ++ behind_spaces (feature_words feature)) }
+{
+    match feature {
+        Feature::None => Ok(()),
+        Feature::ErrorReads => out.extend_from_slice(b" 1 error_reads"),
+        Feature::ErrorWrites => out.extend_from_slice(b" 1 error_writes"),
+        Feature::DropWrites => out.extend_from_slice(b" 1 drop_writes"),
+    }
+}

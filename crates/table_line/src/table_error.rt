@@ -1,0 +1,39 @@
+ghost use Rattle.std.specs.Prelude.{◌≡◌};
+ghost use Rattle.table_line.specs.Refusals.{table_refusal};
+
+use refusals::Refusal;
+use thiserror::Error;
+
+/// Why a line asks for no layer.
+#[derive(Clone, Copy, Debug, PartialEq, Eq, Error)]
+pub enum TableError {
+    /// Its third word names no target.
+    #[error("no target of this name")]
+    UnknownTarget,
+    /// It has fewer than three words, or a number of words that its target doesn't have.
+    #[error("too many words, or too few")]
+    WrongCount,
+    /// A word in a number's place is none.
+    #[error("a word that is no number")]
+    BadNumber,
+    /// A value is out of its range.
+    #[error("a value out of its range")]
+    OutOfRange,
+    /// A feature of a flakey line, or their count, is none that there is.
+    #[error("no such feature")]
+    BadFeature,
+}
+
+impl From<TableError> for Refusal {
+    ghost from_gives = { λ error refusal. refusal ≡ table_refusal error };
+
+    fn from(error: TableError) -> Refusal {
+        match error {
+            TableError::UnknownTarget => Refusal::UnknownTarget,
+            TableError::WrongCount => Refusal::WrongCount,
+            TableError::BadNumber => Refusal::BadNumber,
+            TableError::OutOfRange => Refusal::OutOfRange,
+            TableError::BadFeature => Refusal::BadFeature,
+        }
+    }
+}

@@ -1,0 +1,149 @@
+use super::*;
+use refusals::Refusal;
+use std::alloc::Global;
+use std::test::Fail;
+
+// What a line is read as, and printed as again; or its refusal's number and name.
+fn answer(alloc: Global, line: &[u8]) -> Result<String, Fail> {
+    match parse_line(line) {
+        Ok(spec) => {
+            let mut text = Vec::new(alloc);
+            push_line(&mut text, &spec)?;
+            Ok(String::from_utf8(text).unwrap_or(String::new(alloc)))
+        }
+        Err(error) => {
+            let refusal = Refusal::from(error);
+            Ok(format!(in alloc; "{refusal}")?)
+        }
+    }
+}
+
+// A line, and its answer; `=` for the line itself. A name stands for each refusal.
+const ROWS: &str = "0 16 linear disk 8|=
+0 16 error|=
+0 1 error|=
+0 1048576 error|=
+0 16 flakey disk 0 10 5|=
+0 16 flakey disk 0 10 5 0|0 16 flakey disk 0 10 5
+0 16 flakey disk 0 10 5 1 error_reads|=
+0 16 flakey disk 0 10 5 1 error_writes|=
+0 16 flakey disk 0 10 5 1 drop_writes|=
+0 16 flakey disk 0 0 1|=
+0 16 flakey disk 0 1 0|=
+0 16 flakey disk 0 4294967295 0|=
+0 16 flakey disk 0 0 4294967295|=
+0 16 flakey disk 0 4294967294 1|=
+0 16 fuse disk 0 0|=
+0 16 fuse disk 18446744073709551615 18446744073709551615|=
+  00   016  linear   any-word   08  |0 16 linear disk 8
+0 00000000000000000016 error|0 16 error
+|10 WrongCount
+0|10 WrongCount
+0 16|10 WrongCount
+x y|10 WrongCount
+0 16 zero|9 UnknownTarget
+x y zero a b c d e f g|9 UnknownTarget
+0 16 LINEAR disk 0|9 UnknownTarget
+0 16 linear2 disk 0|9 UnknownTarget
+0 16 delay disk 0 1|9 UnknownTarget
+0 16 dust disk 0 512|9 UnknownTarget
+0\t16\tlinear\tdisk\t0|10 WrongCount
+0 16 linear|10 WrongCount
+0 16 linear disk|10 WrongCount
+x 16 linear disk|10 WrongCount
+0 16 linear disk 0 0|10 WrongCount
+0 16 error disk|10 WrongCount
+0 16 flakey disk 0 10|10 WrongCount
+0 16 flakey disk 0 10 5 1 drop_writes 0|10 WrongCount
+0 16 flakey disk 0 10 5 2 drop_writes error_reads|10 WrongCount
+0 16 fuse disk 0|10 WrongCount
+0 16 fuse disk 0 1 2|10 WrongCount
+0 16 linear disk x|11 BadNumber
+x 16 error|11 BadNumber
+0 x error|11 BadNumber
+0 -1 error|11 BadNumber
+1 0 linear disk x|11 BadNumber
+0 000000000000000000016 error|11 BadNumber
+0 18446744073709551616 error|11 BadNumber
+0 16 linear disk 18446744073709551616|11 BadNumber
+0 16 flakey disk x 10 5|11 BadNumber
+0 16 flakey disk 0 x 5|11 BadNumber
+0 16 flakey disk 0 10 x|11 BadNumber
+0 16 flakey disk 0 10 x 2|11 BadNumber
+1 16 flakey disk 0 10 x 1 corrupt_bio_byte|11 BadNumber
+0 16 fuse disk 0 x|11 BadNumber
+0 16 fuse disk x 0|11 BadNumber
+0 16 flakey disk 0 10 5 1 corrupt_bio_byte|29 BadFeature
+0 16 flakey disk 0 10 5 2|29 BadFeature
+0 16 flakey disk 0 10 5 x|29 BadFeature
+0 16 flakey disk 0 10 5 00|29 BadFeature
+0 16 flakey disk 0 10 5 1|29 BadFeature
+0 16 flakey disk 0 10 5 0 x|29 BadFeature
+0 16 flakey disk 0 10 5 0 drop_writes|29 BadFeature
+0 16 flakey disk 0 10 5 01 drop_writes|29 BadFeature
+0 16 flakey disk 0 10 5 2 drop_writes|29 BadFeature
+1 0 flakey disk 0 0 0 1 x|29 BadFeature
+1 16 linear disk 0|12 OutOfRange
+0 0 error|12 OutOfRange
+0 1048577 error|12 OutOfRange
+0 18446744073709551615 error|12 OutOfRange
+0 16 flakey disk 0 0 0|12 OutOfRange
+0 16 flakey disk 0 4294967295 1|12 OutOfRange
+0 16 flakey disk 0 4294967296 0|12 OutOfRange
+0 16 flakey disk 0 18446744073709551615 1|12 OutOfRange
+1 16 flakey disk 0 10 5 1 drop_writes|12 OutOfRange";
+
+#[test]
+fn lines(rt: HostRuntime) -> Result<(), Fail> {
+    for row in ROWS.split('\n') {
+        let (line, want) = row.split_once('|').unwrap_or_default();
+        let wanted = if want == "=" { line } else { want };
+        assert_eq!(rt; answer(rt.alloc(), line.as_bytes())?.as_str(), wanted);
+    }
+    Ok(())
+}
+
+#[test]
+fn values(rt: HostRuntime) -> Result<(), Fail> {
+    let flakey = Target::Flakey {
+        up: 10,
+        down: 5,
+        feature: Feature::DropWrites,
+    };
+    for (line, spec) in [
+        (b"0 16 linear a 8".as_slice(), (16, 8, Target::Linear)),
+        (b"0 7 error".as_slice(), (7, 0, Target::Error)),
+        (
+            b"0 9 fuse b 2 3".as_slice(),
+            (9, 2, Target::Fuse { calls: 3 }),
+        ),
+        (
+            b"0 9 flakey b 2 10 5 1 drop_writes".as_slice(),
+            (9, 2, flakey),
+        ),
+    ] {
+        let (length, offset, target) = spec;
+        let wanted = LayerSpec {
+            length,
+            offset,
+            target,
+        };
+        assert_eq!(rt; parse_line(line), Ok(wanted));
+    }
+    Ok(())
+}
+
+#[test]
+fn errors_are_shown(rt: HostRuntime) -> Result<(), Fail> {
+    for (error, want) in [
+        (TableError::UnknownTarget, "no target of this name"),
+        (TableError::WrongCount, "too many words, or too few"),
+        (TableError::BadNumber, "a word that is no number"),
+        (TableError::OutOfRange, "a value out of its range"),
+        (TableError::BadFeature, "no such feature"),
+    ] {
+        let shown = format!(in rt.alloc(); "{error}")?;
+        assert_eq!(rt; shown.as_str(), want);
+    }
+    Ok(())
+}

@@ -1,0 +1,52 @@
+-- Words: how a line is cut into them, and numbers.
+use Rattle.std.specs.Prelude.{◌≡◌, ℕ, ◌+◌, ◌-◌, ◌*◌, ◌^◌, ◌==◌, Bool, true, not, ◌&&◌, List, [], ◌∷◌, Option, Some, None, length, nat_lt, nat_le, if◌then◌else◌}
+use Rattle.std.specs.Char.{is_ascii_digit}
+use Rattle.std.specs.List.{filter, list_all, slice_split}
+
+-- what stands before the first such byte, or all where there is none
+abbrev pub before_byte : ℕ → List ℕ → List ℕ
+before_byte mark [] = []
+before_byte mark (b ∷ bytes) = if b == mark then [] else b ∷ before_byte mark bytes
+
+-- what stands after the first such byte, where there is one
+abbrev pub after_byte : ℕ → List ℕ → Option (List ℕ)
+after_byte mark [] = None
+after_byte mark (b ∷ bytes) = if b == mark then Some bytes else after_byte mark bytes
+
+-- whether there is a byte in it
+abbrev pub is_filled : List ℕ → Bool
+is_filled word = not (length word == 0)
+
+-- the words of a line: what stands between its spaces, where that isn't empty
+abbrev pub words_of : List ℕ → List (List ℕ)
+words_of line = filter is_filled (slice_split (λ byte. byte == 32) line)
+
+-- it is one word: filled, with no space in it
+abbrev pub is_word : List ℕ → Bool
+is_word word = is_filled word && list_all (λ byte. not (byte == 32)) word
+
+-- the number that a digit after n makes, if it is a digit and the number is below 2 ^ 64
+abbrev pub with_digit : ℕ → ℕ → Option ℕ
+with_digit n digit = if is_ascii_digit digit && nat_lt (10 * n + (digit - 48)) (2 ^ 64) then Some (10 * n + (digit - 48)) else None
+
+-- the number that decimal digits write after those of n
+abbrev pub number_after : ℕ → List ℕ → ℕ
+number_after n [] = n
+number_after n (digit ∷ digits) = number_after (10 * n + (digit - 48)) digits
+
+-- the number that decimal digits write
+abbrev pub number_value : List ℕ → ℕ
+number_value word = number_after 0 word
+
+-- 1 to 20 decimal digits, of a value below 2 ^ 64
+abbrev pub is_number : List ℕ → Bool
+is_number word =
+    nat_lt 0 (length word) && nat_le (length word) 20 && list_all is_ascii_digit word && nat_lt (number_value word) (2 ^ 64)
+
+-- the number that a word is, if it is one
+abbrev pub number_of : List ℕ → Option ℕ
+number_of word = if is_number word then Some (number_value word) else None
+
+-- the word is a number of this value
+abbrev pub IsNumber : List ℕ → ℕ → Type 0
+IsNumber word n = (is_number word ≡ true) × (number_value word ≡ n)

@@ -101,7 +101,7 @@ pub is_recorded : (plan : Plan) (text : List ℕ) (start last : DiskRun) (record
     → picks ≡ plan.ending
     → AgreeBelow (shown_of recorder.store.device).size (left_on picks recorder.store.device) (sector_of image)
     → ((left : Content) → (shown_of last.recorder.store.device).crash left
-        → ReplaysToWhatCouldBe (recording_of last.recorder) (recording_of last.recorder) left)
+    → ReplaysToWhatCouldBe (recording_of last.recorder) (recording_of last.recorder) left)
     → (IsWritten start.recorder → last.recorder.end ≡ None → has_no_close last.recorder.core.events ≡ false → HasWholeLog (recording_of last.recorder))
     → IsRecorded plan text hazard status image
 is_recorded plan text start last recorder hazard status image picks starts ran goes first tells same size ending bytes reopens whole =

@@ -37,7 +37,7 @@ returns-clause-recorded g c =
     let told = subst (λ (r : DiskRecorder). c.status-status.result ≡ status_of 512 (entries_of (store_of r.store)) r.end) c.recorder-2.ensures (c.status-status.ensures.status refl) in
     let first = subst (λ (r : DiskRecorder). c.hazard-hazard.result ≡ first_hazard recorded r.core.events) c.recorder-3.ensures c.hazard-hazard.ensures in
     let replays : (left : Content) → (shown_of last.recorder.store.device).crash left → ReplaysToWhatCouldBe (recording_of last.recorder) (recording_of last.recorder) left =
-        λ left may. c.crashed_logs_replay_to_what_could_be.ensures.between last.recorder left refl may in
+    λ left may. c.crashed_logs_replay_to_what_could_be.ensures.between last.recorder left refl may in
     let sound = subst (λ (r : DiskRecorder). IsSound r.core) c.recorder.ensures c.events-events.ensures.core in (
       ran.0,
       is_recorded script ran.0 start last _ c.hazard-hazard.result c.status-status.result c.in_ok-image.image.items _ c.in_ok-running.ensures.starts ran.1

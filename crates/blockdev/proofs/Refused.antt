@@ -18,6 +18,7 @@ Only content left = (sector : ℕ) → left sector ≡ content sector
 still : View
 still = record {
   size = 1;
+  origin = 0;
   content = all 0;
   crash = Only (all 0);
   moment = 0;

@@ -20,8 +20,9 @@ IsTorn patch before left = (old : Content) × before old
 
 -- What a call does at most, whatever it answers: it puts its values in some of their sectors.
 pub record Goes (patch : Patch) (v w : View) : Type 0 where
-  -- the device keeps its size
+  -- the device keeps its size, and its place on the disk beneath it
   pub size : w.size ≡ v.size
+  pub origin : w.origin ≡ v.origin
   -- the content is the old one, patched
   pub content : Patched patch v.content w.content
   -- what a crash may leave after the call is something that one could leave before it, patched

@@ -5,6 +5,8 @@ use Rattle.sectors.specs.Content.{Content, HasWholeSectors}
 pub record View : Type 1 where
   -- its number of sectors
   pub size : ℕ
+  -- where its first sector lies on the disk beneath all layers
+  pub origin : ℕ
   -- what a read finds
   pub content : Content
   -- what a crash now may leave

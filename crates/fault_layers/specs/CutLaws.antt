@@ -66,6 +66,7 @@ goes_cut : (offset length : ℕ) (below patch : Patch) (v w : View) → IsShifte
     → Goes patch (cut v offset length) (cut w offset length)
 goes_cut offset length below patch v w shifted goes = record {
   size = refl;
+  origin = ap (λ (n : ℕ). n + offset) goes.origin;
   content = patched-shifted offset below patch v.content w.content shifted goes.content;
   crash = λ left may. after-shifted offset below patch v.crash left may.0 shifted may.2 (goes.crash may.0 may.1);
   moment = goes.moment;

@@ -1,5 +1,5 @@
 -- The layers of a stack, and the disk beneath them.
-use Rattle.std.specs.Prelude.{◌≡◌, ◌↔◌, ℕ, ◌+◌, List, [], ◌∷◌, Option, Some, None, Result, Err, Ok}
+use Rattle.std.specs.Prelude.{◌≡◌, ◌↔◌, ℕ, ◌+◌, ◌≤◌, List, [], ◌∷◌, Option, Some, None, Result, Err, Ok}
 use Rattle.bio.specs.declared.outcome.DevError.{DevError}
 use Rattle.bio.specs.declared.outcome.DevError.TheVariants.{Io}
 use Rattle.blockdev.specs.declared.device.BlockDev.{Ghosts}
@@ -89,6 +89,7 @@ layers_over (layer ∷ layers) v = layer_over layer.gate layer (layers_over laye
 -- two devices show the same
 pub record IsSeenAs (v w : View) : Type 0 where
   pub size : w.size ≡ v.size
+  pub origin : w.origin ≡ v.origin
   pub content : (sector : ℕ) → w.content sector ≡ v.content sector
   pub crash : (left : Content) → w.crash left ↔ v.crash left
   pub moment : w.moment ≡ v.moment
@@ -99,12 +100,19 @@ pub record IsSeenAs (v w : View) : Type 0 where
 -- a layer that was just put over what shows v shows w
 pub record IsPut (spec : LayerSpec) (v w : View) : Type 0 where
   pub size : w.size ≡ spec.length
+  pub origin : w.origin ≡ v.origin + spec.offset
   pub content : (sector : ℕ) → w.content sector ≡ v.content (spec.offset + sector)
   pub crash : (left : Content) → w.crash left ↔ SeenFrom spec.offset v.crash left
   pub moment : w.moment ≡ v.moment
   pub since : (moment : ℕ) (left : Content) → w.since moment left ↔ SeenFrom spec.offset (v.since moment) left
   pub faults : w.faults ≡ v.faults
   pub lies : w.lies ≡ v.lies
+
+-- What shows w is a part of the disk that shows v: its sectors from w's origin on. Whatever a crash leaves of the disk, is left of it too, as seen from there.
+pub record IsPartOf (v w : View) : Type 0 where
+  pub within : w.origin + w.size ≤ v.size
+  pub content : (sector : ℕ) → w.content sector ≡ v.content (w.origin + sector)
+  pub crash : (left : Content) → v.crash left → (seen : Content) × w.crash seen × ((sector : ℕ) → seen sector ≡ left (w.origin + sector))
 
 -- ---- what calls do
 

@@ -14,4 +14,5 @@ pub mod SlotLaws
 pub mod Layers
 pub mod LayerLaws
 pub mod TopLaws
+pub mod PartLaws
 pub mod StackLaws

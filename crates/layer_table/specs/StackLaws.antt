@@ -6,9 +6,10 @@ use Rattle.blockdev.specs.View.{IsLawful, View}
 use Rattle.sector_disk.specs.Shown.{shown_of}
 use Rattle.sector_disk.specs.ShownLaws.{disk_lawful}
 use Rattle.layer_table.specs.declared.stack.Stack.{Stack}
-use Rattle.layer_table.specs.Layers.{disk_of, layers_of, layers_over, layers_with, stack_does, stack_shown, IsSeenAs, LayersDo}
+use Rattle.layer_table.specs.Layers.{disk_of, layers_of, layers_over, layers_with, stack_does, stack_shown, IsPartOf, IsSeenAs, LayersDo}
 use Rattle.layer_table.specs.LayerLaws.{does_with, shown_with}
 use Rattle.layer_table.specs.Slots.{device_of, has_no_gap, shape_of, shape_with, slot_does}
+use Rattle.layer_table.specs.PartLaws.{disk_part, part_with}
 use Rattle.layer_table.specs.SlotLaws.{shape_kept, slot_lawful}
 
 -- a stack keeps the law of a device
@@ -50,6 +51,7 @@ done_by_layers old call now result new does =
 pub seen_as : (v w : View) → w ≡ v → IsSeenAs v w
 seen_as v w same = subst (λ (x : View). IsSeenAs x w) same (record {
   size = refl;
+  origin = refl;
   content = λ sector. refl;
   crash = λ left. (λ may. may, λ may. may);
   moment = refl;
@@ -60,3 +62,12 @@ seen_as v w same = subst (λ (x : View). IsSeenAs x w) same (record {
 
 pub seen_by_layers : (stack : Stack) → IsSeenAs (layers_over (layers_of stack) (shown_of (disk_of stack))) (stack_shown stack)
 seen_by_layers stack = seen_as _ _ (shown_by_layers stack)
+
+-- a stack is a part of the disk beneath it
+pub part_of_disk : (stack : Stack) → IsPartOf (shown_of (disk_of stack)) (stack_shown stack)
+part_of_disk stack =
+    part_with (λ slot. shown_of (device_of (device_of (device_of slot))))
+    (part_with (λ slot. shown_of (device_of (device_of slot)))
+    (part_with (λ slot. shown_of (device_of slot))
+    (part_with shown_of disk_part)))
+    stack.top

@@ -11,12 +11,18 @@ ghost use Rattle.sector_disk.specs.declared.disk.SectorDisk.{SectorDisk};
 ghost use Rattle.sector_disk.specs.Shown.{shown_of};
 ghost use Rattle.layer_table.specs.declared.any_gate.AnyGate.TheVariants as gates;
 ghost use Rattle.layer_table.specs.declared.stack.Stack.{Stack};
-ghost use Rattle.layer_table.specs.Layers.{disk_of, layers_of, layers_over, stack_does, stack_shown, Follows, IsSeenAs, Layer, LayersDo};
+ghost use Rattle.layer_table.specs.Layers.{disk_of, layers_of, layers_over, stack_does, stack_shown, Follows, IsPartOf, IsSeenAs, Layer, LayersDo};
 
 /// What is seen of a stack is what its layers make, from the lowest up, of what is seen of the disk.
 #[tactic(auto, using(crate::specs::StackLaws::seen_by_layers))]
 pub fn stacks_show_their_layers()
     ensures { (stack : Stack) → IsSeenAs (layers_over (layers_of stack) (shown_of (disk_of stack))) (stack_shown stack) }
+{}
+
+/// A stack is a part of the disk beneath it: what it shows stands there from its origin on, and what a crash leaves of the disk, seen from
+/// there, a crash may leave of the stack.
+pub fn stacks_are_parts_of_their_disks()
+    ensures { (stack : Stack) → IsPartOf (shown_of (disk_of stack)) (stack_shown stack) }
 {}
 
 /// A call of a stack is one of its layers over the disk, from the top down.

@@ -1,0 +1,41 @@
+-- What stands over a disk shows a part of it.
+use Rattle.std.proofs.Common.{◌≡◌, ℕ, ◌+◌, ap, refl, sym, ◌∙◌, arith}
+use Rattle.blockdev.specs.declared.device.BlockDev.{Ghosts}
+use Rattle.blockdev.specs.Calls.{IsRange}
+use Rattle.blockdev.specs.View.{View}
+use Rattle.fault_layers.specs.Cut.{cut}
+use Rattle.sector_disk.specs.declared.disk.SectorDisk.{SectorDisk}
+use Rattle.sector_disk.specs.Shown.{shown_of}
+use Rattle.sectors.specs.Content.{moved}
+use Rattle.layer_table.specs.declared.slot.Slot.{Slot}
+use Rattle.layer_table.specs.declared.slot.Slot.TheVariants as slots
+use Rattle.layer_table.specs.Layers.{IsPartOf}
+use Rattle.layer_table.specs.Slots.{device_of, slot_shown}
+
+-- a disk is a part of itself
+pub disk_part : (disk : SectorDisk) → IsPartOf (shown_of disk) (shown_of disk)
+disk_part disk = record {
+  within = omega arith;
+  content = λ sector. ap (shown_of disk).content (omega arith);
+  crash = λ left may. (left, may, λ sector. ap left (omega arith));
+}
+
+-- a range of a part is a part
+cut_part : (v w : View) (offset length : ℕ) → IsRange w.size offset length → IsPartOf v w → IsPartOf v (cut w offset length)
+cut_part v w offset length fits is = record {
+  within = let a = fits.within in let b = is.within in omega arith;
+  content = λ sector. is.content (offset + sector) ∙ ap v.content (omega arith);
+  crash = λ left may.
+      let below = is.crash left may in
+      (moved offset below.0, (below.0, below.1, λ sector. refl), λ sector. below.2 (offset + sector) ∙ ap left (omega arith));
+}
+
+-- what stands in a slot is a part where what is beneath is one
+pub part_with : {D : Type 0} {g : Ghosts D} (disk : D → View) → ((device : D) → IsPartOf (disk device) (g.shown device))
+    → (slot : Slot D g) → IsPartOf (disk (device_of slot)) (slot_shown slot)
+part_with {D} {g} disk below (slots.Bare device) = below device
+part_with {D} {g} disk below (slots.Linear range) =
+    cut_part (disk range.lower) (g.shown range.lower) range.offset range.length range.fits (below range.lower)
+part_with {D} {g} disk below (slots.Decided layer) =
+    let is = cut_part (disk layer.lower.lower) (g.shown layer.lower.lower) layer.lower.offset layer.lower.length layer.lower.fits (below layer.lower.lower) in
+    record { within = is.within; content = is.content; crash = is.crash }

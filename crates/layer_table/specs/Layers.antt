@@ -14,6 +14,7 @@ use Rattle.fault_layers.specs.Decided.{kind_of, KeepsBuffer}
 use Rattle.sector_disk.specs.declared.disk.SectorDisk.{SectorDisk}
 use Rattle.sector_disk.specs.Shown.{Does}
 use Rattle.table_line.specs.declared.layer_spec.LayerSpec.{LayerSpec}
+use Rattle.table_line.specs.Standing.{top_origin, top_sectors}
 use Rattle.table_line.specs.declared.layer_spec.Target.{Target}
 use Rattle.table_line.specs.declared.layer_spec.Target.TheVariants as targets
 use Rattle.layer_table.specs.declared.any_gate.AnyGate.{AnyGate}
@@ -70,6 +71,11 @@ gate_asked (targets.Fuse calls) load = Some (gates.Fuse calls)
 abbrev pub layer_asked : LayerSpec → ℕ → Layer
 layer_asked spec load = record { offset = spec.offset; length = spec.length; gate = gate_asked spec.target load; faults = 0; lies = 0 }
 
+-- layers over others, the top first, where these lines ask for them, the lowest first
+abbrev pub layers_under : List LayerSpec → ℕ → List Layer → List Layer
+layers_under [] load layers = layers
+layers_under (spec ∷ specs) load layers = layers_under specs load (layer_asked spec load ∷ layers)
+
 -- ---- what is shown
 
 -- what contracts see of a stack, by its slots
@@ -105,6 +111,14 @@ pub record IsPut (spec : LayerSpec) (v w : View) : Type 0 where
   pub crash : (left : Content) → w.crash left ↔ SeenFrom spec.offset v.crash left
   pub moment : w.moment ≡ v.moment
   pub since : (moment : ℕ) (left : Content) → w.since moment left ↔ SeenFrom spec.offset (v.since moment) left
+  pub faults : w.faults ≡ v.faults
+  pub lies : w.lies ≡ v.lies
+
+-- what layers that were just put over what shows v show: none of them has failed or dropped a call yet
+pub record AreOver (specs : List LayerSpec) (v w : View) : Type 0 where
+  pub size : w.size ≡ top_sectors v.size specs
+  pub origin : w.origin ≡ top_origin v.origin specs
+  pub moment : w.moment ≡ v.moment
   pub faults : w.faults ≡ v.faults
   pub lies : w.lies ≡ v.lies
 

@@ -7,6 +7,7 @@ pub use Rattle.fault_layers.specs.Cut
 pub use Rattle.fault_layers.specs.Decided
 pub use Rattle.sectors.specs.Content
 pub use Rattle.table_line.specs.Ranges
+pub use Rattle.table_line.specs.Standing
 pub mod AnyRule
 pub mod AnyLaws
 pub mod Slots

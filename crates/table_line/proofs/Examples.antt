@@ -7,6 +7,8 @@ use Rattle.table_line.specs.declared.layer_spec.Target.TheVariants as targets
 use Rattle.table_line.specs.declared.table_error.TableError.{TableError}
 use Rattle.table_line.specs.declared.table_error.TableError.TheVariants.{BadFeature, BadNumber, OutOfRange, UnknownTarget, WrongCount}
 use Rattle.table_line.specs.Ranges.{IsCycle}
+use Rattle.table_line.specs.Standing.{top_origin, top_sectors, CanStand}
+use Rattle.table_line.specs.declared.layer_spec.LayerSpec.{LayerSpec}
 use Rattle.table_line.specs.Refusals.{refusal_of}
 use Rattle.table_line.specs.TableLines.{IsTableLine}
 use Rattle.table_line.specs.Texts.{line_text}
@@ -103,3 +105,35 @@ no-cycle cycle = let some = cycle.some in omega arith
 -- up and down are counted together
 whole-cycle : IsCycle 4294967290 5
 whole-cycle = record { some = omega arith; few = omega arith }
+
+-- ---- layers one over another
+
+-- 8 sectors from sector 4 on, and of these 3 from sector 2 on
+abbrev eight : LayerSpec
+eight = record { length = 8; offset = 4; target = targets.Linear }
+
+abbrev three : LayerSpec
+three = record { length = 3; offset = 2; target = targets.Fuse 1 }
+
+their-top : top_sectors 16 (eight ∷ three ∷ []) ≡ 3
+their-top = refl
+
+their-origin : top_origin 0 (eight ∷ three ∷ []) ≡ 6
+their-origin = refl
+
+no-layers : top_sectors 16 [] ≡ 16
+no-layers = refl
+
+they-stand : CanStand 12 (eight ∷ three ∷ [])
+they-stand = (
+  record { sectors = record { some = omega arith; few = omega arith }; place = omega arith; has = tt },
+  omega arith,
+  (record { sectors = record { some = omega arith; few = omega arith }; place = omega arith; has = omega arith }, omega arith, tt),
+)
+
+-- past the device's end, and past the end of the layer beneath
+not-on-eleven : CanStand 11 (eight ∷ three ∷ []) → ⊥
+not-on-eleven stand = let within = stand.1 in omega arith
+
+not-on-three : CanStand 16 (three ∷ eight ∷ []) → ⊥
+not-on-three stand = let within = stand.2.1 in omega arith

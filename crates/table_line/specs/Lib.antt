@@ -1,5 +1,6 @@
 pub use Rattle.words.specs.Words
 pub mod Ranges
+pub mod Standing
 pub mod TableLines
 pub mod Refusals
 pub mod Texts

@@ -1,9 +1,11 @@
-ghost use Rattle.std.specs.Prelude.{◌≡◌, ◌⊎◌, ◌<◌, ◌≤◌, ◌+◌, [], ◌∷◌, List, IfErr, IfOk, OnErr, OnOk, false, length, true};
+ghost use Rattle.std.specs.Prelude.{◌≡◌, ◌⊎◌, ◌<◌, ◌≤◌, ◌+◌, [], ◌∷◌, List, IfErr, IfOk, IsOk, OnErr, OnOk, false, length, true};
 ghost use Rattle.refusals.specs.declared.refusal.Refusal.TheVariants as refusals;
 ghost use Rattle.blockdev.specs.Calls.{IsRange};
 ghost use Rattle.sector_disk.specs.Shown.{shown_of};
 ghost use Rattle.table_line.specs.Ranges.{IsLayerSpec};
-ghost use Rattle.layer_table.specs.Layers.{device_in, disk_of, layer_asked, layers_in, layers_of, layers_with, stack_shown, IsPut, IsSeenAs, Layer};
+ghost use Rattle.table_line.specs.Standing.{CanStand};
+ghost use Rattle.std.specs.List.{AllByRecursion};
+ghost use Rattle.layer_table.specs.Layers.{device_in, disk_of, layer_asked, layers_in, layers_of, layers_under, layers_with, stack_shown, AreOver, IsPut, IsSeenAs, Layer};
 ghost use Rattle.layer_table.specs.Slots.{device_of, has_layer, has_no_gap, shape_of, slot_shown};
 
 use crate::any_gate::AnyGate;
@@ -46,6 +48,25 @@ impl Stack {
         Ok(Stack {
             top: put(self.top, spec, load),
         })
+    }
+
+    /// Puts layers over what stands, the first of them lowest, each loaded at the moment `load`, in milliseconds. They are refused with OutOfRange
+    /// where `over` refuses one of them; then the stack is handed back with those beneath it.
+    pub fn under(self, specs: &[LayerSpec], load: Ms) -> Result<Stack, (Stack, Refusal)>
+        requires { AllByRecursion IsLayerSpec specs.now }
+        ensures layers { IfOk result (λ stack. layers_of stack ≡ layers_under specs.now load (layers_of self)) }
+        ensures disk { IfOk result (λ stack. disk_of stack ≡ disk_of self) }
+        ensures shown { IfOk result (λ stack. AreOver specs.now (stack_shown self) (stack_shown stack)) }
+        ensures stand { CanStand (stack_shown self).size specs.now → length (layers_of self) + length specs.now ≤ 4 → IsOk result }
+        ensures refused { IfErr result (λ back. back.1 ≡ refusals.OutOfRange) }
+    {
+        let mut stack = self;
+        let mut rest = specs;
+        while let Some((spec, above)) = rest.split_first() {
+            stack = stack.over(*spec, load)?;
+            rest = above;
+        }
+        Ok(stack)
     }
 
     /// The disk beneath, with no layer over it.

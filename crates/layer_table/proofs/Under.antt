@@ -1,0 +1,82 @@
+-- Layers put over a stack, one after another.
+use Rattle.std.proofs.Common.{◌≡◌, ℕ, ◌+◌, ◌<◌, ◌≤◌, List, [], ◌∷◌, length, refl, ap, subst, sym, ◌∙◌, inl, inr, arith}
+use Rattle.std.specs.Prelude.{◌⊎◌}
+use Rattle.std.specs.List.{AllByRecursion}
+use Rattle.table_line.specs.declared.layer_spec.LayerSpec.{LayerSpec}
+use Rattle.table_line.specs.Ranges.{IsLayerSpec}
+use Rattle.table_line.specs.Standing.{top_origin, top_sectors, CanStand}
+use Rattle.layer_table.specs.declared.stack.Stack.{Stack}
+use Rattle.layer_table.specs.Layers.{disk_of, layer_asked, layers_of, layers_under, stack_shown, AreOver, IsPut, Layer}
+
+-- of these layers all but the rest stand over what was there
+pub record AreUnder (specs rest : List LayerSpec) (load : ℕ) (old stack : Stack) : Type 0 where
+  asked : AllByRecursion IsLayerSpec rest
+  layers : layers_under rest load (layers_of stack) ≡ layers_under specs load (layers_of old)
+  disk : disk_of stack ≡ disk_of old
+  size : top_sectors (stack_shown stack).size rest ≡ top_sectors (stack_shown old).size specs
+  origin : top_origin (stack_shown stack).origin rest ≡ top_origin (stack_shown old).origin specs
+  moment : (stack_shown stack).moment ≡ (stack_shown old).moment
+  faults : (stack_shown stack).faults ≡ (stack_shown old).faults
+  lies : (stack_shown stack).lies ≡ (stack_shown old).lies
+  stand : CanStand (stack_shown old).size specs → CanStand (stack_shown stack).size rest
+  count : length (layers_of stack) + length rest ≡ length (layers_of old) + length specs
+
+-- at first none does
+pub none_under : (specs : List LayerSpec) (load : ℕ) (old : Stack) → AllByRecursion IsLayerSpec specs → AreUnder specs specs load old old
+none_under specs load old asked = record {
+  asked = asked;
+  layers = refl;
+  disk = refl;
+  size = refl;
+  origin = refl;
+  moment = refl;
+  faults = refl;
+  lies = refl;
+  stand = λ stand. stand;
+  count = refl;
+}
+
+-- the next one is a layer that a line may ask for
+pub first_asked : (specs rest : List LayerSpec) (spec : LayerSpec) (above : List LayerSpec) (load : ℕ) (old stack : Stack) → rest ≡ spec ∷ above
+    → AreUnder specs rest load old stack → IsLayerSpec spec
+first_asked specs rest spec above load old stack is are = (subst (λ (ls : List LayerSpec). AllByRecursion IsLayerSpec ls) is are.asked).0
+
+-- one more is put over them
+pub one_under : (specs rest : List LayerSpec) (spec : LayerSpec) (above : List LayerSpec) (load : ℕ) (old stack next : Stack) → rest ≡ spec ∷ above
+    → AreUnder specs rest load old stack → layers_of next ≡ layer_asked spec load ∷ layers_of stack → disk_of next ≡ disk_of stack
+    → IsPut spec (stack_shown stack) (stack_shown next) → AreUnder specs above load old next
+one_under specs rest spec above load old stack next is before layers disk put =
+    let are = subst (λ (ls : List LayerSpec). AreUnder specs ls load old stack) is before in
+    record {
+      asked = are.asked.1;
+      layers = ap (λ (ls : List Layer). layers_under above load ls) layers ∙ are.layers;
+      disk = disk ∙ are.disk;
+      size = ap (λ (n : ℕ). top_sectors n above) put.size ∙ are.size;
+      origin = ap (λ (n : ℕ). top_origin n above) put.origin ∙ are.origin;
+      moment = put.moment ∙ are.moment;
+      faults = put.faults ∙ are.faults;
+      lies = put.lies ∙ are.lies;
+      stand = λ stand. subst (λ (n : ℕ). CanStand n above) (sym put.size) (are.stand stand).2;
+      count = let counted = are.count in let grown = ap (λ (ls : List Layer). length ls) layers in omega arith;
+    }
+
+-- at last all do
+pub all_under : (specs rest : List LayerSpec) (load : ℕ) (old stack : Stack) → length rest ≡ 0 → AreUnder specs rest load old stack
+    → (layers_of stack ≡ layers_under specs load (layers_of old)) × (disk_of stack ≡ disk_of old) × AreOver specs (stack_shown old) (stack_shown stack)
+all_under specs [] load old stack none are = (
+  are.layers,
+  are.disk,
+  record { size = are.size; origin = are.origin; moment = are.moment; faults = are.faults; lies = are.lies },
+)
+all_under specs (spec ∷ rest) load old stack none are = absurd (omega arith)
+
+-- where they can stand, none is refused
+pub none_refused : (specs rest : List LayerSpec) (spec : LayerSpec) (above : List LayerSpec) (load : ℕ) (old stack : Stack) → rest ≡ spec ∷ above
+    → AreUnder specs rest load old stack → CanStand (stack_shown old).size specs → length (layers_of old) + length specs ≤ 4
+    → ((stack_shown stack).size < spec.offset + spec.length) ⊎ (length (layers_of stack) ≡ 4) → ⊥
+none_refused specs rest spec above load old stack is before stand few (inl past) =
+    let are = subst (λ (ls : List LayerSpec). AreUnder specs ls load old stack) is before in
+    let within = (are.stand stand).1 in omega arith
+none_refused specs rest spec above load old stack is before stand few (inr full) =
+    let are = subst (λ (ls : List LayerSpec). AreUnder specs ls load old stack) is before in
+    let counted = are.count in omega arith

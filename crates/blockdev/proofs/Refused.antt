@@ -3,7 +3,7 @@ use Rattle.std.proofs.Common.{◌≡◌, ℕ, zero, suc, true, false, List, [], 
 use Rattle.std.specs.Prelude.{◌^◌, slice_index_or}
 use Rattle.bio.specs.declared.outcome.DevError.TheVariants.{Io}
 use Rattle.sectors.specs.Content.{Content, Patch, put}
-use Rattle.blockdev.specs.View.{IsLawful, View, last_count}
+use Rattle.blockdev.specs.View.{IsLawful, Place, View, last_count}
 use Rattle.blockdev.specs.Law.{Goes, HasCause, Lands, NoLie, Stays, Syncs}
 
 -- content of one value in each sector
@@ -18,7 +18,7 @@ Only content left = (sector : ℕ) → left sector ≡ content sector
 still : View
 still = record {
   size = 1;
-  origin = 0;
+  place = record { origin = 0; disk = 1 };
   content = all 0;
   crash = Only (all 0);
   moment = 0;
@@ -40,6 +40,11 @@ one_value a b same = ap (λ (xs : List ℕ). slice_index_or xs 0 0) same
 size : Goes one still (record still { size = 2 }) → ⊥
 unfolding still
 size goes = let same = goes.size in omega arith
+
+-- another place on the disk beneath it
+place : Goes one still (record still { place = record { origin = 1; disk = 1 } }) → ⊥
+unfolding still
+place goes = let same = ap (λ (p : Place). p.origin) goes.place in omega arith
 
 -- a value that isn't the call's
 content : Goes one still (record still { content = all 2 }) → ⊥

@@ -19,7 +19,7 @@ one_more count = sum_of count 1
 abbrev pub counted : View → ℕ → ℕ → View
 counted v faults lies = record {
   size = v.size;
-  origin = v.origin;
+  place = v.place;
   content = v.content;
   crash = v.crash;
   moment = v.moment;
@@ -46,7 +46,7 @@ pub goes_counted : (patch : Patch) (v w : View) (faults more_faults lies more_li
     → Goes patch v w → Goes patch (counted v faults lies) (counted w more_faults more_lies)
 goes_counted patch v w faults more_faults lies more_lies h k goes = record {
   size = goes.size;
-  origin = goes.origin;
+  place = goes.place;
   content = goes.content;
   crash = goes.crash;
   moment = goes.moment;

@@ -19,7 +19,7 @@ after_twice patch set mid left first after =
 pub goes_none : (patch : Patch) (v : View) → Goes patch v v
 goes_none patch v = record {
   size = refl;
-  origin = refl;
+  place = refl;
   content = patched-same patch v.content;
   crash = λ left may. (left, may, patched-same patch left);
   moment = omega arith;
@@ -33,7 +33,7 @@ goes_none patch v = record {
 pub goes_part : (part whole : Patch) (v w : View) → IsPart part whole → Goes part v w → Goes whole v w
 goes_part part whole v w is goes = record {
   size = goes.size;
-  origin = goes.origin;
+  place = goes.place;
   content = patched-part part whole v.content w.content is goes.content;
   crash = λ left may. wider left (goes.crash left may);
   moment = goes.moment;
@@ -50,7 +50,7 @@ goes_part part whole v w is goes = record {
 pub goes_both : (patch : Patch) (u v w : View) → Goes patch u v → Goes patch v w → Goes patch u w
 goes_both patch u v w first second = record {
   size = second.size ∙ first.size;
-  origin = second.origin ∙ first.origin;
+  place = second.place ∙ first.place;
   content = patched_twice patch u.content v.content w.content first.content second.content;
   crash = λ left may. after_twice patch u.crash v.crash left first.crash (second.crash left may);
   moment = let a = first.moment in let b = second.moment in omega arith;

@@ -22,7 +22,7 @@ IsTorn patch before left = (old : Content) × before old
 pub record Goes (patch : Patch) (v w : View) : Type 0 where
   -- the device keeps its size, and its place on the disk beneath it
   pub size : w.size ≡ v.size
-  pub origin : w.origin ≡ v.origin
+  pub place : w.place ≡ v.place
   -- the content is the old one, patched
   pub content : Patched patch v.content w.content
   -- what a crash may leave after the call is something that one could leave before it, patched

@@ -1,12 +1,17 @@
 use Rattle.std.specs.Prelude.{ℕ, ◌-◌, ◌<◌, ◌≤◌, ◌^◌}
 use Rattle.sectors.specs.Content.{Content, HasWholeSectors}
 
+-- Where a device lies on the disk beneath all layers: its first sector there, and how many sectors that disk has.
+pub record Place : Type 0 where
+  pub origin : ℕ
+  pub disk : ℕ
+
 -- What contracts see of a device. Moments are those of a clock of the device's own, which contracts alone see.
 pub record View : Type 1 where
   -- its number of sectors
   pub size : ℕ
-  -- where its first sector lies on the disk beneath all layers
-  pub origin : ℕ
+  -- where it lies on the disk beneath it
+  pub place : Place
   -- what a read finds
   pub content : Content
   -- what a crash now may leave

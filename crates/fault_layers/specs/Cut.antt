@@ -19,7 +19,7 @@ SeenFrom offset set left = (below : Content) × set below × ((sector : ℕ) →
 abbrev pub cut : View → ℕ → ℕ → View
 cut v offset length = record {
   size = length;
-  origin = v.origin + offset;
+  place = record { origin = v.place.origin + offset; disk = v.place.disk };
   content = moved offset v.content;
   crash = SeenFrom offset v.crash;
   moment = v.moment;

@@ -2,7 +2,7 @@
 use Rattle.std.proofs.Common.{◌≡◌, ℕ, ◌+◌, Bool, List, length, refl, ap, ◌∙◌, inl, inr, arith}
 use Rattle.std.specs.Prelude.{◌/◌, Option, replicate, unwrap_or}
 use Rattle.blockdev.specs.Calls.{IsRange}
-use Rattle.blockdev.specs.View.{IsLawful, View}
+use Rattle.blockdev.specs.View.{IsLawful, Place, View}
 use Rattle.blockdev.specs.Law.{AfterPatch, Goes, Lands, NoLie}
 use Rattle.sectors.specs.Content.{Content, Patch, Patched, discards, gather, moved, nothing, put, sector_of, writes}
 use Rattle.sectors.specs.ContentLaws.{over-shift}
@@ -66,7 +66,7 @@ goes_cut : (offset length : ℕ) (below patch : Patch) (v w : View) → IsShifte
     → Goes patch (cut v offset length) (cut w offset length)
 goes_cut offset length below patch v w shifted goes = record {
   size = refl;
-  origin = ap (λ (n : ℕ). n + offset) goes.origin;
+  place = ap (λ (p : Place). record { origin = p.origin + offset; disk = p.disk }) goes.place;
   content = patched-shifted offset below patch v.content w.content shifted goes.content;
   crash = λ left may. after-shifted offset below patch v.crash left may.0 shifted may.2 (goes.crash may.0 may.1);
   moment = goes.moment;

@@ -2,6 +2,7 @@
 use Rattle.std.proofs.Common.{◌≡◌, ℕ, ◌+◌, ◌<◌, ◌≤◌, List, [], ◌∷◌, length, refl, ap, subst, sym, ◌∙◌, inl, inr, arith}
 use Rattle.std.specs.Prelude.{◌⊎◌}
 use Rattle.std.specs.List.{AllByRecursion}
+use Rattle.blockdev.specs.View.{Place}
 use Rattle.table_line.specs.declared.layer_spec.LayerSpec.{LayerSpec}
 use Rattle.table_line.specs.Ranges.{IsLayerSpec}
 use Rattle.table_line.specs.Standing.{top_origin, top_sectors, CanStand}
@@ -14,7 +15,8 @@ pub record AreUnder (specs rest : List LayerSpec) (load : ℕ) (old stack : Stac
   layers : layers_under rest load (layers_of stack) ≡ layers_under specs load (layers_of old)
   disk : disk_of stack ≡ disk_of old
   size : top_sectors (stack_shown stack).size rest ≡ top_sectors (stack_shown old).size specs
-  origin : top_origin (stack_shown stack).origin rest ≡ top_origin (stack_shown old).origin specs
+  origin : top_origin (stack_shown stack).place.origin rest ≡ top_origin (stack_shown old).place.origin specs
+  disk_sectors : (stack_shown stack).place.disk ≡ (stack_shown old).place.disk
   moment : (stack_shown stack).moment ≡ (stack_shown old).moment
   faults : (stack_shown stack).faults ≡ (stack_shown old).faults
   lies : (stack_shown stack).lies ≡ (stack_shown old).lies
@@ -29,6 +31,7 @@ none_under specs load old asked = record {
   disk = refl;
   size = refl;
   origin = refl;
+  disk_sectors = refl;
   moment = refl;
   faults = refl;
   lies = refl;
@@ -52,7 +55,8 @@ one_under specs rest spec above load old stack next is before layers disk put =
       layers = ap (λ (ls : List Layer). layers_under above load ls) layers ∙ are.layers;
       disk = disk ∙ are.disk;
       size = ap (λ (n : ℕ). top_sectors n above) put.size ∙ are.size;
-      origin = ap (λ (n : ℕ). top_origin n above) put.origin ∙ are.origin;
+      origin = ap (λ (p : Place). top_origin p.origin above) put.place ∙ are.origin;
+      disk_sectors = ap (λ (p : Place). p.disk) put.place ∙ are.disk_sectors;
       moment = put.moment ∙ are.moment;
       faults = put.faults ∙ are.faults;
       lies = put.lies ∙ are.lies;
@@ -60,13 +64,17 @@ one_under specs rest spec above load old stack next is before layers disk put =
       count = let counted = are.count in let grown = ap (λ (ls : List Layer). length ls) layers in omega arith;
     }
 
+-- places with the same in each field are one
+same_place : (place : Place) (origin : ℕ) {disk : ℕ} → place.origin ≡ origin → place.disk ≡ disk → place ≡ record { origin = origin; disk = disk }
+same_place place origin {disk} here there = rw (sym here, sym there) refl
+
 -- at last all do
 pub all_under : (specs rest : List LayerSpec) (load : ℕ) (old stack : Stack) → length rest ≡ 0 → AreUnder specs rest load old stack
     → (layers_of stack ≡ layers_under specs load (layers_of old)) × (disk_of stack ≡ disk_of old) × AreOver specs (stack_shown old) (stack_shown stack)
 all_under specs [] load old stack none are = (
   are.layers,
   are.disk,
-  record { size = are.size; origin = are.origin; moment = are.moment; faults = are.faults; lies = are.lies },
+  record { size = are.size; place = same_place _ _ are.origin are.disk_sectors; moment = are.moment; faults = are.faults; lies = are.lies },
 )
 all_under specs (spec ∷ rest) load old stack none are = absurd (omega arith)
 

@@ -95,7 +95,7 @@ layers_over (layer ∷ layers) v = layer_over layer.gate layer (layers_over laye
 -- two devices show the same
 pub record IsSeenAs (v w : View) : Type 0 where
   pub size : w.size ≡ v.size
-  pub origin : w.origin ≡ v.origin
+  pub place : w.place ≡ v.place
   pub content : (sector : ℕ) → w.content sector ≡ v.content sector
   pub crash : (left : Content) → w.crash left ↔ v.crash left
   pub moment : w.moment ≡ v.moment
@@ -106,7 +106,7 @@ pub record IsSeenAs (v w : View) : Type 0 where
 -- a layer that was just put over what shows v shows w
 pub record IsPut (spec : LayerSpec) (v w : View) : Type 0 where
   pub size : w.size ≡ spec.length
-  pub origin : w.origin ≡ v.origin + spec.offset
+  pub place : w.place ≡ record { origin = v.place.origin + spec.offset; disk = v.place.disk }
   pub content : (sector : ℕ) → w.content sector ≡ v.content (spec.offset + sector)
   pub crash : (left : Content) → w.crash left ↔ SeenFrom spec.offset v.crash left
   pub moment : w.moment ≡ v.moment
@@ -117,16 +117,17 @@ pub record IsPut (spec : LayerSpec) (v w : View) : Type 0 where
 -- what layers that were just put over what shows v show: none of them has failed or dropped a call yet
 pub record AreOver (specs : List LayerSpec) (v w : View) : Type 0 where
   pub size : w.size ≡ top_sectors v.size specs
-  pub origin : w.origin ≡ top_origin v.origin specs
+  pub place : w.place ≡ record { origin = top_origin v.place.origin specs; disk = v.place.disk }
   pub moment : w.moment ≡ v.moment
   pub faults : w.faults ≡ v.faults
   pub lies : w.lies ≡ v.lies
 
--- What shows w is a part of the disk that shows v: its sectors from w's origin on. Whatever a crash leaves of the disk, is left of it too, as seen from there.
+-- What shows w is a part of the disk that shows v: the sectors at its place. Whatever a crash leaves of the disk, is left of it too, as seen from there.
 pub record IsPartOf (v w : View) : Type 0 where
-  pub within : w.origin + w.size ≤ v.size
-  pub content : (sector : ℕ) → w.content sector ≡ v.content (w.origin + sector)
-  pub crash : (left : Content) → v.crash left → (seen : Content) × w.crash seen × ((sector : ℕ) → seen sector ≡ left (w.origin + sector))
+  pub disk : w.place.disk ≡ v.size
+  pub within : w.place.origin + w.size ≤ v.size
+  pub content : (sector : ℕ) → w.content sector ≡ v.content (w.place.origin + sector)
+  pub crash : (left : Content) → v.crash left → (seen : Content) × w.crash seen × ((sector : ℕ) → seen sector ≡ left (w.place.origin + sector))
 
 -- ---- what calls do
 

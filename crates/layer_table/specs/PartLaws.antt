@@ -15,6 +15,7 @@ use Rattle.layer_table.specs.Slots.{device_of, slot_shown}
 -- a disk is a part of itself
 pub disk_part : (disk : SectorDisk) → IsPartOf (shown_of disk) (shown_of disk)
 disk_part disk = record {
+  disk = refl;
   within = omega arith;
   content = λ sector. ap (shown_of disk).content (omega arith);
   crash = λ left may. (left, may, λ sector. ap left (omega arith));
@@ -23,6 +24,7 @@ disk_part disk = record {
 -- a range of a part is a part
 cut_part : (v w : View) (offset length : ℕ) → IsRange w.size offset length → IsPartOf v w → IsPartOf v (cut w offset length)
 cut_part v w offset length fits is = record {
+  disk = is.disk;
   within = let a = fits.within in let b = is.within in omega arith;
   content = λ sector. is.content (offset + sector) ∙ ap v.content (omega arith);
   crash = λ left may.
@@ -38,4 +40,4 @@ part_with {D} {g} disk below (slots.Linear range) =
     cut_part (disk range.lower) (g.shown range.lower) range.offset range.length range.fits (below range.lower)
 part_with {D} {g} disk below (slots.Decided layer) =
     let is = cut_part (disk layer.lower.lower) (g.shown layer.lower.lower) layer.lower.offset layer.lower.length layer.lower.fits (below layer.lower.lower) in
-    record { within = is.within; content = is.content; crash = is.crash }
+    record { disk = is.disk; within = is.within; content = is.content; crash = is.crash }

@@ -51,7 +51,7 @@ done_by_layers old call now result new does =
 pub seen_as : (v w : View) → w ≡ v → IsSeenAs v w
 seen_as v w same = subst (λ (x : View). IsSeenAs x w) same (record {
   size = refl;
-  origin = refl;
+  place = refl;
   content = λ sector. refl;
   crash = λ left. (λ may. may, λ may. may);
   moment = refl;

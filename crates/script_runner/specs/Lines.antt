@@ -20,6 +20,8 @@ use Rattle.recorder.specs.declared.reply.Reply.TheVariants as replies
 use Rattle.recorder.specs.Calls.{Turns, Closes, Completes, Drains, Marks, Submits}
 use Rattle.recorder.specs.Growth.{RecorderGoes}
 use Rattle.recorder.specs.Shown.{recording_of}
+use Rattle.log_store.specs.Calls.{Same}
+use Rattle.script_runner.specs.Stubs.{moment_at}
 use Rattle.script_runner.specs.declared.request.Request.{Request}
 use Rattle.script_runner.specs.declared.request.Request.TheVariants as requests
 use Rattle.script_runner.specs.declared.running.Running.{Running}
@@ -62,7 +64,7 @@ HearsEnd None ok old new = new ≡ old
 -- A request that was asked is handed over to the data device, and ends with that result, which is printed.
 pub record EndsAsked {D L : Type 0} {d : Ghosts D} {l : Ghosts L} (bio : Bio) (id : Option ℕ) (name : ScriptId) (text : List ℕ) (old new : Running D L d l) : Type 0 where
   pub ok : Bool
-  pub hands_over : HandsOver d.does bio ok old.disk new.disk
+  pub hands_over : HandsOver d.does old.moment bio ok old.disk new.disk
   pub hears : HearsEnd id ok old.recorder new.recorder
   pub kept : new.requests.items ≡ old.requests.items
   pub prints : text ≡ outcome_line name ok
@@ -92,7 +94,7 @@ pub record ReadsData {D L : Type 0} {d : Ghosts D} {l : Ghosts L} (first count :
   pub log : new.recorder ≡ old.recorder
   pub kept : new.requests.items ≡ old.requests.items
   pub bytes : Option (List ℕ)
-  pub reads : ReadsSectors d.does first count bytes old.disk new.disk
+  pub reads : ReadsSectors d.does old.moment first count bytes old.disk new.disk
   pub prints : text ≡ read_line first count bytes
 
 -- A line gives the writer a turn.
@@ -108,6 +110,15 @@ PrintsMark (replies.Queued id) printed = printed ≡ []
 PrintsMark replies.Passed printed = printed ≡ []
 PrintsMark (replies.Refused refusal) printed = (refusal ≡ refusals.Memory) × (printed ≡ mark_failed)
 PrintsMark _ printed = ⊥
+
+-- A line sets the moment, at which the calls of both devices begin from then on; the recorder hears of nothing.
+pub record SetsMoment {D L : Type 0} {d : Ghosts D} {l : Ghosts L} (moment : ℕ) (text : List ℕ) (old new : Running D L d l) : Type 0 where
+  pub keeps : KeepsData text old new
+  pub core : new.recorder.core ≡ old.recorder.core
+  pub end : new.recorder.end ≡ old.recorder.end
+  pub store : Same (recording_of old.recorder).store (recording_of new.recorder).store
+  pub device : new.recorder.store.device ≡ old.recorder.store.device
+  pub log_moment : new.recorder.store.moment ≡ moment
 
 -- A line tells the recorder of a mark; the data device isn't called.
 pub record TellsMark {D L : Type 0} {d : Ghosts D} {l : Ghosts L} (mark text : List ℕ) (old new : Running D L d l) : Type 0 where
@@ -131,9 +142,10 @@ Does names (commands.Complete request) text old new =
     EndsRequest (slice_get old.requests.items request) (name_at names request) text old new
 Does names (commands.Step step) text old new = TakesStep step text old new
 
--- A line is run: it does what its kind does, and the recorder goes on as by one of its calls.
+-- A line is run: it does what its kind does, the moment is its own or stays, and the recorder goes on as by one of its calls.
 pub record RunsLine {D L : Type 0} {d : Ghosts D} {l : Ghosts L} (names : List ScriptId) (command : Command) (text : List ℕ) (old new : Running D L d l) : Type 0 where
   pub does : Does names command text old new
+  pub moment : new.moment ≡ moment_at old.moment command
   pub goes : RecorderGoes (recording_of old.recorder) (recording_of new.recorder)
 
 -- A line is run, and what it prints is added to what a writer holds.

@@ -12,12 +12,11 @@ use std::alloc::Global;
 const SECTOR: usize = SECTOR_BYTES as usize;
 
 // Hands a request over to a device: a write with flush as a flush, and then the write where the flush succeeded. Answers whether it succeeded.
-pub(crate) fn hand_over<D: BlockDev>(device: &mut D, bio: &Bio) -> bool
+pub(crate) fn hand_over<D: BlockDev>(device: &mut D, now: Ms, bio: &Bio) -> bool
     requires { IsTrue (is_ok (check_answer bio.now (D.shown device.old).size)) }
-    ensures does { HandsOver D.does bio.now result device.old device.new }
+    ensures does { HandsOver D.does now bio.now result device.old device.new }
     ensures size { (D.shown device.new).size ≡ (D.shown device.old).size }
 {
-    let now = Ms::new(0);
     match bio {
         Bio::Write {
             first,
@@ -25,50 +24,51 @@ pub(crate) fn hand_over<D: BlockDev>(device: &mut D, bio: &Bio) -> bool
             flush: true,
             fua,
             ..
-        } => flush(device) && write(device, *first, bytes.as_slice(), *fua),
+        } => flush(device, now) && write(device, now, *first, bytes.as_slice(), *fua),
         Bio::Write {
             first,
             bytes,
             fua,
             ..
-        } => write(device, *first, bytes.as_slice(), *fua),
-        Bio::Flush => flush(device),
+        } => write(device, now, *first, bytes.as_slice(), *fua),
+        Bio::Flush => flush(device, now),
         Bio::Discard { first, count } => device.discard(now, *first, *count).is_ok(),
         Bio::Read { .. } => true,
     }
 }
 
 // Flushes a device. Answers whether that succeeded.
-fn flush<D: BlockDev>(device: &mut D) -> bool
-    ensures does { DoesCall D.does Flushes result device.old device.new }
+fn flush<D: BlockDev>(device: &mut D, now: Ms) -> bool
+    ensures does { DoesCall D.does now Flushes result device.old device.new }
     ensures size { (D.shown device.new).size ≡ (D.shown device.old).size }
 {
-    device.flush(Ms::new(0)).is_ok()
+    device.flush(now).is_ok()
 }
 
 // Writes whole sectors to a device. Answers whether that succeeded.
-fn write<D: BlockDev>(device: &mut D, first: u64, bytes: &[u8], fua: bool) -> bool
+fn write<D: BlockDev>(device: &mut D, now: Ms, first: u64, bytes: &[u8], fua: bool) -> bool
     requires { IsByteRange (D.shown device.old).size first (length bytes.now) }
-    ensures does { DoesCall D.does (Writes first bytes.now fua) result device.old device.new }
+    ensures does { DoesCall D.does now (Writes first bytes.now fua) result device.old device.new }
     ensures size { (D.shown device.new).size ≡ (D.shown device.old).size }
 {
-    device.write(Ms::new(0), first, bytes, fua).is_ok()
+    device.write(now, first, bytes, fua).is_ok()
 }
 
 // Reads so many sectors from a device; none where there is no memory for them or the read fails.
 pub(crate) fn read_sectors<D: BlockDev>(
     device: &mut D,
     alloc: Global,
+    now: Ms,
     first: u64,
     count: u64,
 ) -> Option<Vec<u8>>
     requires { range_answer first count (D.shown device.old).size ≡ Ok tt }
-    ensures reads { ReadsSectors D.does first count (option_map (λ bytes. bytes.items) result) device.old device.new }
+    ensures reads { ReadsSectors D.does now first count (option_map (λ bytes. bytes.items) result) device.old device.new }
     ensures length { IfSome result (λ bytes. length bytes.items ≡ count * 512) }
     ensures size { (D.shown device.new).size ≡ (D.shown device.old).size }
 {
     let mut buffer = vec![in alloc; 0; count as usize * SECTOR].ok()?;
-    match device.read(Ms::new(0), first, buffer.as_mut_slice()) {
+    match device.read(now, first, buffer.as_mut_slice()) {
         Ok(_) => Some(buffer),
         Err(_) => None,
     }

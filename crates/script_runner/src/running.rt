@@ -7,7 +7,7 @@ use crate::handing::{hand_over, read_sectors};
 use crate::print::{name_of, print_mark, print_outcome, print_read, print_submission};
 use crate::request::Request;
 use crate::step_error::StepError;
-use bio::{Bytes, Event};
+use bio::{Bytes, Event, Ms};
 use blockdev::BlockDev;
 use dmlw_script::{Command, ScriptId, Step, Submission};
 use recorder::{Recorder, Reply, laws};
@@ -22,6 +22,8 @@ pub struct Running<D: BlockDev + Drop, L: BlockDev + Drop> {
     recorder: Recorder<L>,
     disk: D,
     requests: Vec<Request>,
+    // At which the calls of both devices begin.
+    moment: Ms,
     ghost fits: { IsTrue (list_all (fits_device (D.shown disk).size) requests.items) },
 }
 
@@ -37,22 +39,23 @@ impl<D: BlockDev + Drop, L: BlockDev + Drop> Running<D, L> {
     ghost use Rattle.recorder.specs.Growth.{RecorderGoes};
     ghost use Rattle.recorder.specs.Shown.{recording_of};
     ghost use Rattle.script_runner.specs.declared.step_error.StepError.TheVariants.{AtLine};
-    ghost use Rattle.script_runner.specs.Lines.{EndsRecording, EndsSubmitted, FitsDevice, GivesTurn, HasScriptText, PrintsLine, ReadsData, StopsForFile, StopsLine, TellsMark, count_of};
+    ghost use Rattle.script_runner.specs.Lines.{EndsRecording, EndsSubmitted, FitsDevice, GivesTurn, HasScriptText, PrintsLine, ReadsData, SetsMoment, StopsForFile, StopsLine, TellsMark, count_of};
 
-    /// The run of a script before its first line, with room for so many requests.
+    /// The run of a script before its first line, at moment 0, with room for so many requests.
     pub fn new(
         alloc: Global,
         recorder: Recorder<L>,
         disk: D,
         requests: usize,
     ) -> Result<Running<D, L>, AllocError>
-        ensures made { IfOk result (λ run. (run.recorder ≡ recorder) × (run.disk ≡ disk) × (run.requests.items ≡ [])) }
+        ensures made { IfOk result (λ run. (run.recorder ≡ recorder) × (run.disk ≡ disk) × (run.requests.items ≡ []) × (run.moment ≡ 0)) }
     {
         Ok(Running {
             alloc,
             recorder,
             disk,
             requests: Vec::with_capacity(alloc, requests)?,
+            moment: Ms::new(0),
         })
     }
 
@@ -113,7 +116,7 @@ impl<D: BlockDev + Drop, L: BlockDev + Drop> Running<D, L> {
         match &self.requests[request] {
             Request::Failed => Ok(()),
             Request::Asked { bio, id } => {
-                let ok = hand_over(&mut self.disk, bio);
+                let ok = hand_over(&mut self.disk, self.moment, bio);
                 tell_end(&mut self.recorder, *id, ok);
                 print_outcome(name_of(names, request), ok, out)
             }
@@ -123,6 +126,7 @@ impl<D: BlockDev + Drop, L: BlockDev + Drop> Running<D, L> {
     // Reads `count` sectors from sector `first` on from the data device, and prints the first byte of each, or that the read failed.
     fn read<O: Write>(&mut self, first: u64, count: u64, out: &mut O) -> Result<(), StepError>
         requires { range_answer first count (D.shown self.old.disk).size ≡ Ok tt }
+        ensures moment { self.new.moment ≡ self.old.moment }
         ensures runs { OnOk result ((text : List ℕ) × ReadsData first count text self.old self.new
             × Appends (O.contents out.old) (O.contents out.new) text) }
         ensures faults { IfErr result StopsForFile }
@@ -131,12 +135,13 @@ impl<D: BlockDev + Drop, L: BlockDev + Drop> Running<D, L> {
         ensures count { length self.new.requests.items ≡ length self.old.requests.items }
     {
         laws::several_calls_go_as_one::<L>();
-        let bytes = read_sectors(&mut self.disk, self.alloc, first, count);
+        let bytes = read_sectors(&mut self.disk, self.alloc, self.moment, first, count);
         print_read(first, count, &bytes, out)
     }
 
     // Gives the writer a turn.
     fn turn(&mut self)
+        ensures moment { self.new.moment ≡ self.old.moment }
         ensures turns { GivesTurn [] self.old self.new }
         ensures goes { RecorderGoes (recording_of self.old.recorder) (recording_of self.new.recorder) }
         ensures size { (D.shown self.new.disk).size ≡ (D.shown self.old.disk).size }
@@ -148,6 +153,7 @@ impl<D: BlockDev + Drop, L: BlockDev + Drop> Running<D, L> {
     // Tells the recorder of a mark, and says so where there is no memory for it.
     fn mark<O: Write>(&mut self, text: &Bytes, out: &mut O) -> Result<(), StepError>
         requires { is_line_text text.now ≡ true }
+        ensures moment { self.new.moment ≡ self.old.moment }
         ensures runs { OnOk result ((printed : List ℕ) × TellsMark text.now printed self.old self.new
             × Appends (O.contents out.old) (O.contents out.new) printed) }
         ensures faults { IfErr result StopsForFile }
@@ -159,8 +165,21 @@ impl<D: BlockDev + Drop, L: BlockDev + Drop> Running<D, L> {
         print_mark(reply, out)
     }
 
+    // Sets the moment at which the calls of both devices begin from then on.
+    fn set_moment(&mut self, moment: Ms)
+        ensures sets { SetsMoment moment [] self.old self.new }
+        ensures moment { self.new.moment ≡ moment }
+        ensures goes { RecorderGoes (recording_of self.old.recorder) (recording_of self.new.recorder) }
+        ensures size { (D.shown self.new.disk).size ≡ (D.shown self.old.disk).size }
+        ensures count { length self.new.requests.items ≡ length self.old.requests.items }
+    {
+        self.recorder.set_now(moment);
+        self.moment = moment;
+    }
+
     // Ends the recording, and writes the log to its end.
     fn close(&mut self) -> Result<(), StepError>
+        ensures moment { self.new.moment ≡ self.old.moment }
         ensures ends { OnOk result (EndsRecording [] self.old self.new) }
         ensures goes { OnOk result (RecorderGoes (recording_of self.old.recorder) (recording_of self.new.recorder)) }
         ensures refused { IfErr result (λ stop. (refusal : Refusal) × (stop ≡ AtLine refusal)

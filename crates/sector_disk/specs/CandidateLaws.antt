@@ -160,7 +160,7 @@ pub goes_puts : (size : ℕ) (start : Content) (past : List Step) (patch : Patch
     → Goes patch (view_of size start past) (view_of size start (Puts patch fua ∷ past))
 goes_puts size start past patch fua = record {
   size = refl;
-  origin = refl;
+  place = refl;
   content = patched-whole patch (cache_after start past).now;
   crash = λ left may. left-torn patch fua (cache_after start past) left (is_current start past) may;
   moment = omega arith;
@@ -183,7 +183,7 @@ pub goes_flush : (size : ℕ) (start : Content) (past : List Step)
     → Goes nothing (view_of size start past) (view_of size start (Flushes ∷ past))
 goes_flush size start past = record {
   size = refl;
-  origin = refl;
+  place = refl;
   content = λ sector. inl refl;
   crash = λ left may. (left, left-flushed (cache_after start past) left (is_current start past) may, patched-same nothing left);
   moment = omega arith;

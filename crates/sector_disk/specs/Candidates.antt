@@ -56,7 +56,7 @@ LeftSince start (step ∷ past) moment left = MatchBool (nat_lt (length past) mo
 abbrev pub view_of : ℕ → Content → List Step → View
 view_of size start past = record {
   size = size;
-  origin = 0;
+  place = record { origin = 0; disk = size };
   content = (cache_after start past).now;
   crash = MayLeave (cache_after start past);
   moment = length past;

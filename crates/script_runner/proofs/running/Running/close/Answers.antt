@@ -4,6 +4,7 @@ use Rattle.script_runner.proofs.running.Running.close.Goals as goal
 
 pub returns : goal.returns
 returns g c = record {
+  moment = refl;
   ends = record {
     keeps = record { device = refl; kept = refl; prints = refl };
     closed = c.event.new.self;

@@ -1,17 +1,25 @@
 -- The start of a run on disks in memory, and what its log's disk holds at the end.
-use Rattle.std.proofs.Common.{◌≡◌, ◌∙◌, ◌⊎◌, ◌*◌, ℕ, Option, None, Some, List, [], false, length, refl, sym, ap, subst, inl, inr, arith}
+use Rattle.std.proofs.Common.{◌≡◌, ◌∙◌, ◌⊎◌, ◌*◌, ◌+◌, ℕ, Option, None, Some, List, [], ◌∷◌, false, length, refl, sym, ap, subst, inl, inr, arith}
 use Rattle.std.proofs.Math.Nat.{mul-div_cancel}
 use Rattle.script_runner.specs.CallLaws.{keeps_same}
 use Rattle.bio.specs.declared.outcome.End.{End}
 use Rattle.bio.specs.declared.outcome.End.TheVariants as ends
 use Rattle.bio.specs.declared.outcome.Status.{Status}
 use Rattle.bio.specs.Lawful.{has_no_close}
-use Rattle.sectors.specs.Content.{AgreeBelow, Content, sector_of, writes}
+use Rattle.sectors.specs.Content.{AgreeBelow, Content, moved, sector_of, writes}
 use Rattle.blockdev.specs.Law.{Goes}
+use Rattle.blockdev.specs.View.{Place}
+use Rattle.layer_table.specs.declared.stack.Stack.{Stack}
+use Rattle.layer_table.specs.Layers.{disk_of, layers_of, layers_under, stack_shown, AreOver, IsSeenAs, Layer}
+use Rattle.layer_table.specs.StackLaws.{part_of_disk, stack_lawful}
+use Rattle.table_line.specs.declared.layer_spec.LayerSpec.{LayerSpec}
+use Rattle.table_line.specs.Ranges.{IsLayerSpec}
+use Rattle.table_line.specs.Standing.{top_origin, top_sectors, CanStand}
+use Rattle.std.specs.List.{AllByRecursion}
 use Rattle.sector_disk.specs.declared.disk.SectorDisk.{SectorDisk}
 use Rattle.sector_disk.specs.CandidateLaws.{is_current}
 use Rattle.sector_disk.specs.PickLaws.{picks_leave_one}
-use Rattle.sector_disk.specs.Shown.{Does, cache_of, shown_of, start_of, steps_of}
+use Rattle.sector_disk.specs.Shown.{cache_of, shown_of, start_of, steps_of}
 use Rattle.sector_disk.specs.ShownLaws.{disk_lawful}
 use Rattle.sector_disk.specs.Sizes.{Begins}
 use Rattle.log_format.specs.LogLaws.{log_within}
@@ -33,105 +41,167 @@ use Rattle.recorder.specs.Shown.{recording_of}
 use Rattle.script_runner.specs.declared.error.RunError.{RunError}
 use Rattle.script_runner.specs.declared.error.RunError.TheVariants.{LoggingEnded}
 use Rattle.script_runner.specs.Errors.{memory_error}
-use Rattle.script_runner.specs.OnDisks.{DiskRecorder, DiskRun, FailsOnDisks, IsNew, IsRecorded, IsUnmade, Starts, file, in_memory, left_on, unmade, zeroes}
+use Rattle.script_runner.specs.OnDisks.{DiskRecorder, DiskRun, FailsOnDisks, IsCounted, IsNew, IsRecorded, IsStackOf, IsUnmade, Starts, file, left_on, on_stack, seen_on, unmade, zeroes}
+use Rattle.script_runner.specs.Stubs.{Disk, data_disk_of, log_disk_of, top_of}
+use Rattle.script_runner.specs.declared.recording.Lies.{Lies}
 use Rattle.script_runner.specs.Runs.{RunsLines}
 use Rattle.script_runner.specs.Written.{IsWritten}
 
--- a recorder over a log that was made on a disk of zeroes is new
-pub new_log : (sectors : ℕ) (disk : SectorDisk) (store : LogStore SectorDisk in_memory) (recorder : DiskRecorder) → Begins sectors zeroes (shown_of disk)
-    → store.placed ≡ 0 → Goes (writes 0 (first_sector 512 0)) (shown_of disk) (shown_of store.device)
-    → ((left : Content) → (shown_of store.device).crash left → IsLogOf (shown_of store.device).size left 512 [])
-    → (recorder.core ≡ new_state) × (recorder.store ≡ store) × (recorder.end ≡ None) → IsNew sectors recorder
-new_log sectors disk store recorder blank none goes empty (core, same, end) = record {
+-- layers that may stand are those that lines may ask for
+pub asked : (sectors : ℕ) (layers : List LayerSpec) → CanStand sectors layers → AllByRecursion IsLayerSpec layers
+asked sectors [] stand = tt
+asked sectors (layer ∷ layers) stand = (stand.0, asked layer.length layers stand.2)
+
+-- a new disk under the layers that were put over it
+pub stacked : (sectors : ℕ) (layers : List LayerSpec) (disk : SectorDisk) (bare stack : Stack) → Begins sectors zeroes (shown_of disk)
+    → layers_of bare ≡ [] → disk_of bare ≡ disk → IsSeenAs (shown_of disk) (stack_shown bare)
+    → layers_of stack ≡ layers_under layers 0 (layers_of bare) → disk_of stack ≡ disk_of bare → AreOver layers (stack_shown bare) (stack_shown stack)
+    → IsStackOf (record { sectors = sectors; layers = layers }) stack
+stacked sectors layers disk bare stack blank none beneath seen named same over =
+    let is : disk_of stack ≡ disk = same ∙ beneath in record {
+      blank = subst (λ (d : SectorDisk). Begins sectors zeroes (shown_of d)) (sym is) blank;
+      layers = named ∙ ap (λ (ls : List Layer). layers_under layers 0 ls) none;
+      over = subst (λ (d : SectorDisk). AreOver layers (shown_of d) (stack_shown stack)) (sym is) (record {
+        size = over.size ∙ ap (λ (n : ℕ). top_sectors n layers) seen.size;
+        place = over.place ∙ ap (λ (p : Place). record { origin = top_origin p.origin layers; disk = p.disk }) seen.place;
+        moment = over.moment ∙ seen.moment;
+        faults = over.faults ∙ seen.faults;
+        lies = over.lies ∙ seen.lies;
+      });
+    }
+
+-- what is said of a disk, is said of one of the same sectors and layers
+pub same_stack : (sectors : ℕ) (layers : List LayerSpec) (stack : Stack) {disk : Disk} → sectors ≡ disk.sectors → layers ≡ disk.layers
+    → IsStackOf (record { sectors = sectors; layers = layers }) stack → IsStackOf disk stack
+same_stack sectors layers stack {disk} here above is =
+    subst (λ (n : ℕ). IsStackOf (record { sectors = n; layers = disk.layers }) stack) here
+    (subst (λ (ls : List LayerSpec). IsStackOf (record { sectors = sectors; layers = ls }) stack) above is)
+
+pub same_new : (sectors : ℕ) (layers : List LayerSpec) (recorder : DiskRecorder) {disk : Disk} → sectors ≡ disk.sectors → layers ≡ disk.layers
+    → IsNew (record { sectors = sectors; layers = layers }) recorder → IsNew disk recorder
+same_new sectors layers recorder {disk} here above is =
+    subst (λ (n : ℕ). IsNew (record { sectors = n; layers = disk.layers }) recorder) here
+    (subst (λ (ls : List LayerSpec). IsNew (record { sectors = sectors; layers = ls }) recorder) above is)
+
+-- the top's sectors and its place on the disk
+stack_size : (disk : Disk) (stack : Stack) → IsStackOf disk stack → (stack_shown stack).size ≡ top_of disk
+stack_size disk stack is = is.over.size ∙ ap (λ (n : ℕ). top_sectors n disk.layers) is.blank.size
+
+stack_place : (disk : Disk) (stack : Stack) → IsStackOf disk stack
+    → (stack_shown stack).place ≡ record { origin = top_origin 0 disk.layers; disk = disk.sectors }
+stack_place disk stack is = is.over.place ∙ ap (λ (n : ℕ). record { origin = top_origin 0 disk.layers; disk = n }) is.blank.size
+
+-- a recorder over a log that was made on the top of a disk of zeroes is new
+pub new_log : (disk : Disk) (stack : Stack) (store : LogStore Stack on_stack) (recorder : DiskRecorder) → IsStackOf disk stack
+    → store.placed ≡ 0 → Goes (writes 0 (first_sector 512 0)) (stack_shown stack) (stack_shown store.device)
+    → ((stack_shown store.device).lies ≡ 0 → (left : Content) → (stack_shown store.device).crash left → IsLogOf (stack_shown store.device).size left 512 [])
+    → (recorder.core ≡ new_state) × (recorder.store ≡ store) × (recorder.end ≡ None) → IsNew disk recorder
+new_log disk stack store recorder blank none goes empty (core, same, end) = record {
   core = core;
   end = end;
-  placed = ap (λ (s : LogStore SectorDisk in_memory). s.placed) same ∙ none;
-  disk = disk;
+  placed = ap (λ (s : LogStore Stack on_stack). s.placed) same ∙ none;
+  stack = stack;
   blank = blank;
-  made = subst (λ (s : LogStore SectorDisk in_memory). Goes (writes 0 (first_sector 512 0)) (shown_of disk) (shown_of s.device)) (sym same) goes;
-  empty = subst (λ (s : LogStore SectorDisk in_memory). (left : Content) → (shown_of s.device).crash left → IsLogOf sectors left 512 []) (sym same)
-      (λ left may. subst (λ (n : ℕ). IsLogOf n left 512 []) (goes.size ∙ blank.size) (empty left may));
+  made = subst (λ (s : LogStore Stack on_stack). Goes (writes 0 (first_sector 512 0)) (stack_shown stack) (stack_shown s.device)) (sym same) goes;
+  empty = subst (λ (s : LogStore Stack on_stack). (stack_shown s.device).lies ≡ 0 → (left : Content) → (stack_shown s.device).crash left → IsLogOf (top_of disk) left 512 [])
+      (sym same) (λ told left may. subst (λ (n : ℕ). IsLogOf n left 512 []) (goes.size ∙ stack_size disk stack blank) (empty told left may));
 }
 
 -- a run that can't be started fails, and has printed nothing
-pub fails_to_start : (text : List ℕ) (plan : Plan) (known : Option (List ℕ)) (fault : RunError) → (fault ≡ memory_error) ⊎ IsUnmade plan.log_sectors fault
+pub fails_to_start : (text : List ℕ) (plan : Plan) (known : Option (List ℕ)) (fault : RunError) → (fault ≡ memory_error) ⊎ IsUnmade (log_disk_of plan) fault
     → FailsOnDisks text plan known known fault
 fails_to_start text plan known fault (inl memory) = file fault (inr memory)
 fails_to_start text plan known fault (inr none) = unmade fault none (keeps_same known)
-
--- where a log can't be made on a disk in memory, the disk told that it has no memory
-pub unmade_log : (sectors : ℕ) (disk last : SectorDisk) (end : End) (fault : RunError) → Begins sectors zeroes (shown_of disk)
-    → (end ≡ ends.Device → HasFaulted (shown_of disk) (shown_of last)) → (end ≡ ends.Full → ⊥) → (end ≡ ends.Memory → TellsNoMemory Does 0 disk last)
-    → fault ≡ LoggingEnded end → (fault ≡ memory_error) ⊎ IsUnmade sectors fault
-unmade_log sectors disk last ends.Full fault blank failed fits memory is = absurd (fits refl)
-unmade_log sectors disk last ends.Device fault blank failed fits memory is = absurd (no_fault (failed refl))
-  where
-    no_fault : HasFaulted (shown_of disk) (shown_of last) → ⊥
-    no_fault (inl more) = omega arith
-    no_fault (inr full) = omega arith
-unmade_log sectors disk last ends.Memory fault blank failed fits memory is =
-    inr (record { disk = disk; blank = blank; last = last; told = memory refl; ends = is })
 
 -- what is on a disk a crash may leave
 may_leave : (ending : Option (List ℕ)) (disk : SectorDisk) → (shown_of disk).crash (left_on ending disk)
 may_leave None disk = (disk_lawful disk).current
 may_leave (Some picks) disk = picks_leave_one (cache_of disk) picks (is_current (start_of disk) (steps_of disk))
 
--- a log of a disk is one of its image
-image_log : (sectors : ℕ) (disk : SectorDisk) (ending : Option (List ℕ)) (image : List ℕ) → (shown_of disk).size ≡ sectors → AgreeBelow sectors (left_on ending disk) (sector_of image)
-    → {es : List _} → IsLogOf (shown_of disk).size (left_on ending disk) 512 es → IsLogOf (shown_of disk).size (sector_of image) 512 es
-image_log sectors disk ending image size agree {es} log_c =
-    let some = (disk_lawful disk).some_sectors in
-    let count : log_sectors 512 (shown_of disk).size ≡ (shown_of disk).size = mul-div_cancel (shown_of disk).size (omega arith) in
-    log_within (shown_of disk).size (left_on ending disk) (sector_of image) 512 es (omega arith)
-    (subst (λ (n : ℕ). AgreeBelow n (left_on ending disk) (sector_of image)) (sym size) agree) log_c
+-- a log that is seen of a disk's content is seen of its image too
+image_log : (plan : Plan) (device : Stack) (seen : Content) (image : List ℕ)
+    → (stack_shown device).size ≡ top_of (log_disk_of plan)
+    → (stack_shown device).place ≡ record { origin = top_origin 0 (log_disk_of plan).layers; disk = (log_disk_of plan).sectors }
+    → AgreeBelow (log_disk_of plan).sectors (left_on plan.ending (disk_of device)) (sector_of image)
+    → ((sector : ℕ) → seen sector ≡ left_on plan.ending (disk_of device) ((stack_shown device).place.origin + sector))
+    → {es : List _} → IsLogOf (stack_shown device).size seen 512 es → IsLogOf (stack_shown device).size (seen_on (log_disk_of plan) image) 512 es
+image_log plan device seen image size place agree looks {es} log_c =
+    let some = (stack_lawful device).some_sectors in
+    let part = part_of_disk device in
+    let within = part.within in
+    let left = left_on plan.ending (disk_of device) in
+    let origin : (stack_shown device).place.origin ≡ top_origin 0 (log_disk_of plan).layers = ap (λ (p : Place). p.origin) place in
+    let disk : (shown_of (disk_of device)).size ≡ (log_disk_of plan).sectors = sym part.disk ∙ ap (λ (p : Place). p.disk) place in
+    let count : log_sectors 512 (stack_shown device).size ≡ (stack_shown device).size = mul-div_cancel (stack_shown device).size (omega arith) in
+    log_within (stack_shown device).size seen (seen_on (log_disk_of plan) image) 512 es (omega arith)
+    (λ sector h. agree (top_origin 0 (log_disk_of plan).layers + sector) (omega arith) ∙ ap (λ (n : ℕ). left (n + sector)) (sym origin) ∙ sym (looks sector)) log_c
+
+-- lies that are equal, each for its disk
+pub same_lies : (lies : Lies) (over_data over_log : ℕ) → lies.data_disk ≡ over_data → lies.log_disk ≡ over_log
+    → lies ≡ record { data_disk = over_data; log_disk = over_log }
+same_lies lies over_data over_log here there = rw (sym here, sym there) refl
 
 -- nothing has to be placed where nothing is recorded
-new_written : (sectors : ℕ) (recorder : DiskRecorder) → IsNew sectors recorder → IsWritten recorder
-new_written sectors recorder new = λ closed on. absurd (let recording = ap (λ (c : CoreState). has_no_close c.events) new.core in cc)
+new_written : (disk : Disk) (recorder : DiskRecorder) → IsNew disk recorder → IsWritten recorder
+new_written disk recorder new = λ closed on. absurd (let recording = ap (λ (c : CoreState). has_no_close c.events) new.core in cc)
 
 -- what a script's recording leaves
-pub is_recorded : (plan : Plan) (text : List ℕ) (start last : DiskRun) (recorder : DiskRecorder) (hazard : Option Hazard) (status : Status) (image : List ℕ) (picks : Option (List ℕ))
+pub is_recorded : (plan : Plan) (text : List ℕ) (start last : DiskRun) (log : Stack) (hazard : Option Hazard) (status : Status) (lies : Lies) (image : List ℕ) (picks : Option (List ℕ))
     → Starts plan start → RunsLines plan.names plan.commands text start last
     → RecorderGoes (recording_of start.recorder) (recording_of last.recorder)
     → hazard ≡ first_hazard recorded last.recorder.core.events
-    → status ≡ status_of 512 (entries_of (store_of last.recorder.store)) last.recorder.end
-    → recorder ≡ last.recorder
-    → length image ≡ 512 * (shown_of recorder.store.device).size
+    → IsCounted status last.recorder
+    → ((stack_shown last.recorder.store.device).lies ≡ 0 → status ≡ status_of 512 (entries_of (store_of last.recorder.store)) last.recorder.end)
+    → log ≡ last.recorder.store.device
+    → lies ≡ record { data_disk = (stack_shown last.disk).lies; log_disk = (stack_shown log).lies }
+    → length image ≡ 512 * (shown_of (disk_of log)).size
     → picks ≡ plan.ending
-    → AgreeBelow (shown_of recorder.store.device).size (left_on picks recorder.store.device) (sector_of image)
-    → ((left : Content) → (shown_of last.recorder.store.device).crash left
+    → AgreeBelow (shown_of (disk_of log)).size (left_on picks (disk_of log)) (sector_of image)
+    → ((stack_shown last.recorder.store.device).lies ≡ 0 → (left : Content) → (stack_shown last.recorder.store.device).crash left
     → ReplaysToWhatCouldBe (recording_of last.recorder) (recording_of last.recorder) left)
-    → (IsWritten start.recorder → last.recorder.end ≡ None → has_no_close last.recorder.core.events ≡ false → HasWholeLog (recording_of last.recorder))
-    → IsRecorded plan text hazard status image
-is_recorded plan text start last recorder hazard status image picks starts ran goes first tells same size ending bytes reopens whole =
-    let disk = last.recorder.store.device in
-    let begun = goes.size ∙ starts.log_disk.made.size ∙ starts.log_disk.blank.size in
-    let count : length image ≡ 512 * (shown_of disk).size = subst (λ (r : DiskRecorder). length image ≡ 512 * (shown_of r.store.device).size) same size in
-    let here : AgreeBelow (shown_of disk).size (left_on plan.ending disk) (sector_of image) =
-    subst (λ (r : DiskRecorder). AgreeBelow (shown_of r.store.device).size (left_on plan.ending r.store.device) (sector_of image)) same
-    (subst (λ (o : Option (List ℕ)). AgreeBelow (shown_of recorder.store.device).size (left_on o recorder.store.device) (sector_of image)) ending bytes) in
-    let agree = subst (λ (n : ℕ). AgreeBelow n (left_on plan.ending disk) (sector_of image)) begun here in
-    let reopened = reopens (left_on plan.ending disk) (may_leave plan.ending disk) in
+    → (IsWritten start.recorder → last.recorder.end ≡ None → has_no_close last.recorder.core.events ≡ false → (stack_shown last.recorder.store.device).lies ≡ 0
+    → HasWholeLog (recording_of last.recorder))
+    → IsRecorded plan text hazard status lies image
+is_recorded plan text start last log hazard status lies image picks starts ran goes first counted tells same lied count ending bytes reopens whole =
+    let device = last.recorder.store.device in
+    let new = starts.log_disk in
+    let size : (stack_shown device).size ≡ top_of (log_disk_of plan) = goes.size ∙ new.made.size ∙ stack_size (log_disk_of plan) new.stack new.blank in
+    let place : (stack_shown device).place ≡ record { origin = top_origin 0 (log_disk_of plan).layers; disk = (log_disk_of plan).sectors } =
+    goes.place ∙ new.made.place ∙ stack_place (log_disk_of plan) new.stack new.blank in
+    let part = part_of_disk device in
+    let sectors : (shown_of (disk_of device)).size ≡ (log_disk_of plan).sectors = sym part.disk ∙ ap (λ (p : Place). p.disk) place in
+    let here : AgreeBelow (shown_of (disk_of device)).size (left_on plan.ending (disk_of device)) (sector_of image) =
+    subst (λ (s : Stack). AgreeBelow (shown_of (disk_of s)).size (left_on plan.ending (disk_of s)) (sector_of image)) same
+    (subst (λ (o : Option (List ℕ)). AgreeBelow (shown_of (disk_of log)).size (left_on o (disk_of log)) (sector_of image)) ending bytes) in
+    let agree : AgreeBelow (log_disk_of plan).sectors (left_on plan.ending (disk_of device)) (sector_of image) =
+    subst (λ (n : ℕ). AgreeBelow n (left_on plan.ending (disk_of device)) (sector_of image)) sectors here in
+    let seen = part.crash (left_on plan.ending (disk_of device)) (may_leave plan.ending (disk_of device)) in
+    let told : lies ≡ record { data_disk = (stack_shown last.disk).lies; log_disk = (stack_shown device).lies } =
+    subst (λ (s : Stack). lies ≡ record { data_disk = (stack_shown last.disk).lies; log_disk = (stack_shown s).lies }) same lied in
+    let honest : lies.log_disk ≡ 0 → (stack_shown device).lies ≡ 0 = λ none. sym (ap (λ (l : Lies). l.log_disk) told) ∙ none in
     record {
       start = start;
       starts = starts;
       last = last;
       ran = ran;
       first = first;
-      tells = tells;
-      size = count ∙ ap (λ (n : ℕ). 512 * n) begun;
+      counted = counted;
+      tells = λ none. tells (honest none);
+      lied = told;
+      size = subst (λ (s : Stack). length image ≡ 512 * (shown_of (disk_of s)).size) same count ∙ ap (λ (n : ℕ). 512 * n) sectors;
       bytes = agree;
-      beginning = record {
-        count = reopened.count;
-        least = reopened.least;
-        most = reopened.most;
-        log = image_log plan.log_sectors disk plan.ending image begun agree reopened.log;
-        acknowledged = reopened.acknowledged;
-        possible = reopened.possible;
-      };
-      whole = λ closed on.
-          subst (λ (n : ℕ). IsLogOf n (sector_of image) 512 (log_of last.recorder.core)) begun
-          (image_log plan.log_sectors disk plan.ending image begun agree
-          ((whole (new_written plan.log_sectors start.recorder starts.log_disk) on closed).crash (left_on plan.ending disk) (may_leave plan.ending disk)));
+      beginning = λ none.
+          let reopened = reopens (honest none) seen.0 seen.1 in
+          record {
+            count = reopened.count;
+            least = reopened.least;
+            most = reopened.most;
+            log = image_log plan device seen.0 image size place agree seen.2 reopened.log;
+            acknowledged = reopened.acknowledged;
+            possible = reopened.possible;
+          };
+      whole = λ none closed on.
+          subst (λ (n : ℕ). IsLogOf n (seen_on (log_disk_of plan) image) 512 (log_of last.recorder.core)) size
+          (image_log plan device seen.0 image size place agree seen.2
+          ((whole (new_written (log_disk_of plan) start.recorder new) on closed (honest none)).crash seen.0 seen.1));
     }

@@ -1,19 +1,23 @@
--- What recording a script on two disks in memory comes to.
-use Rattle.std.specs.Prelude.{◌≡◌, ℕ, ◌*◌, false, List, [], length, replicate, Option, None, Some}
+-- What recording a script on two disks in memory, each under its layers, comes to.
+use Rattle.std.specs.Prelude.{◌≡◌, ℕ, ◌*◌, ◌+◌, ◌<◌, false, List, [], length, replicate, Option, None, Some}
 use Rattle.std.specs.Io.KnownBytes.{Keeps}
+use Rattle.bio.specs.declared.outcome.End.{End}
 use Rattle.bio.specs.declared.outcome.End.TheVariants as ends
 use Rattle.bio.specs.declared.outcome.Status.{Status}
 use Rattle.bio.specs.Lawful.{has_no_close}
-use Rattle.sectors.specs.Content.{AgreeBelow, Content, sector_of, writes}
+use Rattle.sectors.specs.Content.{AgreeBelow, Content, moved, sector_of, writes}
 use Rattle.blockdev.specs.declared.device.BlockDev.{Ghosts}
 use Rattle.blockdev.specs.Law.{Goes}
 use Rattle.sector_disk.specs.declared.disk.SectorDisk.{SectorDisk}
 use Rattle.sector_disk.specs.Candidates.{left_by}
-use Rattle.sector_disk.specs.Shown.{Does, cache_of, shown_of}
+use Rattle.sector_disk.specs.Shown.{cache_of, shown_of}
 use Rattle.sector_disk.specs.Sizes.{Begins}
 use Rattle.log_format.specs.LogOf.{IsLogOf, status_of}
 use Rattle.log_format.specs.Placing.{first_sector}
-use Rattle.log_store.specs.Calls.{TellsNoMemory}
+use Rattle.layer_table.specs.declared.stack.Stack.{Stack}
+use Rattle.layer_table.specs.Layers.{disk_of, layers_of, layers_under, stack_does, stack_shown, AreOver}
+use Rattle.table_line.specs.Standing.{top_origin}
+use Rattle.log_store.specs.Calls.{HasFaulted, TellsNoMemory}
 use Rattle.log_store.specs.Shown.{store_of}
 use Rattle.log_store.specs.Store.{entries_of}
 use Rattle.pending.specs.CoreState.{new_state}
@@ -27,76 +31,106 @@ use Rattle.recorder.specs.Replayed.{ReplaysToWhatCouldBe}
 use Rattle.recorder.specs.Shown.{recording_of}
 use Rattle.script_runner.specs.declared.error.RunError.{RunError}
 use Rattle.script_runner.specs.declared.error.RunError.TheVariants.{LoggingEnded}
+use Rattle.script_runner.specs.declared.recording.Lies.{Lies}
 use Rattle.script_runner.specs.Errors.{IsFileError}
+use Rattle.script_runner.specs.Stubs.{Disk, data_disk_of, log_disk_of, top_of}
 use Rattle.script_runner.specs.declared.running.Running.{Running}
 use Rattle.script_runner.specs.Runs.{EndsRun, RunsLines}
 
--- a disk in memory, as a device
-abbrev pub in_memory : Ghosts SectorDisk
-in_memory = record { shown = shown_of; does = Does }
+-- a stack of layers over a disk in memory, as a device
+abbrev pub on_stack : Ghosts Stack
+on_stack = record { shown = stack_shown; does = stack_does }
 
--- a recorder over a disk in memory
+-- a recorder over a disk in memory, under its layers
 abbrev pub DiskRecorder : Type 0
-DiskRecorder = Recorder SectorDisk in_memory
+DiskRecorder = Recorder Stack on_stack
 
--- a script's run over two disks in memory
+-- a script's run over two disks in memory, each under its layers
 abbrev pub DiskRun : Type 0
-DiskRun = Running SectorDisk SectorDisk in_memory in_memory
+DiskRun = Running Stack Stack on_stack on_stack
 
 -- a disk's sectors, each of them zeroes
 abbrev pub zeroes : Content
 zeroes sector = replicate 512 0
 
--- Nothing is recorded yet, and a log of no entries was made on a disk of so many sectors of zeroes: a crash leaves just that.
-pub record IsNew (sectors : ℕ) (recorder : DiskRecorder) : Type 0 where
+-- What a script says of a disk stands: over a disk of zeroes its layers, the first of them lowest, each loaded at moment 0 and not called yet.
+pub record IsStackOf (disk : Disk) (stack : Stack) : Type 0 where
+  pub blank : Begins disk.sectors zeroes (shown_of (disk_of stack))
+  pub layers : layers_of stack ≡ layers_under disk.layers 0 []
+  pub over : AreOver disk.layers (shown_of (disk_of stack)) (stack_shown stack)
+
+-- Nothing is recorded yet, and a log of no entries was made on the top of a disk of zeroes and its layers: unless one of them lied, a crash
+-- leaves just that.
+pub record IsNew (disk : Disk) (recorder : DiskRecorder) : Type 0 where
   pub core : recorder.core ≡ new_state
   pub end : recorder.end ≡ None
   pub placed : recorder.store.placed ≡ 0
-  pub disk : SectorDisk
-  pub blank : Begins sectors zeroes (shown_of disk)
-  pub made : Goes (writes 0 (first_sector 512 0)) (shown_of disk) (shown_of recorder.store.device)
-  pub empty : (left : Content) → (shown_of recorder.store.device).crash left → IsLogOf sectors left 512 []
+  pub stack : Stack
+  pub blank : IsStackOf disk stack
+  pub made : Goes (writes 0 (first_sector 512 0)) (stack_shown stack) (stack_shown recorder.store.device)
+  pub empty : (stack_shown recorder.store.device).lies ≡ 0 → (left : Content) → (stack_shown recorder.store.device).crash left →
+      IsLogOf (top_of disk) left 512 []
 
--- No log could be made on a disk of so many sectors of zeroes, which told that it has no memory.
-pub record IsUnmade (sectors : ℕ) (fault : RunError) : Type 0 where
-  pub disk : SectorDisk
-  pub blank : Begins sectors zeroes (shown_of disk)
-  pub last : SectorDisk
-  pub told : TellsNoMemory Does 0 disk last
-  pub ends : fault ≡ LoggingEnded ends.Memory
+-- No log could be made on a disk of zeroes under its layers: a device failed, or told that it has no memory, and that is the cause.
+pub record IsUnmade (disk : Disk) (fault : RunError) : Type 0 where
+  pub stack : Stack
+  pub blank : IsStackOf disk stack
+  pub last : Stack
+  pub end : End
+  pub not_full : end ≡ ends.Full → ⊥
+  pub failed : end ≡ ends.Device → HasFaulted (stack_shown stack) (stack_shown last)
+  pub told : end ≡ ends.Memory → TellsNoMemory stack_does 0 stack last
+  pub ends_by : fault ≡ LoggingEnded end
 
--- A script's run before its first line: on a data disk of zeroes and a new log, of the sizes that the script names.
+-- A script's run before its first line, at moment 0: on a data disk of zeroes and a new log, both of the sizes and under the layers that the script names.
 pub record Starts (plan : Plan) (run : DiskRun) : Type 0 where
-  pub data_disk : Begins plan.data_sectors zeroes (shown_of run.disk)
-  pub log_disk : IsNew plan.log_sectors run.recorder
+  pub data_disk : IsStackOf (data_disk_of plan) run.disk
+  pub log_disk : IsNew (log_disk_of plan) run.recorder
   pub none : run.requests.items ≡ []
+  pub moment : run.moment ≡ 0
 
 -- what is on a disk: its content; or where its power failed, what these picks leave
 abbrev pub left_on : Option (List ℕ) → SectorDisk → Content
 left_on None disk = (shown_of disk).content
 left_on (Some picks) disk = left_by (cache_of disk) picks
 
--- A script was recorded: its lines ran and printed this, its events have this first hazard, the log has come so far, and the bytes are those of
--- the log's disk; where the script ends by a crash, those that its picks leave.
-pub record IsRecorded (plan : Plan) (text : List ℕ) (hazard : Option Hazard) (status : Status) (image : List ℕ) : Type 0 where
+-- The status tells how many entries are placed, the highest sector that they use (0 where there are none), and the cause that ended logging.
+pub record IsCounted (status : Status) (recorder : DiskRecorder) : Type 0 where
+  pub entries : status.entries ≡ recorder.store.placed
+  pub end : status.end ≡ recorder.end
+  pub none : recorder.store.placed ≡ 0 → status.sector ≡ 0
+  pub last : 0 < recorder.store.placed → status.sector + 1 ≡ recorder.store.next
+
+-- what the bytes of a disk say at the place of the top of its layers, counted from the top's first sector
+abbrev pub seen_on : Disk → List ℕ → Content
+seen_on disk image = moved (top_origin 0 disk.layers) (sector_of image)
+
+-- A script was recorded: its lines ran and printed this, its events have this first hazard, the log has come so far, so many calls were dropped
+-- and told as done, and the bytes are those of the log's disk; where the script ends by a crash, those that its picks leave.
+pub record IsRecorded (plan : Plan) (text : List ℕ) (hazard : Option Hazard) (status : Status) (lies : Lies) (image : List ℕ) : Type 0 where
   pub start : DiskRun
   pub starts : Starts plan start
   pub last : DiskRun
   pub ran : RunsLines plan.names plan.commands text start last
   pub first : hazard ≡ first_hazard recorded last.recorder.core.events
-  pub tells : status ≡ status_of 512 (entries_of (store_of last.recorder.store)) last.recorder.end
-  pub size : length image ≡ 512 * plan.log_sectors
-  pub bytes : AgreeBelow plan.log_sectors (left_on plan.ending last.recorder.store.device) (sector_of image)
-  -- the bytes have a log, which is a beginning of the completion list of the recorder's events with all that is settled and all that is
-  -- acknowledged; up to the first hazard each beginning of it replays to what the recorded device could hold
-  pub beginning : ReplaysToWhatCouldBe (recording_of last.recorder) (recording_of last.recorder) (sector_of image)
+  pub counted : IsCounted status last.recorder
+  pub lied : lies ≡ record { data_disk = (stack_shown last.disk).lies; log_disk = (stack_shown last.recorder.store.device).lies }
+  pub size : length image ≡ 512 * (log_disk_of plan).sectors
+  pub bytes : AgreeBelow (log_disk_of plan).sectors (left_on plan.ending (disk_of last.recorder.store.device)) (sector_of image)
+  -- unless the log's device lied, the status is that of what is placed
+  pub tells : lies.log_disk ≡ 0 → status ≡ status_of 512 (entries_of (store_of last.recorder.store)) last.recorder.end
+  -- unless it lied, the bytes have a log, as seen through its layers, which is a beginning of the completion list of the recorder's
+  -- events with all that is settled and all that is acknowledged; up to the first hazard each beginning of it replays to what the recorded
+  -- device could hold
+  pub beginning : lies.log_disk ≡ 0 →
+      ReplaysToWhatCouldBe (recording_of last.recorder) (recording_of last.recorder) (seen_on (log_disk_of plan) image)
   -- where the script closed and logging goes on, it is the whole list
-  pub whole : has_no_close last.recorder.core.events ≡ false → last.recorder.end ≡ None →
-      IsLogOf plan.log_sectors (sector_of image) 512 (log_of last.recorder.core)
+  pub whole : lies.log_disk ≡ 0 → has_no_close last.recorder.core.events ≡ false → last.recorder.end ≡ None →
+      IsLogOf (top_of (log_disk_of plan)) (seen_on (log_disk_of plan) image) 512 (log_of last.recorder.core)
 
 -- Why recording a script, which was read from a text, fails: there is no memory, or the output can't be written; no log could be made, and nothing
 -- was printed; or its run ends before its last line.
 pub data FailsOnDisks (text : List ℕ) (plan : Plan) (before after : Option (List ℕ)) : RunError → Type 0 where
   file : (fault : RunError) → IsFileError fault → FailsOnDisks text plan before after fault
-  unmade : (fault : RunError) → IsUnmade plan.log_sectors fault → Keeps before after → FailsOnDisks text plan before after fault
+  unmade : (fault : RunError) → IsUnmade (log_disk_of plan) fault → Keeps before after → FailsOnDisks text plan before after fault
   run : (start : DiskRun) (fault : RunError) → Starts plan start → EndsRun text plan before after start fault → FailsOnDisks text plan before after fault

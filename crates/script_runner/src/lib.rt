@@ -6,7 +6,7 @@
 #![tactic(auto)]
 
 pub use error::RunError;
-pub use recording::{Recorded, record};
+pub use recording::{Lies, Recorded, record};
 pub use request::Request;
 pub use run_script::run;
 pub use running::Running;

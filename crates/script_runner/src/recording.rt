@@ -1,17 +1,22 @@
-ghost use Rattle.std.specs.Prelude.{◌≡◌, ◌*◌, ◌⊎◌, IfErr, IfOk, List, length, option_copied, ℕ};
+ghost use Rattle.std.specs.Prelude.{◌≡◌, ◌≤◌, ◌*◌, ◌⊎◌, IfErr, IfOk, List, length, option_copied, ℕ};
 ghost use Rattle.std.specs.Io.KnownBytes.{Appends};
 ghost use Rattle.sectors.specs.Content.{AgreeBelow, sector_of};
 ghost use Rattle.sector_disk.specs.Shown.{shown_of};
 ghost use Rattle.sector_disk.specs.Sizes.{IsDiskSize};
 ghost use Rattle.script_runner.specs.Errors.{memory_error};
-ghost use Rattle.script_runner.specs.OnDisks.{FailsOnDisks, IsNew, IsRecorded, IsUnmade, Starts, left_on};
+ghost use Rattle.layer_table.specs.Layers.{disk_of};
+ghost use Rattle.table_line.specs.Standing.{CanStand};
+ghost use Rattle.script_runner.specs.OnDisks.{FailsOnDisks, IsNew, IsRecorded, IsStackOf, IsUnmade, Starts, left_on};
+ghost use Rattle.script_runner.specs.Stubs.{data_disk_of, log_disk_of};
 
 use crate::error::RunError;
 use crate::laws::{closed_runs_leave_whole_logs, lines_go_as_one_call};
 use crate::run_script::run;
 use crate::running::Running;
-use bio::Status;
+use bio::{End, Ms, Status};
+use blockdev::BlockDev;
 use dmlw_script::Script;
+use layer_table::Stack;
 use log_store::LogStore;
 use pending::Hazard;
 use recorder::Recorder;
@@ -20,86 +25,156 @@ use refusals::Refusal;
 use sector_disk::SectorDisk;
 use std::alloc::{AllocError, Global};
 use std::io::Write;
+use table_line::LayerSpec;
+
+/// How many calls the layers of a disk have dropped and told as done; each stops at 2^64 - 1.
+#[derive(Clone, Copy, Debug, PartialEq, Eq)]
+pub struct Lies {
+    /// Those over the data disk.
+    pub data_disk: u64,
+    /// Those over the log's disk.
+    pub log_disk: u64,
+}
 
 /// What recording a script left.
 #[derive(Debug, Drop)]
 pub struct Recorded {
-    /// The bytes of the log's disk.
+    /// The bytes of the log's disk, beneath its layers.
     pub image: Vec<u8>,
     /// How far the log has come.
     pub status: Status,
     /// The first hazard of the recorder's events, if there is one.
     pub hazard: Option<Hazard>,
+    /// How often the layers have lied.
+    pub lies: Lies,
 }
 
-/// Records a script, which was read from `text`, on two disks in memory of the sizes that it names. What its lines print is written to
-/// `out`. Where the script ends by a crash, the log's disk loses power then, with its picks. The log is handed over also where logging ended
-/// before the script did. A close that is refused fails at its line; so do want of memory and an output that can't be written, for which no
-/// line is named.
+/// Records a script, which was read from `text`, on two disks in memory of the sizes that it names, each under its layers. What its lines
+/// print is written to `out`. Where the script ends by a crash, the log's disk loses power then, with its picks. The log is handed over also
+/// where logging ended before the script did. Where no log can be made, the run ends by the cause of that. A close that is refused fails at its
+/// line; so do want of memory and an output that can't be written, for which no line is named.
 pub fn record<O: Write>(
     alloc: Global,
     text: &[u8],
     script: &Script,
     out: &mut O,
 ) -> Result<Recorded, RunError>
-    ensures recorded { IfOk result (λ recorded. (printed : List ℕ) × IsRecorded script.now printed recorded.hazard recorded.status recorded.image.items
+    ensures recorded { IfOk result (λ recorded. (printed : List ℕ)
+        × IsRecorded script.now printed recorded.hazard recorded.status recorded.lies recorded.image.items
         × Appends (O.contents out.old) (O.contents out.new) printed) }
     ensures faults { IfErr result (FailsOnDisks text.now script.now (O.contents out.old) (O.contents out.new)) }
 {
-    crashed_logs_replay_to_what_could_be::<SectorDisk>();
-    lines_go_as_one_call::<SectorDisk, SectorDisk>();
-    closed_runs_leave_whole_logs::<SectorDisk, SectorDisk>();
+    crashed_logs_replay_to_what_could_be::<Stack>();
+    lines_go_as_one_call::<Stack, Stack>();
+    closed_runs_leave_whole_logs::<Stack, Stack>();
     let mut running = start(alloc, script)?;
     run(text, script, &mut running, out)?;
     let _events = running.recorder().events();
     let status = running.recorder().status();
     let hazard = running.recorder().hazard();
     let (recorder, data) = running.into_parts();
+    let data_lies = data.lies();
     drop(data);
-    let image = read_log(recorder, script.crash())?;
+    let log = recorder.into_device();
+    let lies = Lies {
+        data_disk: data_lies,
+        log_disk: log.lies(),
+    };
+    let image = read_log(log, script.crash())?;
     Ok(Recorded {
         image,
         status,
         hazard,
+        lies,
     })
 }
 
 // A script's run before its first line.
-fn start(alloc: Global, script: &Script) -> Result<Running<SectorDisk, SectorDisk>, RunError>
+fn start(alloc: Global, script: &Script) -> Result<Running<Stack, Stack>, RunError>
     ensures starts { IfOk result (Starts script.now) }
-    ensures faults { IfErr result (λ fault. (fault ≡ memory_error) ⊎ IsUnmade script.now.log_sectors fault) }
+    ensures faults { IfErr result (λ fault. (fault ≡ memory_error) ⊎ IsUnmade (log_disk_of script.now) fault) }
 {
-    let recorder = new_recorder(alloc, script.log_sectors())?;
-    let data = SectorDisk::new(alloc, script.data_sectors())?;
+    let recorder = new_recorder(alloc, script.log_sectors(), log_layers(script))?;
+    let data = new_stack(alloc, script.data_sectors(), data_layers(script))?;
     let running = Running::new(alloc, recorder, data, script.names().len())?;
     Ok(running)
 }
 
-// A recorder over a new log, on a disk of so many sectors.
-fn new_recorder(alloc: Global, sectors: u64) -> Result<Recorder<SectorDisk>, RunError>
-    requires { IsDiskSize sectors }
-    ensures made { IfOk result (IsNew sectors) }
-    ensures faults { IfErr result (λ fault. (fault ≡ memory_error) ⊎ IsUnmade sectors fault) }
+// A recorder over a new log, on the top of layers over a disk of so many sectors.
+fn new_recorder(
+    alloc: Global,
+    sectors: u64,
+    layers: &[LayerSpec],
+) -> Result<Recorder<Stack>, RunError>
+    requires size { IsDiskSize sectors }
+    requires few { length layers.now ≤ 4 }
+    requires stand { CanStand sectors layers.now }
+    ensures made { IfOk result (IsNew (record { sectors = sectors; layers = layers.now })) }
+    ensures faults { IfErr result (λ fault. (fault ≡ memory_error) ⊎ IsUnmade (record { sectors = sectors; layers = layers.now }) fault) }
 {
-    let disk = SectorDisk::new(alloc, sectors)?;
-    match LogStore::create(disk) {
+    let stack = new_stack(alloc, sectors, layers)?;
+    match LogStore::create(stack) {
         Ok(store) => match Recorder::new(alloc, store) {
             Ok(recorder) => Ok(recorder),
             Err(_store) => Err(RunError::from(Refusal::Memory)),
         },
-        Err((_disk, end)) => Err(RunError::LoggingEnded(end)),
+        Err(refused) => Err(RunError::LoggingEnded(end_of(refused))),
     }
 }
 
-// The bytes of the log's disk; where its power fails, after that.
-fn read_log(recorder: Recorder<SectorDisk>, picks: Option<&[u64]>) -> Result<Vec<u8>, AllocError>
-    ensures size { IfOk result (λ image. length image.items ≡ 512 * (shown_of recorder.store.device).size) }
-    ensures bytes { IfOk result (λ image. AgreeBelow (shown_of recorder.store.device).size
-        (left_on (option_copied picks.entry) recorder.store.device) (sector_of image.items)) }
+// Why a device, which goes, was refused.
+fn end_of<D: Drop>(refused: (D, End)) -> End
+    ensures { result ≡ refused.1 }
 {
-    let mut disk = recorder.into_device();
+    refused.1
+}
+
+// The layers over a new disk of so many sectors.
+fn new_stack(alloc: Global, sectors: u64, layers: &[LayerSpec]) -> Result<Stack, RunError>
+    requires size { IsDiskSize sectors }
+    requires few { length layers.now ≤ 4 }
+    requires stand { CanStand sectors layers.now }
+    ensures stack { IfOk result (IsStackOf (record { sectors = sectors; layers = layers.now })) }
+    ensures faults { IfErr result (λ fault. fault ≡ memory_error) }
+{
+    let disk = SectorDisk::new(alloc, sectors)?;
+    match Stack::new(disk).under(layers, Ms::new(0)) {
+        Ok(stack) => Ok(stack),
+        Err(back) => Err(RunError::from(refusal_of(back))),
+    }
+}
+
+// Why a stack, which goes, was refused.
+fn refusal_of<D: Drop>(back: (D, Refusal)) -> Refusal
+    ensures { result ≡ back.1 }
+{
+    back.1
+}
+
+// The bytes of the log's disk; where its power fails, after that.
+fn read_log(log: Stack, picks: Option<&[u64]>) -> Result<Vec<u8>, AllocError>
+    ensures size { IfOk result (λ image. length image.items ≡ 512 * (shown_of (disk_of log)).size) }
+    ensures bytes { IfOk result (λ image. AgreeBelow (shown_of (disk_of log)).size
+        (left_on (option_copied picks.entry) (disk_of log)) (sector_of image.items)) }
+{
+    let mut disk = log.into_disk();
     if let Some(picks) = picks {
         disk.crash(picks);
     }
     disk.bytes()
+}
+
+// Stand-ins.
+fn data_layers(script: &Script) -> &[LayerSpec]
+    ensures { result.now ≡ (data_disk_of script.now).layers }
+{
+    let _ = script;
+    &[]
+}
+
+fn log_layers(script: &Script) -> &[LayerSpec]
+    ensures { result.now ≡ (log_disk_of script.now).layers }
+{
+    let _ = script;
+    &[]
 }

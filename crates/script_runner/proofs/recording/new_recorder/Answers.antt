@@ -1,13 +1,24 @@
-use Rattle.std.proofs.Common.{refl}
-use Rattle.script_runner.proofs.OnDisks.{new_log, unmade_log}
+use Rattle.std.proofs.Common.{ap, inr}
+use Rattle.script_runner.specs.declared.error.RunError.TheVariants.{LoggingEnded}
+use Rattle.script_runner.proofs.OnDisks.{new_log}
 use Rattle.script_runner.proofs.recording.new_recorder.Goals as goal
 
 pub returns-in-Ok-new-clause-made : goal.returns-in-Ok-new-clause-made
 returns-in-Ok-new-clause-made c =
     let store = c.in-Ok.ensures in
-    new_log c.args.sectors c.in_ok-disk.disk c.in-Ok.store c.in-Ok-new.recorder c.in_ok-disk.ensures store.begun.1 store.goes (store.empty refl) c.in-Ok-new.ensures.made
+    new_log (record { sectors = c.args.sectors; layers = c.args.layers.now }) c.in_ok-stack.stack c.in-Ok.store c.in-Ok-new.recorder c.in_ok-stack.ensures.stack
+    store.begun.1 store.goes store.empty c.in-Ok-new.ensures.made
 
 pub returns-in-Err-clause-faults : goal.returns-in-Err-clause-faults
 returns-in-Err-clause-faults c =
     let refused = c.in-Err.ensures in
-    unmade_log c.args.sectors c.in_ok-disk.disk _ _ _ c.in_ok-disk.ensures refused.failed refused.fits refused.memory refl
+    inr (record {
+      stack = c.in_ok-stack.stack;
+      blank = c.in_ok-stack.ensures.stack;
+      last = c.in-Err.refused.0;
+      end = c.in-Err.refused.1;
+      not_full = refused.fits;
+      failed = refused.failed;
+      told = refused.memory;
+      ends_by = ap LoggingEnded c.end_of.ensures;
+    })

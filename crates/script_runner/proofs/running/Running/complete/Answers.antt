@@ -15,6 +15,7 @@ returns-in-Failed-clause-runs g c =
       [],
       record {
         does = rw here (record { device = refl; kept = refl; prints = refl }, refl);
+        moment = refl;
         goes = c.several_calls_go_as_one.ensures.none c.args.self.now.recorder;
       },
       search rules,
@@ -34,6 +35,7 @@ returns-in-Asked-clause-runs g c = on_ok c.print_outcome.result c.print_outcome.
           kept = refl;
           prints = refl;
         });
+        moment = refl;
         goes = c.tell_end.ensures.goes;
       },
       subst (λ (n : ScriptId). Appends (g.O.Write.contents c.args.out.now) (g.O.Write.contents c.print_outcome.new.out) (outcome_line n c.hand_over-ok.result))

@@ -47,6 +47,7 @@ prints_kept contents log writes_old writes_new old middle new status (bytes, out
     script = output.script;
     lines = output.lines;
     hazard = output.hazard;
+    lies = output.lies;
     read = output.read;
     spelled = output.spelled;
     recorded = output.recorded;

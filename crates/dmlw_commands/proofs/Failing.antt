@@ -13,6 +13,7 @@ use Rattle.dmlw_script.specs.Plans.{Plan}
 use Rattle.dmlw_script.specs.Reading.{IsFaultOf, is_memory}
 use Rattle.script_runner.specs.declared.error.RunError.{RunError}
 use Rattle.script_runner.specs.declared.error.RunError.TheVariants.{Refused}
+use Rattle.script_runner.specs.declared.recording.Lies.{Lies}
 use Rattle.script_runner.specs.declared.recording.Recorded.{Recorded}
 use Rattle.script_runner.specs.Errors.{IsFileError, io_refusal, refused_by}
 use Rattle.script_runner.specs.OnDisks.{FailsOnDisks, IsRecorded}
@@ -79,18 +80,19 @@ fails_of_file contents before after text fault is (run_fails bytes plan f same s
     run_fails bytes plan f (subst (MatchesContents contents) (sym same) is) spells ends
 
 -- a script was recorded, and then the lines at the end were printed
-pub printed : (text : List ℕ) (plan : Plan) (before ran now : Option (List ℕ)) (hazard : Option Hazard) (status : Status) (image : List ℕ) → IsTextOf text plan
-    → (lines : List ℕ) × IsRecorded plan lines hazard status image × Appends before ran lines → Appends ran now (end_lines hazard status)
+pub printed : (text : List ℕ) (plan : Plan) (before ran now : Option (List ℕ)) (hazard : Option Hazard) (status : Status) (lies : Lies) (image : List ℕ) → IsTextOf text plan
+    → (lines : List ℕ) × IsRecorded plan lines hazard status lies image × Appends before ran lines → Appends ran now (end_lines hazard status lies)
     → IsPrintedLog (Some text) status image before now
-printed text plan before ran now hazard status image spells (lines, recorded, first) second = record {
+printed text plan before ran now hazard status lies image spells (lines, recorded, first) second = record {
   text = text;
   script = plan;
   lines = lines;
   hazard = hazard;
+  lies = lies;
   read = refl;
   spelled = spells;
   recorded = recorded;
-  output = appends_twice before ran now lines (end_lines hazard status) first second;
+  output = appends_twice before ran now lines (end_lines hazard status lies) first second;
 }
 
 -- what was printed of a text that is a file's was printed of the file's script
@@ -102,6 +104,7 @@ printed_of_text contents items text before after (Ok recorded) is same log = rec
   script = log.script;
   lines = log.lines;
   hazard = log.hazard;
+  lies = log.lies;
   read = subst (MatchesContents contents) (sym same ∙ sym log.read) is;
   spelled = log.spelled;
   recorded = log.recorded;
@@ -124,3 +127,8 @@ pub unwritten_log : (contents : Option (List ℕ)) (log : List ℕ) (writes_old 
 unwritten_log contents log writes_old writes_mid writes_new before after status image bytes error (Ok done) prints same kept asked fails = absurd fails
 unwritten_log contents log writes_old writes_mid writes_new before after status image bytes error (Err fault) prints same kept asked is =
     inr (subst IsFileError (sym is) (file_told error), status, (image, prints, asked ∙ ap (λ (w : Option (List Write)). one_more w log bytes) kept ∙ ap (one_more writes_old log) same))
+
+-- a text that was read is within its limit, and the file's bytes that are known are no more
+pub not_too_long : (contents : Option (List ℕ)) (text : List ℕ) {limit : ℕ} → MatchesContents contents text → length text ≤ limit → IsTooLong limit contents → ⊥
+not_too_long None text is within long = long
+not_too_long (Some known) text is within long = let same = ap (λ (bytes : List ℕ). length bytes) is in omega arith

@@ -1,5 +1,5 @@
 -- What recording the script in a file comes to.
-use Rattle.std.specs.Prelude.{◌≡◌, ◌⊎◌, ℕ, List, ◌++◌, None, Option, Result, Some, MatchResult, Ok, Err, codes}
+use Rattle.std.specs.Prelude.{◌≡◌, ◌⊎◌, ℕ, Bool, ◌&&◌, List, [], ◌++◌, None, decimal, nat_eq, if◌then◌else◌, Option, Result, Some, MatchResult, Ok, Err, codes}
 use Rattle.std.specs.Io.KnownBytes.{Appends, Keeps}
 use Rattle.bio.specs.Texts.{status_text}
 use Rattle.bio.specs.declared.outcome.Status.{Status}
@@ -11,6 +11,7 @@ use Rattle.dmlw_script.specs.Lines.{lines_of}
 use Rattle.dmlw_script.specs.Plans.{Plan}
 use Rattle.dmlw_script.specs.Reading.{IsFirstFault}
 use Rattle.script_runner.specs.declared.error.RunError.{RunError}
+use Rattle.script_runner.specs.declared.recording.Lies.{Lies}
 use Rattle.script_runner.specs.declared.error.RunError.TheVariants.{Refused}
 use Rattle.script_runner.specs.Errors.{IsFileError}
 use Rattle.script_runner.specs.OnDisks.{FailsOnDisks, IsRecorded}
@@ -20,10 +21,23 @@ use Rattle.dmlw_commands.specs.Files.{MatchesContents, Write, one_more}
 abbrev pub status_line : Status → List ℕ
 status_line status = status_text status ++ codes "\n"
 
--- the lines at the end of a recording: of the first hazard, if there is one, and of how far the log has come
-abbrev pub end_lines : Option Hazard → Status → List ℕ
-end_lines None status = status_line status
-end_lines (Some hazard) status = codes "hazard " ++ (hazard_text hazard ++ (codes "\n" ++ status_line status))
+-- the lines of the first hazard, if there is one, and of how far the log has come
+abbrev pub log_lines : Option Hazard → Status → List ℕ
+log_lines None status = status_line status
+log_lines (Some hazard) status = codes "hazard " ++ (hazard_text hazard ++ (codes "\n" ++ status_line status))
+
+-- no layer has lied
+abbrev pub is_honest : Lies → Bool
+is_honest lies = nat_eq lies.data_disk 0 && nat_eq lies.log_disk 0
+
+-- the line of the lies, if there are any: those of the data disk's layers, and those of the log's
+abbrev pub lies_line : Lies → List ℕ
+lies_line lies =
+    if is_honest lies then [] else codes "lies " ++ (decimal lies.data_disk ++ (codes " " ++ (decimal lies.log_disk ++ codes "\n")))
+
+-- the lines at the end of a recording
+abbrev pub end_lines : Option Hazard → Status → Lies → List ℕ
+end_lines hazard status lies = log_lines hazard status ++ lies_line lies
 
 -- The script that a file's bytes spell was recorded, its log has come so far, and these are the bytes of the log's disk. Known bytes grew by
 -- what its lines print and by the lines at the end.
@@ -32,10 +46,11 @@ pub record IsPrintedLog (contents : Option (List ℕ)) (status : Status) (bytes 
   pub script : Plan
   pub lines : List ℕ
   pub hazard : Option Hazard
+  pub lies : Lies
   pub read : MatchesContents contents text
   pub spelled : IsTextOf text script
-  pub recorded : IsRecorded script lines hazard status bytes
-  pub output : Appends before after (lines ++ end_lines hazard status)
+  pub recorded : IsRecorded script lines hazard status lies bytes
+  pub output : Appends before after (lines ++ end_lines hazard status lies)
 
 -- one more write was asked for, of the file of this name, which is to hold the log of that script; and what happened was printed
 abbrev pub PrintsLog : Option (List ℕ) → List ℕ → Option (List Write) → Option (List Write) → Option (List ℕ) → Option (List ℕ) → Status → Type 0

@@ -7,7 +7,7 @@ ghost use Rattle.dmlw_commands.specs.declared.exit.Exit.{Exit};
 ghost use Rattle.dmlw_commands.specs.Exits.{IsRefusal, exit_after, exit_of};
 ghost use Rattle.std.specs.Result.{IsErrAnd};
 ghost use Rattle.dmlw_commands.specs.Files.{AsksFor, IsTooLong, IsWithin, KeepsFiles, MatchesContents};
-ghost use Rattle.dmlw_commands.specs.Records.{FailsRecording, IsPrintedLog, WritesLog, end_lines};
+ghost use Rattle.dmlw_commands.specs.Records.{FailsRecording, IsPrintedLog, WritesLog, end_lines, lies_line, log_lines};
 
 use crate::ending::{Ended, end_recording};
 use crate::explain::explain_recording;
@@ -16,7 +16,7 @@ use bio::Status;
 use dmlw_script::{Kind, Script, read_script};
 use pending::Hazard;
 use refusals::Refusal;
-use script_runner::{Recorded, RunError};
+use script_runner::{Lies, Recorded, RunError};
 use std::alloc::Global;
 use std::io::Write;
 
@@ -129,19 +129,46 @@ fn run_script<O: Write>(
     ensures faults { IfErr result (FailsRecording (Some text.now) (O.contents out.old) (O.contents out.new)) }
 {
     let recorded = script_runner::record(alloc, text, script, out)?;
-    print_end(recorded.hazard, recorded.status, out)?;
+    print_end(recorded.hazard, recorded.status, recorded.lies, out)?;
     Ok(recorded)
 }
 
+// Prints the first hazard, if there is one, how far a log has come, and how often the layers lied, if they did.
+fn print_end<O: Write>(
+    hazard: Option<Hazard>,
+    status: Status,
+    lies: Lies,
+    out: &mut O,
+) -> Result<(), RunError>
+    ensures printed { OnOk result (Appends (O.contents out.old) (O.contents out.new) (end_lines hazard status lies)) }
+    ensures faults { IfErr result IsFileError }
+{
+    print_log(hazard, status, out)?;
+    print_lies(lies, out)?;
+    out.flush()?;
+    Ok(())
+}
+
 // Prints the first hazard, if there is one, and how far a log has come.
-fn print_end<O: Write>(hazard: Option<Hazard>, status: Status, out: &mut O) -> Result<(), RunError>
-    ensures printed { OnOk result (Appends (O.contents out.old) (O.contents out.new) (end_lines hazard status)) }
+fn print_log<O: Write>(hazard: Option<Hazard>, status: Status, out: &mut O) -> Result<(), RunError>
+    ensures printed { OnOk result (Appends (O.contents out.old) (O.contents out.new) (log_lines hazard status)) }
     ensures faults { IfErr result IsFileError }
 {
     match hazard {
         Some(hazard) => writeln!(out, "hazard {hazard}\n{status}")?,
         None => writeln!(out, "{status}")?,
     }
-    out.flush()?;
+    Ok(())
+}
+
+// Prints how often the layers of the data disk lied, and those of the log's, where one did.
+fn print_lies<O: Write>(lies: Lies, out: &mut O) -> Result<(), RunError>
+    ensures printed { OnOk result (Appends (O.contents out.old) (O.contents out.new) (lies_line lies)) }
+    ensures faults { IfErr result IsFileError }
+{
+    if lies.data_disk == 0 && lies.log_disk == 0 {
+        return Ok(());
+    }
+    writeln!(out, "lies {} {}", lies.data_disk, lies.log_disk)?;
     Ok(())
 }

@@ -1,5 +1,5 @@
 use Rattle.script_runner.specs.CallLaws.{on_error}
-use Rattle.dmlw_commands.proofs.Failing.{fails_for_file, fails_of_text, printed_of_text}
+use Rattle.dmlw_commands.proofs.Failing.{fails_for_file, fails_of_text, not_too_long, printed_of_text}
 use Rattle.dmlw_commands.proofs.record.run_file.Goals as goal
 
 pub returns-clause-printed : goal.returns-clause-printed
@@ -15,3 +15,7 @@ returns-clause-faults g c =
 pub returns-in_err-text-clause-faults : goal.returns-in_err-text-clause-faults
 returns-in_err-text-clause-faults g c =
     on_error c.from_residual.result c.from_residual.ensures.1 (λ fault is. fails_for_file _ _ _ _ fault is)
+
+pub returns-clause-within : goal.returns-clause-within
+returns-clause-within g c long =
+    absurd (not_too_long _ c.in_ok-text.text.items c.in_ok-text.ensures.contents c.in_ok-text.ensures.within long)

@@ -2,7 +2,7 @@ use Rattle.std.proofs.Common.{◌≡◌, ℕ, ◌+◌, ◌<◌, Bool, true, fals
 use Rattle.std.specs.Prelude.{Result, nat_lt}
 use Rattle.std.specs.Cmp.{IsEquivalence}
 use Rattle.std.specs.List.{list_any, position_or_len, AllByRecursion, IsDistinct}
-use Rattle.std.proofs.lemmas.Bool.{cond-true, cond-false, cases_Bool, lt-ltb, ltb-true}
+use Rattle.std.proofs.lemmas.Bool.{cond-true, cond-false, cases_Bool, le-ltb, lt-ltb, ltb-false, ltb-true}
 use Rattle.std.proofs.lemmas.List.{append-nil, length-append, get_or_append_left}
 use Rattle.std.proofs.lemmas.List.Folds.{list_any_none}
 use Rattle.std.proofs.lemmas.List.Sums.{passes_at_first, position_or_len_is, sum_by-append}
@@ -12,7 +12,7 @@ use Rattle.std.proofs.Math.Seq.{get_or-append_seam}
 use Rattle.std.proofs.lemmas.Option.{cond_some}
 use Rattle.bio.specs.declared.request.BadBio.{BadBio}
 use Rattle.refusals.specs.declared.refusal.Refusal.{Refusal}
-use Rattle.refusals.specs.declared.refusal.Refusal.TheVariants.{BadId}
+use Rattle.refusals.specs.declared.refusal.Refusal.TheVariants.{BadId, BadLine}
 use Rattle.dmlw_script.specs.declared.command.Command.{Command}
 use Rattle.dmlw_script.specs.declared.command.Command.TheVariants as commands
 use Rattle.dmlw_script.specs.declared.script_id.ScriptId.{ScriptId}
@@ -20,13 +20,15 @@ use Rattle.dmlw_script.specs.Said.{Said}
 use Rattle.dmlw_script.specs.Said as parsed_lines
 use Rattle.dmlw_script.specs.declared.line.BodyLine.{BodyLine}
 use Rattle.dmlw_script.specs.declared.line.BodyLine.TheVariants as body_lines
+use Rattle.dmlw_script.specs.declared.command.Step.{Step}
+use Rattle.dmlw_script.specs.declared.command.Step.TheVariants as steps
 use Rattle.dmlw_script.specs.declared.command.Submission.{Submission}
 use Rattle.dmlw_script.specs.inside.Stages as heads
 use Rattle.dmlw_script.specs.declared.reader.Kind.{Kind}
 use Rattle.dmlw_script.specs.declared.reader.Kind.TheVariants as kinds
-use Rattle.dmlw_script.specs.inside.Drafts.{◌>>=◌, body_step, ended_next, named_next, as_refusal, with_command, with_name, Body}
+use Rattle.dmlw_script.specs.inside.Drafts.{◌>>=◌, body_step, ended_next, named_next, as_refusal, step_test, with_command, with_name, Body}
 use Rattle.dmlw_script.specs.Ids.{script_id, same_name}
-use Rattle.dmlw_script.specs.Plans.{count_after_command, lines_of_body, is_ended, is_submission, name_at, request_of, line_at, step_answer, submission_answer, submissions, HasLineText, IsName, IsWellFormed, CanFollow, WritesByte}
+use Rattle.dmlw_script.specs.Plans.{count_after_command, lines_of_body, is_ended, is_submission, name_at, request_of, line_at, moment_after, step_answer, submission_answer, submissions, top_of, Disk, HasLineText, IsInTime, IsName, IsWellFormed, CanFollow, WritesByte}
 use Rattle.dmlw_script.specs.inside.Readers.{parsed_step, with_body, Progress}
 use Rattle.dmlw_script.proofs.DraftLemmas.{listed, with_new_name}
 
@@ -150,7 +152,7 @@ bind_ok (Ok x) f y e = (x, refl, e)
 bind_ok (Err refusal) f y e = absurd (cc)
 
 -- an id that is taken was new
-named_ok : (o : Option ℕ) (b c : Body) (name : ScriptId) → named_next o b name ≡ Ok c → (o ≡ None) × (record b { names = b.names ++ name ∷ [] } ≡ c)
+pub named_ok : (o : Option ℕ) (b c : Body) (name : ScriptId) → named_next o b name ≡ Ok c → (o ≡ None) × (record b { names = b.names ++ name ∷ [] } ≡ c)
 named_ok None b c name e = (refl, cc)
 named_ok (Some request) b c name e = absurd (cc)
 
@@ -204,8 +206,29 @@ told_ok : (r : Result (Unit {0}) BadBio) (x : Unit {0}) → as_refusal r ≡ Ok 
 told_ok (Ok u) x e = refl
 told_ok (Err bad) x e = absurd (cc)
 
+-- a moment that is taken doesn't go back
+later_ok : (t : Bool) (x : Unit {0}) → cond t (Err BadLine) (Ok tt) ≡ Ok x → t ≡ false
+later_ok true x e = absurd (cc)
+later_ok false x e = refl
+
+-- a line that names no request and is taken passes its tests
+step_ok : (sectors moment : ℕ) (step : Step) (x : Unit {0}) → step_test sectors moment step ≡ Ok x → (step_answer sectors step ≡ Ok tt) × IsInTime moment step
+step_ok sectors moment steps.Close x e = (refl, tt)
+step_ok sectors moment (steps.Read first count) x e = (told_ok (step_answer sectors (steps.Read first count)) x e, tt)
+step_ok sectors moment steps.Turn x e = (refl, tt)
+step_ok sectors moment (steps.Mark text) x e = (refl, tt)
+step_ok sectors moment (steps.At later) x e = (refl, ltb-false _ _ (later_ok (nat_lt later moment) x e))
+
+-- so is one that may come
+step_again : (sectors moment : ℕ) (step : Step) → step_answer sectors step ≡ Ok tt → IsInTime moment step → step_test sectors moment step ≡ Ok tt
+step_again sectors moment steps.Close fine in_time = refl
+step_again sectors moment (steps.Read first count) fine in_time = ap as_refusal fine
+step_again sectors moment steps.Turn fine in_time = refl
+step_again sectors moment (steps.Mark text) fine in_time = refl
+step_again sectors moment (steps.At later) fine in_time = cond-false _ _ _ (le-ltb _ _ in_time)
+
 -- an end that is taken was of an open request
-ended_ok : (t : Bool) (b c : Body) (command : Command) → cond t (Err BadId) (Ok (with_command b command)) ≡ Ok c → (t ≡ false) × (with_command b command ≡ c)
+pub ended_ok : (t : Bool) (b c : Body) (command : Command) → cond t (Err BadId) (Ok (with_command b command)) ≡ Ok c → (t ≡ false) × (with_command b command ≡ c)
 ended_ok true b c command e = absurd (cc)
 ended_ok false b c command e = (refl, cc)
 
@@ -228,8 +251,9 @@ step_grows sectors b c (body_lines.Submit name submission) e fine sound =
     (ap (λ (x : Body). with_command x (commands.Submit submission)) n.1 ∙ (let last = q.2 in cc))
 step_grows sectors b c (body_lines.Complete name) e fine sound = end_grows sectors b c name (request_of name b.names) refl e sound
 step_grows sectors b c (body_lines.Step step) e fine sound =
-    let q = bind_ok (as_refusal (step_answer sectors step)) _ c e in
-    other_grows sectors b (commands.Step step) (body_lines.Step step) (told_ok (step_answer sectors step) q.0 q.1, fine) refl refl sound c (let last = q.2 in cc)
+    let q = bind_ok (step_test sectors (moment_after b.body) step) _ c e in
+    let told = step_ok sectors (moment_after b.body) step q.0 q.1 in
+    other_grows sectors b (commands.Step step) (body_lines.Step step) (told.0, fine, told.1) refl refl sound c (let last = q.2 in cc)
 
 -- ---- the lines of a body
 
@@ -290,7 +314,7 @@ run kind p [] = Ok p
 run kind p (s ∷ ss) = parsed_step kind p s >>= λ q. run kind q ss
 
 -- the head is whole, and this was read of the body
-abbrev pub in_draft : ℕ → ℕ → Body → Progress
+abbrev pub in_draft : Disk → Disk → Body → Progress
 in_draft d l b = record { head = heads.Whole d l; body = b }
 
 -- what has this value goes on from it
@@ -316,8 +340,8 @@ with_name_again before_byte more names name before whole distinct =
     (new_name before_byte more name (subst (λ (x : List ScriptId). IsDistinct same_name x) whole distinct))
 
 -- one line of a body, and the lines after it
-again_step : (d l : ℕ) (names before_byte next : List ScriptId) (before body : List Command) (command : Command) →
-    body_step d (record { names = before_byte; body = before }) (line_at names (length before_byte) command) ≡ Ok (record { names = next; body = before ++ command ∷ [] }) →
+again_step : (d l : Disk) (names before_byte next : List ScriptId) (before body : List Command) (command : Command) →
+    body_step (top_of d) (record { names = before_byte; body = before }) (line_at names (length before_byte) command) ≡ Ok (record { names = next; body = before ++ command ∷ [] }) →
     count_after_command (length before_byte) command ≡ length next →
     run kinds.Record (in_draft d l (record { names = next; body = before ++ command ∷ [] })) (lines_of_body names (length next) body)
     ≡ Ok (in_draft d l (record { names = names; body = (before ++ command ∷ []) ++ body })) →
@@ -382,8 +406,8 @@ end_again sectors names before_byte rest before request whole distinct inside go
     ap (λ o. ended_next o b) place ∙ cond-false _ _ _ going
 
 -- the lines of a body give it again: those after its beginning lead from there to all of it
-pub run_again : (d l : ℕ) (names before_byte rest : List ScriptId) (before body : List Command) → names ≡ before_byte ++ rest → IsDistinct same_name names →
-    length before_byte ≡ submissions before → length rest ≡ submissions body → IsWellFormed d before body →
+pub run_again : (d l : Disk) (names before_byte rest : List ScriptId) (before body : List Command) → names ≡ before_byte ++ rest → IsDistinct same_name names →
+    length before_byte ≡ submissions before → length rest ≡ submissions body → IsWellFormed (top_of d) before body →
     run kinds.Record (in_draft d l (record { names = before_byte; body = before })) (lines_of_body names (length before_byte) body)
     ≡ Ok (in_draft d l (record { names = names; body = before ++ body }))
 run_again d l names before_byte rest before [] whole distinct numbered left well_formed =
@@ -399,10 +423,11 @@ run_again d l names before_byte rest before (commands.Submit submission ∷ body
     (run_again d l names (before_byte ++ n.name ∷ []) n.more (before ++ commands.Submit submission ∷ []) body n.whole distinct n.numbered n.left well_formed.1)
 run_again d l names before_byte rest before (commands.Complete request ∷ body) whole distinct numbered left well_formed =
     again_step d l names before_byte before_byte before body (commands.Complete request)
-    (end_again d names before_byte rest before request whole distinct (omega (arith, well_formed.0.0, numbered)) well_formed.0.1) refl
+    (end_again (top_of d) names before_byte rest before request whole distinct (omega (arith, well_formed.0.0, numbered)) well_formed.0.1) refl
     (run_again d l names before_byte rest (before ++ commands.Complete request ∷ []) body whole distinct
     (numbered ∙ sym (submissions-push before (commands.Complete request) ∙ omega arith)) (left ∙ submissions-cons (commands.Complete request) body ∙ omega arith) well_formed.1)
 run_again d l names before_byte rest before (commands.Step step ∷ body) whole distinct numbered left well_formed =
-    again_step d l names before_byte before_byte before body (commands.Step step) (bind_at _ _ _ _ (ap as_refusal well_formed.0.0) refl) refl
+    again_step d l names before_byte before_byte before body (commands.Step step)
+    (bind_at _ _ _ _ (step_again (top_of d) (moment_after before) step well_formed.0.0 well_formed.0.2) refl) refl
     (run_again d l names before_byte rest (before ++ commands.Step step ∷ []) body whole distinct
     (numbered ∙ sym (submissions-push before (commands.Step step) ∙ omega arith)) (left ∙ submissions-cons (commands.Step step) body ∙ omega arith) well_formed.1)

@@ -1,5 +1,5 @@
 use Rattle.std.proofs.Common.{◌≡◌, ◌≢◌, ℕ, zero, suc, ◌+◌, ◌-◌, ◌^◌, ◌<◌, ◌≤◌, Bool, true, false, not, ◌&&◌, cond, List, [], ◌∷◌, ◌++◌, length, Option, Some, None, Ok, Err, refl, ap, ◌∙◌, sym, subst, arith, append_assoc}
-use Rattle.std.specs.Prelude.{◌/◌, ◌%◌, ◌==◌, codes, decimal, flat_map, map, nat_lt, replicate, Result}
+use Rattle.std.specs.Prelude.{◌/◌, ◌%◌, ◌==◌, codes, decimal, flat_map, map, nat_le, nat_lt, replicate, Result}
 use Rattle.std.specs.Char.{is_ascii_digit}
 use Rattle.std.specs.List.{onto_first, AllByRecursion, AllZip}
 use Rattle.std.proofs.lemmas.Bool.{and_from, and_parts, cond-true, leb-true, ltb-false}
@@ -12,6 +12,8 @@ use Rattle.bio.specs.Check.{range_answer}
 use Rattle.bio.specs.declared.request.BadBio.{BadBio}
 use Rattle.dmlw_script.specs.declared.command.Command.{Command}
 use Rattle.dmlw_script.specs.declared.command.Command.TheVariants as commands
+use Rattle.dmlw_script.specs.declared.disk_name.DiskName.{DiskName}
+use Rattle.dmlw_script.specs.declared.disk_name.DiskName.TheVariants as disks
 use Rattle.dmlw_script.specs.declared.script_id.ScriptId.{ScriptId}
 use Rattle.dmlw_script.specs.Said.{Said}
 use Rattle.dmlw_script.specs.Said as parsed_lines
@@ -22,14 +24,25 @@ use Rattle.dmlw_script.specs.declared.command.Submission.TheVariants as submits
 use Rattle.dmlw_script.specs.declared.command.Step.{Step}
 use Rattle.dmlw_script.specs.declared.command.Step.TheVariants as steps
 use Rattle.dmlw_script.specs.inside.Parsing.{step, submit}
-use Rattle.dmlw_script.specs.Grammar.{spaced, IsId, ParsesAs, IsTextOf, AreLinesOf}
+use Rattle.dmlw_script.specs.Grammar.{layer_verb, spaced, IsId, ParsesAs, IsTextOf, AreLinesOf}
 use Rattle.words.specs.WordLaws.{decimal_number, number_model}
 use Rattle.dmlw_script.specs.Lines.{with_line_feeds, is_ascii_line, is_line_byte, is_line_text, unskipped, lines_of, IsUnbroken}
 use Rattle.dmlw_script.specs.Ids.{is_id, is_name_byte, letters_of, script_id}
-use Rattle.dmlw_script.specs.Plans.{ArePicks, CanFollow, count_after_command, line_at, lines_of_body, name_at, lines_of_script, step_answer, submission_answer, submissions, with_ending, HasLineText, IsName, IsWellFormed, IsPlan, Plan, WritesByte}
+use Rattle.dmlw_script.specs.Plans.{ArePicks, CanFollow, count_after_command, head_of, layer_line, line_at, lines_behind_head, lines_of_body, name_at, lines_of_script, step_answer, submission_answer, submissions, top_of, with_ending, Disk, HasLineText, IsDisk, IsName, IsWellFormed, IsPlan, Plan, WritesByte}
+use Rattle.table_line.specs.Standing.{CanStand}
 use Rattle.dmlw_script.specs.CanonicalText.{ended_line, ending_text, line_text, canonical_text}
 use Rattle.dmlw_script.specs.Words.{byte_text, hex_digit}
 use Rattle.words.specs.Words.{before_byte, IsNumber}
+use Rattle.table_line.specs.LineLaws.{printed_again}
+use Rattle.table_line.specs.Ranges.{IsLayerSpec, IsTargetInRange}
+use Rattle.table_line.specs.Texts as table_texts
+use Rattle.table_line.specs.Texts.{feature_words, target_words}
+use Rattle.table_line.specs.declared.feature.Feature.{Feature}
+use Rattle.table_line.specs.declared.feature.Feature.TheVariants as features
+use Rattle.table_line.specs.declared.layer_spec.LayerSpec.{LayerSpec}
+use Rattle.table_line.specs.declared.layer_spec.Target.{Target}
+use Rattle.table_line.specs.declared.layer_spec.Target.TheVariants as targets
+use Rattle.dmlw_script.proofs.DiskLaws.{top_small}
 use Rattle.dmlw_script.proofs.BodyLaws.{count_after_command-is, submissions-cons, submissions-push}
 use Rattle.dmlw_script.specs.declared.command.WriteOptions.{WriteOptions}
 use Rattle.dmlw_script.specs.Options.{option_text, option_words, options_text}
@@ -241,6 +254,82 @@ pub picks_spelled : (word : List ℕ) (picks : List ℕ) → spaced (word ∷ ma
 picks_spelled word [] = sym (append-nil word)
 picks_spelled word (pick ∷ picks) = ap (λ (x : List ℕ). word ++ 32 ∷ x) (picks_spelled (decimal pick) picks)
 
+-- an `at`'s line
+at_written : (moment : ℕ) → moment < 2 ^ 64 → IsWritten (step (steps.At moment))
+at_written moment low = record { says = record { word = decimal moment; number = decimal_number moment low; spelled = refl }; good = written_number (codes "at") moment refl low }
+
+-- words that may stand in a line, with one space between each two
+line_spaced : (words : List (List ℕ)) → AllByRecursion IsLineText words → IsLineText (spaced words)
+line_spaced [] good = refl
+line_spaced (word ∷ []) good = good.0
+line_spaced (word ∷ next ∷ words) good = line_text_append word (32 ∷ spaced (next ∷ words)) good.0 (line_spaced (next ∷ words) good.1)
+
+-- the words of a feature may stand in a line
+line_feature : (feature : Feature) → AllByRecursion IsLineText (feature_words feature)
+line_feature features.None = tt
+line_feature features.ErrorReads = (refl, (refl, tt))
+line_feature features.ErrorWrites = (refl, (refl, tt))
+line_feature features.DropWrites = (refl, (refl, tt))
+
+-- so may those of a target
+line_target : (offset : ℕ) (target : Target) → offset < 2 ^ 64 → IsTargetInRange offset target → AllByRecursion IsLineText (target_words offset target)
+line_target offset targets.Linear low has = (refl, (refl, (line_number offset low, tt)))
+line_target offset targets.Error low has = (refl, tt)
+line_target offset (targets.Flakey up down feature) low has =
+    let few : up + down ≤ 4294967295 = has.few in
+    (refl, (refl, (line_number offset low, (line_number up (omega (arith, few)), (line_number down (omega (arith, few)), line_feature feature)))))
+line_target offset (targets.Fuse calls) low has = (refl, (refl, (line_number offset low, (line_number calls has, tt))))
+
+-- a layer's line
+layer_written : (over : DiskName) (spec : LayerSpec) → IsLayerSpec spec → IsWritten (layer_line over spec)
+layer_written over spec is =
+    let few : spec.length ≤ 1048576 = (let sectors = is.sectors in sectors.few) in
+    let text : IsLineText (table_texts.line_text spec) = line_spaced (table_texts.line_words spec) (refl, (line_number spec.length (omega (arith, few)), line_target spec.offset spec.target is.place is.has)) in
+    record {
+      says = record { text = table_texts.line_text spec; asks = printed_again spec is; spelled = refl };
+      good = line_text_append (layer_verb over) (32 ∷ table_texts.line_text spec) (line_verb over) text;
+    }
+  where
+    line_verb : (name : DiskName) → IsLineText (layer_verb name)
+    line_verb disks.Data = refl
+    line_verb disks.Log = refl
+
+-- each line of a disk's layers can be written
+layers_written : (over : DiskName) (sectors : ℕ) (layers : List LayerSpec) → CanStand sectors layers → AllByRecursion IsWritten (map (layer_line over) layers)
+layers_written over sectors [] stand = tt
+layers_written over sectors (layer ∷ layers) stand = (layer_written over layer stand.0, layers_written over layer.length layers stand.2)
+
+-- lines that can be written, and others
+written_append : (ss ts : List Said) → AllByRecursion IsWritten ss → AllByRecursion IsWritten ts → AllByRecursion IsWritten (ss ++ ts)
+written_append [] ts written others = others
+written_append (s ∷ ss) ts written others = (written.0, written_append ss ts written.1 others)
+
+-- a head's lines can be written
+head_written : (d l : Disk) → IsDisk d → IsDisk l → AllByRecursion IsWritten (head_of d l)
+head_written d l is_data is_log =
+    let few : d.sectors ≤ 1048576 = leb-true d.sectors 1048576 (and_parts (nat_le 1 d.sectors) (nat_le d.sectors 1048576) is_data.size).1 in
+    let small : l.sectors ≤ 1048576 = leb-true l.sectors 1048576 (and_parts (nat_le 1 l.sectors) (nat_le l.sectors 1048576) is_log.size).1 in (
+      data_written d.sectors (omega (arith, few)),
+      (
+        log_written l.sectors (omega (arith, small)),
+        written_append (map (layer_line disks.Data) d.layers) (map (layer_line disks.Log) l.layers) (layers_written disks.Data d.sectors d.layers is_data.stand)
+            (layers_written disks.Log l.sectors l.layers is_log.stand),
+      ),
+    )
+
+-- a text that is written in three parts, from nothing, is the script's
+pub text_in_parts : (plan : Plan) (d l : Disk) (start head body whole : List ℕ) → d ≡ plan.data_disk → l ≡ plan.log_disk → start ≡ [] → head ≡ start ++ flat_map ended_line (head_of d l)
+    → body ≡ head ++ flat_map ended_line (lines_of_body plan.names 0 plan.commands) → whole ≡ body ++ ending_text plan.ending → whole ≡ canonical_text plan
+text_in_parts plan d l start head body whole is_data is_log none is_head is_body is_whole =
+    let lines = lines_of_body plan.names 0 plan.commands in
+    let front = flat_map ended_line (head_of plan.data_disk plan.log_disk) in
+    let first : head ≡ front =
+    is_head ∙ ap (λ (x : List ℕ). x ++ flat_map ended_line (head_of d l)) none ∙ ap (λ (x : Disk). flat_map ended_line (head_of x l)) is_data
+    ∙ ap (λ (x : Disk). flat_map ended_line (head_of plan.data_disk x)) is_log in
+    is_whole ∙ ap (λ (x : List ℕ). x ++ ending_text plan.ending) (is_body ∙ ap (λ (x : List ℕ). x ++ flat_map ended_line lines) first)
+    ∙ append_assoc front (flat_map ended_line lines) (ending_text plan.ending) ∙ ap (λ (x : List ℕ). front ++ x) (sym (ending_spelled plan.ending lines))
+    ∙ sym (flat_map-append ended_line (head_of plan.data_disk plan.log_disk) (lines_behind_head plan))
+
 -- ---- scripts
 
 -- a test that was passed
@@ -275,6 +364,7 @@ step_written sectors (steps.Read first count) small passes text =
     let r = range_ok first count sectors passes in
     read_written first count (omega (arith, r.1)) (omega (arith, r.0))
 step_written sectors steps.Turn small passes text = record { says = refl; good = refl }
+step_written sectors (steps.At moment) small passes low = at_written moment low
 step_written sectors (steps.Mark mark) small passes text = record { says = record { plain = text; spelled = refl }; good = text }
 
 -- a request's id is one
@@ -310,15 +400,13 @@ body_written sectors names n done (command ∷ body) small ids counted numbered 
 -- each sentence of a script can be written
 pub plan_written : (plan : Plan) → IsPlan plan → AllByRecursion IsWritten (lines_of_script plan)
 plan_written plan is =
-    let d : plan.data_sectors ≤ 1048576 = leb-true _ _ (and_parts _ _ is.data_size).1 in
-    let l : plan.log_sectors ≤ 1048576 = leb-true _ _ (and_parts _ _ is.log_size).1 in (
-      data_written plan.data_sectors (omega (arith, d)),
-      (
-        log_written plan.log_sectors (omega (arith, l)),
-        ending_written plan.ending (lines_of_body plan.names 0 plan.commands) is.picks
-            (body_written plan.data_sectors plan.names 0 [] plan.commands d is.ids refl (is.numbered ∙ omega arith) is.well_formed),
-      ),
-    )
+    let d = plan.data_disk in
+    let l = plan.log_disk in
+    let is_data : IsDisk d = is.data_disk in
+    let small : top_of d ≤ 1048576 = top_small d.sectors d.layers is_data.stand (leb-true d.sectors 1048576 (and_parts (nat_le 1 d.sectors) (nat_le d.sectors 1048576) is_data.size).1) in
+    written_append (head_of d l) (lines_behind_head plan) (head_written d l is_data is.log_disk)
+    (ending_written plan.ending (lines_of_body plan.names 0 plan.commands) is.picks
+    (body_written (top_of d) plan.names 0 [] plan.commands small is.ids refl (is.numbered ∙ omega arith) is.well_formed))
 
 -- one more byte of a line
 feed_step : (t : Bool) (b : ℕ) (line : List ℕ) (rest ls : List (List ℕ)) → not t ≡ true → ls ≡ line ∷ rest → cond t ([] ∷ ls) (onto_first b ls) ≡ (b ∷ line) ∷ rest

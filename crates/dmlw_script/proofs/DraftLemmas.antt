@@ -10,7 +10,7 @@ use Rattle.dmlw_script.specs.declared.command.Command.{Command}
 use Rattle.dmlw_script.specs.declared.command.Command.TheVariants as commands
 use Rattle.dmlw_script.specs.inside.Drafts.{named_next, with_name, Body, IsFlags}
 use Rattle.dmlw_script.specs.Ids.{same_name}
-use Rattle.dmlw_script.specs.Plans.{is_end_of, is_ended, request_of}
+use Rattle.dmlw_script.specs.Plans.{is_end_of, is_ended, moment_at, moment_from, request_of}
 use Rattle.dmlw_script.specs.declared.script_id.ScriptId.{ScriptId}
 use Rattle.refusals.specs.declared.refusal.Refusal.TheVariants.{BadId}
 
@@ -80,3 +80,8 @@ pub with_old_name : (b : Body) (name : ScriptId) → list_any (same_name name) b
 with_old_name b name old =
     let some : request_of name b.names ≡ Some (position_or_len (same_name name) b.names) = cond-true _ _ _ (listed (same_name name) b.names ∙ old) in
     ap (λ o. named_next o b name) some
+
+-- one more command
+pub moment_push : (moment : ℕ) (body : List Command) (command : Command) → moment_from moment (body ++ command ∷ []) ≡ moment_at (moment_from moment body) command
+moment_push moment [] command = refl
+moment_push moment (first ∷ body) command = moment_push (moment_at moment first) body command

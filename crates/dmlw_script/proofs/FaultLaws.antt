@@ -1,13 +1,19 @@
-use Rattle.std.proofs.Common.{◌≡◌, ℕ, suc, ◌+◌, Bool, true, false, not, cond, List, [], ◌∷◌, ◌++◌, length, Option, Some, None, Ok, Err, ◌⊎◌, inl, inr, ⊎_elim, refl, ap, ◌∙◌, sym, subst, arith, append_assoc}
-use Rattle.std.specs.Prelude.{Result, codes}
+use Rattle.std.proofs.Common.{◌≡◌, ℕ, suc, ◌+◌, ◌<◌, ◌≤◌, Bool, true, false, not, cond, List, [], ◌∷◌, ◌++◌, length, Option, Some, None, Ok, Err, ◌⊎◌, inl, inr, ⊎_elim, refl, ap, ◌∙◌, sym, subst, arith, append_assoc}
+use Rattle.std.specs.Prelude.{nat_lt, Result, codes}
 use Rattle.std.specs.List.{list_any, AllZip}
-use Rattle.std.proofs.lemmas.Bool.{cond-true, cond-false, cases_Bool}
+use Rattle.std.proofs.lemmas.Bool.{cond-true, cond-false, cases_Bool, ltb-false, ltb-true}
 use Rattle.std.proofs.lemmas.List.{append-nil}
-use Rattle.std.proofs.lemmas.Option.{cond_some}
 use Rattle.bio.specs.declared.request.BadBio.{BadBio}
 use Rattle.refusals.specs.declared.refusal.Refusal.{Refusal}
-use Rattle.refusals.specs.declared.refusal.Refusal.TheVariants.{BadLine, BadId}
+use Rattle.refusals.specs.declared.refusal.Refusal.TheVariants.{BadLine, BadId, OutOfRange}
+use Rattle.table_line.specs.declared.layer_spec.LayerSpec.{LayerSpec}
+use Rattle.table_line.specs.declared.table_error.TableError.{TableError}
+use Rattle.dmlw_script.specs.declared.command.Command.{Command}
 use Rattle.dmlw_script.specs.declared.command.Command.TheVariants as commands
+use Rattle.dmlw_script.specs.declared.command.Step.{Step}
+use Rattle.dmlw_script.specs.declared.command.Step.TheVariants as steps
+use Rattle.dmlw_script.specs.declared.disk_name.DiskName.{DiskName}
+use Rattle.dmlw_script.specs.declared.disk_name.DiskName.TheVariants as disks
 use Rattle.refusals.specs.declared.fault.Fault.{Fault}
 use Rattle.dmlw_script.specs.declared.script_id.ScriptId.{ScriptId}
 use Rattle.dmlw_script.specs.declared.reader.Kind.{Kind}
@@ -21,18 +27,18 @@ use Rattle.dmlw_script.specs.declared.line.BodyLine.TheVariants as body_lines
 use Rattle.dmlw_script.specs.declared.command.Submission.{Submission}
 use Rattle.dmlw_script.specs.inside.Stages.{Stage}
 use Rattle.dmlw_script.specs.inside.Stages as heads
-use Rattle.dmlw_script.specs.inside.Heads.{head_step}
-use Rattle.dmlw_script.specs.inside.Drafts.{◌>>=◌, body_step, ended_next, named_next, as_refusal, with_command, Body}
+use Rattle.dmlw_script.specs.inside.Heads.{asked_layer, data_layer, head_step, layer_in, layer_step, with_data, with_log}
+use Rattle.dmlw_script.specs.inside.Drafts.{◌>>=◌, body_step, ended_next, named_next, as_refusal, step_test, with_command, with_name, Body}
 use Rattle.dmlw_script.specs.Grammar.{ParsesAs, AreLinesOf}
 use Rattle.dmlw_script.specs.Lines.{is_ascii_line, is_skipped, unskipped}
 use Rattle.dmlw_script.specs.Ids.{same_name}
-use Rattle.dmlw_script.specs.Plans.{is_disk_size, is_ended, request_of, step_answer, submission_answer, Plan}
-use Rattle.dmlw_script.specs.inside.Readers.{and_then, at_line, body_line, crash_line, finish_step, finished, step_if_parsed, line_step, nothing, read_lines, parsed_step, with_body, with_head, Progress}
-use Rattle.dmlw_script.specs.Reading.{at_end, bad_line, body_refusal, data_due, in_body, is_open, log_due, next_phase, phase_after, refused, test_refusal, BeginsScript, FaultAfter, IsFirstFault, IsLineAfter, IsLineFault, Phase, StandsAfter}
+use Rattle.dmlw_script.specs.Plans.{disk_of, is_disk_size, is_ended, is_within, moment_after, moment_at, request_of, step_answer, submission_answer, top_of, Disk, Plan}
+use Rattle.dmlw_script.specs.inside.Readers.{and_then, at_line, body_line, crash_line, finish_step, finished, has_begun, step_if_parsed, line_step, nothing, read_lines, parsed_step, with_body, with_head, Progress}
+use Rattle.dmlw_script.specs.Reading.{at_end, bad_line, bare, body_refusal, data_due, head_refusal, in_body, in_head, is_open, log_due, moment_at_line, next, prefix_after, refused, test_refusal, with_layer, BeginsScript, ComesInTime, FaultAfter, IsFirstFault, IsLineAfter, IsLineFault, Prefix, StandsAfter}
 use Rattle.dmlw_script.specs.inside.Parsing.{parse_line}
-use Rattle.dmlw_script.proofs.BodyLaws.{bind_ok, in_draft, run, unlisted}
-use Rattle.dmlw_script.proofs.DraftLemmas.{listed}
-use Rattle.dmlw_script.proofs.ReadingLaws.{ended_plan, go, go_heard, lines_go, lines_spell, plain_step, plan_of, said_step, skipped_step, spelled_lines, with_body_ok, with_head_ok, GoneBy}
+use Rattle.dmlw_script.proofs.BodyLaws.{bind_ok, ended_ok, in_draft, named_ok, run, unlisted}
+use Rattle.dmlw_script.proofs.DraftLemmas.{listed, moment_push}
+use Rattle.dmlw_script.proofs.ReadingLaws.{cond_ok, ended_plan, go, go_heard, layered, lines_go, lines_spell, plain_step, plan_of, said_step, skipped_step, spelled_lines, with_body_ok, with_data_ok, with_head_ok, with_log_ok, GoneBy}
 use Rattle.dmlw_script.proofs.ParsingLaws.{one_parsed, parsed_again, parsed_read}
 
 -- ---- where reading ends
@@ -107,8 +113,8 @@ pub record Completes (p : Progress) (number : ℕ) : Type 0 where
 completes : (h : Stage) (b : Body) (number : ℕ) → Completes (record { head = h; body = b }) number
 completes (heads.Whole d l) b number = record { more = []; plan = plan_of d l b; read = refl }
 completes (heads.Ended d l picks) b number = record { more = []; plan = ended_plan d l (Some picks) b; read = refl }
-completes (heads.Data d) b number = record { more = codes "log 1" ∷ []; plan = plan_of d 1 b; read = refl }
-completes heads.Empty b number = record { more = codes "data 1" ∷ codes "log 1" ∷ []; plan = plan_of 1 1 b; read = refl }
+completes (heads.Data d) b number = record { more = codes "log 1" ∷ []; plan = plan_of d (bare 1) b; read = refl }
+completes heads.Empty b number = record { more = codes "data 1" ∷ codes "log 1" ∷ []; plan = plan_of (bare 1) (bare 1) b; read = refl }
 
 -- lines that lead somewhere begin a script
 pub gone_begins : (lines : List (List ℕ)) (q : Progress) → go kinds.Record nothing lines ≡ Ok q → BeginsScript lines
@@ -140,54 +146,156 @@ unfinished_is heads.Empty b refusal e = cc
 
 -- ---- what comes next
 
--- what comes next after this much of a head
-abbrev pub phase_of : Stage → Phase
-phase_of heads.Empty = data_due
-phase_of (heads.Data d) = log_due
-phase_of (heads.Whole d l) = in_body
-phase_of (heads.Ended d l picks) = at_end
+-- how much a head of these disks and these commands are
+abbrev pub body_prefix : Disk → Disk → List Command → Prefix
+body_prefix d l [] = in_head d l
+body_prefix d l (command ∷ body) = in_body d l (moment_after (command ∷ body))
+
+-- how much was read
+abbrev pub prefix_of : Stage → List Command → Prefix
+prefix_of heads.Empty body = data_due
+prefix_of (heads.Data d) body = log_due d
+prefix_of (heads.Whole d l) body = body_prefix d l body
+prefix_of (heads.Ended d l picks) body = at_end
+
+-- how much was read, with the commands
+abbrev pub prefix_at : Progress → Prefix
+prefix_at p = prefix_of p.head p.body.body
+
+-- there are no commands before a head has both disks
+abbrev pub IsEarly : Stage → List Command → Type 0
+IsEarly heads.Empty body = body ≡ []
+IsEarly (heads.Data d) body = body ≡ []
+IsEarly (heads.Whole d l) body = Unit {0}
+IsEarly (heads.Ended d l picks) body = Unit {0}
+
+-- this follows on that by what a line says
+abbrev pub Moves : Prefix → Said → Stage → List Command → Type 0
+Moves prefix s h body = (prefix_of h body ≡ next prefix s) × IsEarly h body
+
+-- after one more layer of the data disk
+data_moves : (d l : Disk) (k : Stage) (asked : Result LayerSpec TableError) (layers : List LayerSpec) → data_layer layers d l asked ≡ Ok k →
+    Moves (in_head d l) (parsed_lines.Head (head_lines.Layer disks.Data asked)) k []
+data_moves d l k asked (layer ∷ layers) e = absurd (cc)
+data_moves d l k asked [] e =
+    let r = with_data_ok (layer_step d asked) l k e in
+    let y = layered d asked r.0 r.1 in (
+      ap (λ (h : Stage). prefix_of h []) (sym r.2) ∙ ap (λ (x : Disk). in_head x l) (sym y.with)
+          ∙ ap (λ (a : Result LayerSpec TableError). next (in_head d l) (parsed_lines.Head (head_lines.Layer disks.Data a))) (sym y.is),
+      subst (λ (h : Stage). IsEarly h []) r.2 tt,
+    )
+
+-- after one more layer of the log disk
+log_moves : (d l : Disk) (k : Stage) (asked : Result LayerSpec TableError) → with_log d (layer_step l asked) ≡ Ok k →
+    Moves (in_head d l) (parsed_lines.Head (head_lines.Layer disks.Log asked)) k []
+log_moves d l k asked e =
+    let r = with_log_ok d (layer_step l asked) k e in
+    let y = layered l asked r.0 r.1 in (
+      ap (λ (h : Stage). prefix_of h []) (sym r.2) ∙ ap (λ (x : Disk). in_head d x) (sym y.with)
+          ∙ ap (λ (a : Result LayerSpec TableError). next (in_head d l) (parsed_lines.Head (head_lines.Layer disks.Log a))) (sym y.is),
+      subst (λ (h : Stage). IsEarly h []) r.2 tt,
+    )
+
+-- after one more layer
+layer_moves : (d l : Disk) (k : Stage) (body : List Command) (over : DiskName) (asked : Result LayerSpec TableError) →
+    layer_in (has_begun body) d l over asked ≡ Ok k → Moves (body_prefix d l body) (parsed_lines.Head (head_lines.Layer over asked)) k body
+layer_moves d l k (command ∷ body) over asked e = absurd (cc)
+layer_moves d l k [] disks.Data asked e = data_moves d l k asked l.layers e
+layer_moves d l k [] disks.Log asked e = log_moves d l k asked e
 
 -- after one more line of the head
-head_phase : (h k : Stage) (line : HeadLine) → head_step h line ≡ Some k → phase_of k ≡ next_phase (parsed_lines.Head line)
-head_phase heads.Empty k (head_lines.Data n) e = ap phase_of (sym (cond_some (is_disk_size n) (heads.Data n) k e).1)
-head_phase (heads.Data d) k (head_lines.Log n) e = ap phase_of (sym (cond_some (is_disk_size n) (heads.Whole d n) k e).1)
-head_phase heads.Empty k (head_lines.Log n) e = absurd (cc e)
-head_phase (heads.Data d) k (head_lines.Data n) e = absurd (cc e)
-head_phase (heads.Whole d l) k line e = absurd (cc e)
-head_phase (heads.Ended d l picks) k line e = absurd (cc e)
+head_moves : (h k : Stage) (body : List Command) (line : HeadLine) → head_step h (has_begun body) line ≡ Ok k → IsEarly h body → Moves (prefix_of h body) (parsed_lines.Head line) k body
+head_moves heads.Empty k body (head_lines.Data n) e early =
+    let p = cond_ok (is_disk_size n) (heads.Data (bare n)) k BadLine e in
+    (ap (λ (h : Stage). prefix_of h body) (sym p.1), subst (λ (h : Stage). IsEarly h body) p.1 early)
+head_moves (heads.Data d) k body (head_lines.Log n) e early =
+    let p = cond_ok (is_disk_size n) (heads.Whole d (bare n)) k BadLine e in
+    (ap (λ (h : Stage). prefix_of h body) (sym p.1) ∙ ap (body_prefix d (bare n)) early, subst (λ (h : Stage). IsEarly h body) p.1 tt)
+head_moves (heads.Whole d l) k body (head_lines.Layer over asked) e early = layer_moves d l k body over asked e
+head_moves heads.Empty k body (head_lines.Log n) e early = absurd (cc e)
+head_moves heads.Empty k body (head_lines.Layer over asked) e early = absurd (cc e)
+head_moves (heads.Data d) k body (head_lines.Data n) e early = absurd (cc e)
+head_moves (heads.Data d) k body (head_lines.Layer over asked) e early = absurd (cc e)
+head_moves (heads.Whole d l) k body (head_lines.Data n) e early = absurd (cc e)
+head_moves (heads.Whole d l) k body (head_lines.Log n) e early = absurd (cc e)
+head_moves (heads.Ended d l picks) k body line e early = absurd (cc e)
+
+-- after one more command
+after_command : (d l : Disk) (body : List Command) (command : Command) → body_prefix d l (body ++ command ∷ []) ≡ in_body d l (moment_at (moment_after body) command)
+after_command d l [] command = refl
+after_command d l (first ∷ body) command = ap (in_body d l) (moment_push 0 (first ∷ body) command)
+
+-- a line of the body comes next after a head, or after commands
+next_line : (d l : Disk) (body : List Command) (line : BodyLine) → next (body_prefix d l body) (parsed_lines.Body line) ≡ in_body d l (moment_at_line (moment_after body) line)
+next_line d l [] line = refl
+next_line d l (command ∷ body) line = refl
+
+-- after an end
+end_moves : (d l : Disk) (b c : Body) (o : Option ℕ) → ended_next o b ≡ Ok c → body_prefix d l c.body ≡ in_body d l (moment_after b.body)
+end_moves d l b c None e = absurd (cc)
+end_moves d l b c (Some request) e =
+    let q = ended_ok (is_ended request b.body) b c (commands.Complete request) e in
+    ap (λ (x : Body). body_prefix d l x.body) (sym q.1) ∙ after_command d l b.body (commands.Complete request)
 
 -- after one more line of the body
-body_phase : (h : Stage) (p q : Progress) (line : BodyLine) → p.head ≡ h → body_line kinds.Record h p line ≡ Ok q → phase_of q.head ≡ in_body
-body_phase heads.Empty p q line is e = absurd (cc e)
-body_phase (heads.Data d) p q line is e = absurd (cc e)
-body_phase (heads.Whole d l) p q line is e =
-    let r = with_body_ok p q (body_step d p.body line) e in
-    ap (λ (x : Progress). phase_of x.head) (sym r.2) ∙ ap phase_of is
-body_phase (heads.Ended d l picks) p q line is e = absurd (cc e)
+step_moves : (sectors : ℕ) (d l : Disk) (b c : Body) (line : BodyLine) → body_step sectors b line ≡ Ok c → body_prefix d l c.body ≡ in_body d l (moment_at_line (moment_after b.body) line)
+step_moves sectors d l b c (body_lines.Submit name submission) e =
+    let p = bind_ok (with_name b name) _ c e in
+    let q = bind_ok (as_refusal (submission_answer sectors submission)) _ c p.2 in
+    let n = named_ok (request_of name b.names) b p.0 name p.1 in
+    let same : with_command p.0 (commands.Submit submission) ≡ c = (let last = q.2 in cc) in
+    ap (λ (x : Body). body_prefix d l x.body) (sym (ap (λ (x : Body). with_command x (commands.Submit submission)) n.1 ∙ same))
+    ∙ after_command d l b.body (commands.Submit submission)
+step_moves sectors d l b c (body_lines.Complete name) e = end_moves d l b c (request_of name b.names) e
+step_moves sectors d l b c (body_lines.Step step) e =
+    let q = bind_ok (step_test sectors (moment_after b.body) step) _ c e in
+    let same : with_command b (commands.Step step) ≡ c = (let last = q.2 in cc) in
+    ap (λ (x : Body). body_prefix d l x.body) (sym same) ∙ after_command d l b.body (commands.Step step)
+
+-- after one more line of the body, in its place
+body_moves : (h : Stage) (p q : Progress) (line : BodyLine) → p.head ≡ h → body_line kinds.Record h p line ≡ Ok q → Moves (prefix_of h p.body.body) (parsed_lines.Body line) q.head q.body.body
+body_moves heads.Empty p q line is e = absurd (cc e)
+body_moves (heads.Data d) p q line is e = absurd (cc e)
+body_moves (heads.Whole d l) p q line is e =
+    let r = with_body_ok p q (body_step (top_of d) p.body line) e in
+    let here : p.head ≡ q.head = ap (λ (x : Progress). x.head) r.2 in
+    let whole : heads.Whole d l ≡ q.head = sym is ∙ here in
+    let after : r.0.body ≡ q.body.body = ap (λ (x : Progress). x.body.body) r.2 in (
+      ap (λ (x : Stage). prefix_of x q.body.body) (sym whole) ∙ ap (body_prefix d l) (sym after) ∙ step_moves (top_of d) d l p.body r.0 line r.1 ∙ sym (next_line d l p.body.body line),
+      subst (λ (x : Stage). IsEarly x q.body.body) whole tt,
+    )
+body_moves (heads.Ended d l picks) p q line is e = absurd (cc e)
+
+-- a crash comes next after a head, or after commands
+next_crash : (d l : Disk) (body : List Command) (picks : List ℕ) → next (body_prefix d l body) (parsed_lines.Crash picks) ≡ at_end
+next_crash d l [] picks = refl
+next_crash d l (command ∷ body) picks = refl
 
 -- after a crash
-crash_phase : (h : Stage) (p q : Progress) (picks : List ℕ) → crash_line kinds.Record h p picks ≡ Ok q → phase_of q.head ≡ at_end
-crash_phase heads.Empty p q picks e = absurd (cc e)
-crash_phase (heads.Data d) p q picks e = absurd (cc e)
-crash_phase (heads.Ended d l ended) p q picks e = absurd (cc e)
-crash_phase (heads.Whole d l) p q picks e =
+crash_moves : (h : Stage) (p q : Progress) (picks : List ℕ) → crash_line kinds.Record h p picks ≡ Ok q → Moves (prefix_of h p.body.body) (parsed_lines.Crash picks) q.head q.body.body
+crash_moves heads.Empty p q picks e = absurd (cc e)
+crash_moves (heads.Data d) p q picks e = absurd (cc e)
+crash_moves (heads.Ended d l ended) p q picks e = absurd (cc e)
+crash_moves (heads.Whole d l) p q picks e =
     let same : record p { head = heads.Ended d l picks } ≡ q = cc in
-    ap (λ (x : Progress). phase_of x.head) (sym same)
+    let ended : heads.Ended d l picks ≡ q.head = ap (λ (x : Progress). x.head) same in
+    (ap (λ (x : Stage). prefix_of x q.body.body) (sym ended) ∙ sym (next_crash d l p.body.body picks), subst (λ (x : Stage). IsEarly x q.body.body) ended tt)
 
 -- after one more line
-step_phase : (p q : Progress) (s : Said) → parsed_step kinds.Record p s ≡ Ok q → phase_of q.head ≡ next_phase s
-step_phase p q (parsed_lines.Head line) e =
-    let r = with_head_ok p q (head_step p.head line) e in
-    ap (λ (x : Progress). phase_of x.head) (sym r.2) ∙ head_phase p.head r.0 line r.1
-step_phase p q (parsed_lines.Body line) e = body_phase p.head p q line refl e
-step_phase p q (parsed_lines.Crash picks) e = crash_phase p.head p q picks e
+line_moves : (p q : Progress) (s : Said) → parsed_step kinds.Record p s ≡ Ok q → IsEarly p.head p.body.body → Moves (prefix_at p) s q.head q.body.body
+line_moves p q (parsed_lines.Head line) e early =
+    let r = with_head_ok p q (head_step p.head (has_begun p.body.body) line) e in
+    subst (λ (x : Progress). Moves (prefix_at p) (parsed_lines.Head line) x.head x.body.body) r.2 (head_moves p.head r.0 p.body.body line r.1 early)
+line_moves p q (parsed_lines.Body line) e early = body_moves p.head p q line refl e
+line_moves p q (parsed_lines.Crash picks) e early = crash_moves p.head p q picks e
 
 -- after the lines that say this
-run_phase : (p q : Progress) (ss : List Said) → run kinds.Record p ss ≡ Ok q → phase_of q.head ≡ phase_after (phase_of p.head) ss
-run_phase p q [] e = let same : p ≡ q = cc in ap (λ (x : Progress). phase_of x.head) (sym same)
-run_phase p q (s ∷ ss) e =
+run_moves : (p q : Progress) (ss : List Said) → run kinds.Record p ss ≡ Ok q → IsEarly p.head p.body.body → prefix_at q ≡ prefix_after (prefix_at p) ss
+run_moves p q [] e early = let same : p ≡ q = cc in ap prefix_at (sym same)
+run_moves p q (s ∷ ss) e early =
     let r = bind_ok (parsed_step kinds.Record p s) _ q e in
-    run_phase r.0 q ss r.2 ∙ ap (λ (phase : Phase). phase_after phase ss) (step_phase p r.0 s r.1)
+    let first = line_moves p r.0 s r.1 early in
+    run_moves r.0 q ss r.2 first.1 ∙ ap (λ (prefix : Prefix). prefix_after prefix ss) first.0
 
 -- ---- why a line is refused
 
@@ -218,40 +326,31 @@ record Comes (before : List (List ℕ)) (q : Progress) (line : List ℕ) (s : Sa
   leads : run kinds.Record nothing said ≡ Ok q
 
 -- what may come after them stands there
-comes_after : (before : List (List ℕ)) (q : Progress) (line : List ℕ) (s : Said) → Comes before q line s → StandsAfter (phase_of q.head) s → IsLineAfter before line s
+comes_after : (before : List (List ℕ)) (q : Progress) (line : List ℕ) (s : Said) → Comes before q line s → StandsAfter (prefix_at q) s → IsLineAfter before line s
 comes_after before q line s c stands = record {
   plain = c.plain;
   says = c.says;
   said = c.said;
   before_says = c.before_says;
-  stands = subst (λ (phase : Phase). StandsAfter phase s) (run_phase nothing q c.said c.leads) stands;
+  stands = subst (λ (prefix : Prefix). StandsAfter prefix s) (run_moves nothing q c.said c.leads refl) stands;
 }
 
 -- what may not come after them doesn't
-never_after : (before : List (List ℕ)) (q : Progress) (line : List ℕ) (s : Said) → Comes before q line s → (StandsAfter (phase_of q.head) s → ⊥) → (t : Said) → IsLineAfter before line t → ⊥
+never_after : (before : List (List ℕ)) (q : Progress) (line : List ℕ) (s : Said) → Comes before q line s → (StandsAfter (prefix_at q) s → ⊥) → (t : Said) → IsLineAfter before line t → ⊥
 never_after before q line s c never t at =
     let same : t ≡ s = one_parsed line t s at.says c.says in
     let said : at.said ≡ c.said = all_one (unskipped before) at.said c.said at.before_says c.before_says in
-    let there : phase_after data_due at.said ≡ phase_of q.head = ap (phase_after data_due) said ∙ sym (run_phase nothing q c.said c.leads) in
-    never (subst (λ (x : Said). StandsAfter (phase_of q.head) x) same (subst (λ (phase : Phase). StandsAfter phase t) there at.stands))
+    let there : prefix_after data_due at.said ≡ prefix_at q = ap (prefix_after data_due) said ∙ sym (run_moves nothing q c.said c.leads refl) in
+    never (subst (λ (x : Said). StandsAfter (prefix_at q) x) same (subst (λ (prefix : Prefix). StandsAfter prefix t) there at.stands))
 
 -- a line that may not come is a bad one
-never_fault : (before : List (List ℕ)) (q : Progress) (line : List ℕ) (s : Said) (refusal : Refusal) → Comes before q line s → (StandsAfter (phase_of q.head) s → ⊥) → BadLine ≡ refusal → IsLineFault before line refusal
+never_fault : (before : List (List ℕ)) (q : Progress) (line : List ℕ) (s : Said) (refusal : Refusal) → Comes before q line s → (StandsAfter (prefix_at q) s → ⊥) → BadLine ≡ refusal → IsLineFault before line refusal
 never_fault before q line s refusal c never same = subst (λ (x : Refusal). IsLineFault before line x) same (bad_line (never_after before q line s c never))
 
--- a line of the head that adds nothing may not come
-no_head : (h : Stage) (line : HeadLine) → head_step h line ≡ None → StandsAfter (phase_of h) (parsed_lines.Head line) → ⊥
-no_head heads.Empty (head_lines.Data n) e stands = let some = cond-true (is_disk_size n) (Some (heads.Data n)) None stands in cc
-no_head (heads.Data d) (head_lines.Log n) e stands = let some = cond-true (is_disk_size n) (Some (heads.Whole d n)) None stands in cc
-no_head heads.Empty (head_lines.Log n) e stands = stands
-no_head (heads.Data d) (head_lines.Data n) e stands = stands
-no_head (heads.Whole d l) line e stands = stands
-no_head (heads.Ended d l picks) line e stands = stands
-
--- a line of the head is refused where it adds nothing
-pub with_head_err : (p : Progress) (o : Option Stage) (refusal : Refusal) → with_head p o ≡ Err refusal → (o ≡ None) × (BadLine ≡ refusal)
-with_head_err p None refusal e = (refl, cc)
-with_head_err p (Some h) refusal e = absurd (cc)
+-- a line of the head is refused for its own reason
+pub with_head_err : (p : Progress) (r : Result Stage Refusal) (refusal : Refusal) → with_head p r ≡ Err refusal → r ≡ Err refusal
+with_head_err p (Ok h) refusal e = absurd (cc)
+with_head_err p (Err x) refusal e = cc
 
 -- a body's line is refused for its own reason
 with_body_err : (p : Progress) (r : Result Body Refusal) (refusal : Refusal) → with_body p r ≡ Err refusal → r ≡ Err refusal
@@ -272,11 +371,11 @@ listed_place name names request e =
     (cases_Bool (list_any (same_name name) names))
 
 -- why a submission is refused
-submit_refused : (d l : ℕ) (b : Body) (name : ScriptId) (submission : Submission) (refusal : Refusal) (o : Option ℕ) → request_of name b.names ≡ o
-    → (named_next o b name >>= λ submitted. as_refusal (submission_answer d submission) >>= λ fine. Ok (with_command submitted (commands.Submit submission))) ≡ Err refusal
+submit_refused : (d l : Disk) (b : Body) (name : ScriptId) (submission : Submission) (refusal : Refusal) (o : Option ℕ) → request_of name b.names ≡ o
+    → (named_next o b name >>= λ submitted. as_refusal (submission_answer (top_of d) submission) >>= λ fine. Ok (with_command submitted (commands.Submit submission))) ≡ Err refusal
     → body_refusal (plan_of d l b) (body_lines.Submit name submission) ≡ Some refusal
 submit_refused d l b name submission refusal None is e =
-    cond-false _ _ _ (unlisted name b.names is) ∙ tested_err (submission_answer d submission) _ refusal e
+    cond-false _ _ _ (unlisted name b.names is) ∙ tested_err (submission_answer (top_of d) submission) _ refusal e
 submit_refused d l b name submission refusal (Some request) is e =
     cond-true _ _ _ (listed_place name b.names request is) ∙ cc
 
@@ -286,21 +385,62 @@ ended_err true c refusal e = (refl, cc)
 ended_err false c refusal e = absurd (cc)
 
 -- why an end is refused
-end_refused : (d l : ℕ) (b : Body) (name : ScriptId) (refusal : Refusal) (o : Option ℕ) → request_of name b.names ≡ o → ended_next o b ≡ Err refusal
+end_refused : (d l : Disk) (b : Body) (name : ScriptId) (refusal : Refusal) (o : Option ℕ) → request_of name b.names ≡ o → ended_next o b ≡ Err refusal
     → body_refusal (plan_of d l b) (body_lines.Complete name) ≡ Some refusal
 end_refused d l b name refusal None is e = cond-false _ _ _ (ap (λ (o : Option ℕ). is_open o (plan_of d l b)) is) ∙ cc
 end_refused d l b name refusal (Some request) is e =
     let h = ended_err (is_ended request b.body) (with_command b (commands.Complete request)) refusal e in
     cond-false _ _ _ (ap (λ (o : Option ℕ). is_open o (plan_of d l b)) is ∙ ap not h.0) ∙ ap Some h.1
 
--- why a line of the body is refused
-body_refused : (d l : ℕ) (b : Body) (line : BodyLine) (refusal : Refusal) → body_step d b line ≡ Err refusal → body_refusal (plan_of d l b) line ≡ Some refusal
-body_refused d l b (body_lines.Submit name submission) refusal e = submit_refused d l b name submission refusal (request_of name b.names) refl e
-body_refused d l b (body_lines.Complete name) refusal e = end_refused d l b name refusal (request_of name b.names) refl e
-body_refused d l b (body_lines.Step step) refusal e = tested_err (step_answer d step) _ refusal e
+-- why a line of the body is refused: it doesn't come in time, or for its own reason
+abbrev BodyRefused : Disk → Disk → Body → BodyLine → Refusal → Type 0
+BodyRefused d l b line refusal =
+    ((ComesInTime (moment_after b.body) line → ⊥) × (BadLine ≡ refusal)) ⊎ (ComesInTime (moment_after b.body) line × (body_refusal (plan_of d l b) line ≡ Some refusal))
+
+-- a moment that goes back is refused
+later_refused : (t : Bool) (x : Unit {0}) (refusal : Refusal) → cond t (Err BadLine) (Ok x) ≡ Err refusal → (t ≡ true) × (BadLine ≡ refusal)
+later_refused true x refusal e = (refl, cc)
+later_refused false x refusal e = absurd (cc)
+
+-- a step that is refused failed its test
+step_err : (r : Result (Unit {0}) Refusal) (c : Body) (refusal : Refusal) → (r >>= λ fine. Ok c) ≡ Err refusal → r ≡ Err refusal
+step_err (Ok u) c refusal e = absurd (cc)
+step_err (Err x) c refusal e = cc
+
+-- a test of sectors that is refused
+answered_err : (r : Result (Unit {0}) BadBio) (refusal : Refusal) → as_refusal r ≡ Err refusal → test_refusal r ≡ Some refusal
+answered_err (Ok u) refusal e = absurd (cc)
+answered_err (Err bad) refusal e = cc
+
+-- why a line that names no request is refused
+step_refused : (d l : Disk) (b : Body) (step : Step) (refusal : Refusal) → step_test (top_of d) (moment_after b.body) step ≡ Err refusal → BodyRefused d l b (body_lines.Step step) refusal
+step_refused d l b steps.Close refusal e = absurd (cc)
+step_refused d l b (steps.Read first count) refusal e = inr (tt, answered_err (step_answer (top_of d) (steps.Read first count)) refusal e)
+step_refused d l b steps.Turn refusal e = absurd (cc)
+step_refused d l b (steps.Mark text) refusal e = absurd (cc)
+step_refused d l b (steps.At later) refusal e =
+    let p = later_refused (nat_lt later (moment_after b.body)) tt refusal e in
+    let back : later < moment_after b.body = ltb-true _ _ p.0 in
+    inl (λ in_time. absurd (let forth : moment_after b.body ≤ later = in_time in omega arith), p.1)
+
+body_refused : (d l : Disk) (b : Body) (line : BodyLine) (refusal : Refusal) → body_step (top_of d) b line ≡ Err refusal → BodyRefused d l b line refusal
+body_refused d l b (body_lines.Submit name submission) refusal e = inr (tt, submit_refused d l b name submission refusal (request_of name b.names) refl e)
+body_refused d l b (body_lines.Complete name) refusal e = inr (tt, end_refused d l b name refusal (request_of name b.names) refl e)
+body_refused d l b (body_lines.Step step) refusal e =
+    step_refused d l b step refusal (step_err (step_test (top_of d) (moment_after b.body) step) (with_command b (commands.Step step)) refusal e)
+
+-- a line of the body that comes in time may stand after a head, or after commands
+stands_body : (d l : Disk) (body : List Command) (line : BodyLine) → ComesInTime (moment_after body) line → StandsAfter (body_prefix d l body) (parsed_lines.Body line)
+stands_body d l [] line in_time = in_time
+stands_body d l (command ∷ body) line in_time = in_time
+
+-- and no other
+stood_body : (d l : Disk) (body : List Command) (line : BodyLine) → StandsAfter (body_prefix d l body) (parsed_lines.Body line) → ComesInTime (moment_after body) line
+stood_body d l [] line stands = stands
+stood_body d l (command ∷ body) line stands = stands
 
 -- lines after which a text may end
-gone_spells : (before : List (List ℕ)) (d l : ℕ) (b : Body) → go kinds.Record nothing before ≡ Ok (in_draft d l b) → AreLinesOf before (plan_of d l b)
+gone_spells : (before : List (List ℕ)) (d l : Disk) (b : Body) → go kinds.Record nothing before ≡ Ok (in_draft d l b) → AreLinesOf before (plan_of d l b)
 gone_spells before d l b gone =
     lines_spell before 1 (plan_of d l b)
     (ap (λ x. read_lines kinds.Record nothing 1 x) (sym (append-nil before)) ∙ lines_go kinds.Record nothing (in_draft d l b) 1 before [] gone)
@@ -311,8 +451,12 @@ body_fault : (before : List (List ℕ)) (h : Stage) (b : Body) (line : List ℕ)
 body_fault before heads.Empty b line s refusal c e = never_fault before (record { head = heads.Empty; body = b }) line (parsed_lines.Body s) refusal c (λ stands. stands) (cc)
 body_fault before (heads.Data d) b line s refusal c e = never_fault before (record { head = heads.Data d; body = b }) line (parsed_lines.Body s) refusal c (λ stands. stands) (cc)
 body_fault before (heads.Whole d l) b line s refusal c e =
-    refused (parsed_lines.Body s) (plan_of d l b) refusal (comes_after before (in_draft d l b) line (parsed_lines.Body s) c tt) (gone_spells before d l b c.gone)
-    (body_refused d l b s refusal (with_body_err (in_draft d l b) (body_step d b s) refusal e))
+    ⊎_elim
+    (λ (h : (ComesInTime (moment_after b.body) s → ⊥) × (BadLine ≡ refusal)).
+    never_fault before (in_draft d l b) line (parsed_lines.Body s) refusal c (λ stands. h.0 (stood_body d l b.body s stands)) h.1)
+    (λ (h : ComesInTime (moment_after b.body) s × (body_refusal (plan_of d l b) s ≡ Some refusal)).
+    refused (parsed_lines.Body s) (plan_of d l b) refusal (comes_after before (in_draft d l b) line (parsed_lines.Body s) c (stands_body d l b.body s h.0)) (gone_spells before d l b c.gone) h.1)
+    (body_refused d l b s refusal (with_body_err (in_draft d l b) (body_step (top_of d) b s) refusal e))
 body_fault before (heads.Ended d l picks) b line s refusal c e =
     never_fault before (record { head = heads.Ended d l picks; body = b }) line (parsed_lines.Body s) refusal c (λ stands. stands) (cc)
 
@@ -325,11 +469,116 @@ crash_fault before (heads.Whole d l) b line picks refusal c e = absurd (cc)
 crash_fault before (heads.Ended d l ended) b line picks refusal c e =
     never_fault before (record { head = heads.Ended d l ended; body = b }) line (parsed_lines.Crash picks) refusal c (λ stands. stands) (cc)
 
+-- ---- why a line of the head is refused
+
+-- a test that fails leaves its refusal
+cond_err : {A : Type 0} (t : Bool) (x : A) (bad refusal : Refusal) → cond t (Ok x) (Err bad) ≡ Err refusal → (t ≡ false) × (bad ≡ refusal)
+cond_err true x bad refusal e = absurd (cc)
+cond_err false x bad refusal e = (refl, cc)
+
+-- why a layer over a disk is refused: four stand there, or for its own reason
+abbrev LayerRefused : Disk → Result LayerSpec TableError → Refusal → Type 0
+LayerRefused disk asked refusal =
+    ((4 ≤ length disk.layers) × (BadLine ≡ refusal))
+    ⊎ ((length disk.layers < 4) × ((plan : Plan) (over : DiskName) → disk_of over plan ≡ disk → head_refusal plan (head_lines.Layer over asked) ≡ Some refusal))
+
+layer_err : (disk : Disk) (asked : Result LayerSpec TableError) (refusal : Refusal) → layer_step disk asked ≡ Err refusal → LayerRefused disk asked refusal
+layer_err disk asked refusal e = by_count (nat_lt (length disk.layers) 4) refl asked e
+  where
+    by_count : (t : Bool) → nat_lt (length disk.layers) 4 ≡ t → (a : Result LayerSpec TableError) → cond t (asked_layer disk a) (Err BadLine) ≡ Err refusal → LayerRefused disk a refusal
+    by_count false many a e = inl (ltb-false _ _ many, cc)
+    by_count true few (Err error) e = inr (ltb-true _ _ few, λ plan over same. cc)
+    by_count true few (Ok spec) e =
+        let p = cond_err (is_within spec (top_of disk)) (with_layer disk spec) OutOfRange refusal e in
+        inr (
+          ltb-true _ _ few,
+          λ plan over same.
+              ap (λ (x : Disk). cond (is_within spec (top_of x)) None (Some OutOfRange)) same ∙ cond-false _ _ _ p.0 ∙ ap Some p.1,
+        )
+
+-- a data disk that was refused
+with_data_err : (r : Result Disk Refusal) (l : Disk) (refusal : Refusal) → with_data r l ≡ Err refusal → r ≡ Err refusal
+with_data_err (Ok d) l refusal e = absurd (cc)
+with_data_err (Err x) l refusal e = cc
+
+-- a log disk that was refused
+with_log_err : (d : Disk) (r : Result Disk Refusal) (refusal : Refusal) → with_log d r ≡ Err refusal → r ≡ Err refusal
+with_log_err d (Ok l) refusal e = absurd (cc)
+with_log_err d (Err x) refusal e = cc
+
+-- a head of these disks, with no commands
+abbrev headed : Disk → Disk → List ScriptId → Progress
+headed d l names = in_draft d l (record { names = names; body = [] })
+
+-- why a layer of the data disk is refused
+data_fault : (before : List (List ℕ)) (d l : Disk) (names : List ScriptId) (line : List ℕ) (asked : Result LayerSpec TableError) (refusal : Refusal) (layers : List LayerSpec) → l.layers ≡ layers →
+    Comes before (headed d l names) line (parsed_lines.Head (head_lines.Layer disks.Data asked)) → data_layer layers d l asked ≡ Err refusal → IsLineFault before line refusal
+data_fault before d l names line asked refusal (layer ∷ layers) are c e =
+    never_fault before (headed d l names) line (parsed_lines.Head (head_lines.Layer disks.Data asked)) refusal c (λ stands. let both = sym are ∙ stands.1 in cc) (cc)
+data_fault before d l names line asked refusal [] none c e =
+    let s = parsed_lines.Head (head_lines.Layer disks.Data asked) in
+    let b : Body = record { names = names; body = [] } in
+    ⊎_elim
+    (λ (h : (4 ≤ length d.layers) × (BadLine ≡ refusal)). never_fault before (headed d l names) line s refusal c (λ stands. absurd (let few : length d.layers < 4 = stands.0 in omega (arith, h.0))) h.1)
+    (λ (h : (length d.layers < 4) × ((plan : Plan) (over : DiskName) → disk_of over plan ≡ d → head_refusal plan (head_lines.Layer over asked) ≡ Some refusal)).
+    refused s (plan_of d l b) refusal (comes_after before (headed d l names) line s c (h.0, none)) (gone_spells before d l b c.gone) (h.1 (plan_of d l b) disks.Data refl))
+    (layer_err d asked refusal (with_data_err (layer_step d asked) l refusal e))
+
+-- why a layer of the log disk is refused
+log_fault : (before : List (List ℕ)) (d l : Disk) (names : List ScriptId) (line : List ℕ) (asked : Result LayerSpec TableError) (refusal : Refusal) →
+    Comes before (headed d l names) line (parsed_lines.Head (head_lines.Layer disks.Log asked)) → with_log d (layer_step l asked) ≡ Err refusal → IsLineFault before line refusal
+log_fault before d l names line asked refusal c e =
+    let s = parsed_lines.Head (head_lines.Layer disks.Log asked) in
+    let b : Body = record { names = names; body = [] } in
+    ⊎_elim
+    (λ (h : (4 ≤ length l.layers) × (BadLine ≡ refusal)). never_fault before (headed d l names) line s refusal c (λ stands. absurd (let few : length l.layers < 4 = stands in omega (arith, h.0))) h.1)
+    (λ (h : (length l.layers < 4) × ((plan : Plan) (over : DiskName) → disk_of over plan ≡ l → head_refusal plan (head_lines.Layer over asked) ≡ Some refusal)).
+    refused s (plan_of d l b) refusal (comes_after before (headed d l names) line s c h.0) (gone_spells before d l b c.gone) (h.1 (plan_of d l b) disks.Log refl))
+    (layer_err l asked refusal (with_log_err d (layer_step l asked) refusal e))
+
+-- a line of the head that is no layer's stands before the layers
+no_size : (d l : Disk) (body : List Command) (n : ℕ) → (StandsAfter (body_prefix d l body) (parsed_lines.Head (head_lines.Data n)) → ⊥) × (StandsAfter (body_prefix d l body) (parsed_lines.Head (head_lines.Log n)) → ⊥)
+no_size d l [] n = (λ stands. stands, λ stands. stands)
+no_size d l (command ∷ body) n = (λ stands. stands, λ stands. stands)
+
+-- why a layer is refused
+layer_fault : (before : List (List ℕ)) (d l : Disk) (names : List ScriptId) (body : List Command) (line : List ℕ) (over : DiskName) (asked : Result LayerSpec TableError) (refusal : Refusal) →
+    Comes before (in_draft d l (record { names = names; body = body })) line (parsed_lines.Head (head_lines.Layer over asked)) → layer_in (has_begun body) d l over asked ≡ Err refusal →
+    IsLineFault before line refusal
+layer_fault before d l names (command ∷ body) line over asked refusal c e =
+    never_fault before (in_draft d l (record { names = names; body = command ∷ body })) line (parsed_lines.Head (head_lines.Layer over asked)) refusal c (λ stands. stands) (cc)
+layer_fault before d l names [] line disks.Data asked refusal c e = data_fault before d l names line asked refusal l.layers refl c e
+layer_fault before d l names [] line disks.Log asked refusal c e = log_fault before d l names line asked refusal c e
+
+-- why a line of the head is refused
+head_fault : (before : List (List ℕ)) (h : Stage) (b : Body) (line : List ℕ) (s : HeadLine) (refusal : Refusal) → Comes before (record { head = h; body = b }) line (parsed_lines.Head s)
+    → head_step h (has_begun b.body) s ≡ Err refusal → IsLineFault before line refusal
+head_fault before heads.Empty b line (head_lines.Data n) refusal c e =
+    let p = cond_err (is_disk_size n) (heads.Data (bare n)) BadLine refusal e in
+    never_fault before (record { head = heads.Empty; body = b }) line (parsed_lines.Head (head_lines.Data n)) refusal c (λ stands. let both = sym stands ∙ p.0 in cc) p.1
+head_fault before (heads.Data d) b line (head_lines.Log n) refusal c e =
+    let p = cond_err (is_disk_size n) (heads.Whole d (bare n)) BadLine refusal e in
+    never_fault before (record { head = heads.Data d; body = b }) line (parsed_lines.Head (head_lines.Log n)) refusal c (λ stands. let both = sym stands ∙ p.0 in cc) p.1
+head_fault before (heads.Whole d l) b line (head_lines.Layer over asked) refusal c e = layer_fault before d l b.names b.body line over asked refusal c e
+head_fault before heads.Empty b line (head_lines.Log n) refusal c e =
+    never_fault before (record { head = heads.Empty; body = b }) line (parsed_lines.Head (head_lines.Log n)) refusal c (λ stands. stands) (cc)
+head_fault before heads.Empty b line (head_lines.Layer over asked) refusal c e =
+    never_fault before (record { head = heads.Empty; body = b }) line (parsed_lines.Head (head_lines.Layer over asked)) refusal c (λ stands. stands) (cc)
+head_fault before (heads.Data d) b line (head_lines.Data n) refusal c e =
+    never_fault before (record { head = heads.Data d; body = b }) line (parsed_lines.Head (head_lines.Data n)) refusal c (λ stands. stands) (cc)
+head_fault before (heads.Data d) b line (head_lines.Layer over asked) refusal c e =
+    never_fault before (record { head = heads.Data d; body = b }) line (parsed_lines.Head (head_lines.Layer over asked)) refusal c (λ stands. stands) (cc)
+head_fault before (heads.Whole d l) b line (head_lines.Data n) refusal c e =
+    never_fault before (in_draft d l b) line (parsed_lines.Head (head_lines.Data n)) refusal c (no_size d l b.body n).0 (cc)
+head_fault before (heads.Whole d l) b line (head_lines.Log n) refusal c e =
+    never_fault before (in_draft d l b) line (parsed_lines.Head (head_lines.Log n)) refusal c (no_size d l b.body n).1 (cc)
+head_fault before (heads.Ended d l picks) b line s refusal c e =
+    never_fault before (record { head = heads.Ended d l picks; body = b }) line (parsed_lines.Head s) refusal c (λ stands. stands) (cc)
+
 -- why a line that says this is refused
 parsed_fault : (before : List (List ℕ)) (q : Progress) (line : List ℕ) (s : Said) (refusal : Refusal) → Comes before q line s → parsed_step kinds.Record q s ≡ Err refusal → IsLineFault before line refusal
 parsed_fault before q line (parsed_lines.Head s) refusal c e =
-    let h = with_head_err q (head_step q.head s) refusal e in
-    never_fault before q line (parsed_lines.Head s) refusal c (no_head q.head s h.0) h.1
+    head_fault before q.head q.body line s refusal c (with_head_err q (head_step q.head (has_begun q.body.body) s) refusal e)
 parsed_fault before q line (parsed_lines.Body s) refusal c e = body_fault before q.head q.body line s refusal c e
 parsed_fault before q line (parsed_lines.Crash picks) refusal c e = crash_fault before q.head q.body line picks refusal c e
 

@@ -1,6 +1,8 @@
+pub mod DiskLaws
 pub mod DraftLemmas
 pub mod PickLaws
 pub mod LineLemmas
+pub mod LayerLaws
 pub mod ParsingLaws
 pub mod BodyLaws
 pub mod ReadingLaws

@@ -1,5 +1,5 @@
 use Rattle.std.proofs.Common.{◌≡◌, ℕ, ◌+◌, ◌-◌, ◌*◌, ◌/◌, ◌%◌, ◌<◌, ◌≤◌, Bool, true, false, ◌&&◌, cond, List, [], ◌∷◌, ◌++◌, Option, Some, None, ◌⊎◌, inl, inr, ⊎_elim, refl, ap, subst, ◌∙◌, sym, arith}
-use Rattle.std.specs.Prelude.{◌==◌, codes, nat_lt, nat_le, not}
+use Rattle.std.specs.Prelude.{◌==◌, codes, nat_lt, nat_le, not, Result}
 use Rattle.std.specs.Char.{is_ascii_digit}
 use Rattle.std.specs.List.{list_all, onto_first, AllZip}
 use Rattle.std.specs.Option.{option_map}
@@ -9,6 +9,8 @@ use Rattle.std.proofs.lemmas.Bool.Decides.{nat_tests}
 use Rattle.std.proofs.lemmas.List.{append-nil}
 use Rattle.std.proofs.lemmas.Slice.Eq.{bytes_eq-Decides}
 use Rattle.std.proofs.lemmas.Option.{cond_some}
+use Rattle.dmlw_script.specs.declared.disk_name.DiskName.{DiskName}
+use Rattle.dmlw_script.specs.declared.disk_name.DiskName.TheVariants as disks
 use Rattle.dmlw_script.specs.declared.script_id.ScriptId.{ScriptId}
 use Rattle.dmlw_script.specs.Said.{Said}
 use Rattle.dmlw_script.specs.Said as parsed_lines
@@ -17,14 +19,17 @@ use Rattle.dmlw_script.specs.declared.line.BodyLine.TheVariants as body_lines
 use Rattle.dmlw_script.specs.declared.command.Submission.TheVariants as submits
 use Rattle.dmlw_script.specs.declared.command.Step.TheVariants as steps
 use Rattle.dmlw_script.specs.declared.command.WriteOptions.{WriteOptions}
-use Rattle.dmlw_script.specs.Grammar.{spaced, IsId, ParsesAs, ParsesAsCrash, ParsesAsId, ParsesAsNumber}
+use Rattle.dmlw_script.specs.Grammar.{layer_verb, spaced, AsksFor, IsId, ParsesAs, ParsesAsCrash, ParsesAsId, ParsesAsNumber}
 use Rattle.words.specs.WordLaws.{number_again, number_read}
 use Rattle.dmlw_script.specs.Lines.{is_line_text, is_skipped}
 use Rattle.dmlw_script.specs.Ids.{is_id, is_name_byte, id_of_word}
-use Rattle.dmlw_script.specs.inside.Parsing.{◌>>=◌, body_words, discard_of, found_options, lone_word, mark_of, numbers_of, options_of, take_word, parse_parts, parse_words, parse_line, picks_of, plain_parts, read_of, split_words, step, submit, with_number, write_of}
+use Rattle.dmlw_script.specs.inside.Parsing.{◌>>=◌, asked_of, body_words, discard_of, found_options, layer_of, lone_word, mark_of, numbers_of, options_of, take_word, parse_parts, parse_words, parse_line, picks_of, plain_parts, read_of, split_words, step, submit, with_number, write_of}
 use Rattle.dmlw_script.specs.Options.{option_text, option_word, option_words, options_text}
 use Rattle.dmlw_script.specs.Words.{byte_from, byte_of, byte_text, half_of, hex_digit}
-use Rattle.words.specs.Words.{after_byte, before_byte, is_number, number_of, IsNumber}
+use Rattle.dmlw_script.proofs.LayerLaws.{asked_is, one_asked}
+use Rattle.table_line.specs.declared.layer_spec.LayerSpec.{LayerSpec}
+use Rattle.table_line.specs.declared.table_error.TableError.{TableError}
+use Rattle.words.specs.Words.{after_byte, before_byte, is_number, number_of, words_of, IsNumber}
 
 -- ---- choices
 
@@ -432,14 +437,23 @@ body_read verb words s =
     (verb_read verb (codes "d") words _ _ s (discard_read words s)
     (verb_read verb (codes "c") words _ _ s (id_line (codes "c") words (λ name. parsed_lines.Body (body_lines.Complete name)) s (λ name says. says))
     (verb_read verb (codes "r") words _ _ s (read_read words s)
-    (λ e. absurd (cc e))))))
+    (verb_read verb (codes "at") words _ _ s (number_line (codes "at") words (λ moment. step (steps.At moment)) s (λ moment says. says))
+    (λ e. absurd (cc e)))))))
+
+-- what is heard as a layer is said
+layer_read : (over : DiskName) (words : List ℕ) (s : Said) → Some (layer_of over words) ≡ Some s → ParsesAs (first_word (layer_verb over) words) s
+layer_read over words s e =
+    let same : layer_of over words ≡ s = cc in
+    subst (λ (x : Said). ParsesAs (first_word (layer_verb over) words) x) same (record { text = words; asks = asked_is words; spelled = refl })
 
 -- what is heard of the words is said
 said_read : (verb words : List ℕ) (s : Said) → parse_words verb words ≡ Some s → ParsesAs (first_word verb words) s
 said_read verb words s =
     verb_read verb (codes "data") words _ _ s (number_line (codes "data") words (λ n. parsed_lines.Head (head_lines.Data n)) s (λ n says. says))
     (verb_read verb (codes "log") words _ _ s (number_line (codes "log") words (λ n. parsed_lines.Head (head_lines.Log n)) s (λ n says. says))
-    (body_read verb words s))
+    (verb_read verb (codes "data-layer") words _ _ s (layer_read disks.Data words s)
+    (verb_read verb (codes "log-layer") words _ _ s (layer_read disks.Log words s)
+    (body_read verb words s))))
 
 -- what is heard of one word is said
 word_read : (verb word : List ℕ) (x s : Said) (y : Option Said) → ParsesAs word x → (y ≡ Some s → ParsesAs verb s) → cond (bytes_eq verb word) (Some x) y ≡ Some s → ParsesAs verb s
@@ -665,12 +679,19 @@ read_again fw cw first count is_first is_count =
     (bind_at _ _ _ _ a.1
     (bind_at _ _ _ _ (number_again cw count is_count) refl))
 
+-- a layer is heard as it is
+layer_again : (over : DiskName) (text : List ℕ) (asked : Result LayerSpec TableError) → AsksFor (words_of text) asked → layer_of over text ≡ parsed_lines.Head (head_lines.Layer over asked)
+layer_again over text asked asks =
+    ap (λ (x : Result LayerSpec TableError). parsed_lines.Head (head_lines.Layer over x)) (one_asked (words_of text) (asked_of text) asked (asked_is text) asks)
+
 -- what is said is heard
 pub parsed_again : (line : List ℕ) (s : Said) → ParsesAs line s → parse_line line ≡ Some s
 parsed_again line (parsed_lines.Head (head_lines.Data n)) says =
     rw says.spelled (ap (option_map (λ k. parsed_lines.Head (head_lines.Data k))) (number_again says.word n says.number))
 parsed_again line (parsed_lines.Head (head_lines.Log n)) says =
     rw says.spelled (ap (option_map (λ k. parsed_lines.Head (head_lines.Log k))) (number_again says.word n says.number))
+parsed_again line (parsed_lines.Head (head_lines.Layer disks.Data asked)) says = rw says.spelled (ap Some (layer_again disks.Data says.text asked says.asks))
+parsed_again line (parsed_lines.Head (head_lines.Layer disks.Log asked)) says = rw says.spelled (ap Some (layer_again disks.Log says.text asked says.asks))
 parsed_again line (parsed_lines.Body (body_lines.Submit name (submits.Write first count byte options))) says =
     rw says.spelled (write_again says.id_word says.first_word says.count_word name first count byte options says.id says.first_number says.count_number says.is_byte)
 parsed_again line (parsed_lines.Body (body_lines.Submit name (submits.Discard first count))) says =
@@ -684,6 +705,8 @@ parsed_again line (parsed_lines.Body (body_lines.Step (steps.Read first count)))
     rw says.spelled (read_again says.first_word says.count_word first count says.first_number says.count_number)
 parsed_again line (parsed_lines.Body (body_lines.Step steps.Turn)) says = rw says refl
 parsed_again line (parsed_lines.Body (body_lines.Step (steps.Mark text))) says = rw says.spelled (cond-true _ _ _ says.plain)
+parsed_again line (parsed_lines.Body (body_lines.Step (steps.At moment))) says =
+    rw says.spelled (ap (option_map (λ k. step (steps.At k))) (number_again says.word moment says.number))
 parsed_again line (parsed_lines.Crash picks) says = rw says.spelled (crash_again says.words picks says.numbers)
 
 -- a line says one thing

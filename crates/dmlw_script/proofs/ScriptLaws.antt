@@ -1,18 +1,19 @@
 use Rattle.std.proofs.Common.{◌≡◌, ℕ, zero, suc, ◌+◌, ◌<◌, ◌≤◌, Bool, true, false, not, ◌||◌, cond, List, [], ◌∷◌, ◌++◌, length, Option, Some, None, ⊎_elim, get_or, refl, ap, ◌∙◌, sym, subst, arith, append_assoc}
-use Rattle.std.specs.Prelude.{is_some, slice_get}
+use Rattle.std.specs.Prelude.{is_some, map, slice_get}
 use Rattle.std.specs.List.{AllByRecursion, AllZip}
 use Rattle.std.proofs.lemmas.Bool.{cases_lt, eq-eqb}
-use Rattle.std.proofs.lemmas.List.{append-nil, length-append}
+use Rattle.std.proofs.lemmas.List.{append-nil, length-append, length-map}
 use Rattle.std.proofs.lemmas.Option.{slice_get-get_or, slice_get_past}
 use Rattle.std.proofs.Math.Bool.{or-true}
 use Rattle.dmlw_script.specs.declared.command.Command.{Command}
 use Rattle.dmlw_script.specs.declared.command.Command.TheVariants as commands
 use Rattle.dmlw_script.specs.declared.script_id.ScriptId.{ScriptId}
+use Rattle.dmlw_script.specs.declared.disk_name.DiskName.TheVariants as disks
 use Rattle.dmlw_script.specs.Said.{Said}
 use Rattle.dmlw_script.specs.Said as parsed_lines
 use Rattle.dmlw_script.specs.Grammar.{IsLineOf, ParsesAs, IsTextOf, AreLinesOf}
 use Rattle.dmlw_script.specs.Lines.{command_line, is_ascii_line, is_skipped, unskipped, unskipped_numbers, lines_of}
-use Rattle.dmlw_script.specs.Plans.{count_after_command, count_behind_head, lines_of_body, is_end_of, is_ended, lines_of_script, with_ending, IsWellFormed, IsPlan, CanFollow, Plan}
+use Rattle.dmlw_script.specs.Plans.{count_after_command, count_behind_head, head_count, head_of, layer_line, lines_behind_head, lines_of_body, is_end_of, is_ended, lines_of_script, top_of, with_ending, IsWellFormed, IsPlan, CanFollow, Plan}
 use Rattle.dmlw_script.specs.CanonicalText.{canonical_text}
 use Rattle.dmlw_script.proofs.CanonicalTextLaws.{spelling_spells}
 use Rattle.dmlw_script.proofs.TextLaws.{one_script_of}
@@ -148,12 +149,29 @@ said_at (first ∷ lines) (s ∷ ss) zero line says e =
     (s, refl, subst (λ (l : List ℕ). ParsesAs l s) same says.0)
 said_at (first ∷ lines) (s ∷ ss) (suc i) line says e = said_at lines ss i line says.1 e
 
+-- what stands behind others, counted from there
+get_behind : (front rest : List Said) (place : ℕ) → slice_get (front ++ rest) (place + length front) ≡ slice_get rest place
+get_behind [] rest place = ap (slice_get rest) (omega arith)
+get_behind (s ∷ front) rest place =
+    let next : place + length (s ∷ front) ≡ suc (place + length front) = omega arith in
+    ap (slice_get (s ∷ (front ++ rest))) next ∙ get_behind front rest place
+
+-- as many lines are in a head as its disks and layers
+length-head : (plan : Plan) → length (head_of plan.data_disk plan.log_disk) ≡ head_count plan
+length-head plan =
+    let d = plan.data_disk.layers in
+    let l = plan.log_disk.layers in
+    let both = length-append (map (layer_line disks.Data) d) (map (layer_line disks.Log) l) in
+    let of_data = length-map d (layer_line disks.Data) in
+    let of_log = length-map l (layer_line disks.Log) in
+    omega arith
+
 -- the line of a command is the one that says it
-pub line_says : (text : List ℕ) (plan : Plan) (place number : ℕ) → IsTextOf text plan → command_line text place ≡ Some number → IsLineOf (lines_of text) plan place number
+pub line_says : (text : List ℕ) (plan : Plan) (place number : ℕ) → IsTextOf text plan → command_line text (place + head_count plan) ≡ Some number → IsLineOf (lines_of text) plan place number
 line_says text plan place number spells e =
-    let found = kept_at 1 (lines_of text) (place + 2) number e in
-    let parse_words = said_at (unskipped (lines_of text)) (lines_of_script plan) (place + 2) found.line spells.says found.there in
-    let body : place + 2 ≡ suc (suc place) = omega arith in
+    let found = kept_at 1 (lines_of text) (place + head_count plan) number e in
+    let head = head_of plan.data_disk plan.log_disk in
+    let parse_words = said_at (unskipped (lines_of text)) (lines_of_script plan) (place + head_count plan) found.line spells.says found.there in
     let at : number ≡ 1 + length found.before = found.number_is in
     record {
       before = found.before;
@@ -163,7 +181,8 @@ line_says text plan place number spells e =
       number_is = omega arith;
       after_byte = found.after_byte;
       parsed = parse_words.0;
-      command = ap (slice_get (lines_of_script plan)) (sym body) ∙ parse_words.1;
+      command =
+          sym (get_behind head (lines_behind_head plan) place) ∙ ap (λ (n : ℕ). slice_get (lines_of_script plan) (place + n)) (length-head plan) ∙ parse_words.1;
       says = parse_words.2;
     }
 
@@ -187,25 +206,27 @@ length-with_ending None ss = omega arith
 length-with_ending (Some picks) ss = length-append ss (parsed_lines.Crash picks ∷ [])
 
 -- as many lines are kept as the head, the commands and the crash have
-length-unskipped : (text : List ℕ) (plan : Plan) → IsTextOf text plan → length (unskipped_numbers 1 (lines_of text)) ≡ count_behind_head plan + 2
+length-unskipped : (text : List ℕ) (plan : Plan) → IsTextOf text plan → length (unskipped_numbers 1 (lines_of text)) ≡ count_behind_head plan + head_count plan
 length-unskipped text plan spells =
     let numbers = length-unskipped_numbers 1 (lines_of text) in
     let says = as_many (unskipped (lines_of text)) (lines_of_script plan) spells.says in
     let body = length-lines_of_body plan.names 0 plan.commands in
     let ending = length-with_ending plan.ending (lines_of_body plan.names 0 plan.commands) in
+    let parts = length-append (head_of plan.data_disk plan.log_disk) (lines_behind_head plan) in
+    let head = length-head plan in
     omega arith
 
 -- each command of a script has a line
-pub line_found : (text : List ℕ) (plan : Plan) (place : ℕ) → IsTextOf text plan → place < count_behind_head plan → (number : ℕ) × (command_line text place ≡ Some number)
+pub line_found : (text : List ℕ) (plan : Plan) (place : ℕ) → IsTextOf text plan → place < count_behind_head plan → (number : ℕ) × (command_line text (place + head_count plan) ≡ Some number)
 line_found text plan place spells within =
     let all = length-unskipped text plan spells in
-    (get_or (unskipped_numbers 1 (lines_of text)) (place + 2) 0, slice_get-get_or (unskipped_numbers 1 (lines_of text)) (place + 2) 0 (omega arith))
+    (get_or (unskipped_numbers 1 (lines_of text)) (place + head_count plan) 0, slice_get-get_or (unskipped_numbers 1 (lines_of text)) (place + head_count plan) 0 (omega arith))
 
 -- just the commands of a script have a line
-pub lined : (text : List ℕ) (plan : Plan) (place : ℕ) → IsTextOf text plan → count_behind_head plan ≤ place → command_line text place ≡ None
+pub lined : (text : List ℕ) (plan : Plan) (place : ℕ) → IsTextOf text plan → count_behind_head plan ≤ place → command_line text (place + head_count plan) ≡ None
 lined text plan place spells past =
     let all = length-unskipped text plan spells in
-    slice_get_past (unskipped_numbers 1 (lines_of text)) (place + 2) (omega arith)
+    slice_get_past (unskipped_numbers 1 (lines_of text)) (place + head_count plan) (omega arith)
 
 -- more lines are kept after one that isn't skipped
 kept_more : (before between : List (List ℕ)) (line : List ℕ) → is_skipped line ≡ false → length (unskipped before) < length (unskipped (before ++ line ∷ between))
@@ -231,8 +252,8 @@ not_later lines plan place m n a b =
     let parse_words : is_skipped more.line ≡ false = ap is_skipped (sym line) ∙ said_kept a.line a.parsed a.says in
     let grown = kept_more a.before more.between more.line parse_words in
     let counted = ap (λ (ls : List (List ℕ)). length (unskipped ls)) more.long_is in
-    let few : length (unskipped a.before) ≡ place + 2 = a.after_byte in
-    let many : length (unskipped b.before) ≡ place + 2 = b.after_byte in
+    let few : length (unskipped a.before) ≡ place + head_count plan = a.after_byte in
+    let many : length (unskipped b.before) ≡ place + head_count plan = b.after_byte in
     absurd (omega arith))
     (λ (no_less : n ≤ m). no_less)
     (cases_lt m n)
@@ -257,9 +278,9 @@ well_formed_at sectors done (first ∷ before) command rest well_formed =
 
 -- each command of a script may come after those before it
 pub can_follow : (plan : Plan) (before : List Command) (command : Command) (rest : List Command) → IsPlan plan → plan.commands ≡ before ++ command ∷ rest
-    → CanFollow plan.data_sectors before command
+    → CanFollow (top_of plan.data_disk) before command
 can_follow plan before command rest is split =
-    well_formed_at plan.data_sectors [] before command rest (subst (λ (x : List Command). IsWellFormed plan.data_sectors [] x) split is.well_formed)
+    well_formed_at (top_of plan.data_disk) [] before command rest (subst (λ (x : List Command). IsWellFormed (top_of plan.data_disk) [] x) split is.well_formed)
 
 -- a request that a command ends has ended after it
 ended_behind : (request : ℕ) (before between : List Command) → is_ended request (before ++ commands.Complete request ∷ between) ≡ true

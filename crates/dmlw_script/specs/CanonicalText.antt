@@ -1,5 +1,5 @@
 -- The one text of a script.
-use Rattle.std.specs.Prelude.{ℕ, List, [], ◌∷◌, ◌++◌, Option, Some, None, codes, decimal, flat_map, map}
+use Rattle.std.specs.Prelude.{ℕ, List, [], ◌∷◌, ◌++◌, Option, Some, None, Result, Ok, Err, codes, decimal, flat_map, map}
 use Rattle.dmlw_script.specs.Said.{Said}
 use Rattle.dmlw_script.specs.Said as parsed_lines
 use Rattle.dmlw_script.specs.declared.line.HeadLine.TheVariants as head_lines
@@ -8,12 +8,16 @@ use Rattle.dmlw_script.specs.declared.command.Submission.{Submission}
 use Rattle.dmlw_script.specs.declared.command.Submission.TheVariants as submits
 use Rattle.dmlw_script.specs.declared.command.Step.{Step}
 use Rattle.dmlw_script.specs.declared.command.Step.TheVariants as steps
+use Rattle.dmlw_script.specs.declared.disk_name.DiskName.{DiskName}
 use Rattle.dmlw_script.specs.declared.script_id.ScriptId.{ScriptId}
-use Rattle.dmlw_script.specs.Grammar.{spaced}
+use Rattle.dmlw_script.specs.Grammar.{layer_verb, spaced}
 use Rattle.dmlw_script.specs.Ids.{letters_of}
 use Rattle.dmlw_script.specs.Options.{option_words}
 use Rattle.dmlw_script.specs.Plans.{lines_of_script, Plan}
 use Rattle.dmlw_script.specs.Words.{byte_text}
+use Rattle.table_line.specs.Texts as table_texts
+use Rattle.table_line.specs.declared.layer_spec.LayerSpec.{LayerSpec}
+use Rattle.table_line.specs.declared.table_error.TableError.{TableError}
 
 -- the line of a submission, with no leading zeroes
 abbrev pub submission_text : ScriptId → Submission → List ℕ
@@ -28,11 +32,18 @@ step_text steps.Close = codes "close"
 step_text (steps.Read first count) = spaced (codes "r" ∷ decimal first ∷ decimal count ∷ [])
 step_text steps.Turn = codes "turn"
 step_text (steps.Mark text) = codes "mark " ++ text
+step_text (steps.At moment) = spaced (codes "at" ∷ decimal moment ∷ [])
+
+-- the line of a layer: behind its first word the one spelling of a table line; a line that asks for none is never printed
+abbrev pub layer_text : DiskName → Result LayerSpec TableError → List ℕ
+layer_text over (Ok spec) = layer_verb over ++ 32 ∷ table_texts.line_text spec
+layer_text over (Err error) = []
 
 -- the line that says this
 abbrev pub line_text : Said → List ℕ
 line_text (parsed_lines.Head (head_lines.Data sectors)) = spaced (codes "data" ∷ decimal sectors ∷ [])
 line_text (parsed_lines.Head (head_lines.Log sectors)) = spaced (codes "log" ∷ decimal sectors ∷ [])
+line_text (parsed_lines.Head (head_lines.Layer over asked)) = layer_text over asked
 line_text (parsed_lines.Body (body_lines.Submit name submission)) = submission_text name submission
 line_text (parsed_lines.Body (body_lines.Complete name)) = spaced (codes "c" ∷ letters_of name ∷ [])
 line_text (parsed_lines.Body (body_lines.Step step)) = step_text step

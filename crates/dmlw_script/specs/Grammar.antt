@@ -1,6 +1,8 @@
 -- The grammar of a recorder's scripts, as a relation between texts and scripts.
-use Rattle.std.specs.Prelude.{◌≡◌, ℕ, ◌<◌, true, ◌+◌, List, [], ◌∷◌, ◌++◌, Some, codes, length, slice_get}
+use Rattle.std.specs.Prelude.{◌≡◌, ℕ, ◌<◌, true, ◌+◌, List, [], ◌∷◌, ◌++◌, Result, Ok, Err, Some, codes, length, slice_get}
 use Rattle.std.specs.List.{join_with_byte, AllByRecursion, AllZip}
+use Rattle.dmlw_script.specs.declared.disk_name.DiskName.{DiskName}
+use Rattle.dmlw_script.specs.declared.disk_name.DiskName.TheVariants as disks
 use Rattle.dmlw_script.specs.declared.script_id.ScriptId.{ScriptId}
 use Rattle.dmlw_script.specs.Said.{Said}
 use Rattle.dmlw_script.specs.Said as parsed_lines
@@ -12,9 +14,13 @@ use Rattle.dmlw_script.specs.declared.command.WriteOptions.{WriteOptions}
 use Rattle.dmlw_script.specs.Lines.{is_ascii_line, is_line_text, unskipped, lines_of}
 use Rattle.dmlw_script.specs.Ids.{is_id, script_id}
 use Rattle.dmlw_script.specs.Options.{option_words}
-use Rattle.dmlw_script.specs.Plans.{lines_behind_head, lines_of_script, IsPlan, Plan}
+use Rattle.dmlw_script.specs.Plans.{head_count, lines_behind_head, lines_of_script, IsPlan, Plan}
 use Rattle.dmlw_script.specs.Words.{byte_text}
-use Rattle.words.specs.Words.{IsNumber}
+use Rattle.table_line.specs.declared.layer_spec.LayerSpec.{LayerSpec}
+use Rattle.table_line.specs.declared.table_error.TableError.{TableError}
+use Rattle.table_line.specs.Refusals.{refusal_of}
+use Rattle.table_line.specs.TableLines.{IsTableLine}
+use Rattle.words.specs.Words.{words_of, IsNumber}
 
 -- the word is the id of this name
 abbrev pub IsId : List ℕ → ScriptId → Type 0
@@ -76,10 +82,27 @@ pub record ParsesAsCrash (line picks : List ℕ) : Type 0 where
   pub numbers : AllZip IsNumber words picks
   pub spelled : line ≡ spaced (codes "crash" ∷ words)
 
+-- the words of a table line ask for this layer, or fail this test
+abbrev pub AsksFor : List (List ℕ) → Result LayerSpec TableError → Type 0
+AsksFor words (Ok spec) = IsTableLine words spec
+AsksFor words (Err error) = refusal_of words ≡ Some error
+
+-- the first word of a layer's line
+abbrev pub layer_verb : DiskName → List ℕ
+layer_verb disks.Data = codes "data-layer"
+layer_verb disks.Log = codes "log-layer"
+
+-- the line is a layer's: behind its first word and one space stands a table line
+pub record ParsesAsLayer (over : DiskName) (line : List ℕ) (asked : Result LayerSpec TableError) : Type 0 where
+  pub text : List ℕ
+  pub asks : AsksFor (words_of text) asked
+  pub spelled : line ≡ layer_verb over ++ 32 ∷ text
+
 -- what a line says by its words
 abbrev pub ParsesAs : List ℕ → Said → Type 0
 ParsesAs line (parsed_lines.Head (head_lines.Data sectors)) = ParsesAsNumber (codes "data") line sectors
 ParsesAs line (parsed_lines.Head (head_lines.Log sectors)) = ParsesAsNumber (codes "log") line sectors
+ParsesAs line (parsed_lines.Head (head_lines.Layer over asked)) = ParsesAsLayer over line asked
 ParsesAs line (parsed_lines.Body (body_lines.Submit name (submits.Write first count byte options))) =
     ParsesAsWrite line name first count byte options
 ParsesAs line (parsed_lines.Body (body_lines.Submit name submits.Flush)) = ParsesAsId (codes "f") line name
@@ -89,6 +112,7 @@ ParsesAs line (parsed_lines.Body (body_lines.Step steps.Close)) = line ≡ codes
 ParsesAs line (parsed_lines.Body (body_lines.Step (steps.Read first count))) = ParsesAsRead line first count
 ParsesAs line (parsed_lines.Body (body_lines.Step steps.Turn)) = line ≡ codes "turn"
 ParsesAs line (parsed_lines.Body (body_lines.Step (steps.Mark text))) = ParsesAsMark line text
+ParsesAs line (parsed_lines.Body (body_lines.Step (steps.At moment))) = ParsesAsNumber (codes "at") line moment
 ParsesAs line (parsed_lines.Crash picks) = ParsesAsCrash line picks
 
 -- the lines are those of a script of a recorder: plain ones, of which those that aren't skipped say what the script's
@@ -103,14 +127,14 @@ abbrev pub IsTextOf : List ℕ → Plan → Type 0
 IsTextOf text plan = AreLinesOf (lines_of text) plan
 
 -- the line of this number, counted from 1, says what the script's command at this place says, or its crash behind the last
--- command, and stands there among the lines that aren't skipped: after the two of the head and those of the commands before it
+-- command, and stands there among the lines that aren't skipped: after those of the head and those of the commands before it
 pub record IsLineOf (lines : List (List ℕ)) (plan : Plan) (place number : ℕ) : Type 0 where
   pub before : List (List ℕ)
   pub line : List ℕ
   pub more : List (List ℕ)
   pub split : lines ≡ before ++ line ∷ more
   pub number_is : number ≡ length before + 1
-  pub after_byte : length (unskipped before) ≡ place + 2
+  pub after_byte : length (unskipped before) ≡ place + head_count plan
   pub parsed : Said
   pub command : slice_get (lines_behind_head plan) place ≡ Some parsed
   pub says : ParsesAs line parsed

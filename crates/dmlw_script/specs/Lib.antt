@@ -1,4 +1,8 @@
 pub use Rattle.bio.specs.Refusals
+pub use Rattle.table_line.specs.Ranges
+pub use Rattle.table_line.specs.TableLines
+pub use Rattle.table_line.specs.Refusals as TableRefusals
+pub use Rattle.table_line.specs.Texts as TableTexts
 pub mod Words
 pub mod Ids
 pub mod Lines

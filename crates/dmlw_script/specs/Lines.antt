@@ -34,9 +34,9 @@ unskipped_numbers number [] = []
 unskipped_numbers number (line ∷ lines) =
     if is_skipped line then unskipped_numbers (number + 1) lines else number ∷ unskipped_numbers (number + 1) lines
 
--- the number of the line that the command at this place was read from: two lines of the head stand before the body
+-- the number of the line at this place among those that aren't skipped, those of the head included
 abbrev pub command_line : List ℕ → ℕ → Option ℕ
-command_line text place = slice_get (unskipped_numbers 1 (lines_of text)) (place + 2)
+command_line text place = slice_get (unskipped_numbers 1 (lines_of text)) place
 
 -- no line feed stands in the line
 abbrev pub IsUnbroken : List ℕ → Type 0

@@ -1,5 +1,5 @@
 -- What a script is, apart from any text, and what its lines say.
-use Rattle.std.specs.Prelude.{◌≡◌, ℕ, ◌+◌, ◌^◌, ◌<◌, ◌==◌, nat_le, Bool, true, false, ◌&&◌, List, [], ◌∷◌, ◌++◌, Option, Some, None, is_some, Result, Ok, length, position, slice_index_or, count_by, if◌then◌else◌}
+use Rattle.std.specs.Prelude.{◌≡◌, ℕ, ◌+◌, ◌^◌, ◌<◌, ◌≤◌, ◌==◌, nat_le, Bool, true, false, ◌&&◌, List, [], ◌∷◌, ◌++◌, Option, Some, None, is_some, Result, Ok, length, map, position, slice_index_or, count_by, if◌then◌else◌}
 use Rattle.std.specs.List.{list_any, AllByRecursion, IsDistinct}
 use Rattle.bio.specs.Check.{range_answer}
 use Rattle.bio.specs.declared.request.BadBio.{BadBio}
@@ -9,6 +9,8 @@ use Rattle.dmlw_script.specs.declared.command.Submission.{Submission}
 use Rattle.dmlw_script.specs.declared.command.Submission.TheVariants as submits
 use Rattle.dmlw_script.specs.declared.command.Step.{Step}
 use Rattle.dmlw_script.specs.declared.command.Step.TheVariants as steps
+use Rattle.dmlw_script.specs.declared.disk_name.DiskName.{DiskName}
+use Rattle.dmlw_script.specs.declared.disk_name.DiskName.TheVariants as disks
 use Rattle.dmlw_script.specs.declared.script_id.ScriptId.{ScriptId}
 use Rattle.dmlw_script.specs.Said.{Said}
 use Rattle.dmlw_script.specs.Said as parsed_lines
@@ -17,12 +19,19 @@ use Rattle.dmlw_script.specs.declared.line.BodyLine.{BodyLine}
 use Rattle.dmlw_script.specs.declared.line.BodyLine.TheVariants as body_lines
 use Rattle.dmlw_script.specs.Ids.{is_id, script_id, same_name}
 use Rattle.dmlw_script.specs.Lines.{is_line_text}
+use Rattle.table_line.specs.Standing.{top_sectors, CanStand}
+use Rattle.table_line.specs.declared.layer_spec.LayerSpec.{LayerSpec}
 
--- what a script holds: the sizes of the disks, the ids of its requests in the order of their submissions, and the
+-- a disk of a script: its sectors, and the layers over it, from the lowest up
+pub record Disk : Type 0 where
+  pub sectors : ℕ
+  pub layers : List LayerSpec
+
+-- what a script holds: its disks, the ids of its requests in the order of their submissions, and the
 -- lines of its body, and the picks of the crash of the log disk that ends it, if one does
 pub record Plan : Type 0 where
-  pub data_sectors : ℕ
-  pub log_sectors : ℕ
+  pub data_disk : Disk
+  pub log_disk : Disk
   pub names : List ScriptId
   pub commands : List Command
   pub ending : Option (List ℕ)
@@ -30,6 +39,25 @@ pub record Plan : Type 0 where
 -- a disk may have so many sectors
 abbrev pub is_disk_size : ℕ → Bool
 is_disk_size sectors = nat_le 1 sectors && nat_le sectors 1048576
+
+-- the sectors of what stands on top of a disk
+abbrev pub top_of : Disk → ℕ
+top_of disk = top_sectors disk.sectors disk.layers
+
+-- a layer is within what stands beneath it, which has so many sectors
+abbrev pub is_within : LayerSpec → ℕ → Bool
+is_within layer sectors = nat_le (layer.offset + layer.length) sectors
+
+-- a disk of the grammar: of a size that a disk may have, with up to four layers that may stand over it
+pub record IsDisk (disk : Disk) : Type 0 where
+  pub size : is_disk_size disk.sectors ≡ true
+  pub few : length disk.layers ≤ 4
+  pub stand : CanStand disk.sectors disk.layers
+
+-- the disk of this name
+abbrev pub disk_of : DiskName → Plan → Disk
+disk_of disks.Data plan = plan.data_disk
+disk_of disks.Log plan = plan.log_disk
 
 -- the request that has this id
 abbrev pub request_of : ScriptId → List ScriptId → Option ℕ
@@ -71,6 +99,7 @@ step_answer sectors steps.Close = Ok tt
 step_answer sectors (steps.Read first count) = range_answer first count sectors
 step_answer sectors steps.Turn = Ok tt
 step_answer sectors (steps.Mark text) = Ok tt
+step_answer sectors (steps.At moment) = Ok tt
 
 -- what a submission writes is a byte
 abbrev pub WritesByte : Submission → Type 0
@@ -78,19 +107,52 @@ WritesByte (submits.Write first count byte options) = byte < 256
 WritesByte submits.Flush = Unit {0}
 WritesByte (submits.Discard first count) = Unit {0}
 
--- the text of a mark may stand in a line
+-- what a line that names no request has may stand in a line: the text of a mark, and a moment, which 64 bits hold
 abbrev pub HasLineText : Step → Type 0
 HasLineText steps.Close = Unit {0}
 HasLineText (steps.Read first count) = Unit {0}
 HasLineText steps.Turn = Unit {0}
 HasLineText (steps.Mark text) = is_line_text text ≡ true
+HasLineText (steps.At moment) = moment < 2 ^ 64
+
+-- the moment after a line that names no request, before which it was this
+abbrev pub moment_at_step : ℕ → Step → ℕ
+moment_at_step moment steps.Close = moment
+moment_at_step moment (steps.Read first count) = moment
+moment_at_step moment steps.Turn = moment
+moment_at_step moment (steps.Mark text) = moment
+moment_at_step moment (steps.At later) = later
+
+-- the moment after a command, before which it was this
+abbrev pub moment_at : ℕ → Command → ℕ
+moment_at moment (commands.Submit submission) = moment
+moment_at moment (commands.Complete request) = moment
+moment_at moment (commands.Step step) = moment_at_step moment step
+
+-- the moment after these commands, before which it was this
+abbrev pub moment_from : ℕ → List Command → ℕ
+moment_from moment [] = moment
+moment_from moment (command ∷ body) = moment_from (moment_at moment command) body
+
+-- the moment after these commands: that of the last `at`, or 0
+abbrev pub moment_after : List Command → ℕ
+moment_after body = moment_from 0 body
+
+-- the moment of an `at` is no less than the one before it
+abbrev pub IsInTime : ℕ → Step → Type 0
+IsInTime moment steps.Close = Unit {0}
+IsInTime moment (steps.Read first count) = Unit {0}
+IsInTime moment steps.Turn = Unit {0}
+IsInTime moment (steps.Mark text) = Unit {0}
+IsInTime moment (steps.At later) = moment ≤ later
 
 -- the command may come after these, for a data disk of so many sectors: what it covers passes the test of its sectors, a
--- write writes a byte, a mark's text may stand in a line, and an end is that of a request that was submitted and hasn't ended
+-- write writes a byte, a mark's text may stand in a line, no moment is less than before, and an end is that of a request that
+-- was submitted and hasn't ended
 abbrev pub CanFollow : ℕ → List Command → Command → Type 0
 CanFollow sectors before (commands.Submit submission) = (submission_answer sectors submission ≡ Ok tt) × WritesByte submission
 CanFollow sectors before (commands.Complete request) = (request < submissions before) × (is_ended request before ≡ false)
-CanFollow sectors before (commands.Step step) = (step_answer sectors step ≡ Ok tt) × HasLineText step
+CanFollow sectors before (commands.Step step) = (step_answer sectors step ≡ Ok tt) × HasLineText step × IsInTime (moment_after before) step
 
 -- each command may come after those before it
 abbrev pub IsWellFormed : ℕ → List Command → List Command → Type 0
@@ -102,15 +164,15 @@ abbrev pub ArePicks : Option (List ℕ) → Type 0
 ArePicks None = Unit {0}
 ArePicks (Some picks) = AllByRecursion (λ pick. pick < 2 ^ 64) picks
 
--- a script of the grammar: its disks have a size that a disk may have, its ids are ids and differ, each submission has
--- one, its commands come as they may, and the picks of its crash are numbers
+-- a script of the grammar: its disks are those of one, its ids are ids and differ, each submission has one, its commands come
+-- as they may over the top of the data disk, and the picks of its crash are numbers
 pub record IsPlan (plan : Plan) : Type 0 where
-  pub data_size : is_disk_size plan.data_sectors ≡ true
-  pub log_size : is_disk_size plan.log_sectors ≡ true
+  pub data_disk : IsDisk plan.data_disk
+  pub log_disk : IsDisk plan.log_disk
   pub ids : AllByRecursion IsName plan.names
   pub distinct : IsDistinct same_name plan.names
   pub numbered : length plan.names ≡ submissions plan.commands
-  pub well_formed : IsWellFormed plan.data_sectors [] plan.commands
+  pub well_formed : IsWellFormed (top_of plan.data_disk) [] plan.commands
   pub picks : ArePicks plan.ending
 
 -- the id of a request
@@ -154,7 +216,21 @@ lines_behind_head plan = with_ending plan.ending (lines_of_body plan.names 0 pla
 abbrev pub count_behind_head : Plan → ℕ
 count_behind_head plan = length plan.commands + (if is_some plan.ending then 1 else 0)
 
+-- the line of a layer over this disk
+abbrev pub layer_line : DiskName → LayerSpec → Said
+layer_line over spec = parsed_lines.Head (head_lines.Layer over (Ok spec))
+
+-- what the lines of a head say: the sectors of the data disk and those of the log disk, then the layers of the data disk, and
+-- then those of the log disk
+abbrev pub head_of : Disk → Disk → List Said
+head_of data_disk log_disk =
+    parsed_lines.Head (head_lines.Data data_disk.sectors) ∷ parsed_lines.Head (head_lines.Log log_disk.sectors)
+    ∷ (map (layer_line disks.Data) data_disk.layers ++ map (layer_line disks.Log) log_disk.layers)
+
+-- how many lines a script's head has: two, and one for each layer
+abbrev pub head_count : Plan → ℕ
+head_count plan = 2 + length plan.data_disk.layers + length plan.log_disk.layers
+
 -- what the lines of a script say, in their order
 abbrev pub lines_of_script : Plan → List Said
-lines_of_script plan =
-    parsed_lines.Head (head_lines.Data plan.data_sectors) ∷ parsed_lines.Head (head_lines.Log plan.log_sectors) ∷ lines_behind_head plan
+lines_of_script plan = head_of plan.data_disk plan.log_disk ++ lines_behind_head plan

@@ -1,20 +1,24 @@
 -- What reading answers to a text that is no script: the first line that is at fault, and why.
-use Rattle.std.specs.Prelude.{◌≡◌, ℕ, ◌+◌, ◌≤◌, ◌⊎◌, Bool, true, false, not, List, [], ◌∷◌, ◌++◌, Option, Some, None, Err, Result, Ok, length, if◌then◌else◌}
-use Rattle.std.specs.List.{list_any, AllZip}
+use Rattle.std.specs.Prelude.{◌≡◌, ℕ, ◌+◌, ◌<◌, ◌≤◌, ◌⊎◌, Bool, true, false, not, List, [], ◌∷◌, ◌++◌, Option, Some, None, Err, Result, Ok, length, if◌then◌else◌}
+use Rattle.std.specs.List.{list_any, AllByRecursion, AllZip}
 use Rattle.bio.specs.Refusals.{bad_bio_refusal}
 use Rattle.refusals.specs.declared.refusal.Refusal.{Refusal}
-use Rattle.refusals.specs.declared.refusal.Refusal.TheVariants.{BadLine, BadId, Memory}
+use Rattle.refusals.specs.declared.refusal.Refusal.TheVariants.{BadLine, BadId, Memory, OutOfRange}
 use Rattle.bio.specs.declared.request.BadBio.{BadBio}
 use Rattle.refusals.specs.declared.fault.Fault.{Fault}
+use Rattle.dmlw_script.specs.declared.disk_name.DiskName.TheVariants as disks
 use Rattle.dmlw_script.specs.Said.{Said}
 use Rattle.dmlw_script.specs.Said as parsed_lines
+use Rattle.dmlw_script.specs.declared.line.HeadLine.{HeadLine}
 use Rattle.dmlw_script.specs.declared.line.HeadLine.TheVariants as head_lines
 use Rattle.dmlw_script.specs.declared.line.BodyLine.{BodyLine}
 use Rattle.dmlw_script.specs.declared.line.BodyLine.TheVariants as body_lines
 use Rattle.dmlw_script.specs.Grammar.{ParsesAs, AreLinesOf}
 use Rattle.dmlw_script.specs.Lines.{is_ascii_line, is_skipped, unskipped, lines_of}
 use Rattle.dmlw_script.specs.Ids.{same_name}
-use Rattle.dmlw_script.specs.Plans.{is_disk_size, is_ended, request_of, step_answer, submission_answer, Plan}
+use Rattle.dmlw_script.specs.Plans.{disk_of, is_disk_size, is_ended, is_within, moment_at_step, request_of, step_answer, submission_answer, top_of, Disk, IsInTime, Plan}
+use Rattle.table_line.specs.declared.layer_spec.LayerSpec.{LayerSpec}
+use Rattle.table_line.specs.Refusals.{table_refusal}
 
 -- some lines after these make a script of them
 pub record BeginsScript (lines : List (List ℕ)) : Type 0 where
@@ -22,32 +26,62 @@ pub record BeginsScript (lines : List (List ℕ)) : Type 0 where
   pub plan : Plan
   pub spells : AreLinesOf (lines ++ more) plan
 
--- what comes next in a script
-pub data Phase : Type 0 where
-  data_due : Phase
-  log_due : Phase
-  in_body : Phase
-  at_end : Phase
+-- how much of a script was read, as far as it says what may come next: nothing; the data disk's sectors; a head, which may have
+-- more layers; a head and some of a body, at this moment; or all, so that nothing may come
+pub data Prefix : Type 0 where
+  data_due : Prefix
+  log_due : Disk → Prefix
+  in_head : Disk → Disk → Prefix
+  in_body : Disk → Disk → ℕ → Prefix
+  at_end : Prefix
 
--- what comes next after a line that says this
-abbrev pub next_phase : Said → Phase
-next_phase (parsed_lines.Head (head_lines.Data sectors)) = log_due
-next_phase (parsed_lines.Head (head_lines.Log sectors)) = in_body
-next_phase (parsed_lines.Body line) = in_body
-next_phase (parsed_lines.Crash picks) = at_end
+-- a disk with no layers
+abbrev pub bare : ℕ → Disk
+bare sectors = record { sectors = sectors; layers = [] }
 
--- what comes next after lines that say this, before which this came next
-abbrev pub phase_after : Phase → List Said → Phase
-phase_after phase [] = phase
-phase_after phase (s ∷ ss) = phase_after (next_phase s) ss
+-- a disk with one more layer on top
+abbrev pub with_layer : Disk → LayerSpec → Disk
+with_layer disk spec = record disk { layers = disk.layers ++ spec ∷ [] }
 
--- what a line says may stand where this comes next, as far as its words say: first the size of the data disk, then that of
--- the log disk, then the body, and nothing behind a crash
-abbrev pub StandsAfter : Phase → Said → Type 0
+-- the moment after a line of the body, before which it was this
+abbrev pub moment_at_line : ℕ → BodyLine → ℕ
+moment_at_line moment (body_lines.Submit name submission) = moment
+moment_at_line moment (body_lines.Complete name) = moment
+moment_at_line moment (body_lines.Step step) = moment_at_step moment step
+
+-- how much was read with a line that says this; nothing may come behind a crash, nor behind what may not stand there
+abbrev pub next : Prefix → Said → Prefix
+next data_due (parsed_lines.Head (head_lines.Data sectors)) = log_due (bare sectors)
+next (log_due data_disk) (parsed_lines.Head (head_lines.Log sectors)) = in_head data_disk (bare sectors)
+next (in_head data_disk log_disk) (parsed_lines.Head (head_lines.Layer disks.Data (Ok spec))) = in_head (with_layer data_disk spec) log_disk
+next (in_head data_disk log_disk) (parsed_lines.Head (head_lines.Layer disks.Log (Ok spec))) = in_head data_disk (with_layer log_disk spec)
+next (in_head data_disk log_disk) (parsed_lines.Body line) = in_body data_disk log_disk (moment_at_line 0 line)
+next (in_body data_disk log_disk moment) (parsed_lines.Body line) = in_body data_disk log_disk (moment_at_line moment line)
+next _ _ = at_end
+
+-- how much was read with lines that say this
+abbrev pub prefix_after : Prefix → List Said → Prefix
+prefix_after prefix [] = prefix
+prefix_after prefix (s ∷ ss) = prefix_after (next prefix s) ss
+
+-- a line of the body comes in time: no moment is less than before
+abbrev pub ComesInTime : ℕ → BodyLine → Type 0
+ComesInTime moment (body_lines.Submit name submission) = Unit {0}
+ComesInTime moment (body_lines.Complete name) = Unit {0}
+ComesInTime moment (body_lines.Step step) = IsInTime moment step
+
+-- what a line says may stand behind so much, as far as its words say: first the size of the data disk, then that of the log
+-- disk, then up to four layers of the data disk, then up to four of the log disk, then the body, whose moments don't go back,
+-- and nothing behind a crash
+abbrev pub StandsAfter : Prefix → Said → Type 0
 StandsAfter data_due (parsed_lines.Head (head_lines.Data sectors)) = is_disk_size sectors ≡ true
-StandsAfter log_due (parsed_lines.Head (head_lines.Log sectors)) = is_disk_size sectors ≡ true
-StandsAfter in_body (parsed_lines.Body line) = Unit {0}
-StandsAfter in_body (parsed_lines.Crash picks) = Unit {0}
+StandsAfter (log_due data_disk) (parsed_lines.Head (head_lines.Log sectors)) = is_disk_size sectors ≡ true
+StandsAfter (in_head data_disk log_disk) (parsed_lines.Head (head_lines.Layer disks.Data asked)) = (length data_disk.layers < 4) × (log_disk.layers ≡ [])
+StandsAfter (in_head data_disk log_disk) (parsed_lines.Head (head_lines.Layer disks.Log asked)) = length log_disk.layers < 4
+StandsAfter (in_head data_disk log_disk) (parsed_lines.Body line) = ComesInTime 0 line
+StandsAfter (in_head data_disk log_disk) (parsed_lines.Crash picks) = Unit {0}
+StandsAfter (in_body data_disk log_disk moment) (parsed_lines.Body line) = ComesInTime moment line
+StandsAfter (in_body data_disk log_disk moment) (parsed_lines.Crash picks) = Unit {0}
 StandsAfter _ _ = ⊥
 
 -- the line is of the grammar after these, which say this, and says s
@@ -56,7 +90,7 @@ pub record IsLineAfter (before : List (List ℕ)) (line : List ℕ) (s : Said) :
   pub says : ParsesAs line s
   pub said : List Said
   pub before_says : AllZip ParsesAs (unskipped before) said
-  pub stands : StandsAfter (phase_after data_due said) s
+  pub stands : StandsAfter (prefix_after data_due said) s
 
 -- the request was submitted and hasn't ended
 abbrev pub is_open : Option ℕ → Plan → Bool
@@ -72,13 +106,21 @@ test_refusal (Err bad) = Some (bad_bio_refusal bad)
 -- of a request that is open; or else its sectors don't pass the test
 abbrev pub body_refusal : Plan → BodyLine → Option Refusal
 body_refusal plan (body_lines.Submit name submission) =
-    if list_any (same_name name) plan.names then Some BadId else test_refusal (submission_answer plan.data_sectors submission)
+    if list_any (same_name name) plan.names then Some BadId else test_refusal (submission_answer (top_of plan.data_disk) submission)
 body_refusal plan (body_lines.Complete name) = if is_open (request_of name plan.names) plan then None else Some BadId
-body_refusal plan (body_lines.Step step) = test_refusal (step_answer plan.data_sectors step)
+body_refusal plan (body_lines.Step step) = test_refusal (step_answer (top_of plan.data_disk) step)
+
+-- why a line of the head is refused after a script, if it is: its table line asks for no layer, or for one that isn't within
+-- what stands beneath it
+abbrev pub head_refusal : Plan → HeadLine → Option Refusal
+head_refusal plan (head_lines.Data sectors) = None
+head_refusal plan (head_lines.Log sectors) = None
+head_refusal plan (head_lines.Layer over (Err error)) = Some (table_refusal error)
+head_refusal plan (head_lines.Layer over (Ok spec)) = if is_within spec (top_of (disk_of over plan)) then None else Some OutOfRange
 
 -- why a line is refused after a script, if it is
 abbrev pub line_refusal : Plan → Said → Option Refusal
-line_refusal plan (parsed_lines.Head line) = None
+line_refusal plan (parsed_lines.Head line) = head_refusal plan line
 line_refusal plan (parsed_lines.Body line) = body_refusal plan line
 line_refusal plan (parsed_lines.Crash picks) = None
 
@@ -116,24 +158,32 @@ abbrev pub IsReadAs : Plan → Result Plan Fault → Type 0
 IsReadAs plan (Ok script) = script ≡ plan
 IsReadAs plan (Err fault) = fault ≡ is_memory
 
--- what is wrong with a run's text after lines of its head: it ends there, or the next line is one of its body, or no
--- script of a recorder begins with the next line too
-abbrev pub RunFaultAfter : List (List ℕ) → List (List ℕ) → Type 0
-RunFaultAfter before [] = Unit {0}
-RunFaultAfter before (line ∷ more) =
-    ((length (unskipped before) ≡ 2) × (is_skipped line ≡ false)) ⊎ (BeginsScript (before ++ line ∷ []) → ⊥)
+-- the line is one of a head
+abbrev pub IsHeadLine : List ℕ → Type 0
+IsHeadLine line = (s : HeadLine) × ParsesAs line (parsed_lines.Head s)
 
--- the first line, counted from 1, at which a run's text isn't a head; it may be the one after the last
-pub record IsRunFault (lines : List (List ℕ)) (line : ℕ) : Type 0 where
+-- the line isn't skipped, and is none of a head, and the head before it is whole: both sizes stand in it
+abbrev pub IsBehindHead : List (List ℕ) → List ℕ → Type 0
+IsBehindHead before line = (2 ≤ length (unskipped before)) × (is_skipped line ≡ false) × (IsHeadLine line → ⊥)
+
+-- what is wrong with a run's text after lines of its head: it ends there, or the next line is one behind the whole head, or no
+-- script of a recorder begins with the next line too, for the reason that a recorder has
+abbrev pub RunFaultAfter : List (List ℕ) → List (List ℕ) → Refusal → Type 0
+RunFaultAfter before [] refusal = refusal ≡ BadLine
+RunFaultAfter before (line ∷ more) refusal =
+    (IsBehindHead before line × (refusal ≡ BadLine)) ⊎ ((BeginsScript (before ++ line ∷ []) → ⊥) × IsLineFault before line refusal)
+
+-- the first line, counted from 1, at which a run's text isn't a head, and why; it may be the one after the last
+pub record IsRunFault (lines : List (List ℕ)) (line : ℕ) (refusal : Refusal) : Type 0 where
   pub before : List (List ℕ)
   pub more : List (List ℕ)
   pub split : lines ≡ before ++ more
   pub place : line ≡ length before + 1
   pub begins : BeginsScript before
-  pub head : length (unskipped before) ≤ 2
-  pub fault : RunFaultAfter before more
+  pub head : AllByRecursion IsHeadLine (unskipped before)
+  pub fault : RunFaultAfter before more refusal
 
 -- a run's text is refused at that line, or memory ran out
 abbrev pub IsRunFaultOf : List ℕ → Fault → Option ℕ → Type 0
-IsRunFaultOf text fault (Some line) = (fault.refusal ≡ BadLine) × IsRunFault (lines_of text) line
+IsRunFaultOf text fault (Some line) = IsRunFault (lines_of text) line fault.refusal
 IsRunFaultOf text fault None = fault ≡ is_memory

@@ -1,4 +1,4 @@
-use bio::Bytes;
+use bio::{Bytes, Ms};
 
 /// What a write asks for beside its sectors.
 #[derive(Clone, Copy, Debug, PartialEq, Eq)]
@@ -15,7 +15,7 @@ pub struct WriteOptions {
 #[derive(Clone, Copy, Debug)]
 pub enum Submission {
     /// A write of `count` sectors of `byte` from sector `first` on. In a script it covers 1 to 2,048
-    /// sectors, all of them on the data disk.
+    /// sectors, all of them within the top of the data disk.
     Write {
         first: u64,
         count: u64,
@@ -37,13 +37,15 @@ pub enum Step {
     /// Ends the recording.
     Close,
     /// A read of `count` sectors from sector `first` on. In a script it covers 1 to 2,048 sectors, all
-    /// of them on the data disk.
+    /// of them within the top of the data disk.
     Read { first: u64, count: u64 },
     /// One turn of the writer.
     Turn,
     /// A mark of this text, which may be empty. In a script its bytes are those of a line: ASCII, no
     /// zero byte and no line feed. They are shared: a clone of them takes no memory.
     Mark { text: Bytes },
+    /// The moment from here on. In a script it is no less than the one before it, which at first is 0.
+    At { moment: Ms },
 }
 
 /// One line of a script's body.

@@ -1,13 +1,14 @@
 ghost use Rattle.std.specs.Prelude.{◌≡◌, ◌<◌, ◌+◌, ℕ, [], Ok, OnOk, false, length, option_map};
-ghost use Rattle.dmlw_script.specs.Plans.{step_answer, submission_answer};
-ghost use Rattle.dmlw_script.specs.inside.Drafts.{as_refusal, Follows};
+ghost use Rattle.dmlw_script.specs.Plans.{moment_at, submission_answer};
+ghost use Rattle.dmlw_script.specs.inside.Drafts.{as_refusal, step_test, Follows};
 
 use crate::command::{Command, Step, Submission};
+use crate::disk::DiskSpec;
 use crate::line::BodyLine;
 use crate::line_error::LineError;
 use crate::script::Script;
 use crate::script_id::ScriptId;
-use bio::{Bio, check};
+use bio::{Bio, Ms, check};
 use indexmap::IndexSet;
 use refusals::Refusal;
 use std::alloc::Global;
@@ -20,6 +21,8 @@ pub(crate) struct Draft {
     // For each of them, whether its request has ended.
     has_ended: Vec<bool>,
     pub(crate) commands: Vec<Command>,
+    // The moment after them.
+    moment: Ms,
 }
 
 impl Draft {
@@ -34,6 +37,7 @@ impl Draft {
             names: IndexSet::new(alloc),
             has_ended: Vec::new(alloc),
             commands: Vec::new(alloc),
+            moment: Ms::new(0),
         }
     }
 
@@ -85,26 +89,27 @@ impl Draft {
         ensures draft { OnOk result (IsDraft self.new) }
         ensures step { Follows result (body_of self.new) (body_step sectors (body_of self.old) (BodyLine.Step step)) }
     {
-        check_step(&step, sectors)?;
+        check_step(&step, sectors, self.moment)?;
         self.say(Command::Step(step))
     }
 
-    /// The script, with disks of these sizes, and the picks of the crash that ends it, if one does.
+    /// The script over these disks, and the picks of the crash that ends it, if one does.
     pub(crate) fn into_script(
         self,
-        data_sectors: u64,
-        log_sectors: u64,
+        data_disk: DiskSpec,
+        log_disk: DiskSpec,
         ending: Option<Vec<u64>>,
     ) -> Script
-        requires { IsPlan (record { data_sectors = data_sectors; log_sectors = log_sectors; names = (body_of self).names; commands = (body_of self).body; ending = option_map (λ picks. picks.items) ending }) }
-        ensures { result ≡ record { data_sectors = data_sectors; log_sectors = log_sectors; names = (body_of self).names; commands = (body_of self).body; ending = option_map (λ picks. picks.items) ending } }
+        requires { IsPlan (record { data_disk = data_disk; log_disk = log_disk; names = (body_of self).names; commands = (body_of self).body; ending = option_map (λ picks. picks.items) ending }) }
+        ensures { result ≡ record { data_disk = data_disk; log_disk = log_disk; names = (body_of self).names; commands = (body_of self).body; ending = option_map (λ picks. picks.items) ending } }
     {
         let Draft {
             names,
             has_ended: _,
             commands,
+            moment: _,
         } = self;
-        Script::new(data_sectors, log_sectors, names, commands, ending)
+        Script::new(data_disk, log_disk, names, commands, ending)
     }
 
     // The next request has this id.
@@ -121,19 +126,19 @@ impl Draft {
     }
 
     // The next line of the body, which ends no request.
-    #[tactic(auto, using(crate::proofs::DraftLemmas::flags_say))]
     fn say(&mut self, command: Command) -> Result<(), LineError>
         requires draft { IsDraft self.old }
         requires no_end { (request : ℕ) → is_end_of request command ≡ false }
         ensures draft { OnOk result (IsDraft self.new) }
         ensures step { Follows result (body_of self.new) (Ok (with_command (body_of self.old) command)) }
     {
+        let moment = moment_after(self.moment, &command);
         self.commands.push(command)?;
+        self.moment = moment;
         Ok(())
     }
 
     // The next line of the body, which ends this request.
-    #[tactic(auto, using(crate::proofs::DraftLemmas::flags_end))]
     fn end(&mut self, request: usize) -> Result<(), LineError>
         requires draft { IsDraft self.old }
         requires within { request < length self.old.names.keys }
@@ -158,9 +163,9 @@ fn check_submission(submission: Submission, sectors: u64) -> Result<(), LineErro
     }
 }
 
-// The same for a line that names no request.
-fn check_step(step: &Step, sectors: u64) -> Result<(), LineError>
-    ensures { Follows result tt (as_refusal (step_answer sectors step.now)) }
+// What is asked of a line that names no request, at this moment: no less of an `at`, and the same of sectors.
+fn check_step(step: &Step, sectors: u64, moment: Ms) -> Result<(), LineError>
+    ensures { Follows result tt (step_test sectors moment step.now) }
 {
     match step {
         Step::Read { first, count } => {
@@ -170,6 +175,19 @@ fn check_step(step: &Step, sectors: u64) -> Result<(), LineError>
             };
             Ok(check(&read, sectors)?)
         }
-        Step::Close | Step::Turn | Step::Mark { .. } => Ok(()),
+        Step::At { moment: later } if later.milliseconds() < moment.milliseconds() => {
+            Err(LineError::Refused(Refusal::BadLine))
+        }
+        Step::Close | Step::Turn | Step::Mark { .. } | Step::At { .. } => Ok(()),
+    }
+}
+
+// The moment after a command, before which it was this.
+fn moment_after(moment: Ms, command: &Command) -> Ms
+    ensures { result ≡ moment_at moment command.now }
+{
+    match command {
+        Command::Step(Step::At { moment: later }) => *later,
+        Command::Submit(_) | Command::Complete { .. } | Command::Step(_) => moment,
     }
 }

@@ -1,43 +1,119 @@
-ghost use Rattle.std.specs.Prelude.{◌≡◌, List, option_map, ℕ};
-ghost use Rattle.dmlw_script.specs.Plans.{is_disk_size as is_a_disk_size};
-ghost use Rattle.dmlw_script.specs.inside.Heads.{head_step, stage_of};
+ghost use Rattle.std.specs.Prelude.{◌≡◌, List, false, ℕ};
+ghost use Rattle.dmlw_script.specs.Plans.{is_disk_size as is_a_disk_size, is_within as is_within_them};
+ghost use Rattle.dmlw_script.specs.inside.Drafts.{Follows};
+ghost use Rattle.dmlw_script.specs.inside.Heads.{head_step, layer_in, layer_step, stage_of};
+ghost use Rattle.dmlw_script.specs.inside.Stages as heads;
 
+use crate::disk::DiskSpec;
+use crate::disk_name::DiskName;
 use crate::line::HeadLine;
+use crate::line_error::LineError;
+use refusals::Refusal;
 use sectors::MAX_DEVICE_SECTORS;
+use std::alloc::Global;
+use table_line::{LayerSpec, TableError};
+
+// The most layers over one disk.
+const MAX_LAYERS: usize = 4;
+
+/// How much of a script was read.
+#[derive(Clone, Copy)]
+pub(crate) enum Part {
+    /// Nothing: the line of the data disk comes next.
+    Nothing,
+    /// The line of the data disk: that of the log disk comes next.
+    Data,
+    /// The lines of both disks: layers come next, or the body.
+    Whole,
+    /// All: a crash has ended the script.
+    Ended,
+}
 
 /// The head of a script, as far as it was read.
-#[derive(Clone, Copy)]
-pub(crate) enum Head {
-    /// The line of the data disk comes next.
-    Empty,
-    /// The line of the log disk comes next.
-    Data { data_sectors: u64 },
-    /// The body comes next.
-    Whole { data_sectors: u64, log_sectors: u64 },
-    /// A crash has ended the script.
-    Ended { data_sectors: u64, log_sectors: u64 },
+#[derive(Drop)]
+pub(crate) struct Head {
+    pub(crate) part: Part,
+    /// The data disk, of no sectors where its line wasn't read.
+    pub(crate) data_disk: DiskSpec,
+    /// The log disk, the same.
+    pub(crate) log_disk: DiskSpec,
 }
 
 impl Head {
-    /// The head with one more line, where the line may stand there.
-    pub(crate) fn with_line(self, line: HeadLine) -> Option<Head>
-        ensures { (picks : List ℕ) → option_map (stage_of picks) result ≡ head_step (stage_of picks self) line }
+    pub(crate) fn new(alloc: Global) -> Head
+        ensures { (picks : List ℕ) → stage_of picks result ≡ heads.Empty }
     {
-        match (self, line) {
-            (Head::Empty, HeadLine::Data { sectors }) if is_disk_size(sectors) => {
-                Some(Head::Data {
-                    data_sectors: sectors,
-                })
-            }
-            (Head::Data { data_sectors }, HeadLine::Log { sectors }) if is_disk_size(sectors) => {
-                Some(Head::Whole {
-                    data_sectors,
-                    log_sectors: sectors,
-                })
-            }
-            _ => None,
+        Head {
+            part: Part::Nothing,
+            data_disk: DiskSpec::new(alloc, 0),
+            log_disk: DiskSpec::new(alloc, 0),
         }
     }
+
+    /// Reads the next line of the head, before which the body has begun or not.
+    pub(crate) fn read(
+        &mut self,
+        alloc: Global,
+        line: HeadLine,
+        began: bool,
+    ) -> Result<(), LineError>
+        ensures { (picks : List ℕ) → Follows result (stage_of picks self.new) (head_step (stage_of picks self.old) began line) }
+    {
+        match (self.part, line) {
+            (Part::Nothing, HeadLine::Data { sectors }) if is_disk_size(sectors) => {
+                self.data_disk = DiskSpec::new(alloc, sectors);
+                self.part = Part::Data;
+                Ok(())
+            }
+            (Part::Data, HeadLine::Log { sectors }) if is_disk_size(sectors) => {
+                self.log_disk = DiskSpec::new(alloc, sectors);
+                self.part = Part::Whole;
+                Ok(())
+            }
+            (Part::Whole, HeadLine::Layer { over, asked }) if !began => self.layer(over, asked),
+            _ => Err(LineError::Refused(Refusal::BadLine)),
+        }
+    }
+
+    // Reads a layer's line in a head that has both disks.
+    fn layer(
+        &mut self,
+        over: DiskName,
+        asked: Result<LayerSpec, TableError>,
+    ) -> Result<(), LineError>
+        requires { self.old.part ≡ Part.Whole }
+        ensures { (picks : List ℕ) → Follows result (stage_of picks self.new) (layer_in false self.old.data_disk self.old.log_disk over asked) }
+    {
+        match over {
+            DiskName::Data if self.log_disk.layers().is_empty() => {
+                push_layer(&mut self.data_disk, asked)
+            }
+            DiskName::Data => Err(LineError::Refused(Refusal::BadLine)),
+            DiskName::Log => push_layer(&mut self.log_disk, asked),
+        }
+    }
+}
+
+// Puts the layer that a line asks for over a disk.
+fn push_layer(disk: &mut DiskSpec, asked: Result<LayerSpec, TableError>) -> Result<(), LineError>
+    ensures { Follows result disk.new (layer_step disk.old asked) }
+{
+    if disk.layers().len() >= MAX_LAYERS {
+        return Err(LineError::Refused(Refusal::BadLine));
+    }
+    let layer = asked?;
+    if !is_within(layer, disk.top_sectors()) {
+        return Err(LineError::Refused(Refusal::OutOfRange));
+    }
+    disk.push(layer)?;
+    Ok(())
+}
+
+// A layer is within what stands beneath it, which has so many sectors.
+fn is_within(layer: LayerSpec, sectors: u64) -> bool
+    ensures { result ≡ is_within_them layer sectors }
+{
+    layer.offset <= sectors && layer.length <= sectors - layer.offset
 }
 
 // A disk may have so many sectors.

@@ -1,5 +1,5 @@
 //! Laws of the grammar, apart from the code: each function does nothing, and its clause is the law.
-ghost use Rattle.std.specs.Prelude.{◌≡◌, ◌≢◌, ◌^◌, ◌<◌, ◌≤◌, ◌++◌, ◌∷◌, ◌⊎◌, [], None, Some, decimal, length, true, ℕ, List};
+ghost use Rattle.std.specs.Prelude.{◌≡◌, ◌≢◌, ◌^◌, ◌<◌, ◌≤◌, ◌+◌, ◌++◌, ◌∷◌, ◌⊎◌, [], None, Some, decimal, length, true, ℕ, List};
 ghost use Rattle.std.specs.List.{AllByRecursion};
 ghost use Rattle.refusals.specs.declared.refusal.Refusal.{Refusal};
 ghost use Rattle.dmlw_script.specs.declared.command.Command.{Command};
@@ -7,7 +7,7 @@ ghost use Rattle.dmlw_script.specs.declared.command.Command.TheVariants.{Complet
 ghost use Rattle.dmlw_script.specs.Grammar.{IsLineOf, IsTextOf, AreLinesOf};
 ghost use Rattle.words.specs.Words.{IsNumber};
 ghost use Rattle.dmlw_script.specs.Lines.{command_line, with_line_feeds, is_ascii_line, is_skipped, IsUnbroken, lines_of};
-ghost use Rattle.dmlw_script.specs.Plans.{IsPlan, CanFollow, Plan, count_behind_head};
+ghost use Rattle.dmlw_script.specs.Plans.{IsPlan, CanFollow, Plan, count_behind_head, head_count, top_of};
 ghost use Rattle.dmlw_script.specs.Reading.{IsFirstFault};
 ghost use Rattle.dmlw_script.specs.CanonicalText.{canonical_text};
 
@@ -47,23 +47,23 @@ pub fn skipped_lines_say_nothing()
 
 /// The line that is named for a command is the one that says it, after the head and the lines of the
 /// commands before it. Each command has one such line, and so has the crash that ends a script, behind
-/// the last command; after that there is none.
+/// the last command; after that there is none. Places of commands are counted from 0, those of lines with the head.
 pub fn lines_are_those_of_commands()
     ensures says { (text : List ℕ) (plan : Plan) (place number : ℕ) → IsTextOf text plan →
-        command_line text place ≡ Some number → IsLineOf (lines_of text) plan place number }
+        command_line text (place + head_count plan) ≡ Some number → IsLineOf (lines_of text) plan place number }
     ensures found { (text : List ℕ) (plan : Plan) (place : ℕ) → IsTextOf text plan →
-        place < count_behind_head plan → (number : ℕ) × (command_line text place ≡ Some number) }
+        place < count_behind_head plan → (number : ℕ) × (command_line text (place + head_count plan) ≡ Some number) }
     ensures one { (lines : List (List ℕ)) (plan : Plan) (place m n : ℕ) →
         IsLineOf lines plan place m → IsLineOf lines plan place n → m ≡ n }
     ensures none { (text : List ℕ) (plan : Plan) (place : ℕ) → IsTextOf text plan →
-        count_behind_head plan ≤ place → command_line text place ≡ None }
+        count_behind_head plan ≤ place → command_line text (place + head_count plan) ≡ None }
 {}
 
 /// Each command of a script may come after those before it, and no request ends twice.
 #[tactic(auto, using(crate::proofs::ScriptLaws::can_follow, crate::proofs::ScriptLaws::ends_once))]
 pub fn requests_end_once()
     ensures can_follow { (plan : Plan) (before : List Command) (command : Command) (rest : List Command) →
-        IsPlan plan → plan.commands ≡ before ++ command ∷ rest → CanFollow plan.data_sectors before command }
+        IsPlan plan → plan.commands ≡ before ++ command ∷ rest → CanFollow (top_of plan.data_disk) before command }
     ensures once { (plan : Plan) (before between rest : List Command) (request : ℕ) → IsPlan plan →
         plan.commands ≡ before ++ Complete request ∷ (between ++ Complete request ∷ rest) → ⊥ }
 {}

@@ -1,5 +1,5 @@
-//! The scripts of `dmlw record`: texts that say the sizes of the disks, which requests are made, and
-//! when they end.
+//! The scripts of `dmlw record`: texts that say the sizes of the disks, which layers stand over them, which
+//! requests are made, and when they end.
 //!
 //! `read_script` reads a text, or answers the first line that is wrong; `print_script` writes the one
 //! spelling of a script. A request's number is the place of its submission among the script's
@@ -11,12 +11,16 @@
 #![tactic(auto)]
 
 pub use command::{Command, Step, Submission, WriteOptions};
+pub use disk::DiskSpec;
+pub use disk_name::DiskName;
 pub use printer::print_script;
 pub use reader::{Kind, line_of, read_script};
 pub use script::Script;
 pub use script_id::ScriptId;
 
 mod command;
+mod disk;
+mod disk_name;
 mod draft;
 mod head;
 pub mod laws;

@@ -1,12 +1,15 @@
 ghost use Rattle.std.specs.Prelude.{◌≡◌, option_copied, option_map};
 ghost use Rattle.dmlw_script.specs.Said.{as_said};
 ghost use Rattle.dmlw_script.specs.Lines.{is_line_byte as is_a_line_byte, is_line_text as is_a_line_text};
-ghost use Rattle.dmlw_script.specs.inside.Parsing.{body_words, discard_of as the_discard, lone_word, parse_words, plain_parts, read_of as the_read, write_of as the_write};
+ghost use Rattle.dmlw_script.specs.inside.Parsing.{body_words, discard_of as the_discard, layer_of as the_layer, lone_word, parse_words, plain_parts, read_of as the_read, write_of as the_write};
 
 use crate::command::{Step, Submission};
+use crate::disk_name::DiskName;
 use crate::options::options_of;
 use crate::script_id::ScriptId;
 use crate::values::byte_of;
+use bio::Ms;
+use table_line::{LayerSpec, TableError, parse_line};
 use words::{cut, number_of};
 
 /// What a line that is no crash says by its words alone.
@@ -22,9 +25,18 @@ pub(crate) enum Line {
 #[derive(Clone, Copy)]
 pub(crate) enum HeadLine {
     /// `data <sectors>`
-    Data { sectors: u64 },
+    Data {
+        sectors: u64,
+    },
     /// `log <sectors>`
-    Log { sectors: u64 },
+    Log {
+        sectors: u64,
+    },
+    /// `data-layer <table line>`, or `log-layer <table line>`: the layer that is asked for, or why none is
+    Layer {
+        over: DiskName,
+        asked: Result<LayerSpec, TableError>,
+    },
 }
 
 /// What a line of a body says.
@@ -39,7 +51,7 @@ pub(crate) enum BodyLine {
     Complete {
         name: ScriptId,
     },
-    /// `close`, `r <first> <count>`, `turn`, or `mark <text>`
+    /// `close`, `r <first> <count>`, `turn`, `mark <text>`, or `at <ms>`
     Step(Step),
 }
 
@@ -69,15 +81,31 @@ fn lone_word(verb: &[u8]) -> Option<Line>
 fn parse_words(verb: &[u8], words: &[u8]) -> Option<Line>
     ensures { option_map as_said result ≡ parse_words verb.now words.now }
 {
-    match verb {
-        b"data" => Some(Line::Head(HeadLine::Data {
+    if verb == b"data".as_slice() {
+        Some(Line::Head(HeadLine::Data {
             sectors: number_of(words)?,
-        })),
-        b"log" => Some(Line::Head(HeadLine::Log {
+        }))
+    } else if verb == b"log".as_slice() {
+        Some(Line::Head(HeadLine::Log {
             sectors: number_of(words)?,
-        })),
-        _ => body_words(verb, words),
+        }))
+    } else if verb == b"data-layer".as_slice() {
+        Some(layer_of(DiskName::Data, words))
+    } else if verb == b"log-layer".as_slice() {
+        Some(layer_of(DiskName::Log, words))
+    } else {
+        body_words(verb, words)
     }
+}
+
+// The line of a layer over this disk, whose table line is this.
+fn layer_of(over: DiskName, text: &[u8]) -> Line
+    ensures { as_said result ≡ the_layer over text.now }
+{
+    Line::Head(HeadLine::Layer {
+        over,
+        asked: parse_line(text),
+    })
 }
 
 // What a line of the body says, of this first word, whose other words are these.
@@ -95,6 +123,9 @@ fn body_words(verb: &[u8], words: &[u8]) -> Option<Line>
             name: ScriptId::of_word(words)?,
         })),
         b"r" => read_of(words),
+        b"at" => Some(Line::Body(BodyLine::Step(Step::At {
+            moment: Ms::new(number_of(words)?),
+        }))),
         _ => None,
     }
 }

@@ -2,10 +2,12 @@ ghost use Rattle.std.specs.Prelude.{◌≡◌};
 ghost use Rattle.dmlw_script.specs.declared.line_error.LineError.TheVariants.{Memory};
 ghost use Rattle.dmlw_script.specs.declared.line_error.LineError.TheVariants as line_errors;
 ghost use Rattle.bio.specs.Refusals.{bad_bio_refusal};
+ghost use Rattle.table_line.specs.Refusals.{table_refusal};
 
 use bio::BadBio;
 use refusals::Refusal;
 use std::alloc::{AllocError, AllocFailed};
+use table_line::TableError;
 
 /// Why reading ends at a line.
 #[derive(Clone, Copy)]
@@ -45,5 +47,13 @@ impl From<BadBio> for LineError {
 
     fn from(bad: BadBio) -> LineError {
         LineError::Refused(Refusal::from(bad))
+    }
+}
+
+impl From<TableError> for LineError {
+    ghost from_gives = { λ error stop. stop ≡ line_errors.Refused (table_refusal error) };
+
+    fn from(error: TableError) -> LineError {
+        LineError::Refused(Refusal::from(error))
     }
 }

@@ -1,17 +1,19 @@
-ghost use Rattle.std.specs.Prelude.{◌≡◌, ◌<◌, ◌+◌, ◌^◌, ◌++◌, ◌∷◌, [], codes, decimal, flat_map, length, IfOk, OnOk};
+ghost use Rattle.std.specs.Prelude.{◌≡◌, ◌<◌, ◌+◌, ◌^◌, ◌++◌, ◌∷◌, [], codes, decimal, flat_map, length, map, IfOk, OnOk};
 ghost use Rattle.dmlw_script.specs.Grammar.{IsTextOf};
 ghost use Rattle.dmlw_script.specs.Said as parsed_lines;
 ghost use Rattle.dmlw_script.specs.Ids.{letters_of};
-ghost use Rattle.dmlw_script.specs.Plans.{count_after_command, lines_of_body, line_at, HasName};
+ghost use Rattle.dmlw_script.specs.Plans.{count_after_command, head_of, layer_line, lines_of_body, line_at, HasName};
 ghost use Rattle.dmlw_script.specs.CanonicalText.{ended_line, ending_text, line_text, step_text, submission_text, canonical_text};
 ghost use Rattle.dmlw_script.specs.Options.{option_text, options_text};
 ghost use Rattle.dmlw_script.specs.Words.{byte_text, hex_digit as the_hex_digit};
 
 use crate::command::{Command, Step, Submission, WriteOptions};
-use crate::line::HeadLine;
+use crate::disk::DiskSpec;
+use crate::disk_name::DiskName;
 use crate::script::Script;
 use crate::script_id::ScriptId;
 use std::alloc::{AllocError, Global};
+use table_line::{LayerSpec, push_line};
 use words::push_number;
 
 /// The one text of a script: no comments, no empty lines, no leading zeroes, and a line feed
@@ -22,20 +24,7 @@ pub fn print_script(alloc: Global, script: &Script) -> Result<Vec<u8>, AllocErro
     ensures again { IfOk result (λ text. IsTextOf text.items script.now) }
 {
     let mut out = Vec::new(alloc);
-    let data_sectors = script.data_sectors();
-    push_head_line(
-        &mut out,
-        HeadLine::Data {
-            sectors: data_sectors,
-        },
-    )?;
-    let log_sectors = script.log_sectors();
-    push_head_line(
-        &mut out,
-        HeadLine::Log {
-            sectors: log_sectors,
-        },
-    )?;
+    push_head(&mut out, script.data(), script.log())?;
     push_body(&mut out, script)?;
     push_ending(&mut out, script)?;
     Ok(out)
@@ -104,14 +93,37 @@ fn push_command(
     Ok(())
 }
 
-// A line of the head.
-fn push_head_line(out: &mut Vec<u8>, line: HeadLine) -> Result<(), AllocError>
-    ensures { OnOk result (out.new.items ≡ out.old.items ++ ended_line (parsed_lines.Head line)) }
+// The lines of a script's head.
+fn push_head(out: &mut Vec<u8>, data_disk: &DiskSpec, log_disk: &DiskSpec) -> Result<(), AllocError>
+    ensures { OnOk result (out.new.items ≡ out.old.items ++ flat_map ended_line (head_of data_disk.now log_disk.now)) }
 {
-    match line {
-        HeadLine::Data { sectors } => push_size(out, b"data ", sectors)?,
-        HeadLine::Log { sectors } => push_size(out, b"log ", sectors)?,
+    push_value(out, b"data ", data_disk.sectors())?;
+    push_value(out, b"\nlog ", log_disk.sectors())?;
+    out.push(b'\n')?;
+    push_layers(out, DiskName::Data, data_disk.layers())?;
+    push_layers(out, DiskName::Log, log_disk.layers())
+}
+
+// The lines of a disk's layers.
+fn push_layers(out: &mut Vec<u8>, over: DiskName, layers: &[LayerSpec]) -> Result<(), AllocError>
+    ensures { OnOk result (out.new.items ≡ out.old.items ++ flat_map ended_line (map (layer_line over) layers.now)) }
+{
+    for layer in layers {
+        push_layer(out, over, layer)?;
     }
+    Ok(())
+}
+
+// The line of a layer.
+fn push_layer(out: &mut Vec<u8>, over: DiskName, layer: &LayerSpec) -> Result<(), AllocError>
+    ensures { OnOk result (out.new.items ≡ out.old.items ++ ended_line (layer_line over layer.now)) }
+{
+    let verb: &[u8] = match over {
+        DiskName::Data => b"data-layer ",
+        DiskName::Log => b"log-layer ",
+    };
+    out.extend_from_slice(verb)?;
+    push_line(out, layer)?;
     out.push(b'\n')?;
     Ok(())
 }
@@ -145,15 +157,16 @@ fn push_step(out: &mut Vec<u8>, step: &Step) -> Result<(), AllocError>
         Step::Read { first, count } => push_read(out, *first, *count),
         Step::Turn => out.extend_from_slice(b"turn"),
         Step::Mark { text } => push_mark(out, text.as_slice()),
+        Step::At { moment } => push_value(out, b"at ", moment.milliseconds()),
     }
 }
 
 // A line's first word and space, and a number.
-fn push_size(out: &mut Vec<u8>, verb: &[u8], sectors: u64) -> Result<(), AllocError>
-    ensures { OnOk result (out.new.items ≡ out.old.items ++ (verb.now ++ decimal sectors)) }
+fn push_value(out: &mut Vec<u8>, verb: &[u8], number: u64) -> Result<(), AllocError>
+    ensures { OnOk result (out.new.items ≡ out.old.items ++ (verb.now ++ decimal number)) }
 {
     out.extend_from_slice(verb)?;
-    push_number(out, sectors)
+    push_number(out, number)
 }
 
 // A line's first word and space, and an id.
@@ -230,7 +243,7 @@ fn push_mark(out: &mut Vec<u8>, text: &[u8]) -> Result<(), AllocError>
 fn push_read(out: &mut Vec<u8>, first: u64, count: u64) -> Result<(), AllocError>
     ensures { OnOk result (out.new.items ≡ out.old.items ++ step_text (Step.Read first count)) }
 {
-    push_size(out, b"r ", first)?;
+    push_value(out, b"r ", first)?;
     out.push(b' ')?;
     push_number(out, count)
 }

@@ -10,7 +10,7 @@ ghost use Rattle.dmlw_script.specs.inside.Readers.{fault_of, read_text, Reads};
 
 use crate::command::Step;
 use crate::draft::Draft;
-use crate::head::Head;
+use crate::head::{Head, Part};
 use crate::line::{BodyLine, HeadLine, Line, is_line_text, parse_parts};
 use crate::line_error::LineError;
 use crate::script::Script;
@@ -19,9 +19,6 @@ use bio::Bytes;
 use refusals::{Fault, Refusal};
 use std::alloc::{AllocError, Global};
 use words::cut;
-
-// The lines of a head.
-const HEAD_LINES: usize = 2;
 
 /// What a script is for.
 #[derive(Clone, Copy, Debug)]
@@ -45,7 +42,7 @@ struct Reader {
 
 impl Reader {
     ghost use Rattle.dmlw_script.specs.inside.Drafts.{Follows};
-    ghost use Rattle.dmlw_script.specs.inside.Readers.{body_line, finish_step, line_step, nothing, progress_of, parsed_step, step_if_parsed, with_head, Finishes, IsReader};
+    ghost use Rattle.dmlw_script.specs.inside.Readers.{body_line, finish_step, has_begun, line_step, nothing, progress_of, parsed_step, step_if_parsed, with_head, Finishes, IsReader};
     ghost use Rattle.dmlw_script.specs.inside.Heads.{head_step};
     ghost use Rattle.dmlw_script.specs.Plans.{IsPlan};
 
@@ -57,7 +54,7 @@ impl Reader {
         Reader {
             alloc,
             kind,
-            head: Head::Empty,
+            head: Head::new(alloc),
             draft: Draft::new(alloc),
             picks: Vec::new(alloc),
         }
@@ -123,18 +120,9 @@ impl Reader {
         ensures kind { OnOk result (self.new.kind ≡ self.old.kind) }
         ensures step { Follows result (progress_of self.new) (parsed_step self.old.kind (progress_of self.old) (parsed_lines.Crash picks.items)) }
     {
-        match (self.kind, self.head) {
-            (
-                Kind::Record,
-                Head::Whole {
-                    data_sectors,
-                    log_sectors,
-                },
-            ) => {
-                self.head = Head::Ended {
-                    data_sectors,
-                    log_sectors,
-                };
+        match (self.kind, self.head.part) {
+            (Kind::Record, Part::Whole) => {
+                self.head.part = Part::Ended;
                 self.picks = picks;
                 Ok(())
             }
@@ -176,10 +164,10 @@ impl Reader {
         requires { IsReader self.old }
         ensures reader { OnOk result (IsReader self.new) }
         ensures kind { OnOk result (self.new.kind ≡ self.old.kind) }
-        ensures step { Follows result (progress_of self.new) (with_head (progress_of self.old) (head_step (progress_of self.old).head line)) }
+        ensures step { Follows result (progress_of self.new) (with_head (progress_of self.old) (head_step (progress_of self.old).head (has_begun (progress_of self.old).body.body) line)) }
     {
-        self.head = self.head.with_line(line).ok_or(Refusal::BadLine)?;
-        Ok(())
+        let began = !self.draft.commands.is_empty();
+        self.head.read(self.alloc, line, began)
     }
 
     // Reads the next line of the body.
@@ -189,8 +177,10 @@ impl Reader {
         ensures kind { OnOk result (self.new.kind ≡ self.old.kind) }
         ensures step { Follows result (progress_of self.new) (body_line self.old.kind (progress_of self.old).head (progress_of self.old) line) }
     {
-        match (self.kind, self.head) {
-            (Kind::Record, Head::Whole { data_sectors, .. }) => self.draft.read(line, data_sectors),
+        match (self.kind, self.head.part) {
+            (Kind::Record, Part::Whole) => {
+                self.draft.read(line, self.head.data_disk.top_sectors())
+            }
             _ => Err(LineError::Refused(Refusal::BadLine)),
         }
     }
@@ -207,21 +197,14 @@ impl Reader {
             draft,
             picks,
         } = self;
-        match (kind, head) {
-            (
-                Kind::Record,
-                Head::Whole {
-                    data_sectors,
-                    log_sectors,
-                },
-            ) => Ok(draft.into_script(data_sectors, log_sectors, None)),
-            (
-                Kind::Record,
-                Head::Ended {
-                    data_sectors,
-                    log_sectors,
-                },
-            ) => Ok(draft.into_script(data_sectors, log_sectors, Some(picks))),
+        let Head {
+            part,
+            data_disk,
+            log_disk,
+        } = head;
+        match (kind, part) {
+            (Kind::Record, Part::Whole) => Ok(draft.into_script(data_disk, log_disk, None)),
+            (Kind::Record, Part::Ended) => Ok(draft.into_script(data_disk, log_disk, Some(picks))),
             _ => Err(LineError::Refused(Refusal::BadLine)),
         }
     }
@@ -230,10 +213,12 @@ impl Reader {
 /// Reads a text, in time linear in its length; nothing is read after a fault.
 ///
 /// A line is refused, in this order, as `BadLine` where it isn't of the grammar at its place (also
-/// in a comment, if a byte is zero or not ASCII; and after the last line, where the head isn't
-/// whole), as `BadId` where an id is submitted again or isn't open at its end, and as `NotWhole`,
-/// `TooLong` or `PastEnd` where `bio::check` refuses the sectors of a write, a discard or a read for
-/// the data disk.
+/// in a comment, if a byte is zero or not ASCII; at an `at` that goes back; at a layer's line out of its
+/// place, or a fifth one for its disk; and after the last line, where the head isn't whole), as
+/// `UnknownTarget`, `WrongCount`, `BadNumber`, `BadFeature` or `OutOfRange` where the table line of a layer
+/// asks for none, as `OutOfRange` where a layer isn't within what stands beneath it, as `BadId` where an id
+/// is submitted again or isn't open at its end, and as `NotWhole`, `TooLong` or `PastEnd` where
+/// `bio::check` refuses the sectors of a write, a discard or a read for the top of the data disk.
 /// Want of memory is `Memory`, and names no line.
 pub fn read_script(alloc: Global, text: &[u8], kind: Kind) -> Result<Script, Fault>
     // What is read is a recorder's script, and this is a text of it.
@@ -323,12 +308,14 @@ fn is_skipped(line: &[u8]) -> bool
     }
 }
 
-/// The line, counted from 1, of the command at this place of a text that was read, or of the crash
-/// behind the last command, or none where the text has no such line. Takes no memory, and one pass over the text.
+/// The number, counted from 1, of the line at this place among the lines of a text that aren't skipped, those of
+/// the head included, or none where the text has no such line. The line of a script's command stands its `head_lines`
+/// later than the command's own place, and that of its crash behind the last command's. Takes no memory, and one pass over
+/// the text.
 pub fn line_of(text: &[u8], place: usize) -> Option<u64>
     ensures { result ≡ command_line text.now place }
 {
-    let mut left = place.checked_add(HEAD_LINES)?;
+    let mut left = place;
     let mut number: u64 = 1;
     let mut rest = text;
     while let Some((line, after)) = next_line(rest) {

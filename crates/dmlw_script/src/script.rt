@@ -1,16 +1,17 @@
-ghost use Rattle.std.specs.Prelude.{◌≡◌, option_copied, option_map};
+ghost use Rattle.std.specs.Prelude.{◌≡◌, ◌≤◌, option_copied, option_map};
 
 use crate::command::Command;
+use crate::disk::DiskSpec;
 use crate::script_id::ScriptId;
 use indexmap::IndexSet;
 use std::marker::Model;
 
-/// A script of the grammar. Disks are counted in sectors of 512 bytes. Contracts see it as a `Plan`
+/// A script of the grammar. Contracts see it as a `Plan`
 /// (`specs/Plans`), and each value is one that `IsPlan` holds of.
 #[derive(Debug, Drop)]
 pub struct Script {
-    data_sectors: u64,
-    log_sectors: u64,
+    data_disk: DiskSpec,
+    log_disk: DiskSpec,
     names: IndexSet<ScriptId>,
     commands: Vec<Command>,
     ending: Option<Vec<u64>>,
@@ -22,48 +23,56 @@ impl Model for Script {
 
     ghost Value = { Plan };
 
-    ghost view = { λ s. record { data_sectors = s.data_sectors; log_sectors = s.log_sectors; names = s.names.keys; commands = s.commands.items; ending = option_map (λ picks. picks.items) s.ending } };
+    ghost view = { λ s. record { data_disk = s.data_disk; log_disk = s.log_disk; names = s.names.keys; commands = s.commands.items; ending = option_map (λ picks. picks.items) s.ending } };
 
-    ghost invariant = { λ s. IsPlan (record { data_sectors = s.data_sectors; log_sectors = s.log_sectors; names = s.names.keys; commands = s.commands.items; ending = option_map (λ picks. picks.items) s.ending }) };
+    ghost invariant = { λ s. IsPlan (record { data_disk = s.data_disk; log_disk = s.log_disk; names = s.names.keys; commands = s.commands.items; ending = option_map (λ picks. picks.items) s.ending }) };
 }
 
 impl Script {
-    ghost use Rattle.dmlw_script.specs.Plans.{IsPlan};
+    ghost use Rattle.dmlw_script.specs.Plans.{head_count, IsPlan};
 
     /// The script of these parts.
     pub(crate) fn new(
-        data_sectors: u64,
-        log_sectors: u64,
+        data_disk: DiskSpec,
+        log_disk: DiskSpec,
         names: IndexSet<ScriptId>,
         commands: Vec<Command>,
         ending: Option<Vec<u64>>,
     ) -> Script
-        requires { IsPlan (record { data_sectors = data_sectors; log_sectors = log_sectors; names = names.keys; commands = commands.items; ending = option_map (λ picks. picks.items) ending }) }
-        ensures { result ≡ record { data_sectors = data_sectors; log_sectors = log_sectors; names = names.keys; commands = commands.items; ending = option_map (λ picks. picks.items) ending } }
+        requires { IsPlan (record { data_disk = data_disk; log_disk = log_disk; names = names.keys; commands = commands.items; ending = option_map (λ picks. picks.items) ending }) }
+        ensures { result ≡ record { data_disk = data_disk; log_disk = log_disk; names = names.keys; commands = commands.items; ending = option_map (λ picks. picks.items) ending } }
     {
         Script {
-            data_sectors,
-            log_sectors,
+            data_disk,
+            log_disk,
             names,
             commands,
             ending,
         }
     }
 
-    /// The sectors of the data disk, 1 to 1,048,576.
-    pub fn data_sectors(&self) -> u64
-        ensures size { result ≡ self.now.data_sectors }
+    /// The data disk, of 1 to 1,048,576 sectors, with up to four layers.
+    pub fn data(&self) -> &DiskSpec
+        ensures disk { result.now ≡ self.now.data_disk }
         ensures script { IsPlan self.now }
     {
-        self.data_sectors
+        &self.data_disk
     }
 
-    /// The sectors of the log disk, 1 to 1,048,576.
-    pub fn log_sectors(&self) -> u64
-        ensures size { result ≡ self.now.log_sectors }
+    /// The log disk, of 1 to 1,048,576 sectors, with up to four layers.
+    pub fn log(&self) -> &DiskSpec
+        ensures disk { result.now ≡ self.now.log_disk }
         ensures script { IsPlan self.now }
     {
-        self.log_sectors
+        &self.log_disk
+    }
+
+    /// How many lines its head has, 2 to 10: those of both disks, and one for each layer.
+    pub fn head_lines(&self) -> usize
+        ensures lines { result ≡ head_count self.now }
+        ensures few { result ≤ 10 }
+    {
+        2 + self.data_disk.layers().len() + self.log_disk.layers().len()
     }
 
     /// The ids in the order of their submissions: a request's number is the place of its id.

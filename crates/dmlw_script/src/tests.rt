@@ -26,11 +26,11 @@ fn first_run(rt: HostRuntime) -> Result<(), Fail> {
     }
     let shown = format!(in alloc;
         "{} {}{names} {} {:?} {:?}",
-        script.data_sectors(),
-        script.log_sectors(),
+        script.data().sectors(),
+        script.log().sectors(),
         script.commands().len(),
-        line_of(text, 4),
-        line_of(text, 5)
+        line_of(text, script.head_lines().saturating_add(4)),
+        line_of(text, script.head_lines().saturating_add(5))
     )?;
     assert_eq!(rt; shown.as_str(), "16 32 a1 b1 5 Some(10) None");
     assert!(rt; script.crash().is_none());
@@ -46,8 +46,8 @@ fn crashes_end_scripts(rt: HostRuntime) -> Result<(), Fail> {
     let picks = script.crash().expect(&rt, "a crash");
     assert_eq!(rt; picks, [7, 0, u64::MAX].as_slice());
     assert_eq!(rt; script.commands().len(), 1);
-    assert_eq!(rt; line_of(text, 1), Some(5));
-    assert_eq!(rt; line_of(text, 2), None);
+    assert_eq!(rt; line_of(text, 3), Some(5));
+    assert_eq!(rt; line_of(text, 4), None);
     Ok(())
 }
 
@@ -660,6 +660,366 @@ crash 1
 =line 3: 30 BadLine
 ~crash
 =line 1: 30 BadLine";
+
+// The same, of layers and of moments.
+const LAYER_TEXTS: &str = "data 16
+log 32
+data-layer 0 16 linear disk 0
+log-layer 0 8 fuse disk 24 5
+log-layer 0 4 flakey disk 4 10 5
+=data 16
+log 32
+data-layer 0 16 linear disk 0
+log-layer 0 8 fuse disk 24 5
+log-layer 0 4 flakey disk 4 10 5
+
+~data 16
+log 32
+# over it
+data-layer   00  016   linear any-word 000
+
+log-layer 0 32 flakey any-word 0 10 5 0
+log-layer 0 32 error
+=data 16
+log 32
+data-layer 0 16 linear disk 0
+log-layer 0 32 flakey disk 0 10 5
+log-layer 0 32 error
+
+~data 16
+log 32
+data-layer 0 4 linear disk 1
+data-layer 0 4 flakey disk 0 10 5 1 error_reads
+data-layer 0 4 fuse disk 0 18446744073709551615
+data-layer 0 3 linear disk 1
+log-layer 0 32 error
+log-layer 0 31 flakey disk 1 0 1 1 error_writes
+log-layer 0 31 linear disk 0
+log-layer 0 1 flakey disk 30 4294967295 0 1 drop_writes
+close
+=data 16
+log 32
+data-layer 0 4 linear disk 1
+data-layer 0 4 flakey disk 0 10 5 1 error_reads
+data-layer 0 4 fuse disk 0 18446744073709551615
+data-layer 0 3 linear disk 1
+log-layer 0 32 error
+log-layer 0 31 flakey disk 1 0 1 1 error_writes
+log-layer 0 31 linear disk 0
+log-layer 0 1 flakey disk 30 4294967295 0 1 drop_writes
+close
+
+~data 16
+log 32
+data-layer 0 1 error
+data-layer 0 1 error
+data-layer 0 1 error
+data-layer 0 1 error
+data-layer 0 1 error
+=line 7: 30 BadLine
+~data 16
+log 32
+data-layer 0 1 error
+data-layer 0 1 error
+data-layer 0 1 error
+data-layer 0 1 error
+data-layer 0 16 zero
+=line 7: 30 BadLine
+~data 16
+log 32
+log-layer 0 1 error
+log-layer 0 1 error
+log-layer 0 1 error
+log-layer 0 1 error
+log-layer 0 1 linear disk 1
+=line 7: 30 BadLine
+~data 16
+log 32
+log-layer 0 1 error
+data-layer 0 1 error
+=line 4: 30 BadLine
+~data 16
+log 32
+log-layer 0 1 error
+data-layer 0 x error
+=line 4: 30 BadLine
+~data 16
+data-layer 0 1 error
+log 32
+=line 2: 30 BadLine
+~data-layer 0 16
+data 16
+log 32
+=line 1: 30 BadLine
+~data 16
+log 32
+f a
+data-layer 0 1 error
+=line 4: 30 BadLine
+~data 16
+log 32
+turn
+log-layer 0 16 zero
+=line 4: 30 BadLine
+~data 16
+log 32
+at 0
+log-layer
+=line 4: 30 BadLine
+~data 16
+log 32
+crash
+log-layer 0 1 error
+=line 4: 30 BadLine
+~data 16
+log 32
+data-layer 0 1 error
+log 32
+=line 4: 30 BadLine
+~data 16
+log 32
+data-layer
+=line 3: 30 BadLine
+~data 16
+log 32
+data-layerx 0 1 error
+=line 3: 30 BadLine
+~data 16
+log 32
+Data-layer 0 1 error
+=line 3: 30 BadLine
+~data 16
+log 32
+data-layer 0 1 error\t
+=line 3: 9 UnknownTarget
+~data 16
+log 32
+data-layer 0 1 error\r
+=line 3: 9 UnknownTarget
+~data 16
+log 32
+data-layer 0 1 linear caf\u{e9} 0
+=line 3: 30 BadLine
+~data 16
+log 32
+data-layer\x20
+=line 3: 10 WrongCount
+~data 16
+log 32
+data-layer 0 16 linear disk 1
+=line 3: 12 OutOfRange
+~data 16
+log 32
+data-layer 0 17 error
+=line 3: 12 OutOfRange
+~data 16
+log 32
+data-layer 0 1 linear disk 18446744073709551615
+=line 3: 12 OutOfRange
+~data 1048576
+log 32
+data-layer 0 1048576 error
+data-layer 0 1048577 error
+=line 4: 12 OutOfRange
+~data 16
+log 32
+data-layer 0 8 linear disk 8
+data-layer 0 8 linear disk 1
+=line 4: 12 OutOfRange
+~data 16
+log 32
+log-layer 0 8 linear disk 24
+log-layer 0 16 error
+=line 4: 12 OutOfRange
+~data 32
+log 16
+log-layer 0 17 error
+=line 3: 12 OutOfRange
+~data 16
+log 32
+data-layer 0 8 linear disk 8
+w a 8 1 41
+=line 4: 3 PastEnd
+~data 16
+log 32
+data-layer 0 8 linear disk 8
+d a 7 2
+=line 4: 3 PastEnd
+~data 16
+log 32
+data-layer 0 8 linear disk 8
+data-layer 0 7 linear disk 1
+r 6 1
+r 7 1
+=line 6: 3 PastEnd
+~data 16
+log 32
+log-layer 0 8 linear disk 8
+w a 15 1 41
+=data 16
+log 32
+log-layer 0 8 linear disk 8
+w a 15 1 41
+
+~data 16
+log 32
+at 5
+f a
+at 5
+at 0012
+c a
+at 18446744073709551615
+crash
+=data 16
+log 32
+at 5
+f a
+at 5
+at 12
+c a
+at 18446744073709551615
+crash
+
+~data 16
+log 32
+at 5
+at 4
+=line 4: 30 BadLine
+~data 16
+log 32
+at 5
+f a
+mark here
+at 0
+=line 6: 30 BadLine
+~data 16
+log 32
+at 18446744073709551616
+=line 3: 30 BadLine
+~data 16
+log 32
+at
+=line 3: 30 BadLine
+~data 16
+log 32
+at\x20
+=line 3: 30 BadLine
+~data 16
+log 32
+at 5 6
+=line 3: 30 BadLine
+~data 16
+log 32
+at x
+=line 3: 30 BadLine
+~data 16
+at 5
+log 32
+=line 2: 30 BadLine
+~data 16
+log 32
+at 5
+log-layer 0 1 error
+=line 4: 30 BadLine
+";
+
+// The same, where a run's head has layers.
+const RUN_LAYER_TEXTS: &str = "data 16
+log 32
+data-layer 0 16 linear disk 0
+log-layer 0 32 error
+=line 5: 30 BadLine
+~data 16
+log 32
+data-layer 0 16 linear disk 0
+f a
+=line 4: 30 BadLine
+~data 16
+log 32
+at 5
+=line 3: 30 BadLine
+~data 16
+log 32
+data-layer 0 16 zero
+=line 3: 9 UnknownTarget
+~data 16
+log 32
+log-layer 0 33 error
+=line 3: 12 OutOfRange
+~data 16
+log 32
+log-layer 0 1 error
+data-layer 0 1 error
+=line 4: 30 BadLine";
+
+// A table line, and what a script answers whose third line has it over a disk of 16 sectors: a fault, or `=` where it is read.
+const LAYERS: &str = "0 16|10 WrongCount
+0 16 zero|9 UnknownTarget
+0 16 linear disk|10 WrongCount
+0 16 linear disk x|11 BadNumber
+1 16 linear disk 0|12 OutOfRange
+0 16 flakey disk 0 0 0|12 OutOfRange
+0 16 flakey disk 0 10 5 1 corrupt_bio_byte|29 BadFeature
+0 16 linear disk 8|12 OutOfRange
+0 17 linear disk x|11 BadNumber
+0 0 error|12 OutOfRange
+0 16 linear disk 0|=
+0 8 linear disk 8|=
+0 16 error|=
+0 16 flakey disk 0 10 5|=
+0 15 flakey disk 1 10 5 1 drop_writes|=
+0 16 fuse disk 0 0|=";
+
+// What is answered to each line of a table over a disk, by its first word.
+fn assert_layers(rt: &impl Abort, alloc: Global, verb: &str) -> Result<(), Fail> {
+    for row in LAYERS.split("\n") {
+        let (line, want) = row.split_once('|').unwrap_or_default();
+        let text = format!(in alloc; "data 16\nlog 16\n{verb} {line}\nclose\n")?;
+        let found = answer(alloc, text.as_bytes(), Kind::Record)?;
+        if want == "=" {
+            assert_eq!(rt; found.as_str(), text.as_str());
+        } else {
+            let fault = format!(in alloc; "line 3: {want}")?;
+            assert_eq!(rt; found.as_str(), fault.as_str(), "{verb} {row}");
+        }
+    }
+    Ok(())
+}
+
+#[test]
+fn layers(rt: HostRuntime) -> Result<(), Fail> {
+    assert_layers(&rt, rt.alloc(), "data-layer")?;
+    assert_layers(&rt, rt.alloc(), "log-layer")
+}
+
+#[test]
+fn layer_texts(rt: HostRuntime) -> Result<(), Fail> {
+    assert_texts(&rt, rt.alloc(), LAYER_TEXTS, Kind::Record)?;
+    assert_texts(&rt, rt.alloc(), RUN_LAYER_TEXTS, Kind::Run)
+}
+
+// A script with a layer over each disk, and what its disks are.
+#[test]
+fn disks_have_layers(rt: HostRuntime) -> Result<(), Fail> {
+    let alloc = rt.alloc();
+    let text = b"data 16\nlog 32\n\ndata-layer 0 8 linear disk 4\nlog-layer 0 9 error\nat 7\nf a\n";
+    let script = read_script(alloc, text, Kind::Record)?;
+    assert_eq!(rt; script.head_lines(), 4);
+    assert_eq!(rt; line_of(text, 4), Some(6));
+    assert_eq!(rt; script.data().sectors(), 16);
+    assert_eq!(rt; script.data().top_sectors(), 8);
+    assert_eq!(rt; script.data().layers().len(), 1);
+    assert_eq!(rt; script.log().top_sectors(), 9);
+    for layer in script.data().layers() {
+        assert_eq!(rt; layer.offset, 4);
+    }
+    for command in script.commands() {
+        if let Command::Step(Step::At { moment }) = command {
+            assert_eq!(rt; moment.milliseconds(), 7);
+        }
+    }
+    Ok(())
+}
 
 // Each text is answered so.
 fn assert_texts(rt: &impl Abort, alloc: Global, texts: &str, kind: Kind) -> Result<(), Fail> {

@@ -1,18 +1,20 @@
 -- The steps of the reader over a body. `Grammar` and `Reading` say in the grammar's words what they come to.
-use Rattle.std.specs.Prelude.{◌≡◌, ℕ, Bool, false, List, [], ◌∷◌, ◌++◌, Option, Some, None, Result, Ok, Err, length, slice_index_or, if◌then◌else◌}
+use Rattle.std.specs.Prelude.{◌≡◌, ℕ, Bool, false, List, [], ◌∷◌, ◌++◌, Option, Some, None, Result, Ok, Err, length, nat_lt, slice_index_or, if◌then◌else◌}
 use Rattle.refusals.specs.declared.refusal.Refusal.{Refusal}
-use Rattle.refusals.specs.declared.refusal.Refusal.TheVariants.{BadId}
+use Rattle.refusals.specs.declared.refusal.Refusal.TheVariants.{BadId, BadLine}
 use Rattle.bio.specs.declared.request.BadBio.{BadBio}
 use Rattle.bio.specs.Refusals.{bad_bio_refusal}
 use Rattle.dmlw_script.specs.declared.command.Command.{Command}
 use Rattle.dmlw_script.specs.declared.command.Command.TheVariants as commands
+use Rattle.dmlw_script.specs.declared.command.Step.{Step}
+use Rattle.dmlw_script.specs.declared.command.Step.TheVariants as steps
 use Rattle.dmlw_script.specs.declared.draft.Draft.{Draft}
 use Rattle.dmlw_script.specs.declared.script_id.ScriptId.{ScriptId}
 use Rattle.dmlw_script.specs.declared.line.BodyLine.{BodyLine}
 use Rattle.dmlw_script.specs.declared.line.BodyLine.TheVariants as body_lines
 use Rattle.dmlw_script.specs.declared.line_error.LineError.{LineError}
 use Rattle.dmlw_script.specs.declared.line_error.LineError.TheVariants as line_errors
-use Rattle.dmlw_script.specs.Plans.{is_ended, request_of, step_answer, submission_answer}
+use Rattle.dmlw_script.specs.Plans.{is_ended, moment_after, request_of, step_answer, submission_answer}
 
 -- a script's body, as far as it was read: the ids that were submitted, and the commands
 pub record Body : Type 0 where
@@ -28,9 +30,10 @@ pub record IsFlags (n : ℕ) (flags : List Bool) (body : List Command) : Type 0 
   pub in_step : length flags ≡ n
   pub each : (request : ℕ) → slice_index_or flags request false ≡ is_ended request body
 
--- a draft's flags are those of its requests
-abbrev pub IsDraft : Draft → Type 0
-IsDraft d = IsFlags (length d.names.keys) d.has_ended.items d.commands.items
+-- a draft's flags are those of its requests, and its moment is the one after its commands
+pub record IsDraft (d : Draft) : Type 0 where
+  pub flags : IsFlags (length d.names.keys) d.has_ended.items d.commands.items
+  pub in_time : d.moment ≡ moment_after d.commands.items
 
 -- goes on with a value that is there
 infixl 10 ◌>>=◌
@@ -56,6 +59,14 @@ abbrev pub as_refusal : Result (Unit {0}) BadBio → Result (Unit {0}) Refusal
 as_refusal (Ok fine) = Ok tt
 as_refusal (Err bad) = Err (bad_bio_refusal bad)
 
+-- the test of a line that names no request, at this moment: no `at` goes back, and sectors pass their test
+abbrev pub step_test : ℕ → ℕ → Step → Result (Unit {0}) Refusal
+step_test sectors moment steps.Close = Ok tt
+step_test sectors moment (steps.Read first count) = as_refusal (step_answer sectors (steps.Read first count))
+step_test sectors moment steps.Turn = Ok tt
+step_test sectors moment (steps.Mark text) = Ok tt
+step_test sectors moment (steps.At later) = if nat_lt later moment then Err BadLine else Ok tt
+
 -- an end, whose request must be open
 abbrev pub ended_next : Option ℕ → Body → Result Body Refusal
 ended_next None b = Err BadId
@@ -69,7 +80,7 @@ body_step sectors b (body_lines.Submit name submission) = do
   Ok (with_command submitted (commands.Submit submission))
 body_step sectors b (body_lines.Complete name) = ended_next (request_of name b.names) b
 body_step sectors b (body_lines.Step step) = do
-  fine ← as_refusal (step_answer sectors step)
+  fine ← step_test sectors (moment_after b.body) step
   Ok (with_command b (commands.Step step))
 
 -- what a call answers that leaves this value, where a step says what it should come to

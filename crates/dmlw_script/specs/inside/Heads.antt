@@ -1,25 +1,73 @@
 -- The head of a script, as far as it was read.
-use Rattle.std.specs.Prelude.{ℕ, List, Option, Some, None, if◌then◌else◌}
+use Rattle.std.specs.Prelude.{ℕ, Bool, true, false, ◌∷◌, [], List, Result, Ok, Err, length, nat_lt, if◌then◌else◌}
+use Rattle.refusals.specs.declared.refusal.Refusal.{Refusal}
+use Rattle.refusals.specs.declared.refusal.Refusal.TheVariants.{BadLine, OutOfRange}
+use Rattle.table_line.specs.declared.layer_spec.LayerSpec.{LayerSpec}
+use Rattle.table_line.specs.declared.table_error.TableError.{TableError}
+use Rattle.table_line.specs.Refusals.{table_refusal}
+use Rattle.dmlw_script.specs.declared.disk_name.DiskName.{DiskName}
+use Rattle.dmlw_script.specs.declared.disk_name.DiskName.TheVariants as disks
 use Rattle.dmlw_script.specs.declared.head.Head.{Head}
-use Rattle.dmlw_script.specs.declared.head.Head.TheVariants as read_heads
+use Rattle.dmlw_script.specs.declared.head.Part.{Part}
+use Rattle.dmlw_script.specs.declared.head.Part.TheVariants as parts
 use Rattle.dmlw_script.specs.inside.Stages.{Stage}
 use Rattle.dmlw_script.specs.inside.Stages as heads
 use Rattle.dmlw_script.specs.declared.line.HeadLine.{HeadLine}
 use Rattle.dmlw_script.specs.declared.line.HeadLine.TheVariants as head_lines
-use Rattle.dmlw_script.specs.Plans.{is_disk_size}
+use Rattle.dmlw_script.specs.Plans.{is_disk_size, is_within, top_of, Disk}
+use Rattle.dmlw_script.specs.Reading.{bare, with_layer}
+
+-- how much was read, where this part was, of these disks, and a crash has these picks
+abbrev pub stage_at : List ℕ → Disk → Disk → Part → Stage
+stage_at picks data_disk log_disk parts.Nothing = heads.Empty
+stage_at picks data_disk log_disk parts.Data = heads.Data data_disk
+stage_at picks data_disk log_disk parts.Whole = heads.Whole data_disk log_disk
+stage_at picks data_disk log_disk parts.Ended = heads.Ended data_disk log_disk picks
 
 -- how much was read, where a crash has these picks
 abbrev pub stage_of : List ℕ → Head → Stage
-stage_of picks read_heads.Empty = heads.Empty
-stage_of picks (read_heads.Data data_sectors) = heads.Data data_sectors
-stage_of picks (read_heads.Whole data_sectors log_sectors) = heads.Whole data_sectors log_sectors
-stage_of picks (read_heads.Ended data_sectors log_sectors) = heads.Ended data_sectors log_sectors picks
+stage_of picks head = stage_at picks head.data_disk head.log_disk head.part
 
--- the head with one more line, where the line may stand there: first the size of the data disk, then that of the log disk
-abbrev pub head_step : Stage → HeadLine → Option Stage
-head_step heads.Empty (head_lines.Data sectors) = if is_disk_size sectors then Some (heads.Data sectors) else None
-head_step heads.Empty (head_lines.Log sectors) = None
-head_step (heads.Data data_sectors) (head_lines.Data sectors) = None
-head_step (heads.Data data_sectors) (head_lines.Log sectors) = if is_disk_size sectors then Some (heads.Whole data_sectors sectors) else None
-head_step (heads.Whole data_sectors log_sectors) line = None
-head_step (heads.Ended data_sectors log_sectors picks) line = None
+-- the disk with the layer that a table line asks for, which must be within what stands beneath it
+abbrev pub asked_layer : Disk → Result LayerSpec TableError → Result Disk Refusal
+asked_layer disk (Err error) = Err (table_refusal error)
+asked_layer disk (Ok spec) = if is_within spec (top_of disk) then Ok (with_layer disk spec) else Err OutOfRange
+
+-- the disk with one more layer, which must be the fourth at most
+abbrev pub layer_step : Disk → Result LayerSpec TableError → Result Disk Refusal
+layer_step disk asked = if nat_lt (length disk.layers) 4 then asked_layer disk asked else Err BadLine
+
+-- a head with another data disk
+abbrev pub with_data : Result Disk Refusal → Disk → Result Stage Refusal
+with_data (Ok data_disk) log_disk = Ok (heads.Whole data_disk log_disk)
+with_data (Err refusal) log_disk = Err refusal
+
+-- a head with another log disk
+abbrev pub with_log : Disk → Result Disk Refusal → Result Stage Refusal
+with_log data_disk (Ok log_disk) = Ok (heads.Whole data_disk log_disk)
+with_log data_disk (Err refusal) = Err refusal
+
+-- a layer over the data disk, behind which none of the log disk stands
+abbrev pub data_layer : List LayerSpec → Disk → Disk → Result LayerSpec TableError → Result Stage Refusal
+data_layer [] data_disk log_disk asked = with_data (layer_step data_disk asked) log_disk
+data_layer (layer ∷ layers) data_disk log_disk asked = Err BadLine
+
+-- a layer in a head of these disks, where the body has begun or not
+abbrev pub layer_in : Bool → Disk → Disk → DiskName → Result LayerSpec TableError → Result Stage Refusal
+layer_in true data_disk log_disk over asked = Err BadLine
+layer_in false data_disk log_disk disks.Data asked = data_layer log_disk.layers data_disk log_disk asked
+layer_in false data_disk log_disk disks.Log asked = with_log data_disk (layer_step log_disk asked)
+
+-- the head with one more line, where the body has begun or not: first the size of the data disk, then that of the log disk, then
+-- the layers
+abbrev pub head_step : Stage → Bool → HeadLine → Result Stage Refusal
+head_step heads.Empty began (head_lines.Data sectors) = if is_disk_size sectors then Ok (heads.Data (bare sectors)) else Err BadLine
+head_step heads.Empty began (head_lines.Log sectors) = Err BadLine
+head_step heads.Empty began (head_lines.Layer over asked) = Err BadLine
+head_step (heads.Data data_disk) began (head_lines.Data sectors) = Err BadLine
+head_step (heads.Data data_disk) began (head_lines.Log sectors) = if is_disk_size sectors then Ok (heads.Whole data_disk (bare sectors)) else Err BadLine
+head_step (heads.Data data_disk) began (head_lines.Layer over asked) = Err BadLine
+head_step (heads.Whole data_disk log_disk) began (head_lines.Data sectors) = Err BadLine
+head_step (heads.Whole data_disk log_disk) began (head_lines.Log sectors) = Err BadLine
+head_step (heads.Whole data_disk log_disk) began (head_lines.Layer over asked) = layer_in began data_disk log_disk over asked
+head_step (heads.Ended data_disk log_disk picks) began line = Err BadLine

@@ -1,8 +1,11 @@
 -- What a line says, as the reader finds it. `Grammar` says it in the grammar's words; the two agree by proof.
-use Rattle.std.specs.Prelude.{ℕ, ◌==◌, Bool, true, false, List, [], ◌∷◌, Option, Some, None, codes, if◌then◌else◌}
+use Rattle.std.specs.Prelude.{◌≡◌, ◌⊎◌, ℕ, ◌==◌, Bool, true, false, List, [], ◌∷◌, Option, Some, None, Result, Ok, Err, codes, if◌then◌else◌}
+use Rattle.std.proofs.Common.{inl, inr}
 use Rattle.std.specs.List.{slice_split}
 use Rattle.std.specs.Option.{option_map}
 use Rattle.std.specs.Str.{bytes_eq}
+use Rattle.dmlw_script.specs.declared.disk_name.DiskName.{DiskName}
+use Rattle.dmlw_script.specs.declared.disk_name.DiskName.TheVariants as disks
 use Rattle.dmlw_script.specs.Said.{Said}
 use Rattle.dmlw_script.specs.Said as parsed_lines
 use Rattle.dmlw_script.specs.declared.line.HeadLine.TheVariants as head_lines
@@ -13,7 +16,12 @@ use Rattle.dmlw_script.specs.declared.command.Step.{Step}
 use Rattle.dmlw_script.specs.declared.command.Step.TheVariants as steps
 use Rattle.dmlw_script.specs.declared.script_id.ScriptId.{ScriptId}
 use Rattle.dmlw_script.specs.Words.{byte_of}
-use Rattle.words.specs.Words.{before_byte, after_byte, number_of}
+use Rattle.words.specs.Words.{before_byte, after_byte, number_of, words_of}
+use Rattle.table_line.specs.declared.layer_spec.LayerSpec.{LayerSpec}
+use Rattle.table_line.specs.declared.table_error.TableError.{TableError}
+use Rattle.table_line.specs.LineLaws.{asks_or_fails}
+use Rattle.table_line.specs.Refusals.{refusal_of}
+use Rattle.table_line.specs.TableLines.{IsTableLine}
 use Rattle.dmlw_script.specs.Ids.{id_of_word}
 use Rattle.dmlw_script.specs.Lines.{is_line_text}
 use Rattle.dmlw_script.specs.declared.command.WriteOptions.{WriteOptions}
@@ -96,13 +104,29 @@ body_words verb words =
     else if bytes_eq verb (codes "d") then discard_of words
     else if bytes_eq verb (codes "c") then option_map (λ name. parsed_lines.Body (body_lines.Complete name)) (id_of_word words)
     else if bytes_eq verb (codes "r") then read_of words
+    else if bytes_eq verb (codes "at") then option_map (λ moment. step (steps.At moment)) (number_of words)
     else None
+
+-- the layer that words ask for, or the test that they fail
+abbrev pub asked_from : {words : List (List ℕ)} → ((spec : LayerSpec) × IsTableLine words spec) ⊎ ((error : TableError) × (refusal_of words ≡ Some error)) → Result LayerSpec TableError
+asked_from (inl asks) = Ok asks.0
+asked_from (inr fails) = Err fails.0
+
+-- what a table line asks for
+abbrev pub asked_of : List ℕ → Result LayerSpec TableError
+asked_of text = asked_from (asks_or_fails (words_of text))
+
+-- the line of a layer over this disk, whose table line is this
+abbrev pub layer_of : DiskName → List ℕ → Said
+layer_of over text = parsed_lines.Head (head_lines.Layer over (asked_of text))
 
 -- what a line of this first word says, whose other words are these
 abbrev pub parse_words : List ℕ → List ℕ → Option Said
 parse_words verb words =
     if bytes_eq verb (codes "data") then option_map (λ n. parsed_lines.Head (head_lines.Data n)) (number_of words)
     else if bytes_eq verb (codes "log") then option_map (λ n. parsed_lines.Head (head_lines.Log n)) (number_of words)
+    else if bytes_eq verb (codes "data-layer") then Some (layer_of disks.Data words)
+    else if bytes_eq verb (codes "log-layer") then Some (layer_of disks.Log words)
     else body_words verb words
 
 -- the words of a text, which stand behind one space each but for the first

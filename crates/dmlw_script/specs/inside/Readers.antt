@@ -1,7 +1,8 @@
 -- The steps of the reader over lines. `Grammar` and `Reading` say in the grammar's words what they come to.
-use Rattle.std.specs.Prelude.{◌≡◌, ℕ, ◌+◌, not, List, [], ◌∷◌, Option, Some, None, Result, Ok, Err, if◌then◌else◌}
+use Rattle.std.specs.Prelude.{◌≡◌, ℕ, ◌+◌, Bool, true, false, not, List, [], ◌∷◌, Option, Some, None, Result, Ok, Err, if◌then◌else◌}
 use Rattle.refusals.specs.declared.refusal.Refusal.{Refusal}
 use Rattle.refusals.specs.declared.refusal.Refusal.TheVariants.{BadLine, Memory}
+use Rattle.dmlw_script.specs.declared.command.Command.{Command}
 use Rattle.dmlw_script.specs.declared.reader.Kind.{Kind}
 use Rattle.dmlw_script.specs.declared.reader.Kind.TheVariants as kinds
 use Rattle.dmlw_script.specs.declared.reader.Reader.{Reader}
@@ -15,7 +16,7 @@ use Rattle.refusals.specs.declared.fault.Fault.{Fault}
 use Rattle.dmlw_script.specs.declared.line_error.LineError.{LineError}
 use Rattle.dmlw_script.specs.declared.line_error.LineError.TheVariants as line_errors
 use Rattle.dmlw_script.specs.Lines.{is_ascii_line, is_skipped, lines_of}
-use Rattle.dmlw_script.specs.Plans.{Plan}
+use Rattle.dmlw_script.specs.Plans.{top_of, Plan}
 use Rattle.dmlw_script.specs.inside.Heads.{head_step, stage_of}
 use Rattle.dmlw_script.specs.inside.Parsing.{parse_line}
 
@@ -32,10 +33,15 @@ progress_of r = record { head = stage_of r.picks.items r.head; body = body_of r.
 abbrev pub IsReader : Reader → Type 0
 IsReader r = IsDraft r.draft
 
--- the head after one more line, which must be one of it
-abbrev pub with_head : Progress → Option Stage → Result Progress Refusal
-with_head p None = Err BadLine
-with_head p (Some head) = Ok (record p { head = head })
+-- whether a body has begun
+abbrev pub has_begun : List Command → Bool
+has_begun [] = false
+has_begun (command ∷ body) = true
+
+-- the head after one more line
+abbrev pub with_head : Progress → Result Stage Refusal → Result Progress Refusal
+with_head p (Err refusal) = Err refusal
+with_head p (Ok head) = Ok (record p { head = head })
 
 -- the body after one more line
 abbrev pub with_body : Progress → Result Body Refusal → Result Progress Refusal
@@ -44,23 +50,23 @@ with_body p (Ok body) = Ok (record p { body = body })
 
 -- one more line of the body, which comes after a whole head; a run's body has none yet
 abbrev pub body_line : Kind → Stage → Progress → BodyLine → Result Progress Refusal
-body_line kinds.Record (heads.Whole data_sectors log_sectors) p line = with_body p (body_step data_sectors p.body line)
-body_line kinds.Record (heads.Data data_sectors) p line = Err BadLine
+body_line kinds.Record (heads.Whole data_disk log_disk) p line = with_body p (body_step (top_of data_disk) p.body line)
+body_line kinds.Record (heads.Data data_disk) p line = Err BadLine
 body_line kinds.Record heads.Empty p line = Err BadLine
-body_line kinds.Record (heads.Ended data_sectors log_sectors picks) p line = Err BadLine
+body_line kinds.Record (heads.Ended data_disk log_disk picks) p line = Err BadLine
 body_line kinds.Run head p line = Err BadLine
 
 -- a crash, which comes after a whole head
 abbrev pub crash_line : Kind → Stage → Progress → List ℕ → Result Progress Refusal
-crash_line kinds.Record (heads.Whole data_sectors log_sectors) p picks = Ok (record p { head = heads.Ended data_sectors log_sectors picks })
-crash_line kinds.Record (heads.Data data_sectors) p picks = Err BadLine
+crash_line kinds.Record (heads.Whole data_disk log_disk) p picks = Ok (record p { head = heads.Ended data_disk log_disk picks })
+crash_line kinds.Record (heads.Data data_disk) p picks = Err BadLine
 crash_line kinds.Record heads.Empty p picks = Err BadLine
-crash_line kinds.Record (heads.Ended data_sectors log_sectors ended) p picks = Err BadLine
+crash_line kinds.Record (heads.Ended data_disk log_disk ended) p picks = Err BadLine
 crash_line kinds.Run head p picks = Err BadLine
 
 -- one more line that is none to skip
 abbrev pub parsed_step : Kind → Progress → Said → Result Progress Refusal
-parsed_step kind p (parsed_lines.Head line) = with_head p (head_step p.head line)
+parsed_step kind p (parsed_lines.Head line) = with_head p (head_step p.head (has_begun p.body.body) line)
 parsed_step kind p (parsed_lines.Body line) = body_line kind p.head p line
 parsed_step kind p (parsed_lines.Crash picks) = crash_line kind p.head p picks
 
@@ -78,11 +84,11 @@ line_step kind p line =
 
 -- the text ends here: a whole head stands before it, and a run's script isn't whole yet
 abbrev pub finished : Kind → Stage → Body → Result Plan Refusal
-finished kinds.Record (heads.Whole data_sectors log_sectors) body =
-    Ok (record { data_sectors = data_sectors; log_sectors = log_sectors; names = body.names; commands = body.body; ending = None })
-finished kinds.Record (heads.Ended data_sectors log_sectors picks) body =
-    Ok (record { data_sectors = data_sectors; log_sectors = log_sectors; names = body.names; commands = body.body; ending = Some picks })
-finished kinds.Record (heads.Data data_sectors) body = Err BadLine
+finished kinds.Record (heads.Whole data_disk log_disk) body =
+    Ok (record { data_disk = data_disk; log_disk = log_disk; names = body.names; commands = body.body; ending = None })
+finished kinds.Record (heads.Ended data_disk log_disk picks) body =
+    Ok (record { data_disk = data_disk; log_disk = log_disk; names = body.names; commands = body.body; ending = Some picks })
+finished kinds.Record (heads.Data data_disk) body = Err BadLine
 finished kinds.Record heads.Empty body = Err BadLine
 finished kinds.Run head body = Err BadLine
 

@@ -1,9 +1,10 @@
 -- How much of a script was read, apart from its commands.
 use Rattle.std.specs.Prelude.{ℕ, List}
+use Rattle.dmlw_script.specs.Plans.{Disk}
 
--- nothing; the size of the data disk; the whole head; or all of the script, which a crash with these picks ends
+-- nothing; the size of the data disk; the sizes of both, and layers; or all of the script, which a crash with these picks ends
 pub data Stage : Type 0 where
   Empty : Stage
-  Data : ℕ → Stage
-  Whole : ℕ → ℕ → Stage
-  Ended : ℕ → ℕ → List ℕ → Stage
+  Data : Disk → Stage
+  Whole : Disk → Disk → Stage
+  Ended : Disk → Disk → List ℕ → Stage

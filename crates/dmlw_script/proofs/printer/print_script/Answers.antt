@@ -1,13 +1,18 @@
-use Rattle.std.proofs.Common.{◌≡◌, List, sym, subst, rules, append_assoc, ℕ}
+use Rattle.std.proofs.Common.{◌≡◌, List, sym, subst, ℕ}
 use Rattle.dmlw_script.specs.Grammar.{IsTextOf}
 use Rattle.dmlw_script.specs.CanonicalText.{canonical_text}
-use Rattle.dmlw_script.proofs.CanonicalTextLaws.{ending_spelled, spelling_spells}
+use Rattle.dmlw_script.proofs.CanonicalTextLaws.{spelling_spells, text_in_parts}
 use Rattle.dmlw_script.proofs.printer.print_script.Goals as goal
 
 pub returns-clause-spelled : goal.returns-clause-spelled
-returns-clause-spelled c = search (rules, append_assoc, ending_spelled)
+returns-clause-spelled c =
+    text_in_parts c.args.script.now c.data.result.now c.log.result.now _ _ _ _ c.data.ensures.disk c.log.ensures.disk c.new-out.ensures.items c.in_ok-push_head.ensures
+    c.in_ok-push_body.ensures c.in_ok-push_ending.ensures
 
 pub returns-clause-again : goal.returns-clause-again
 returns-clause-again c =
-    let spelled : c.push_ending.new.out.items ≡ canonical_text c.args.script.now = search (rules, append_assoc, ending_spelled) in
-    subst (λ (x : List ℕ). IsTextOf x c.args.script.now) (sym spelled) (spelling_spells c.args.script.now c.data_sectors-data_sectors.ensures.script)
+    let script = c.args.script.now in
+    let spelled : c.push_ending.new.out.items ≡ canonical_text script =
+    text_in_parts script c.data.result.now c.log.result.now _ _ _ _ c.data.ensures.disk c.log.ensures.disk c.new-out.ensures.items c.in_ok-push_head.ensures
+    c.in_ok-push_body.ensures c.in_ok-push_ending.ensures in
+    subst (λ (x : List ℕ). IsTextOf x script) (sym spelled) (spelling_spells script c.data.ensures.script)

@@ -20,8 +20,10 @@ new_keys c =
 
 pub returns-clause-draft : goal.returns-clause-draft
 returns-clause-draft c =
-    rw (new_keys c, length-append c.args.self.now.names.keys (c.args.name ∷ []), c.in_ok-push.ensures.items)
-    (flags_submit _ _ _ c.requires)
+    record {
+      flags = rw (new_keys c, length-append c.args.self.now.names.keys (c.args.name ∷ []), c.in_ok-push.ensures.items) (flags_submit _ _ _ c.requires.flags);
+      in_time = c.requires.in_time;
+    }
 
 pub returns-clause-step : goal.returns-clause-step
 returns-clause-step c =

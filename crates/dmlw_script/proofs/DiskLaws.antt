@@ -1,0 +1,46 @@
+-- Laws of disks and their layers.
+use Rattle.std.proofs.Common.{◌≡◌, ℕ, suc, ◌+◌, ◌-◌, ◌≤◌, ◌<◌, true, List, [], ◌∷◌, ◌++◌, length, Some, refl, ap, ◌∙◌, sym, arith}
+use Rattle.std.specs.Prelude.{slice_get}
+use Rattle.std.proofs.lemmas.Bool.{leb-true}
+use Rattle.std.proofs.lemmas.List.{length-append}
+use Rattle.table_line.specs.declared.layer_spec.LayerSpec.{LayerSpec}
+use Rattle.table_line.specs.Ranges.{IsLayerSpec}
+use Rattle.dmlw_script.specs.Plans.{is_disk_size, is_within, top_of, Disk, IsDisk}
+use Rattle.table_line.specs.Standing.{top_sectors, CanStand}
+use Rattle.dmlw_script.specs.Reading.{bare, with_layer}
+
+-- the last layer is on top
+pub top_is_last : (sectors : ℕ) (layers : List LayerSpec) (layer : LayerSpec) → slice_get layers (length layers - 1) ≡ Some layer → top_sectors sectors layers ≡ layer.length
+top_is_last sectors [] layer e = absurd (cc)
+top_is_last sectors (first ∷ []) layer e = let same : first ≡ layer = cc in ap (λ (x : LayerSpec). x.length) same
+top_is_last sectors (first ∷ second ∷ layers) layer e =
+    let place : length (first ∷ second ∷ layers) - 1 ≡ suc (length (second ∷ layers) - 1) = omega arith in
+    top_is_last first.length (second ∷ layers) layer (ap (slice_get (first ∷ second ∷ layers)) (sym place) ∙ e)
+
+-- one more layer is on top
+pub top_push : (sectors : ℕ) (layers : List LayerSpec) (layer : LayerSpec) → top_sectors sectors (layers ++ layer ∷ []) ≡ layer.length
+top_push sectors [] layer = refl
+top_push sectors (first ∷ layers) layer = top_push first.length layers layer
+
+-- one more layer may stand
+stand_push : (sectors : ℕ) (layers : List LayerSpec) (layer : LayerSpec) → CanStand sectors layers → IsLayerSpec layer → layer.offset + layer.length ≤ top_sectors sectors layers
+    → CanStand sectors (layers ++ layer ∷ [])
+stand_push sectors [] layer stand is within = (is, within, tt)
+stand_push sectors (first ∷ layers) layer stand is within = (stand.0, stand.1, stand_push first.length layers layer stand.2 is within)
+
+-- a disk with no layers is one of the grammar
+pub bare_disk : (sectors : ℕ) → is_disk_size sectors ≡ true → IsDisk (bare sectors)
+bare_disk sectors size = record { size = size; few = omega arith; stand = tt }
+
+-- so is a disk with one more layer
+pub disk_push : (disk : Disk) (layer : LayerSpec) → IsDisk disk → length disk.layers < 4 → IsLayerSpec layer → is_within layer (top_of disk) ≡ true → IsDisk (with_layer disk layer)
+disk_push disk layer is few fine within = record {
+  size = is.size;
+  few = omega (arith, few, length-append disk.layers (layer ∷ []));
+  stand = stand_push disk.sectors disk.layers layer is.stand fine (leb-true (layer.offset + layer.length) (top_of disk) within);
+}
+
+-- layers that stand over a device of at most 1,048,576 sectors have at most so many
+pub top_small : (sectors : ℕ) (layers : List LayerSpec) → CanStand sectors layers → sectors ≤ 1048576 → top_sectors sectors layers ≤ 1048576
+top_small sectors [] stand small = small
+top_small sectors (layer ∷ layers) stand small = top_small layer.length layers stand.2 (let lengths = stand.0.sectors in lengths.few)

@@ -1,5 +1,6 @@
 pub use Rattle.bio.specs.Refusals
 pub use Rattle.table_line.specs.Ranges
+pub use Rattle.table_line.specs.Standing
 pub use Rattle.table_line.specs.TableLines
 pub use Rattle.table_line.specs.Refusals as TableRefusals
 pub use Rattle.table_line.specs.Texts as TableTexts

@@ -51,6 +51,7 @@ step_keeps steps.Close text old new does = does.keeps.kept
 step_keeps (steps.Read first count) text old new does = does.kept
 step_keeps steps.Turn text old new does = does.keeps.kept
 step_keeps (steps.Mark mark) text old new does = does.kept
+step_keeps (steps.At moment) text old new does = does.keeps.kept
 
 -- the requests that the lines submit, behind those before
 abbrev Adds : {D L : Type 0} {d : Ghosts D} {l : Ghosts L} → List Submission → Running D L d l → Running D L d l → Type 0

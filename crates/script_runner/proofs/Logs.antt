@@ -1,5 +1,5 @@
 -- What the lines of a script leave of the log.
-use Rattle.std.proofs.Common.{List, [], ◌∷◌, ℕ, Bool, Option, Some, None, inl, inr, subst, sym}
+use Rattle.std.proofs.Common.{List, [], ◌∷◌, ◌≡◌, ◌∙◌, ap, length, ℕ, Bool, Option, Some, None, inl, inr, subst, sym}
 use Rattle.std.specs.Prelude.{slice_get}
 use Rattle.bio.specs.declared.request.Bio.{Bio}
 use Rattle.refusals.specs.declared.refusal.Refusal.TheVariants as refusals
@@ -12,6 +12,10 @@ use Rattle.script_runner.specs.declared.request.Request.TheVariants as requests
 use Rattle.script_runner.specs.Lines.{Asks, EndsRequest, HearsEnd, RunsLine, reply_of}
 use Rattle.script_runner.specs.Submitted.{bio_of}
 use Rattle.script_runner.specs.Written.{IsWritten}
+use Rattle.bio.specs.Lawful.{has_no_close}
+use Rattle.log_store.specs.Calls.{Same}
+use Rattle.pending.specs.CoreState.{CoreState}
+use Rattle.recorder.specs.Recording.{log_of}
 use Rattle.script_runner.proofs.Writing.{kept_close, kept_complete, kept_mark, kept_submit, kept_turn}
 use Rattle.blockdev.specs.declared.device.BlockDev.{Ghosts}
 use Rattle.dmlw_script.specs.declared.command.Command.{Command}
@@ -58,6 +62,13 @@ found_written {D} {L} {d} {l} (Some requests.Failed) name text old new does writ
 found_written {D} {L} {d} {l} (Some (requests.Asked bio id)) name text old new does written =
     ended_written {l = l} id does.ok old.recorder new.recorder does.hears written
 
+-- so does a moment
+moment_written : {L : Type 0} {l : Ghosts L} (old new : Recorder L l) → new.core ≡ old.core → new.end ≡ old.end
+    → Same (recording_of old).store (recording_of new).store → IsWritten old → IsWritten new
+moment_written {L} {l} old new core end same written = λ closed on.
+    let placed = written (sym (ap (λ (c : CoreState). has_no_close c.events) core) ∙ closed) (sym end ∙ on) in
+    same.placed ∙ placed ∙ ap (λ (c : CoreState). length (log_of c)) (sym core)
+
 -- each line does
 line_written : {D L : Type 0} {d : Ghosts D} {l : Ghosts L} (names : List ScriptId) (command : Command) (text : List ℕ) (old new : Running D L d l)
     → RunsLine names command text old new → IsWritten old.recorder → IsWritten new.recorder
@@ -73,6 +84,8 @@ line_written {D} {L} {d} {l} names (commands.Step steps.Turn) text old new line 
     kept_turn {l = l} line.does.turn old.recorder new.recorder line.does.turns written
 line_written {D} {L} {d} {l} names (commands.Step (steps.Mark mark)) text old new line written =
     kept_mark {l = l} mark line.does.reply old.recorder new.recorder line.does.marks written
+line_written {D} {L} {d} {l} names (commands.Step (steps.At moment)) text old new line written =
+    moment_written {l = l} old.recorder new.recorder line.does.core line.does.end line.does.store written
 
 -- and all lines do
 pub lines_written : {D L : Type 0} {d : Ghosts D} {l : Ghosts L} (names : List ScriptId) (body : List Command) (text : List ℕ) (old new : Running D L d l)

@@ -33,7 +33,6 @@ use Rattle.pending.specs.CoreState.{CoreState, new_state}
 use Rattle.pending.specs.declared.hazard.Hazard.{Hazard}
 use Rattle.pending.specs.Hazards.{first_hazard}
 use Rattle.pending.specs.QueueEvent.{recorded}
-use Rattle.dmlw_script.specs.Plans.{Plan}
 use Rattle.recorder.specs.Growth.{HasWholeLog, RecorderGoes}
 use Rattle.recorder.specs.Recording.{log_of}
 use Rattle.recorder.specs.Replayed.{ReplaysToWhatCouldBe}
@@ -42,7 +41,7 @@ use Rattle.script_runner.specs.declared.error.RunError.{RunError}
 use Rattle.script_runner.specs.declared.error.RunError.TheVariants.{LoggingEnded}
 use Rattle.script_runner.specs.Errors.{memory_error}
 use Rattle.script_runner.specs.OnDisks.{DiskRecorder, DiskRun, FailsOnDisks, IsCounted, IsNew, IsRecorded, IsStackOf, IsUnmade, Starts, file, left_on, on_stack, seen_on, unmade, zeroes}
-use Rattle.script_runner.specs.Stubs.{Disk, data_disk_of, log_disk_of, top_of}
+use Rattle.dmlw_script.specs.Plans.{top_of, Disk, IsDisk, Plan}
 use Rattle.script_runner.specs.declared.recording.Lies.{Lies}
 use Rattle.script_runner.specs.Runs.{RunsLines}
 use Rattle.script_runner.specs.Written.{IsWritten}
@@ -52,12 +51,25 @@ pub asked : (sectors : ℕ) (layers : List LayerSpec) → CanStand sectors layer
 asked sectors [] stand = tt
 asked sectors (layer ∷ layers) stand = (stand.0, asked layer.length layers stand.2)
 
+-- a disk's layers may stand over it
+pub stands : (disk : Disk) (layers : List LayerSpec) {sectors : ℕ} → layers ≡ disk.layers → sectors ≡ disk.sectors → IsDisk disk → CanStand sectors layers
+stands disk layers {sectors} above here is =
+    subst (λ (ls : List LayerSpec). CanStand sectors ls) (sym above) (subst (λ (n : ℕ). CanStand n disk.layers) (sym here) is.stand)
+
+-- what is said of a disk, is said of one of the same sectors and layers
+same_stack : (sectors : ℕ) (layers : List LayerSpec) (stack : Stack) {disk : Disk} → sectors ≡ disk.sectors → layers ≡ disk.layers
+    → IsStackOf (record { sectors = sectors; layers = layers }) stack → IsStackOf disk stack
+same_stack sectors layers stack {disk} here above is =
+    subst (λ (n : ℕ). IsStackOf (record { sectors = n; layers = disk.layers }) stack) here
+    (subst (λ (ls : List LayerSpec). IsStackOf (record { sectors = sectors; layers = ls }) stack) above is)
+
 -- a new disk under the layers that were put over it
-pub stacked : (sectors : ℕ) (layers : List LayerSpec) (disk : SectorDisk) (bare stack : Stack) → Begins sectors zeroes (shown_of disk)
+pub stacked : (spec : Disk) (disk : SectorDisk) (bare stack : Stack) {sectors : ℕ} {layers : List LayerSpec} → sectors ≡ spec.sectors → layers ≡ spec.layers → Begins sectors zeroes (shown_of disk)
     → layers_of bare ≡ [] → disk_of bare ≡ disk → IsSeenAs (shown_of disk) (stack_shown bare)
     → layers_of stack ≡ layers_under layers 0 (layers_of bare) → disk_of stack ≡ disk_of bare → AreOver layers (stack_shown bare) (stack_shown stack)
-    → IsStackOf (record { sectors = sectors; layers = layers }) stack
-stacked sectors layers disk bare stack blank none beneath seen named same over =
+    → IsStackOf spec stack
+stacked spec disk bare stack {sectors} {layers} here above blank none beneath seen named same over =
+    same_stack sectors layers stack here above (
     let is : disk_of stack ≡ disk = same ∙ beneath in record {
       blank = subst (λ (d : SectorDisk). Begins sectors zeroes (shown_of d)) (sym is) blank;
       layers = named ∙ ap (λ (ls : List Layer). layers_under layers 0 ls) none;
@@ -68,20 +80,7 @@ stacked sectors layers disk bare stack blank none beneath seen named same over =
         faults = over.faults ∙ seen.faults;
         lies = over.lies ∙ seen.lies;
       });
-    }
-
--- what is said of a disk, is said of one of the same sectors and layers
-pub same_stack : (sectors : ℕ) (layers : List LayerSpec) (stack : Stack) {disk : Disk} → sectors ≡ disk.sectors → layers ≡ disk.layers
-    → IsStackOf (record { sectors = sectors; layers = layers }) stack → IsStackOf disk stack
-same_stack sectors layers stack {disk} here above is =
-    subst (λ (n : ℕ). IsStackOf (record { sectors = n; layers = disk.layers }) stack) here
-    (subst (λ (ls : List LayerSpec). IsStackOf (record { sectors = sectors; layers = ls }) stack) above is)
-
-pub same_new : (sectors : ℕ) (layers : List LayerSpec) (recorder : DiskRecorder) {disk : Disk} → sectors ≡ disk.sectors → layers ≡ disk.layers
-    → IsNew (record { sectors = sectors; layers = layers }) recorder → IsNew disk recorder
-same_new sectors layers recorder {disk} here above is =
-    subst (λ (n : ℕ). IsNew (record { sectors = n; layers = disk.layers }) recorder) here
-    (subst (λ (ls : List LayerSpec). IsNew (record { sectors = sectors; layers = ls }) recorder) above is)
+    })
 
 -- the top's sectors and its place on the disk
 stack_size : (disk : Disk) (stack : Stack) → IsStackOf disk stack → (stack_shown stack).size ≡ top_of disk
@@ -108,7 +107,7 @@ new_log disk stack store recorder blank none goes empty (core, same, end) = reco
 }
 
 -- a run that can't be started fails, and has printed nothing
-pub fails_to_start : (text : List ℕ) (plan : Plan) (known : Option (List ℕ)) (fault : RunError) → (fault ≡ memory_error) ⊎ IsUnmade (log_disk_of plan) fault
+pub fails_to_start : (text : List ℕ) (plan : Plan) (known : Option (List ℕ)) (fault : RunError) → (fault ≡ memory_error) ⊎ IsUnmade plan.log_disk fault
     → FailsOnDisks text plan known known fault
 fails_to_start text plan known fault (inl memory) = file fault (inr memory)
 fails_to_start text plan known fault (inr none) = unmade fault none (keeps_same known)
@@ -120,21 +119,21 @@ may_leave (Some picks) disk = picks_leave_one (cache_of disk) picks (is_current 
 
 -- a log that is seen of a disk's content is seen of its image too
 image_log : (plan : Plan) (device : Stack) (seen : Content) (image : List ℕ)
-    → (stack_shown device).size ≡ top_of (log_disk_of plan)
-    → (stack_shown device).place ≡ record { origin = top_origin 0 (log_disk_of plan).layers; disk = (log_disk_of plan).sectors }
-    → AgreeBelow (log_disk_of plan).sectors (left_on plan.ending (disk_of device)) (sector_of image)
+    → (stack_shown device).size ≡ top_of plan.log_disk
+    → (stack_shown device).place ≡ record { origin = top_origin 0 plan.log_disk.layers; disk = plan.log_disk.sectors }
+    → AgreeBelow plan.log_disk.sectors (left_on plan.ending (disk_of device)) (sector_of image)
     → ((sector : ℕ) → seen sector ≡ left_on plan.ending (disk_of device) ((stack_shown device).place.origin + sector))
-    → {es : List _} → IsLogOf (stack_shown device).size seen 512 es → IsLogOf (stack_shown device).size (seen_on (log_disk_of plan) image) 512 es
+    → {es : List _} → IsLogOf (stack_shown device).size seen 512 es → IsLogOf (stack_shown device).size (seen_on plan.log_disk image) 512 es
 image_log plan device seen image size place agree looks {es} log_c =
     let some = (stack_lawful device).some_sectors in
     let part = part_of_disk device in
     let within = part.within in
     let left = left_on plan.ending (disk_of device) in
-    let origin : (stack_shown device).place.origin ≡ top_origin 0 (log_disk_of plan).layers = ap (λ (p : Place). p.origin) place in
-    let disk : (shown_of (disk_of device)).size ≡ (log_disk_of plan).sectors = sym part.disk ∙ ap (λ (p : Place). p.disk) place in
+    let origin : (stack_shown device).place.origin ≡ top_origin 0 plan.log_disk.layers = ap (λ (p : Place). p.origin) place in
+    let disk : (shown_of (disk_of device)).size ≡ plan.log_disk.sectors = sym part.disk ∙ ap (λ (p : Place). p.disk) place in
     let count : log_sectors 512 (stack_shown device).size ≡ (stack_shown device).size = mul-div_cancel (stack_shown device).size (omega arith) in
-    log_within (stack_shown device).size seen (seen_on (log_disk_of plan) image) 512 es (omega arith)
-    (λ sector h. agree (top_origin 0 (log_disk_of plan).layers + sector) (omega arith) ∙ ap (λ (n : ℕ). left (n + sector)) (sym origin) ∙ sym (looks sector)) log_c
+    log_within (stack_shown device).size seen (seen_on plan.log_disk image) 512 es (omega arith)
+    (λ sector h. agree (top_origin 0 plan.log_disk.layers + sector) (omega arith) ∙ ap (λ (n : ℕ). left (n + sector)) (sym origin) ∙ sym (looks sector)) log_c
 
 -- lies that are equal, each for its disk
 pub same_lies : (lies : Lies) (over_data over_log : ℕ) → lies.data_disk ≡ over_data → lies.log_disk ≡ over_log
@@ -165,15 +164,15 @@ pub is_recorded : (plan : Plan) (text : List ℕ) (start last : DiskRun) (log : 
 is_recorded plan text start last log hazard status lies image picks starts ran goes first counted tells same lied count ending bytes reopens whole =
     let device = last.recorder.store.device in
     let new = starts.log_disk in
-    let size : (stack_shown device).size ≡ top_of (log_disk_of plan) = goes.size ∙ new.made.size ∙ stack_size (log_disk_of plan) new.stack new.blank in
-    let place : (stack_shown device).place ≡ record { origin = top_origin 0 (log_disk_of plan).layers; disk = (log_disk_of plan).sectors } =
-    goes.place ∙ new.made.place ∙ stack_place (log_disk_of plan) new.stack new.blank in
+    let size : (stack_shown device).size ≡ top_of plan.log_disk = goes.size ∙ new.made.size ∙ stack_size plan.log_disk new.stack new.blank in
+    let place : (stack_shown device).place ≡ record { origin = top_origin 0 plan.log_disk.layers; disk = plan.log_disk.sectors } =
+    goes.place ∙ new.made.place ∙ stack_place plan.log_disk new.stack new.blank in
     let part = part_of_disk device in
-    let sectors : (shown_of (disk_of device)).size ≡ (log_disk_of plan).sectors = sym part.disk ∙ ap (λ (p : Place). p.disk) place in
+    let sectors : (shown_of (disk_of device)).size ≡ plan.log_disk.sectors = sym part.disk ∙ ap (λ (p : Place). p.disk) place in
     let here : AgreeBelow (shown_of (disk_of device)).size (left_on plan.ending (disk_of device)) (sector_of image) =
     subst (λ (s : Stack). AgreeBelow (shown_of (disk_of s)).size (left_on plan.ending (disk_of s)) (sector_of image)) same
     (subst (λ (o : Option (List ℕ)). AgreeBelow (shown_of (disk_of log)).size (left_on o (disk_of log)) (sector_of image)) ending bytes) in
-    let agree : AgreeBelow (log_disk_of plan).sectors (left_on plan.ending (disk_of device)) (sector_of image) =
+    let agree : AgreeBelow plan.log_disk.sectors (left_on plan.ending (disk_of device)) (sector_of image) =
     subst (λ (n : ℕ). AgreeBelow n (left_on plan.ending (disk_of device)) (sector_of image)) sectors here in
     let seen = part.crash (left_on plan.ending (disk_of device)) (may_leave plan.ending (disk_of device)) in
     let told : lies ≡ record { data_disk = (stack_shown last.disk).lies; log_disk = (stack_shown device).lies } =
@@ -201,7 +200,7 @@ is_recorded plan text start last log hazard status lies image picks starts ran g
             possible = reopened.possible;
           };
       whole = λ none closed on.
-          subst (λ (n : ℕ). IsLogOf n (seen_on (log_disk_of plan) image) 512 (log_of last.recorder.core)) size
+          subst (λ (n : ℕ). IsLogOf n (seen_on plan.log_disk image) 512 (log_of last.recorder.core)) size
           (image_log plan device seen.0 image size place agree seen.2
-          ((whole (new_written (log_disk_of plan) start.recorder new) on closed (honest none)).crash seen.0 seen.1));
+          ((whole (new_written plan.log_disk start.recorder new) on closed (honest none)).crash seen.0 seen.1));
     }

@@ -9,7 +9,7 @@ use Rattle.dmlw_script.specs.declared.command.Command.{Command}
 use Rattle.dmlw_script.specs.declared.command.Command.TheVariants as commands
 use Rattle.dmlw_script.specs.declared.script_id.ScriptId.{ScriptId}
 use Rattle.dmlw_script.specs.Lines.{command_line}
-use Rattle.dmlw_script.specs.Plans.{CanFollow, HasName, IsPlan, Plan, submissions}
+use Rattle.dmlw_script.specs.Plans.{head_count, top_of, CanFollow, HasName, IsPlan, Plan, submissions}
 use Rattle.script_runner.specs.declared.error.RunError.{RunError}
 use Rattle.script_runner.specs.declared.error.RunError.TheVariants.{Refused}
 use Rattle.script_runner.specs.CallLaws.{appends_kept, appends_twice}
@@ -22,13 +22,13 @@ use Rattle.script_runner.proofs.Chaining.{chain_snoc}
 -- each command of a script may come after those before it
 abbrev pub IsOrderlyScript : Plan → Type 0
 IsOrderlyScript plan = (before : List Command) (command : Command) (rest : List Command) → plan.commands ≡ before ++ command ∷ rest
-    → CanFollow plan.data_sectors before command
+    → CanFollow (top_of plan.data_disk) before command
 
 -- The next command of a script, after as many as have run.
 pub record ComesNext (plan : Plan) (place : ℕ) (command : Command) : Type 0 where
   pub rest : List Command
   pub split : plan.commands ≡ take place plan.commands ++ command ∷ rest
-  pub comes : CanFollow plan.data_sectors (take place plan.commands) command
+  pub comes : CanFollow (top_of plan.data_disk) (take place plan.commands) command
 
 -- the command at a place comes next
 pub command_next : (plan : Plan) (items : List Command) (place : ℕ) (other : Command) → items ≡ plan.commands → IsOrderlyScript plan → place < length items
@@ -132,24 +132,24 @@ count_more_of plan items place old new other same within counted more =
 
 -- what is asked of a line that comes next
 pub next_line_fits : (plan : Plan) (items : List Command) (place sectors : ℕ) (other : Command) → items ≡ plan.commands → IsOrderlyScript plan → place < length items
-    → sectors ≡ plan.data_sectors → FitsDevice sectors (slice_index_or items place other)
+    → sectors ≡ top_of plan.data_disk → FitsDevice sectors (slice_index_or items place other)
 next_line_fits plan items place sectors other same orderly within size =
     let next = command_next plan items place other same orderly within in
     subst (λ (n : ℕ). FitsDevice n (slice_index_or items place other)) (sym size)
-    (next_fits plan.data_sectors (take place plan.commands) (slice_index_or items place other) next.comes)
+    (next_fits (top_of plan.data_disk) (take place plan.commands) (slice_index_or items place other) next.comes)
 
 pub next_line_text : (plan : Plan) (items : List Command) (place : ℕ) (other : Command) → items ≡ plan.commands → IsOrderlyScript plan → place < length items
     → HasScriptText (slice_index_or items place other)
 next_line_text plan items place other same orderly within =
     let next = command_next plan items place other same orderly within in
-    next_text plan.data_sectors (take place plan.commands) (slice_index_or items place other) next.comes
+    next_text (top_of plan.data_disk) (take place plan.commands) (slice_index_or items place other) next.comes
 
 pub next_line_submitted : (plan : Plan) (items : List Command) (place requests : ℕ) (other : Command) → items ≡ plan.commands → IsOrderlyScript plan → place < length items
     → requests ≡ submissions (take place plan.commands) → EndsSubmitted requests (slice_index_or items place other)
 next_line_submitted plan items place requests other same orderly within counted =
     let next = command_next plan items place other same orderly within in
     subst (λ (n : ℕ). EndsSubmitted n (slice_index_or items place other)) (sym counted)
-    (next_submitted plan.data_sectors (take place plan.commands) (slice_index_or items place other) next.comes)
+    (next_submitted (top_of plan.data_disk) (take place plan.commands) (slice_index_or items place other) next.comes)
 
 pub next_line_named : (plan : Plan) (items : List Command) (names : List ScriptId) (place requests : ℕ) (other : Command) → items ≡ plan.commands → IsPlan plan
     → IsOrderlyScript plan → place < length items → names ≡ plan.names → requests ≡ submissions (take place plan.commands)
@@ -169,7 +169,7 @@ stops_whole text plan command before mid after fault start now (inr stops) = abs
 
 -- a close that is refused ends the run at its line
 pub stops_at_close : {D L : Type 0} {d : Ghosts D} {l : Ghosts L} (text : List ℕ) (plan : Plan) (place : ℕ) (line : Option ℕ) (command : Command) (before mid after : Option (List ℕ))
-    (refusal : Refusal) (start now : Running D L d l) → ComesNext plan place command → place ≡ length (take place plan.commands) → line ≡ command_line text place
+    (refusal : Refusal) (start now : Running D L d l) → ComesNext plan place command → place ≡ length (take place plan.commands) → line ≡ command_line text (head_count plan + place)
     → PrintsLines plan.names (take place plan.commands) before mid start now
     → StopsLine command mid after now.recorder (AtLine refusal)
     → EndsRun text plan before after start (Refused (record { line = line; refusal = refusal }))
@@ -178,7 +178,7 @@ stops_at_close text plan place line command before mid after refusal start now n
     let told = stops.stops in
     let same : stops.refusal ≡ refusal = cc in
     subst (λ (at : Option ℕ). EndsRun text plan before after start (Refused (record { line = at; refusal = refusal }))) (sym named)
-    (subst (λ (r : Refusal). EndsRun text plan before after start (Refused (record { line = command_line text place; refusal = r }))) same
+    (subst (λ (r : Refusal). EndsRun text plan before after start (Refused (record { line = command_line text (head_count plan + place); refusal = r }))) same
     (close place stops.refusal ran.0 (record {
       before = take place plan.commands;
       rest = next.rest;

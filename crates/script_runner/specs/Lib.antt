@@ -12,7 +12,6 @@ pub use Rattle.recorder.specs.Replayed
 pub use Rattle.sector_disk.specs.Candidates
 pub use Rattle.sector_disk.specs.Shown as DiskShown
 pub use Rattle.sector_disk.specs.Sizes
-pub mod Stubs
 pub mod Errors
 pub mod CallLaws
 pub mod Submitted

@@ -21,7 +21,7 @@ use Rattle.recorder.specs.Calls.{Turns, Closes, Completes, Drains, Marks, Submit
 use Rattle.recorder.specs.Growth.{RecorderGoes}
 use Rattle.recorder.specs.Shown.{recording_of}
 use Rattle.log_store.specs.Calls.{Same}
-use Rattle.script_runner.specs.Stubs.{moment_at}
+use Rattle.dmlw_script.specs.Plans.{moment_at}
 use Rattle.script_runner.specs.declared.request.Request.{Request}
 use Rattle.script_runner.specs.declared.request.Request.TheVariants as requests
 use Rattle.script_runner.specs.declared.running.Running.{Running}
@@ -134,6 +134,7 @@ TakesStep steps.Close text old new = EndsRecording text old new
 TakesStep (steps.Read first count) text old new = ReadsData first count text old new
 TakesStep steps.Turn text old new = GivesTurn text old new
 TakesStep (steps.Mark mark) text old new = TellsMark mark text old new
+TakesStep (steps.At moment) text old new = SetsMoment moment text old new
 
 -- What a line does, by its kind.
 abbrev pub Does : {D L : Type 0} {d : Ghosts D} {l : Ghosts L} → List ScriptId → Command → List ℕ → Running D L d l → Running D L d l → Type 0

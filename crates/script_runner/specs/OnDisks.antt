@@ -33,7 +33,7 @@ use Rattle.script_runner.specs.declared.error.RunError.{RunError}
 use Rattle.script_runner.specs.declared.error.RunError.TheVariants.{LoggingEnded}
 use Rattle.script_runner.specs.declared.recording.Lies.{Lies}
 use Rattle.script_runner.specs.Errors.{IsFileError}
-use Rattle.script_runner.specs.Stubs.{Disk, data_disk_of, log_disk_of, top_of}
+use Rattle.dmlw_script.specs.Plans.{Disk, top_of}
 use Rattle.script_runner.specs.declared.running.Running.{Running}
 use Rattle.script_runner.specs.Runs.{EndsRun, RunsLines}
 
@@ -84,8 +84,8 @@ pub record IsUnmade (disk : Disk) (fault : RunError) : Type 0 where
 
 -- A script's run before its first line, at moment 0: on a data disk of zeroes and a new log, both of the sizes and under the layers that the script names.
 pub record Starts (plan : Plan) (run : DiskRun) : Type 0 where
-  pub data_disk : IsStackOf (data_disk_of plan) run.disk
-  pub log_disk : IsNew (log_disk_of plan) run.recorder
+  pub data_disk : IsStackOf plan.data_disk run.disk
+  pub log_disk : IsNew plan.log_disk run.recorder
   pub none : run.requests.items ≡ []
   pub moment : run.moment ≡ 0
 
@@ -115,22 +115,22 @@ pub record IsRecorded (plan : Plan) (text : List ℕ) (hazard : Option Hazard) (
   pub first : hazard ≡ first_hazard recorded last.recorder.core.events
   pub counted : IsCounted status last.recorder
   pub lied : lies ≡ record { data_disk = (stack_shown last.disk).lies; log_disk = (stack_shown last.recorder.store.device).lies }
-  pub size : length image ≡ 512 * (log_disk_of plan).sectors
-  pub bytes : AgreeBelow (log_disk_of plan).sectors (left_on plan.ending (disk_of last.recorder.store.device)) (sector_of image)
+  pub size : length image ≡ 512 * plan.log_disk.sectors
+  pub bytes : AgreeBelow plan.log_disk.sectors (left_on plan.ending (disk_of last.recorder.store.device)) (sector_of image)
   -- unless the log's device lied, the status is that of what is placed
   pub tells : lies.log_disk ≡ 0 → status ≡ status_of 512 (entries_of (store_of last.recorder.store)) last.recorder.end
   -- unless it lied, the bytes have a log, as seen through its layers, which is a beginning of the completion list of the recorder's
   -- events with all that is settled and all that is acknowledged; up to the first hazard each beginning of it replays to what the recorded
   -- device could hold
   pub beginning : lies.log_disk ≡ 0 →
-      ReplaysToWhatCouldBe (recording_of last.recorder) (recording_of last.recorder) (seen_on (log_disk_of plan) image)
+      ReplaysToWhatCouldBe (recording_of last.recorder) (recording_of last.recorder) (seen_on plan.log_disk image)
   -- where the script closed and logging goes on, it is the whole list
   pub whole : lies.log_disk ≡ 0 → has_no_close last.recorder.core.events ≡ false → last.recorder.end ≡ None →
-      IsLogOf (top_of (log_disk_of plan)) (seen_on (log_disk_of plan) image) 512 (log_of last.recorder.core)
+      IsLogOf (top_of plan.log_disk) (seen_on plan.log_disk image) 512 (log_of last.recorder.core)
 
 -- Why recording a script, which was read from a text, fails: there is no memory, or the output can't be written; no log could be made, and nothing
 -- was printed; or its run ends before its last line.
 pub data FailsOnDisks (text : List ℕ) (plan : Plan) (before after : Option (List ℕ)) : RunError → Type 0 where
   file : (fault : RunError) → IsFileError fault → FailsOnDisks text plan before after fault
-  unmade : (fault : RunError) → IsUnmade (log_disk_of plan) fault → Keeps before after → FailsOnDisks text plan before after fault
+  unmade : (fault : RunError) → IsUnmade plan.log_disk fault → Keeps before after → FailsOnDisks text plan before after fault
   run : (start : DiskRun) (fault : RunError) → Starts plan start → EndsRun text plan before after start fault → FailsOnDisks text plan before after fault

@@ -1,5 +1,5 @@
 -- What the lines of a script come to, one after another.
-use Rattle.std.specs.Prelude.{◌≡◌, ℕ, List, [], ◌∷◌, ◌++◌, Option, length}
+use Rattle.std.specs.Prelude.{◌≡◌, ◌+◌, ℕ, List, [], ◌∷◌, ◌++◌, Option, length}
 use Rattle.std.specs.Io.KnownBytes.{Appends}
 use Rattle.blockdev.specs.declared.device.BlockDev.{Ghosts}
 use Rattle.refusals.specs.declared.refusal.Refusal.{Refusal}
@@ -8,7 +8,7 @@ use Rattle.dmlw_script.specs.declared.command.Command.TheVariants as commands
 use Rattle.dmlw_script.specs.declared.command.Step.TheVariants as steps
 use Rattle.dmlw_script.specs.declared.script_id.ScriptId.{ScriptId}
 use Rattle.dmlw_script.specs.Lines.{command_line}
-use Rattle.dmlw_script.specs.Plans.{Plan}
+use Rattle.dmlw_script.specs.Plans.{head_count, Plan}
 use Rattle.recorder.specs.declared.recorder.Recorder.{Recorder}
 use Rattle.recorder.specs.declared.reply.Reply.TheVariants as replies
 use Rattle.recorder.specs.Calls.{Closes}
@@ -47,5 +47,5 @@ pub record RefusesClose {D L : Type 0} {d : Ghosts D} {l : Ghosts L} (plan : Pla
 -- before it print; or the output can't be written, or there is no memory.
 pub data EndsRun {D L : Type 0} {d : Ghosts D} {l : Ghosts L} (text : List ℕ) (plan : Plan) (before after : Option (List ℕ)) (old : Running D L d l) : RunError → Type 0 where
   close : (place : ℕ) (refusal : Refusal) (printed : List ℕ) → RefusesClose plan place refusal printed old → Appends before after printed
-      → EndsRun text plan before after old (Refused (record { line = command_line text place; refusal = refusal }))
+      → EndsRun text plan before after old (Refused (record { line = command_line text (head_count plan + place); refusal = refusal }))
   file : (fault : RunError) → IsFileError fault → EndsRun text plan before after old fault

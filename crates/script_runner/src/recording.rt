@@ -2,12 +2,10 @@ ghost use Rattle.std.specs.Prelude.{◌≡◌, ◌≤◌, ◌*◌, ◌⊎◌, If
 ghost use Rattle.std.specs.Io.KnownBytes.{Appends};
 ghost use Rattle.sectors.specs.Content.{AgreeBelow, sector_of};
 ghost use Rattle.sector_disk.specs.Shown.{shown_of};
-ghost use Rattle.sector_disk.specs.Sizes.{IsDiskSize};
 ghost use Rattle.script_runner.specs.Errors.{memory_error};
 ghost use Rattle.layer_table.specs.Layers.{disk_of};
-ghost use Rattle.table_line.specs.Standing.{CanStand};
+ghost use Rattle.dmlw_script.specs.Plans.{IsDisk};
 ghost use Rattle.script_runner.specs.OnDisks.{FailsOnDisks, IsNew, IsRecorded, IsStackOf, IsUnmade, Starts, left_on};
-ghost use Rattle.script_runner.specs.Stubs.{data_disk_of, log_disk_of};
 
 use crate::error::RunError;
 use crate::laws::{closed_runs_leave_whole_logs, lines_go_as_one_call};
@@ -15,7 +13,7 @@ use crate::run_script::run;
 use crate::running::Running;
 use bio::{End, Ms, Status};
 use blockdev::BlockDev;
-use dmlw_script::Script;
+use dmlw_script::{DiskSpec, Script};
 use layer_table::Stack;
 use log_store::LogStore;
 use pending::Hazard;
@@ -25,7 +23,6 @@ use refusals::Refusal;
 use sector_disk::SectorDisk;
 use std::alloc::{AllocError, Global};
 use std::io::Write;
-use table_line::LayerSpec;
 
 /// How many calls the layers of a disk have dropped and told as done; each stops at 2^64 - 1.
 #[derive(Clone, Copy, Debug, PartialEq, Eq)]
@@ -92,27 +89,21 @@ pub fn record<O: Write>(
 // A script's run before its first line.
 fn start(alloc: Global, script: &Script) -> Result<Running<Stack, Stack>, RunError>
     ensures starts { IfOk result (Starts script.now) }
-    ensures faults { IfErr result (λ fault. (fault ≡ memory_error) ⊎ IsUnmade (log_disk_of script.now) fault) }
+    ensures faults { IfErr result (λ fault. (fault ≡ memory_error) ⊎ IsUnmade script.now.log_disk fault) }
 {
-    let recorder = new_recorder(alloc, script.log_sectors(), log_layers(script))?;
-    let data = new_stack(alloc, script.data_sectors(), data_layers(script))?;
+    let recorder = new_recorder(alloc, script.log())?;
+    let data = new_stack(alloc, script.data())?;
     let running = Running::new(alloc, recorder, data, script.names().len())?;
     Ok(running)
 }
 
-// A recorder over a new log, on the top of layers over a disk of so many sectors.
-fn new_recorder(
-    alloc: Global,
-    sectors: u64,
-    layers: &[LayerSpec],
-) -> Result<Recorder<Stack>, RunError>
-    requires size { IsDiskSize sectors }
-    requires few { length layers.now ≤ 4 }
-    requires stand { CanStand sectors layers.now }
-    ensures made { IfOk result (IsNew (record { sectors = sectors; layers = layers.now })) }
-    ensures faults { IfErr result (λ fault. (fault ≡ memory_error) ⊎ IsUnmade (record { sectors = sectors; layers = layers.now }) fault) }
+// A recorder over a new log, on the top of a disk's layers.
+fn new_recorder(alloc: Global, disk: &DiskSpec) -> Result<Recorder<Stack>, RunError>
+    requires { IsDisk disk.now }
+    ensures made { IfOk result (IsNew disk.now) }
+    ensures faults { IfErr result (λ fault. (fault ≡ memory_error) ⊎ IsUnmade disk.now fault) }
 {
-    let stack = new_stack(alloc, sectors, layers)?;
+    let stack = new_stack(alloc, disk)?;
     match LogStore::create(stack) {
         Ok(store) => match Recorder::new(alloc, store) {
             Ok(recorder) => Ok(recorder),
@@ -129,16 +120,14 @@ fn end_of<D: Drop>(refused: (D, End)) -> End
     refused.1
 }
 
-// The layers over a new disk of so many sectors.
-fn new_stack(alloc: Global, sectors: u64, layers: &[LayerSpec]) -> Result<Stack, RunError>
-    requires size { IsDiskSize sectors }
-    requires few { length layers.now ≤ 4 }
-    requires stand { CanStand sectors layers.now }
-    ensures stack { IfOk result (IsStackOf (record { sectors = sectors; layers = layers.now })) }
+// A new disk under its layers.
+fn new_stack(alloc: Global, disk: &DiskSpec) -> Result<Stack, RunError>
+    requires { IsDisk disk.now }
+    ensures stack { IfOk result (IsStackOf disk.now) }
     ensures faults { IfErr result (λ fault. fault ≡ memory_error) }
 {
-    let disk = SectorDisk::new(alloc, sectors)?;
-    match Stack::new(disk).under(layers, Ms::new(0)) {
+    let bare = SectorDisk::new(alloc, disk.sectors())?;
+    match Stack::new(bare).under(disk.layers(), Ms::new(0)) {
         Ok(stack) => Ok(stack),
         Err(back) => Err(RunError::from(refusal_of(back))),
     }
@@ -162,19 +151,4 @@ fn read_log(log: Stack, picks: Option<&[u64]>) -> Result<Vec<u8>, AllocError>
         disk.crash(picks);
     }
     disk.bytes()
-}
-
-// Stand-ins.
-fn data_layers(script: &Script) -> &[LayerSpec]
-    ensures { result.now ≡ (data_disk_of script.now).layers }
-{
-    let _ = script;
-    &[]
-}
-
-fn log_layers(script: &Script) -> &[LayerSpec]
-    ensures { result.now ≡ (log_disk_of script.now).layers }
-{
-    let _ = script;
-    &[]
 }

@@ -1,3 +1,4 @@
+ghost use Rattle.dmlw_script.specs.Plans.{top_of};
 ghost use Rattle.std.specs.Prelude.{◌≡◌, IfErr, OnOk, []};
 ghost use Rattle.script_runner.specs.Runs.{EndsRun, PrintsLines};
 
@@ -9,7 +10,7 @@ use dmlw_script::{Script, laws, line_of};
 use refusals::Fault;
 use std::io::Write;
 
-/// Runs a script, which was read from `text`, on a data device of its size, from before its first line on. What its lines print is
+/// Runs a script, which was read from `text`, on a data device of the size of its data disk's top, from before its first line on. What its lines print is
 /// written to `out`. A close that is refused ends the run at its line; so does an output that can't be written, and want of memory for what the
 /// run itself keeps.
 pub fn run<D: BlockDev + Drop, L: BlockDev + Drop, O: Write>(
@@ -18,7 +19,7 @@ pub fn run<D: BlockDev + Drop, L: BlockDev + Drop, O: Write>(
     running: &mut Running<D, L>,
     out: &mut O,
 ) -> Result<(), RunError>
-    requires size { (D.shown running.old.disk).size ≡ script.now.data_sectors }
+    requires size { (D.shown running.old.disk).size ≡ top_of script.now.data_disk }
     requires first { running.old.requests.items ≡ [] }
     ensures runs { OnOk result (PrintsLines script.now.names script.now.commands (O.contents out.old) (O.contents out.new) running.old running.new) }
     ensures size { (D.shown running.new.disk).size ≡ (D.shown running.old.disk).size }
@@ -30,7 +31,7 @@ pub fn run<D: BlockDev + Drop, L: BlockDev + Drop, O: Write>(
             Ok(()) => {}
             Err(StepError::Whole(fault)) => return Err(fault),
             Err(StepError::AtLine(refusal)) => {
-                let line = line_of(text, place);
+                let line = line_of(text, script.head_lines() + place);
                 return Err(RunError::Refused(Fault { line, refusal }));
             }
         }

@@ -223,6 +223,10 @@ impl<D: BlockDev + Drop, L: BlockDev + Drop> Running<D, L> {
                     self.turn();
                     Ok(())
                 }
+                Step::At { moment } => {
+                    self.set_moment(*moment);
+                    Ok(())
+                }
             },
         }
     }

@@ -43,7 +43,7 @@ fn shown(rt: &impl Abort, alloc: Global, text: &str) -> Result<String, Fail> {
     let mut out = Vec::new(alloc);
     let ended = match record(alloc, text.as_bytes(), &script, &mut out) {
         Ok(recorded) => {
-            assert_eq!(rt; recorded.image.len() as u64, 512 * script.log_sectors());
+            assert_eq!(rt; recorded.image.len() as u64, 512 * script.log().sectors());
             recorded.status.to_string(alloc)?
         }
         Err(error) => error.to_string(alloc)?,

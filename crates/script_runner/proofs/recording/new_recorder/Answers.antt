@@ -6,7 +6,7 @@ use Rattle.script_runner.proofs.recording.new_recorder.Goals as goal
 pub returns-in-Ok-new-clause-made : goal.returns-in-Ok-new-clause-made
 returns-in-Ok-new-clause-made c =
     let store = c.in-Ok.ensures in
-    new_log (record { sectors = c.args.sectors; layers = c.args.layers.now }) c.in_ok-stack.stack c.in-Ok.store c.in-Ok-new.recorder c.in_ok-stack.ensures.stack
+    new_log c.args.disk.now c.in_ok-stack.stack c.in-Ok.store c.in-Ok-new.recorder c.in_ok-stack.ensures.stack
     store.begun.1 store.goes store.empty c.in-Ok-new.ensures.made
 
 pub returns-in-Err-clause-faults : goal.returns-in-Err-clause-faults

@@ -1,5 +1,6 @@
-use Rattle.std.proofs.Common.{◌≡◌, ◌+◌, arith, length, subst, sym, ◌∙◌}
+use Rattle.std.proofs.Common.{◌≡◌, ◌+◌, ℕ, ap, arith, length, subst, sym, ◌∙◌}
 use Rattle.dmlw_script.specs.declared.command.Command.{Command}
+use Rattle.dmlw_script.specs.Lines.{command_line}
 use Rattle.dmlw_script.specs.Plans.{HasName}
 use Rattle.refusals.specs.declared.refusal.Refusal.{Refusal}
 use Rattle.script_runner.specs.declared.error.RunError.TheVariants.{Refused}
@@ -55,7 +56,7 @@ returns-in-Err-AtLine-clause-faults g c =
     (Refused (record { line = c.line_of-line.result; refusal = refusal }))) (sym c.in-Err-AtLine.refusal-is)
     (stops_at_close c.args.text.now script c.loop-place.place c.line_of-line.result _ _ (g.O.Write.contents c.loop-place.out) (g.O.Write.contents c.run_line.new.out) _
     c.args.running.now c.loop-place.running next (lines_run items script.commands c.loop-place.place c.commands-command-items.ensures.commands (omega arith))
-    c.line_of-line.ensures c.loop-place.invariant.1
+    (c.line_of-line.ensures ∙ ap (λ (n : ℕ). command_line c.args.text.now (n + c.loop-place.place)) c.head_lines.ensures.lines) c.loop-place.invariant.1
     (of_place (λ (command : Command). StopsLine command (g.O.Write.contents c.loop-place.out) (g.O.Write.contents c.run_line.new.out) c.loop-place.running.recorder
     (AtLine c.in-Err-AtLine.refusal)) items c.loop-place.place c.command-item.result c.command-item.is
     (subst (StopsLine _ (g.O.Write.contents c.loop-place.out) (g.O.Write.contents c.run_line.new.out) c.loop-place.running.recorder) c.in-Err-AtLine.field-0-is

@@ -1,5 +1,5 @@
 use Rattle.std.proofs.Common.{◌≡◌, length, take}
-use Rattle.dmlw_script.specs.Plans.{submissions}
+use Rattle.dmlw_script.specs.Plans.{submissions, top_of}
 use Rattle.script_runner.specs.Runs.{PrintsLines}
 use Rattle.script_runner.proofs.run_script.run.Given as goal
 
@@ -8,4 +8,4 @@ invariant-loop-place g l =
     (l.command-items ≡ l.script.commands)
     × PrintsLines l.script.names (take l.place l.script.commands) (g.O.Write.contents l.fn.out) (g.O.Write.contents l.out) l.fn.running l.running
     × (length l.running.requests.items ≡ submissions (take l.place l.script.commands))
-    × ((g.D.BlockDev.shown l.running.disk).size ≡ l.script.data_sectors)
+    × ((g.D.BlockDev.shown l.running.disk).size ≡ top_of l.script.data_disk)

@@ -1,10 +1,21 @@
 -- Definitions on texts, each by computation.
-use Rattle.std.proofs.Common.{◌≡◌, ℕ, Bool, true, false, None, Some, List, [], ◌∷◌, replicate, refl}
-use Rattle.std.specs.Prelude.{codes}
+use Rattle.std.proofs.Common.{◌≡◌, ℕ, Bool, true, false, None, Some, List, [], ◌∷◌, Err, Ok, replicate, refl, arith}
+use Rattle.std.specs.Prelude.{◌++◌, codes, decimal}
+use Rattle.table_line.specs.Ranges.{IsLayerSpec}
+use Rattle.table_line.specs.declared.layer_spec.LayerSpec.{LayerSpec}
+use Rattle.table_line.specs.declared.layer_spec.Target.TheVariants as targets
+use Rattle.table_line.specs.declared.table_error.TableError.TheVariants as table_errors
+use Rattle.refusals.specs.declared.refusal.Refusal.TheVariants.{BadNumber, OutOfRange}
+use Rattle.dmlw_script.specs.Said as parsed_lines
+use Rattle.dmlw_script.specs.declared.line.HeadLine.TheVariants as head_lines
+use Rattle.dmlw_script.specs.declared.disk_name.DiskName.TheVariants as disks
+use Rattle.dmlw_script.specs.declared.command.Command.TheVariants as commands
 use Rattle.dmlw_script.specs.declared.command.Submission.TheVariants as submits
 use Rattle.dmlw_script.specs.declared.command.Step.TheVariants as steps
 use Rattle.dmlw_script.specs.declared.command.WriteOptions.{WriteOptions}
-use Rattle.dmlw_script.specs.CanonicalText.{step_text}
+use Rattle.dmlw_script.specs.CanonicalText.{line_text, step_text}
+use Rattle.dmlw_script.specs.Plans.{head_count, is_within, layer_line, lines_of_script, moment_after, top_of, CanStand, Disk, IsInTime, Plan}
+use Rattle.dmlw_script.specs.Reading.{bare, data_due, head_refusal, in_body, in_head, prefix_after, StandsAfter}
 use Rattle.dmlw_script.specs.Grammar.{spaced}
 use Rattle.dmlw_script.specs.Words.{byte_text}
 use Rattle.dmlw_script.specs.Ids.{script_id}
@@ -114,3 +125,112 @@ zero_text = refl
 
 high_text : is_line_text (0xc3 ∷ 0xa9 ∷ []) ≡ false
 high_text = refl
+
+-- ---- layers and moments
+
+-- a layer that passes each call, of this length, from this sector of the device beneath on
+abbrev linear : ℕ → ℕ → LayerSpec
+linear sectors offset = record { length = sectors; offset = offset; target = targets.Linear }
+
+-- a disk of 16 sectors under these layers
+abbrev under : List LayerSpec → Disk
+under layers = record { sectors = 16; layers = layers }
+
+-- a script of two layers over the data disk
+abbrev layered : Plan
+layered = record { data_disk = under (linear 8 8 ∷ linear 7 1 ∷ []); log_disk = bare 32; names = []; commands = []; ending = None }
+
+-- the sectors of the top: the disk's own, or the uppermost layer's
+bare_top : top_of (bare 16) ≡ 16
+bare_top = refl
+
+layers_top : top_of (under (linear 8 8 ∷ linear 7 1 ∷ [])) ≡ 7
+layers_top = refl
+
+-- a layer up to the last sector beneath it, and one past it
+within_end : is_within (linear 8 8) 16 ≡ true
+within_end = refl
+
+past_end : is_within (linear 8 9) 16 ≡ false
+past_end = refl
+
+-- a layer that fits the disk but not the layer beneath it can't stand
+may_stand : CanStand 16 (linear 8 8 ∷ linear 8 0 ∷ [])
+may_stand =
+    let fine : IsLayerSpec (linear 8 8) = record { sectors = record { some = omega arith; few = omega arith }; place = omega arith; has = tt } in
+    let other : IsLayerSpec (linear 8 0) = record { sectors = record { some = omega arith; few = omega arith }; place = omega arith; has = tt } in
+    (fine, omega arith, (other, omega arith, tt))
+
+may_not_stand : CanStand 16 (linear 8 8 ∷ linear 8 1 ∷ []) → ⊥
+may_not_stand stand = absurd (let within = stand.2.1 in omega arith)
+
+-- a head of two sizes and two layers has four lines, the last of which says the upper layer
+four_lines : head_count layered ≡ 4
+four_lines = refl
+
+two_layers : lines_of_script layered ≡ parsed_lines.Head (head_lines.Data 16) ∷ parsed_lines.Head (head_lines.Log 32) ∷ layer_line disks.Data (linear 8 8)
+    ∷ layer_line disks.Data (linear 7 1) ∷ []
+two_layers = refl
+
+-- their text
+data_layer_text : line_text (layer_line disks.Data (linear 8 4)) ≡ codes "data-layer 0 " ++ (decimal 8 ++ (codes " linear disk " ++ decimal 4))
+data_layer_text = refl
+
+log_layer_text : line_text (layer_line disks.Log (linear 8 4)) ≡ codes "log-layer 0 " ++ (decimal 8 ++ (codes " linear disk " ++ decimal 4))
+log_layer_text = refl
+
+reads_no_layer : parse_line (codes "data-layer") ≡ None
+reads_no_layer = refl
+
+-- the moment is that of the last `at`
+first_moment : moment_after (commands.Step steps.Turn ∷ []) ≡ 0
+first_moment = refl
+
+last_moment : moment_after (commands.Step (steps.At 5) ∷ commands.Step steps.Turn ∷ commands.Step (steps.At 7) ∷ commands.Step steps.Close ∷ []) ≡ 7
+last_moment = refl
+
+in_time : IsInTime 5 (steps.At 5)
+in_time = omega arith
+
+back_in_time : IsInTime 5 (steps.At 4) → ⊥
+back_in_time is = absurd (omega (arith, is))
+
+moment_text : step_text (steps.At 1000) ≡ codes "at " ++ decimal 1000
+moment_text = refl
+
+reads_moment : parse_line (codes "at 007") ≡ Some (step (steps.At 7))
+reads_moment = refl
+
+reads_no_moment : parse_line (codes "at") ≡ None
+reads_no_moment = refl
+
+-- a head may have more layers until the body begins
+in_the_head : prefix_after data_due (parsed_lines.Head (head_lines.Data 16) ∷ parsed_lines.Head (head_lines.Log 32) ∷ layer_line disks.Data (linear 8 8) ∷ [])
+    ≡ in_head (under (linear 8 8 ∷ [])) (bare 32)
+in_the_head = refl
+
+in_the_body : prefix_after data_due (parsed_lines.Head (head_lines.Data 16) ∷ parsed_lines.Head (head_lines.Log 32) ∷ step (steps.At 5) ∷ step steps.Turn ∷ [])
+    ≡ in_body (bare 16) (bare 32) 5
+in_the_body = refl
+
+fourth_layer : StandsAfter (in_head (under (linear 8 8 ∷ linear 8 0 ∷ linear 8 0 ∷ [])) (bare 32)) (layer_line disks.Data (linear 8 0))
+fourth_layer = (omega arith, refl)
+
+no_fifth_layer : StandsAfter (in_head (under (linear 8 8 ∷ linear 8 0 ∷ linear 8 0 ∷ linear 8 0 ∷ [])) (bare 32)) (layer_line disks.Data (linear 8 0)) → ⊥
+no_fifth_layer stands = absurd (let few = stands.0 in omega arith)
+
+none_behind_the_logs : StandsAfter (in_head (bare 16) (under (linear 8 8 ∷ []))) (layer_line disks.Data (linear 8 0)) → ⊥
+none_behind_the_logs stands = absurd (let none = stands.1 in cc)
+
+none_in_the_body : StandsAfter (in_body (bare 16) (bare 32) 0) (layer_line disks.Log (linear 8 0)) → ⊥
+none_in_the_body stands = stands
+
+-- a table line that asks for no layer is refused by its own test, and one past what is beneath as out of range
+bad_table_line : head_refusal layered (head_lines.Layer disks.Log (Err table_errors.BadNumber)) ≡ Some BadNumber
+bad_table_line = refl
+
+past_the_top : head_refusal layered (head_lines.Layer disks.Data (Ok (linear 8 0))) ≡ Some OutOfRange
+past_the_top = refl
+
+on_the_top : head_refusal layered (head_lines.Layer disks.Data (Ok (linear 7 0))) ≡ None
+on_the_top = refl

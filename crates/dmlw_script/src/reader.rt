@@ -120,14 +120,12 @@ impl Reader {
         ensures kind { OnOk result (self.new.kind ≡ self.old.kind) }
         ensures step { Follows result (progress_of self.new) (parsed_step self.old.kind (progress_of self.old) (parsed_lines.Crash picks.items)) }
     {
-        match (self.kind, self.head.part) {
-            (Kind::Record, Part::Whole) => {
-                self.head.part = Part::Ended;
-                self.picks = picks;
-                Ok(())
-            }
-            _ => Err(LineError::Refused(Refusal::BadLine)),
-        }
+        let (Kind::Record, Part::Whole) = (self.kind, self.head.part) else {
+            return Err(LineError::Refused(Refusal::BadLine));
+        };
+        self.head.part = Part::Ended;
+        self.picks = picks;
+        Ok(())
     }
 
     // Reads a mark, whose text this is, if a space stands behind its first word.

@@ -920,8 +920,7 @@ log 32
 log 32
 at 5
 log-layer 0 1 error
-=line 4: 30 BadLine
-";
+=line 4: 30 BadLine";
 
 // The same, where a run's head has layers.
 const RUN_LAYER_TEXTS: &str = "data 16
@@ -1004,20 +1003,17 @@ fn disks_have_layers(rt: HostRuntime) -> Result<(), Fail> {
     let alloc = rt.alloc();
     let text = b"data 16\nlog 32\n\ndata-layer 0 8 linear disk 4\nlog-layer 0 9 error\nat 7\nf a\n";
     let script = read_script(alloc, text, Kind::Record)?;
-    assert_eq!(rt; script.head_lines(), 4);
-    assert_eq!(rt; line_of(text, 4), Some(6));
-    assert_eq!(rt; script.data().sectors(), 16);
-    assert_eq!(rt; script.data().top_sectors(), 8);
-    assert_eq!(rt; script.data().layers().len(), 1);
-    assert_eq!(rt; script.log().top_sectors(), 9);
-    for layer in script.data().layers() {
-        assert_eq!(rt; layer.offset, 4);
-    }
-    for command in script.commands() {
-        if let Command::Step(Step::At { moment }) = command {
-            assert_eq!(rt; moment.milliseconds(), 7);
-        }
-    }
+    let (data, log) = (script.data(), script.log());
+    let shown = format!(in alloc;
+        "{} {:?} {} {} {} {}",
+        script.head_lines(),
+        line_of(text, 4),
+        data.sectors(),
+        data.top_sectors(),
+        data.layers().len(),
+        log.top_sectors()
+    )?;
+    assert_eq!(rt; shown.as_str(), "4 Some(6) 16 8 1 9");
     Ok(())
 }
 

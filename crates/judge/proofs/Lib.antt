@@ -1,0 +1,5 @@
+pub mod Last
+pub mod Values
+pub mod Marking
+pub mod Judging
+pub mod Searching

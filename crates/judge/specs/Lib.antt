@@ -1,0 +1,5 @@
+pub mod Verdicts
+pub mod inside
+pub use Rattle.bio.specs.Possible
+pub use Rattle.bio.specs.Lawful
+pub use Rattle.sectors.specs.Content

@@ -65,7 +65,7 @@ stands_within events sector id value is = elim (option_cases (slice_get events i
 ]
 
 -- a durable request over a sector stands among the events
-kept_within : (events : List CoreEvent) (sector id : ℕ) → is_kept events sector id ≡ true → id < length events
+pub kept_within : (events : List CoreEvent) (sector id : ℕ) → is_kept events sector id ≡ true → id < length events
 kept_within events sector id kept = elim (option_cases (slice_get events id)) [
   | inl none ↦
       absurd (let contra : false ≡ true = sym (ap (covers_at sector) none) ∙ (and_parts (is_durable events id) (covers_at sector (slice_get events id)) kept).1 in cc)

@@ -220,3 +220,7 @@ pub stands_there : {A : Type 0} (xs : List A) (k : ℕ) (x : A) → k < length x
 stands_there [] k x h is = absurd (omega arith)
 stands_there (y ∷ xs) zero x h is = ap (λ z. Some z) (sym is)
 stands_there (y ∷ xs) (suc k) x h is = stands_there xs k x (omega arith) is
+
+-- where no last place is found, none passes
+pub none_passes : (test : ℕ → Bool) (n : ℕ) → last_below test n ≡ None → any_below test n ≡ false
+none_passes test n none = any_below-last test n ∙ ap is_some none

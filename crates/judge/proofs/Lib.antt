@@ -3,3 +3,4 @@ pub mod Values
 pub mod Marking
 pub mod Judging
 pub mod Searching
+pub mod Verdicts

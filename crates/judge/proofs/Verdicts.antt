@@ -75,8 +75,8 @@ pub durable_by_last : (events : List CoreEvent) (flush id : ℕ) → IsLastFlush
     → is_durable events id ≡ (ended_ok events id && (submits has_fua (slice_get events id) || is_before events id flush))
 durable_by_last events flush id last =
     let found = last_is (is_sure_flush events) (length events) flush (flush_within events flush last.flush)
-        (ap (λ b. b && ended_ok events flush) last.flush ∙ last.ended)
-        (λ later sure. let parts = and_parts (is_flush_submit (slice_get events later)) (ended_ok events later) sure in last.last later parts.0 parts.1) in
+    (ap (λ b. b && ended_ok events flush) last.flush ∙ last.ended)
+    (λ later sure. let parts = and_parts (is_flush_submit (slice_get events later)) (ended_ok events later) sure in last.last later parts.0 parts.1) in
     ap (λ b. ended_ok events id && (submits has_fua (slice_get events id) || b)) (flushed_last events id ∙ ap (is_below_last (end_of events id)) found)
 
 -- the last durable request over a sector decides which values are gone from it

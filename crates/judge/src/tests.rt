@@ -71,7 +71,11 @@ fn image_of(alloc: Global, sectors: u8, words: &str) -> Result<Vec<u8>, AllocErr
     let mut image = vec![in alloc; 0; sectors as usize * 512]?;
     for word in words.split(" ") {
         let mut parts = word.split(":");
-        let sector = parts.next().unwrap_or_default().parse::<usize>().unwrap_or(255);
+        let sector = parts
+            .next()
+            .unwrap_or_default()
+            .parse::<usize>()
+            .unwrap_or(255);
         let byte = parts.next().unwrap_or_default().parse::<u8>().unwrap_or(0);
         for at in 0..image.len() {
             if at / 512 == sector {
@@ -82,19 +86,7 @@ fn image_of(alloc: Global, sectors: u8, words: &str) -> Result<Vec<u8>, AllocErr
     Ok(image)
 }
 
-// What is shown of a verdict: its sector, and the place of the request.
-fn shown(alloc: Global, verdict: Verdict) -> Result<String, AllocError> {
-    match verdict {
-        Verdict::Yes => String::from_str(alloc, "yes"),
-        Verdict::No { sector, by: None } => format!(in alloc; "no {sector}"),
-        Verdict::No {
-            sector,
-            by: Some(id),
-        } => format!(in alloc; "no {sector} by {}", id.place()),
-    }
-}
-
-// The verdict on images of one length, where the events are lawful.
+// The verdict on images of one length, where the events are lawful: a sector, and the place of a request.
 fn verdict_of(
     alloc: Global,
     events: &[CoreEvent],
@@ -108,7 +100,15 @@ fn verdict_of(
     {
         return String::from_str(alloc, "unlawful");
     }
-    shown(alloc, could_hold(alloc, events, moment, first, image)?)
+    let verdict = could_hold(alloc, events, moment, first, image)?;
+    match verdict {
+        Verdict::Yes => String::from_str(alloc, "yes"),
+        Verdict::No { sector, by: None } => format!(in alloc; "no {sector}"),
+        Verdict::No {
+            sector,
+            by: Some(id),
+        } => format!(in alloc; "no {sector} by {}", id.place()),
+    }
 }
 
 // The verdict of a row: how many sectors, the events, the moment, and the sectors of both images that aren't zeroes.
@@ -272,8 +272,15 @@ fn long_lists_are_judged(rt: HostRuntime) -> Result<(), Fail> {
 
 #[test]
 fn verdicts_are_compared(rt: HostRuntime) -> Result<(), Fail> {
-    let by = Some(Id::new(1));
-    assert!(rt; Verdict::Yes != Verdict::No { sector: 1, by });
-    assert!(rt; Verdict::No { sector: 1, by: None } != Verdict::No { sector: 1, by });
+    let unsure = Verdict::No {
+        sector: 1,
+        by: None,
+    };
+    let sure = Verdict::No {
+        sector: 1,
+        by: Some(Id::new(1)),
+    };
+    assert!(rt; Verdict::Yes != unsure);
+    assert!(rt; unsure != sure);
     Ok(())
 }

@@ -4,3 +4,4 @@ pub mod Marking
 pub mod Judging
 pub mod Searching
 pub mod Verdicts
+pub mod Examples

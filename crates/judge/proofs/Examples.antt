@@ -1,12 +1,12 @@
 -- Verdicts by computation: two writes of sector 3, both ended, and a flush after them.
-use Rattle.std.proofs.Common.{◌≡◌, ℕ, zero, suc, Bool, true, false, None, Some, List, [], ◌∷◌, take, get_or, replicate, refl, ap, inl, inr, arith}
+use Rattle.std.proofs.Common.{◌≡◌, ℕ, zero, suc, true, false, None, Some, List, [], ◌∷◌, take, get_or, replicate, refl, ap, inl, inr, arith}
 use Rattle.std.specs.Prelude.{◌==◌, if◌then◌else◌, unwrap_or}
 use Rattle.sectors.specs.Content as contents
 use Rattle.sectors.specs.Content.{Content}
 use Rattle.bio.specs.declared.event.CoreEvent.{CoreEvent}
 use Rattle.bio.specs.declared.event.CoreEvent.TheVariants.{Submit, Complete}
 use Rattle.bio.specs.declared.request.Bio.TheVariants.{Write, Flush}
-use Rattle.bio.specs.Possible.{PossibleAt, has_kept, is_kept}
+use Rattle.bio.specs.Possible.{PossibleAt, is_kept}
 use Rattle.judge.specs.Verdicts.{IsRuledOutBy}
 use Rattle.judge.specs.inside.Last.{last_below}
 

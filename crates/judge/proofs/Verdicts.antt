@@ -3,11 +3,10 @@ use Rattle.std.proofs.Common.{◌≡◌, ℕ, ◌<◌, ◌≤◌, Bool, true, fa
 use Rattle.std.proofs.lemmas.Bool.{and_parts, cases_lt}
 use Rattle.std.specs.Prelude.{slice_get}
 use Rattle.sectors.specs.Content.{Content}
-use Rattle.sectors.specs.Places.{any_below}
 use Rattle.sectors.specs.PlaceLaws.{option_cases, slice_get-within}
 use Rattle.bio.specs.declared.event.CoreEvent.{CoreEvent}
 use Rattle.bio.specs.Events.{end_of, is_before, is_flush_submit, submits}
-use Rattle.bio.specs.Possible.{ended_ok, has_kept, is_durable, is_kept, is_replaced}
+use Rattle.bio.specs.Possible.{ended_ok, is_durable, is_kept, is_replaced}
 use Rattle.bio.specs.Requests.{has_fua}
 use Rattle.judge.specs.declared.verdict.Verdict.{Verdict}
 use Rattle.judge.specs.declared.verdict.Verdict.TheVariants.{Yes, No}

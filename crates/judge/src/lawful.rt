@@ -1,4 +1,4 @@
-ghost use Rattle.std.specs.Prelude.{◌≡◌, Some, is_none, length, slice_get, ℕ};
+ghost use Rattle.std.specs.Prelude.{◌≡◌, ◌<◌, Some, is_none, length, slice_get, ℕ};
 ghost use Rattle.bio.specs.Events.{end_of, is_close, is_end_of, is_open_at, is_request, is_stop};
 ghost use Rattle.bio.specs.Lawful.{can_follow, has_no_close, has_no_stop, is_lawful, is_recording, is_text, is_well_formed, is_within, none_open};
 ghost use Rattle.sectors.specs.Places.{all_below};
@@ -117,10 +117,11 @@ fn is_open_at(events: &[CoreEvent], id: usize) -> bool
 
 // Whether no end of the request stands among the events.
 fn has_no_end(events: &[CoreEvent], id: usize) -> bool
+    requires { id < length events.now }
     ensures { result ≡ is_none (end_of events.now id) }
 {
-    for (place, event) in events.iter().enumerate() {
-        if id < place && is_end_of(event, id) {
+    for place in id + 1..events.len() {
+        if is_end_of(&events[place], id) {
             return false;
         }
     }

@@ -262,11 +262,17 @@ fn long_lists_are_judged(rt: HostRuntime) -> Result<(), Fail> {
     assert_eq!(rt; events.len(), 20_000);
     let first = vec![in alloc; 0; 4096 * 512]?;
     let image = many_sectors(alloc, 9999)?;
-    let verdict = verdict_of(alloc, &events, 20_000, &first, &image)?;
-    assert_eq!(rt; verdict.as_str(), "yes");
     let old = many_sectors(alloc, 9998)?;
-    let verdict = verdict_of(alloc, &events, 20_000, &first, &old)?;
-    assert_eq!(rt; verdict.as_str(), "no 1806 by 19996");
+    assert_eq!(rt; image.len() % 512, 0);
+    assert_eq!(rt; first.len(), image.len());
+    assert_eq!(rt; first.len(), old.len());
+    assert!(rt; is_lawful(&events, (first.len() / 512) as u64));
+    let verdict = could_hold(alloc, &events, 20_000, &first, &image)?;
+    assert!(rt; verdict == Verdict::Yes);
+    let verdict = could_hold(alloc, &events, 20_000, &first, &old)?;
+    let by = Some(Id::new(19_996));
+    let ruled_out = Verdict::No { sector: 1806, by };
+    assert!(rt; verdict == ruled_out);
     Ok(())
 }
 

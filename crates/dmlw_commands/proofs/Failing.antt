@@ -1,5 +1,5 @@
 -- How the recording of the script in a file ends.
-use Rattle.std.proofs.Common.{◌≡◌, ◌∙◌, ℕ, Err, IfErr, IfOk, List, None, Ok, Option, Result, Some, ap, inl, inr, refl, subst, sym}
+use Rattle.std.proofs.Common.{◌≡◌, ◌∙◌, ◌≤◌, ℕ, Err, IfErr, IfOk, List, None, Ok, Option, Result, Some, ap, arith, inl, inr, length, refl, subst, sym}
 use Rattle.std.specs.Io.KnownBytes.{Appends}
 use Rattle.std.specs.Result.{IsErrAnd}
 use Rattle.std.specs.declared.io.ErrorKind.{ErrorKind}
@@ -20,7 +20,7 @@ use Rattle.script_runner.specs.OnDisks.{FailsOnDisks, IsRecorded}
 use Rattle.dmlw_commands.specs.declared.files.FileError.{FileError}
 use Rattle.dmlw_commands.specs.declared.files.FileError.TheVariants as errors
 use Rattle.dmlw_commands.specs.FileErrors.{file_refusal}
-use Rattle.dmlw_commands.specs.Files.{MatchesContents, Write, one_more}
+use Rattle.dmlw_commands.specs.Files.{IsTooLong, MatchesContents, Write, one_more}
 use Rattle.dmlw_commands.specs.Records.{FailsRecording, IsPrintedLog, WritesLog, end_lines, file, run as run_fails, text as unread}
 
 -- a file's error is printed as such

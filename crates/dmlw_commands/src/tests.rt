@@ -11,6 +11,7 @@ use std::test::Fail;
 
 mod explain;
 mod host;
+mod layers;
 mod lines;
 mod reading;
 

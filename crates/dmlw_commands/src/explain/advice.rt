@@ -9,6 +9,15 @@ pub(crate) fn advice(refusal: Refusal) -> &'static str {
             "the request ends past the data disk: its first sector and its count come to more than `data` says",
         Refusal::TooLong => "a request has at most 2048 sectors",
         Refusal::NotWhole => "a request has at least one sector",
+        Refusal::UnknownTarget =>
+            "a layer's target is one of linear, error, flakey and fuse, its third word",
+        Refusal::WrongCount =>
+            "a layer's line is `0 <length> <target> ..`: `dmlw help formats` has the words of each target",
+        Refusal::BadNumber => "a word of the layer's line that has to be a number isn't one",
+        Refusal::OutOfRange =>
+            "a number of the layer's line is out of range, or the layer ends past what stands beneath it",
+        Refusal::BadFeature =>
+            "a flakey layer's feature is `0`, or `1` and one of error_reads, error_writes and drop_writes",
         Refusal::BadMagic =>
             "it doesn't begin with the 8 bytes of a log, 72 68 77 66 73 6a 73 00: it isn't a log",
         Refusal::BadVersion => "the log is of another format version than 1",

@@ -2,9 +2,12 @@ use std::fmt;
 use std::fmt::Write;
 
 // The lines that a script can have; what stands in angle brackets is a word of that kind, and in square ones a word that may be left out.
-const FORMS: [&str; 11] = [
+const FORMS: [&str; 14] = [
     "data <sectors>",
     "log <sectors>",
+    "data-layer 0 <length> <target> ..",
+    "log-layer 0 <length> <target> ..",
+    "at <ms>",
     "w <id> <first> <count> <byte> [flush] [fua] [meta]",
     "f <id>",
     "d <id> <first> <count>",
@@ -81,8 +84,7 @@ fn cause_of(line: &[u8]) -> Option<&'static str> {
             "it begins with a byte order mark (ef bb bf): save the script as text without one",
         );
     }
-    // A mark's text is taken as it stands.
-    if is_text(line) && line.starts_with(b"mark ".as_slice()) {
+    if is_text(line) && has_own_words(line) {
         return None;
     }
     if line.ends_with(b"\r".as_slice()) {
@@ -101,6 +103,13 @@ fn cause_of(line: &[u8]) -> Option<&'static str> {
         return Some("it has an upper case letter: words are in lower case");
     }
     None
+}
+
+// A mark's text is taken as it stands, and the words of a layer's table line are its own.
+fn has_own_words(line: &[u8]) -> bool {
+    line.starts_with(b"mark ".as_slice())
+        || line.starts_with(b"data-layer ".as_slice())
+        || line.starts_with(b"log-layer ".as_slice())
 }
 
 // The form of the lines that begin with this word.
@@ -154,7 +163,7 @@ fn write_misfit<W: Write>(wanted: &[u8], next: Option<&[u8]>, to: &mut W) -> fmt
 fn write_place<W: Write>(to: &mut W) -> fmt::Result {
     writeln!(
         to,
-        "  `data` is the first line, `log` the second, both of 1 to 1048576 sectors; the others stand after them"
+        "  `data` is the first line, `log` the second, both of 1 to 1048576 sectors; then come the layers, and then the others; moments don't go back"
     )
 }
 

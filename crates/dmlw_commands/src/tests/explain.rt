@@ -48,6 +48,13 @@ data 16|`data` is the first line
 c a|an id is submitted once
 w a 5 3000 41|at most 2048 sectors
 w a 5 0 41|at least one sector
+at x|the word `x` isn't <ms>: a decimal number
+at|the word <ms> is missing
+data-layer 0 16 zero|linear, error, flakey and fuse
+log-layer 0 16|has the words of each target
+log-layer 0 1x error|has to be a number
+log-layer 0 32 linear disk 1|past what stands beneath it
+log-layer 0 32 flakey disk 0 1 1 2|feature is `0`, or `1` and
 f é|it has a byte that isn't ASCII text";
     for row in rows.split('\n') {
         let (line, words) = row.split_once('|').unwrap_or_default();

@@ -21,7 +21,7 @@ log 3,mark a,turn,mark b,turn,mark c;1 1 logging_disabled,;1;0 @1 mark a,
 log 32,w a 0 1 01,c a,w b 1 1 02 meta,c b,w c 2 1 03 fua,c c,w d 3 1 04 fua meta,c d,w e 4 1 05 flush,c e,w f 5 1 06 flush meta,c f,w g 6 1 07 flush fua,c g,w h 7 1 08 flush fua meta,c h,r 0 8,close;a ok,b ok,c ok,d ok,e ok,f ok,g ok,h ok,read 0+8 ok 0102030405060708,9 17,;9;0 @1 write 2+1 fua,1 @3 write 3+1 fua meta,2 @5 write 0+1,3 @7 write 1+1 meta,4 @9 write 4+1 flush,5 @11 write 5+1 flush meta,6 @13 write 6+1 flush fua,7 @15 write 7+1 flush fua meta,8 @17 mark dm-log-writes-end,";
 
 // Bytes as text, with a comma for each line feed.
-fn with_commas(alloc: Global, bytes: &[u8]) -> Result<String, AllocError> {
+pub(crate) fn with_commas(alloc: Global, bytes: &[u8]) -> Result<String, AllocError> {
     let mut text = String::new(alloc);
     for byte in bytes {
         text.push(if *byte == b'\n' {
@@ -34,7 +34,7 @@ fn with_commas(alloc: Global, bytes: &[u8]) -> Result<String, AllocError> {
 }
 
 // The text of a script whose lines stand between commas, behind its first.
-fn script_of(alloc: Global, lines: &str) -> Result<String, AllocError> {
+pub(crate) fn script_of(alloc: Global, lines: &str) -> Result<String, AllocError> {
     let mut script = String::from_str(alloc, "data 16\n")?;
     for line in lines.split(',') {
         script.push_str(line)?;

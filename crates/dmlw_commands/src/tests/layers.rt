@@ -1,0 +1,102 @@
+// Scripts with layers over their disks, and with moments.
+use super::lines::{script_of, with_commas};
+use super::{recorded, run};
+use std::alloc::Global;
+use std::test::Fail;
+
+// Lines of scripts behind `data 16`, between commas; the status, what is printed and the fault; and the log as it is listed, with its fault, or `none`.
+// A fuse that is spent before the super block of a settle, and one call later; a layer of each disk that drops writes and tells them as done; a log
+// that can't be made; a log that lies elsewhere on its disk; a flakey disk at both sides of each bound, and at the last moment; a read and a discard
+// that fail.
+const LAYERS: &str =
+    "log 32,log-layer 0 32 fuse disk 0 4,w a 5 1 41 fua,c a,turn,crash;3;a ok,1 2 logging_disabled,;;super version 1 entries 0 sectorsize 512,;
+log 32,log-layer 0 32 fuse disk 0 5,w a 5 1 41 fua,c a,turn,crash;0;a ok,1 2,;;super version 1 entries 1 sectorsize 512,0 @1 write 5+1 fua,;
+log 32,data-layer 0 16 flakey disk 0 10 5 1 drop_writes,at 12000,w a 5 1 41,c a,r 5 1,close;0;a ok,read 5+1 ok 00,2 3,lies 1 0,;;super version 1 entries 2 sectorsize 512,0 @1 write 5+1,1 @3 mark dm-log-writes-end,;
+log 32,log-layer 0 32 flakey disk 0 0 5 1 drop_writes,close;0;1 1,lies 0 4,;;;dmlw: 13 BadMagic,
+log 32,log-layer 0 32 error,close;3;;dmlw: 19 Device,;none;
+log 32,log-layer 0 16 linear disk 8,w a 5 1 41,c a,f b,c b,close;0;a ok,b ok,3 4,;;;dmlw: 13 BadMagic,
+log 32,data-layer 0 16 flakey disk 0 10 5,f a,at 9999,c a,f b,at 10000,c b,f c,at 14999,c c,f d,at 15000,c d,at 18446744073709551615,at 18446744073709551615;0;a ok,b failed,c failed,d ok,0 0,;;super version 1 entries 0 sectorsize 512,;
+log 32,data-layer 0 16 linear disk 0,data-layer 0 16 error,r 0 1,d a 0 1,c a,close;0;read 0+1 failed,a failed,2 2,;;super version 1 entries 2 sectorsize 512,0 @1 discard 0+1,1 @2 mark dm-log-writes-end,;
+log 32,log-layer 0 32 flakey disk 0 1 1,at 1000,mark a,turn,at 2000,turn,close;3;0 0 logging_disabled,;;super version 1 entries 0 sectorsize 512,;
+log 32,data-layer 0 8 linear disk 4,data-layer 0 4 linear disk 2,w a 3 1 41,c a,r 0 4,r 4 1;1;;dmlw: line 8: 3 PastEnd,;none;
+log 32,data-layer 0 8 linear disk 4,data-layer 0 4 linear disk 2,w a 3 1 41,c a,r 0 4,close;0;a ok,read 0+4 ok 00000041,2 3,;;super version 1 entries 2 sectorsize 512,0 @1 write 3+1,1 @3 mark dm-log-writes-end,;
+log 32,log-layer 0 16,close;1;;dmlw: line 3: 10 WrongCount,;none;
+log 32,log-layer 0 16 zero,close;1;;dmlw: line 3: 9 UnknownTarget,;none;
+log 32,log-layer 0 16 linear disk x,close;1;;dmlw: line 3: 11 BadNumber,;none;
+log 32,log-layer 0 16 flakey disk 0 10 5 1 corrupt_bio_byte,close;1;;dmlw: line 3: 29 BadFeature,;none;
+log 32,log-layer 0 32 linear disk 8,close;1;;dmlw: line 3: 12 OutOfRange,;none;
+log 32,close,log-layer 0 32 error;1;;dmlw: line 4: 30 BadLine,;none;
+log 32,at 2,at 1;1;;dmlw: line 4: 30 BadLine,;none;";
+
+#[test]
+fn answers_layers(rt: HostRuntime) -> Result<(), Fail> {
+    let alloc = rt.alloc();
+    for row in LAYERS.lines() {
+        let mut fields = row.split(';');
+        let script = script_of(alloc, fields.next().unwrap_or_default())?;
+        let ran = recorded(alloc, script.as_bytes());
+        let status = fields.next().unwrap_or_default().parse::<u8>().unwrap_or(9);
+        assert_eq!(rt; ran.status, status, "{row}");
+        let out = with_commas(alloc, &ran.out)?;
+        assert_eq!(rt; Some(out.as_str()), fields.next(), "{row}");
+        let err = with_commas(alloc, &ran.err)?;
+        assert_eq!(rt; Some(err.as_str()), fields.next(), "{row}");
+        let list = fields.next().unwrap_or_default();
+        if list == "none" {
+            assert!(rt; ran.log.is_none(), "{row}");
+        } else {
+            let listed = run(alloc, &["dmlw", "list", "image"], &ran.log.ok_or("a log")?);
+            let shown = with_commas(alloc, &listed.out)?;
+            assert_eq!(rt; shown.as_str(), list, "{row}");
+            let fault = with_commas(alloc, &listed.err)?;
+            assert_eq!(rt; Some(fault.as_str()), fields.next(), "{row}");
+        }
+    }
+    Ok(())
+}
+
+// The log of a whole run of the script below, as it is listed behind its first line.
+const WHOLE: &str = "0 @1 write 5+1,1 @3 flush,2 @4 mark dm-log-writes-end,";
+
+const LOWER: [&str; 4] = [
+    "0 32 linear disk 0",
+    "0 32 error",
+    "0 32 flakey disk 0 0 5 1 error_reads",
+    "0 32 fuse disk 0 7",
+];
+
+// The log's disk under two layers and a fuse of so many calls.
+fn layered(alloc: Global, first: &str, second: &str, calls: u64) -> Result<String, Fail> {
+    Ok(format!(in alloc;
+        "data 16\nlog 32\nlog-layer {first}\nlog-layer {second}\nlog-layer 0 32 fuse disk 0 {calls}\nw a 5 1 41\nc a\nf b\nc b\nclose\n"
+    )?)
+}
+
+// What is listed of a log is its first line, and a beginning of the whole list.
+fn is_beginning(listed: &str) -> bool {
+    match listed.split_once(',') {
+        Some((_super, entries)) => WHOLE.starts_with(entries),
+        None => false,
+    }
+}
+
+// Each layer over each, and a fuse of 0 to 6 calls over both: where a log could be made, its entries are a beginning of the list.
+#[test]
+fn layers_leave_beginnings(rt: HostRuntime) -> Result<(), Fail> {
+    let alloc = rt.alloc();
+    for first in LOWER {
+        for second in LOWER {
+            for calls in 0..7 {
+                let script = layered(alloc, first, second, calls)?;
+                let ran = recorded(alloc, script.as_bytes());
+                assert!(rt; ran.status == 0 || ran.status == 3, "{script}: {ran:?}");
+                if let Some(log) = &ran.log {
+                    let listed = run(alloc, &["dmlw", "list", "image"], log);
+                    let shown = with_commas(alloc, &listed.out)?;
+                    assert!(rt; is_beginning(shown.as_str()), "{script}: {shown}");
+                }
+            }
+        }
+    }
+    Ok(())
+}

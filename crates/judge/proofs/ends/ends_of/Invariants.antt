@@ -1,0 +1,5 @@
+use Rattle.judge.specs.inside.Last.{AreEnds}
+use Rattle.judge.proofs.ends.ends_of.Given as goal
+
+abbrev pub invariant-loop-place : goal.invariant-loop-place
+invariant-loop-place l = AreEnds l.events l.place l.ends.items

@@ -1,0 +1,23 @@
+use Rattle.std.proofs.Common.{◌≡◌, ℕ, suc, ◌+◌, sym, ◌∙◌, subst, arith}
+use Rattle.judge.specs.inside.Last.{AreLastKept}
+use Rattle.judge.proofs.Last.{last_kept_durable, last_kept_other, stands_there}
+use Rattle.judge.proofs.kept.last_kept.Goals as goal
+use Rattle.judge.proofs.kept.last_kept.Goals.{then-is_durable, else-is_durable}
+
+pub loop-place-preserved : goal.loop-place-preserved
+loop-place-preserved c =
+    let events = c.args.events.now in
+    let place = c.loop-place.place in
+    let before = c.loop-place.invariant in
+    let event = c.index-events-place.result in
+    let next : suc place ≡ place + 1 = omega arith in
+    let Until = λ (n : ℕ). AreLastKept events c.args.sectors n c.if-is_durable.last.items in
+    subst Until next (elim c.if-is_durable.branch [
+      | then-is_durable w ↦
+          rw w.last-is
+          (last_kept_durable events event c.args.sectors place c.loop-place.last.items w.note_kept.new.last.items
+          (stands_there events place event c.loop-place-test.true c.index-events-place.is) (sym c.is_durable.ensures ∙ w.if-is_durable.true)
+          w.note_kept.ensures.size w.note_kept.ensures.covered w.note_kept.ensures.other before)
+      | else-is_durable w ↦
+          rw w.last-is (last_kept_other events c.args.sectors place c.loop-place.last.items (sym c.is_durable.ensures ∙ w.if-is_durable.false) before)
+    ])

@@ -1,0 +1,37 @@
+use Rattle.std.proofs.Common.{ℕ, ◌+◌, ◌&&◌, length, ap, sym, ◌∙◌, arith}
+use Rattle.std.proofs.lemmas.Bool.{lt-ltb, le-ltb}
+use Rattle.std.specs.Prelude.{nat_lt, slice_get}
+use Rattle.sectors.specs.PlaceLaws.{none_first_below}
+use Rattle.bio.specs.Events.{is_end_of}
+use Rattle.judge.proofs.Last.{stands_there}
+use Rattle.judge.proofs.Searching.{none_next, not_none}
+use Rattle.judge.proofs.lawful.has_no_end.Goals as goal
+
+pub loop-place-init : goal.loop-place-init
+loop-place-init c =
+    let events = c.args.events.now in
+    let id = c.args.id in
+    none_first_below (λ (k : ℕ). nat_lt id k && is_end_of id (slice_get events k)) (id + 1)
+    (λ k h. ap (λ b. b && is_end_of id (slice_get events k)) (le-ltb id k (omega arith)))
+
+pub returns-then-is_end_of : goal.returns-then-is_end_of
+returns-then-is_end_of c =
+    let events = c.args.events.now in
+    let id = c.args.id in
+    let place = c.loop-place.place in
+    let low = c.loop-place.auto.place in
+    not_none (λ (k : ℕ). nat_lt id k && is_end_of id (slice_get events k)) (length events) place c.loop-place-test.true
+    (ap (λ b. b && is_end_of id (slice_get events place)) (lt-ltb id place (omega arith))
+    ∙ (ap (is_end_of id) (stands_there events place c.index-events-place.result c.loop-place-test.true c.index-events-place.is)
+    ∙ (sym c.is_end_of.ensures ∙ c.if-is_end_of.true)))
+
+pub loop-place-preserved : goal.loop-place-preserved
+loop-place-preserved c =
+    let events = c.args.events.now in
+    let id = c.args.id in
+    let place = c.loop-place.place in
+    let low = c.loop-place.auto.place in
+    none_next (λ (k : ℕ). nat_lt id k && is_end_of id (slice_get events k)) place (place + 1) (omega arith) c.loop-place.invariant
+    (ap (λ b. b && is_end_of id (slice_get events place)) (lt-ltb id place (omega arith))
+    ∙ (ap (is_end_of id) (stands_there events place c.index-events-place.result c.loop-place-test.true c.index-events-place.is)
+    ∙ (sym c.is_end_of.ensures ∙ c.if-is_end_of.false)))

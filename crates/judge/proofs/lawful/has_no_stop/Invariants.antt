@@ -1,0 +1,8 @@
+use Rattle.std.proofs.Common.{◌≡◌, None}
+use Rattle.std.specs.Prelude.{slice_get}
+use Rattle.sectors.specs.Places.{first_below}
+use Rattle.bio.specs.Events.{is_stop}
+use Rattle.judge.proofs.lawful.has_no_stop.Given as goal
+
+abbrev pub invariant-loop-event : goal.invariant-loop-event
+invariant-loop-event l = first_below (λ place. is_stop (slice_get l.events place)) l.event-index ≡ None

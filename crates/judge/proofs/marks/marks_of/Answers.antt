@@ -1,0 +1,21 @@
+use Rattle.std.proofs.Common.{◌≡◌, ℕ, suc, ◌+◌, ◌/◌, length, ◌∙◌, subst, arith}
+use Rattle.sectors.specs.Content.{sector_of}
+use Rattle.judge.specs.inside.Accounts.{AreMarked}
+use Rattle.judge.proofs.Last.{stands_there}
+use Rattle.judge.proofs.Marking.{marked_next}
+use Rattle.judge.proofs.marks.marks_of.Goals as goal
+
+pub loop-place-preserved : goal.loop-place-preserved
+loop-place-preserved c =
+    let events = c.args.events.now in
+    let place = c.loop-place.place in
+    let event = c.index-events-place.result in
+    let now = sector_of c.args.image.now in
+    let sectors = length c.args.image.now / 512 in
+    let next : suc place ≡ place + 1 = omega arith in
+    let Until = λ (n : ℕ). AreMarked events now sectors n c.mark_values.new.marks.items in
+    subst Until next
+    (marked_next events event now sectors place c.end_at.result c.args.last.now c.loop-place.marks.items c.mark_values.new.marks.items
+    (stands_there events place event c.loop-place-test.true c.index-events-place.is)
+    (c.end_at.ensures ∙ c.requires.ends.each place)
+    c.requires.last c.mark_values.ensures.size c.mark_values.ensures.marked c.loop-place.invariant)

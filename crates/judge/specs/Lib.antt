@@ -1,0 +1,6 @@
+pub mod Verdicts
+pub mod Latest
+pub mod inside
+pub use Rattle.bio.specs.Lawful
+pub use Rattle.bio.specs.Possible
+pub use Rattle.sectors.specs.Content

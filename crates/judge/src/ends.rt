@@ -1,0 +1,83 @@
+ghost use Rattle.std.specs.Prelude.{◌≡◌, ◌==◌, ◌&&◌, ◌≤◌, IfOk, Some, length, nat_lt, slice_get, ℕ};
+ghost use Rattle.bio.specs.Events.{is_end_of, is_flush_submit, submits};
+ghost use Rattle.bio.specs.Possible.{ended_ok, is_durable, is_success};
+ghost use Rattle.bio.specs.Requests.{has_fua};
+ghost use Rattle.sectors.specs.Places.{or_here};
+ghost use Rattle.judge.specs.inside.Last.{AreEnds, is_below_last, is_sure_flush, last_below, place_at};
+
+use bio::CoreEvent;
+use std::alloc::{AllocError, Global};
+
+/// Where each request ended: for the place of its submission, the place of its end.
+pub fn ends_of(alloc: Global, events: &[CoreEvent]) -> Result<Vec<Option<usize>>, AllocError>
+    ensures { IfOk result (λ ends. AreEnds events.now (length events.now) ends.items) }
+{
+    let mut ends = vec![in alloc; None; events.len()]?;
+    for (place, event) in events.iter().enumerate() {
+        note_event(&mut ends, event, place);
+    }
+    Ok(ends)
+}
+
+// Notes where a request ended, where the event is its end.
+fn note_event(ends: &mut Vec<Option<usize>>, event: &CoreEvent, place: usize)
+    requires { place ≤ length ends.old.items }
+    ensures size { length ends.new.items ≡ length ends.old.items }
+    ensures noted { (other : ℕ) → place_at ends.new.items other
+        ≡ or_here (place_at ends.old.items other) (nat_lt other place && is_end_of other (Some event.now)) place }
+{
+    if let CoreEvent::Complete { id, .. } = event {
+        note_end(ends, id.place(), place);
+    }
+}
+
+// Notes the end of a request, where it is the first one.
+fn note_end(ends: &mut Vec<Option<usize>>, id: u64, place: usize)
+    requires { place ≤ length ends.old.items }
+    ensures size { length ends.new.items ≡ length ends.old.items }
+    ensures noted { (other : ℕ) → place_at ends.new.items other
+        ≡ or_here (place_at ends.old.items other) (nat_lt other place && id == other) place }
+{
+    let id = id as usize;
+    if id < place && ends[id].is_none() {
+        ends[id] = Some(place);
+    }
+}
+
+// Whether the event is an end with success.
+fn is_success(event: &CoreEvent) -> bool
+    ensures { result ≡ is_success (Some event.now) }
+{
+    matches!(event, CoreEvent::Complete { ok: true, .. })
+}
+
+/// Whether the request of this place ended with success.
+pub fn ended_ok(events: &[CoreEvent], ends: &[Option<usize>], id: usize) -> bool
+    requires { AreEnds events.now (length events.now) ends.now }
+    ensures { result ≡ ended_ok events.now id }
+{
+    match end_at(ends, id) {
+        Some(end) => match events.get(end) {
+            Some(event) => is_success(event),
+            None => false,
+        },
+        None => false,
+    }
+}
+
+/// Where the request of this place ended.
+pub fn end_at(ends: &[Option<usize>], id: usize) -> Option<usize>
+    ensures { result ≡ place_at ends.now id }
+{
+    ends.get(id).copied().flatten()
+}
+
+/// Whether a request ended before the submission of a later one; of none, it didn't.
+pub fn is_before(end: Option<usize>, later: Option<usize>) -> bool
+    ensures { result ≡ is_below_last end later }
+{
+    match (end, later) {
+        (Some(end), Some(later)) => end < later,
+        _ => false,
+    }
+}

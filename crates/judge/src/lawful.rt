@@ -1,0 +1,170 @@
+ghost use Rattle.std.specs.Prelude.{◌≡◌, ◌<◌, Some, is_none, length, slice_get, ℕ};
+ghost use Rattle.bio.specs.Events.{end_of, is_close, is_end_of, is_open_at, is_request, is_stop};
+ghost use Rattle.bio.specs.Lawful.{can_follow, has_no_close, has_no_stop, is_lawful, is_recording, is_text, is_well_formed, is_within, none_open};
+ghost use Rattle.sectors.specs.Places.{all_below};
+
+use bio::{CoreEvent, check};
+
+/// Whether the events are a list that a recorder of a device of so many sectors of 512 bytes may have recorded.
+/// Takes no memory, so that its time grows with the square of the list's length.
+pub fn is_lawful(events: &[CoreEvent], sectors: u64) -> bool
+    ensures { result ≡ is_lawful sectors events.now }
+{
+    is_well_formed(events) && are_within(events, sectors)
+}
+
+// Whether each event may come after those before it.
+fn is_well_formed(events: &[CoreEvent]) -> bool
+    ensures { result ≡ is_well_formed events.now }
+{
+    for (place, event) in events.iter().enumerate() {
+        if !can_follow(&events[..place], event) {
+            return false;
+        }
+    }
+    true
+}
+
+// Whether the event may come after these.
+fn can_follow(events: &[CoreEvent], event: &CoreEvent) -> bool
+    ensures { result ≡ can_follow events.now (Some event.now) }
+{
+    match event {
+        CoreEvent::Submit(bio) => is_recording(events) && bio.is_tracked(),
+        CoreEvent::Complete { id, .. } => {
+            has_no_close(events) && is_open_at(events, id.place() as usize)
+        }
+        CoreEvent::Mark(text) => is_recording(events) && is_text(text.as_slice()),
+        CoreEvent::Stop(_) => is_recording(events),
+        CoreEvent::Close => has_no_close(events) && none_open(events),
+    }
+}
+
+// Whether no Stop and no Close stands among the events.
+fn is_recording(events: &[CoreEvent]) -> bool
+    ensures { result ≡ is_recording events.now }
+{
+    has_no_stop(events) && has_no_close(events)
+}
+
+// Whether no Stop stands among the events.
+fn has_no_stop(events: &[CoreEvent]) -> bool
+    ensures { result ≡ has_no_stop events.now }
+{
+    for event in events {
+        if is_stop(event) {
+            return false;
+        }
+    }
+    true
+}
+
+// Whether no Close stands among the events.
+fn has_no_close(events: &[CoreEvent]) -> bool
+    ensures { result ≡ has_no_close events.now }
+{
+    for event in events {
+        if is_close(event) {
+            return false;
+        }
+    }
+    true
+}
+
+// Whether logging ends at this event.
+fn is_stop(event: &CoreEvent) -> bool
+    ensures { result ≡ is_stop (Some event.now) }
+{
+    matches!(event, CoreEvent::Stop(_))
+}
+
+// Whether recording ends at this event.
+fn is_close(event: &CoreEvent) -> bool
+    ensures { result ≡ is_close (Some event.now) }
+{
+    matches!(event, CoreEvent::Close)
+}
+
+// Whether the event is the end of the request that was submitted at this place.
+fn is_end_of(event: &CoreEvent, id: usize) -> bool
+    ensures { result ≡ is_end_of id (Some event.now) }
+{
+    match event {
+        CoreEvent::Complete { id: ended, .. } => ended.place() == id as u64,
+        _ => false,
+    }
+}
+
+// Whether the event submits a request that is followed to its end.
+fn is_request(event: &CoreEvent) -> bool
+    ensures { result ≡ is_request (Some event.now) }
+{
+    match event {
+        CoreEvent::Submit(bio) => bio.is_tracked(),
+        _ => false,
+    }
+}
+
+// Whether the request of this place hasn't ended.
+fn is_open_at(events: &[CoreEvent], id: usize) -> bool
+    ensures { result ≡ is_open_at events.now id }
+{
+    match events.get(id) {
+        Some(event) => is_request(event) && has_no_end(events, id),
+        None => false,
+    }
+}
+
+// Whether no end of the request stands among the events.
+fn has_no_end(events: &[CoreEvent], id: usize) -> bool
+    requires { id < length events.now }
+    ensures { result ≡ is_none (end_of events.now id) }
+{
+    for place in id + 1..events.len() {
+        if is_end_of(&events[place], id) {
+            return false;
+        }
+    }
+    true
+}
+
+// Whether no request is open.
+fn none_open(events: &[CoreEvent]) -> bool
+    ensures { result ≡ none_open events.now }
+{
+    for id in 0..events.len() {
+        if is_open_at(events, id) {
+            return false;
+        }
+    }
+    true
+}
+
+// Whether the text has no zero byte.
+fn is_text(text: &[u8]) -> bool
+    ensures { result ≡ is_text text.now }
+{
+    text.iter().all(|byte| *byte != 0)
+}
+
+// Whether each request passed `check` for a device of so many sectors.
+fn are_within(events: &[CoreEvent], sectors: u64) -> bool
+    ensures { result ≡ all_below (λ place. is_within sectors (slice_get events.now place)) (length events.now) }
+{
+    for event in events {
+        if !is_within(event, sectors) {
+            return false;
+        }
+    }
+    true
+}
+
+// Whether a request that the event submits passed `check`.
+fn is_within(event: &CoreEvent, sectors: u64) -> bool
+    ensures { result ≡ is_within sectors (Some event.now) }
+{
+    match event {
+        CoreEvent::Submit(bio) => check(bio, sectors).is_ok(),
+        _ => true,
+    }
+}

@@ -8,12 +8,16 @@ What dmlw reads and prints. Every line ends with a line feed. The log's own byte
 
 A script is ASCII text without zero bytes, at most 4,194,304 bytes long. Lines end with a line feed; the last may lack it. Empty lines and
 lines that begin with `#` are skipped. One space stands between words. So these are refused as 30 BadLine at their line: a carriage return at
-a line's end, a byte order mark, a tab, two spaces, an upper case letter in a word. Only a mark's text is taken as it stands.
+a line's end, a byte order mark, a tab, two spaces, an upper case letter in a word. Only a mark's text is taken as it stands, and a layer's
+table line, whose words one or more spaces part.
 
 | Line | Meaning | Range |
 |---|---|---|
 | `data <sectors>` | the data disk's size; the first line | 1 to 1,048,576 |
 | `log <sectors>` | the log's size; the second line | 1 to 1,048,576 |
+| `data-layer <table line>` | a layer over what stands over the data disk so far | up to four, behind `log` |
+| `log-layer <table line>` | the same for the log's disk | up to four, behind those of the data disk |
+| `at <ms>` | the moment from here on, in milliseconds; at first 0 | no less than before |
 | `w <id> <first> <count> <byte> [flush] [fua] [meta]` | submits a write of that byte, with these options in this order | 1 to 2,048 sectors, two lower case hexadecimal digits |
 | `f <id>` | submits a flush | |
 | `d <id> <first> <count>` | submits a discard | 1 to 2,048 sectors |
@@ -30,11 +34,22 @@ ends as it stands, and that is no fault: what wasn't written to the log by then 
 With `flush` the data disk is flushed and then written, where the flush succeeded; a flush makes sure what ended before it. With `fua` the write is
 sure at its own end. `meta` is a note in the log. A mark waits for nothing, and has no `c`; a log keeps the first 479 bytes of its text.
 
+A table line is `0 <length> <target> ..`, with a length of 1 to 1,048,576 sectors. The word behind the target is any word, and the offset is where the
+layer begins on what stands beneath it, within which it lies. Requests are within the top layer's length.
+
+| Table line | A layer that |
+|---|---|
+| `0 <length> linear <dev> <offset>` | passes each call |
+| `0 <length> error` | fails each call |
+| `0 <length> flakey <dev> <offset> <up> <down>` | passes each call for `up` seconds, then fails each for `down` seconds, and so on from moment 0; together 1 to 4,294,967,295 seconds |
+| the same, then `0`, or `1` and a feature | while it is down: `error_reads` fails reads alone, `error_writes` all but reads; `drop_writes` does nothing of a write, discard or flush and tells that it was done, which is a lie |
+| `0 <length> fuse <dev> <offset> <calls>` | passes so many writes, discards and flushes, and fails each one behind them; reads pass |
+
 ## What is printed
 
 | Command | Prints |
 |---|---|
-| `record` | at `c`: `<id> ok` or `<id> failed`; `<id> failed` at a submission that found no memory, and `mark failed` at such a mark; at `r`: `read <first>+<count> ok ` and the first byte of each sector as two digits, joined, or `read <first>+<count> failed`; at the end `hazard H1 at event <n>` or `hazard H2 at event <n>` where there is one, and the status, with ` logging_disabled` behind it where logging ended before its time |
+| `record` | at `c`: `<id> ok` or `<id> failed`; `<id> failed` at a submission that found no memory, and `mark failed` at such a mark; at `r`: `read <first>+<count> ok ` and the first byte of each sector as two digits, joined, or `read <first>+<count> failed`; at the end `hazard H1 at event <n>` or `hazard H2 at event <n>` where there is one, the status, with ` logging_disabled` behind it where logging ended before its time, and `lies <data> <log>` where a layer has lied: how often those of the data disk did, and those of the log's |
 | `list` | `super version 1 entries <n> sectorsize <S>`, then a line of each entry: `<number> @<log sector>`, and `mark <text>`, `discard <sector>+<sectors>`, `flush` or `write <sector>+<sectors>`, the last two with ` flush` (of a write), ` fua`, ` meta` where set |
 | `status` | `<entries> <sector>`: how many entries the log counts, and the highest sector of 512 bytes that they use; `0 0` of an empty log |
 
@@ -55,7 +70,7 @@ and two lower case hexadecimal digits.
 | 0 | done |
 | 1 | refused: a line on standard error says by which number and name |
 | 2 | the command line isn't one of the program's |
-| 3 | logging ended before its time: the log is full, or memory ran out; it is written as far as it came |
+| 3 | logging ended before its time: the log is full, its device failed, or memory ran out; it is written as far as it came, unless it couldn't be made |
 
 ## Faults
 
@@ -65,12 +80,14 @@ A fault is one line on standard error: `dmlw: <number> <name>`, or `dmlw: line <
 |---|---|---|
 | 2 | Memory | there is no memory; of a `close`, with its line |
 | 3, 4, 5 | PastEnd, TooLong, NotWhole | a request past the disk's end, of over 2,048 sectors, of none |
+| 9, 10, 11 | UnknownTarget, WrongCount, BadNumber | a table line's target, number of words, or word in a number's place |
+| 12, 29 | OutOfRange, BadFeature | a table line's number, or a layer past the end of what stands beneath it; a flakey layer's feature |
 | 13, 14, 15 | BadMagic, BadVersion, BadSectorSize | the image isn't a log, or is of another version, or has log sectors that aren't 512, 1024, 2048 or 4096 bytes |
 | 16, 17 | BadMark, TooLarge | an entry that no log can have |
-| 20 | Memory | no log could be made, for want of memory (status 3) |
+| 19, 20 | Device, Memory | no log could be made, since its device failed, or for want of memory (status 3) |
 | 21 | CutShort | the log is shorter than it says |
 | 24 | Busy | a `close` where a request is open |
-| 30 | BadLine | a line that isn't one of a script's, or isn't in its place |
+| 30 | BadLine | a line that isn't one of a script's, or isn't in its place; a fifth layer of a disk; a moment that goes back |
 | 31 | BadId | an id that is submitted twice, or ended where it isn't open |
 | 32 | File | a file or the output can't be read or written; a script that is too long; an image that isn't 512 to 536,870,912 bytes in whole sectors; a log that is its own script |
 

@@ -14,7 +14,8 @@ use Rattle.dmlw_script.specs.declared.command.Submission.TheVariants as submits
 use Rattle.dmlw_script.specs.declared.command.Step.TheVariants as steps
 use Rattle.dmlw_script.specs.declared.command.WriteOptions.{WriteOptions}
 use Rattle.dmlw_script.specs.CanonicalText.{line_text, step_text}
-use Rattle.dmlw_script.specs.Plans.{head_count, is_within, layer_line, lines_of_script, moment_after, top_of, CanStand, Disk, IsInTime, Plan}
+use Rattle.dmlw_script.specs.Plans.{head_count, is_within, layer_line, lines_of_script, moment_after, top_of, Disk, IsInTime, Plan}
+use Rattle.table_line.specs.Standing.{CanStand}
 use Rattle.dmlw_script.specs.Reading.{bare, data_due, head_refusal, in_body, in_head, prefix_after, StandsAfter}
 use Rattle.dmlw_script.specs.Grammar.{spaced}
 use Rattle.dmlw_script.specs.Words.{byte_text}

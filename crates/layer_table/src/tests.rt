@@ -1,3 +1,6 @@
+ghost use Rattle.std.specs.Prelude.{◌≡◌};
+ghost use Rattle.std.specs.List.{AllByRecursion};
+ghost use Rattle.table_line.specs.declared.layer_spec.Target.TheVariants.{Linear};
 ghost use Rattle.table_line.specs.Ranges.{IsLayerSpec};
 
 mod plain;
@@ -12,7 +15,7 @@ use sector_disk::SectorDisk;
 use std::alloc::Global;
 use std::process::Abort;
 use std::test::Fail;
-use table_line::{LayerSpec, parse_line};
+use table_line::{LayerSpec, Target, parse_line};
 
 // Lines for the lower layer over a disk of 16 sectors, which count from the moment 0 on, and for the upper one, which counts
 // from 3000 on.
@@ -224,5 +227,46 @@ fn a_fifth_layer_is_refused(rt: HostRuntime) -> Result<(), Fail> {
     );
     let image = stack.into_disk().bytes()?;
     assert_eq!(rt; image.get(6 * 512), Some(&7));
+    Ok(())
+}
+
+// The specs of a linear layer of so many sectors from sector `offset` on.
+fn linear(length: u64, offset: u64) -> LayerSpec
+    ensures { result ≡ record { length = length; offset = offset; target = Linear } }
+{
+    LayerSpec {
+        length,
+        offset,
+        target: Target::Linear,
+    }
+}
+
+// How a disk of 16 sectors takes these layers at once: the sectors of their top, or the refusal.
+fn under(alloc: Global, layers: &[LayerSpec]) -> Result<Result<u64, Refusal>, Fail>
+    requires { AllByRecursion IsLayerSpec layers.now }
+{
+    let disk = SectorDisk::new(alloc, 16)?;
+    Ok(match Stack::new(disk).under(layers, Ms::new(0)) {
+        Ok(stack) => Ok(stack.sectors()),
+        Err((_, refusal)) => Err(refusal),
+    })
+}
+
+#[test]
+fn layers_are_put_over_at_once(rt: HostRuntime) -> Result<(), Fail> {
+    let alloc = rt.alloc();
+    let four = [linear(12, 4), linear(8, 4), linear(4, 4), linear(2, 2)];
+    assert!(rt; under(alloc, &[])? == Ok(16));
+    assert!(rt; under(alloc, &four)? == Ok(2));
+    let past = [linear(12, 4), linear(8, 5)];
+    assert!(rt; under(alloc, &past)? == Err(Refusal::OutOfRange));
+    let five = [
+        linear(12, 4),
+        linear(8, 4),
+        linear(4, 4),
+        linear(2, 2),
+        linear(1, 0),
+    ];
+    assert!(rt; under(alloc, &five)? == Err(Refusal::OutOfRange));
     Ok(())
 }

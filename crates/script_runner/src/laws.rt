@@ -8,6 +8,9 @@ ghost use Rattle.bio.specs.Lawful.{has_no_close};
 ghost use Rattle.pending.specs.CoreState.{IsSound};
 ghost use Rattle.recorder.specs.Growth.{HasWholeLog, RecorderGoes};
 ghost use Rattle.recorder.specs.Recording.{log_of};
+ghost use Rattle.recorder.specs.Replayed.{ReplaysToWhatCouldBe};
+ghost use Rattle.layer_table.specs.Layers.{stack_shown};
+ghost use Rattle.script_runner.specs.OnDisks.{DiskRecorder};
 ghost use Rattle.recorder.specs.Shown.{recording_of};
 ghost use Rattle.sectors.specs.Content.{Content};
 ghost use Rattle.std.specs.List.{AllZip};
@@ -19,6 +22,24 @@ ghost use Rattle.script_runner.specs.Written.{IsWritten};
 
 use crate::Running;
 use blockdev::BlockDev;
+use layer_table::Stack;
+
+/// After any list of submissions, completions, marks and writer's turns, whatever calls the layers fail, and a crash at any moment,
+/// inside a log write too, the reopened log is a beginning of the completion list and holds every mark and FUA write acknowledged as
+/// logged; replaying any beginning of it before the first hazard gives a content that the recorded device could hold had power
+/// failed there.
+///
+/// `old` is the recorder over a stack of layers before some of its calls, and `new` after them: `RecorderGoes` holds of each call and of
+/// several (`recorder::laws::several_calls_go_as_one`). `left` is what a crash at any moment since `old` may have left of the log's
+/// device. What it asks for: that no layer of the log told a lie. That the log was created with success is of the type: a recorder is
+/// made over no other. A stack keeps the law of a device. The first content may be any.
+pub fn headline()
+    ensures { (old new : DiskRecorder) (left : Content) → RecorderGoes (recording_of old) (recording_of new) →
+        (stack_shown new.store.device).lies ≡ 0 → (stack_shown new.store.device).since (stack_shown old.store.device).moment left →
+        ReplaysToWhatCouldBe (recording_of old) (recording_of new) left }
+{
+    recorder::laws::crashed_logs_replay_to_what_could_be::<Stack>();
+}
 
 /// To the recorder the lines of a script are as one call: its events only grow, and what is placed and settled stays so.
 pub fn lines_go_as_one_call<D: BlockDev + Drop, L: BlockDev + Drop>()

@@ -1,0 +1,3 @@
+pub mod Applied
+pub mod Loops
+pub mod Whole

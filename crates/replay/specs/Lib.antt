@@ -1,0 +1,5 @@
+pub use Rattle.log_format.specs.Replay
+pub use Rattle.log_reader.specs.Reads
+pub use Rattle.sectors.specs.Content
+pub mod Refusals
+pub mod Replays

@@ -39,14 +39,14 @@ returns-clause-recorded g c =
     subst (λ (r : DiskRecorder). (stack_shown r.store.device).lies ≡ 0 → c.status-status.result ≡ status_of 512 (entries_of (store_of r.store)) r.end) c.recorder-2.ensures c.status-status.ensures.status in
     let says = c.status-status.ensures in
     let counted = subst (λ (r : DiskRecorder). IsCounted c.status-status.result r) c.recorder-2.ensures
-        (record { entries = says.counts; end = says.end; none = says.none; last = says.last }) in
+    (record { entries = says.counts; end = says.end; none = says.none; last = says.last }) in
     let first = subst (λ (r : DiskRecorder). c.hazard-hazard.result ≡ first_hazard recorded r.core.events) c.recorder-3.ensures c.hazard-hazard.ensures in
     let replays : (stack_shown last.recorder.store.device).lies ≡ 0 → (left : Content) → (stack_shown last.recorder.store.device).crash left → ReplaysToWhatCouldBe (recording_of last.recorder) (recording_of last.recorder) left =
     λ honest left may. c.crashed_logs_replay_to_what_could_be.ensures.between last.recorder left honest may in
     let sound = subst (λ (r : DiskRecorder). IsSound r.core) c.recorder.ensures c.events-events.ensures.core in
     let same = c.into_device-log.ensures ∙ ap (λ (r : DiskRecorder). r.store.device) c.into_parts-recorder.ensures.recorder in
     let lied = same_lies (record { data_disk = c.lies-data_lies.result; log_disk = c.lies.result }) (stack_shown last.disk).lies (stack_shown c.into_device-log.result).lies
-        (c.lies-data_lies.ensures ∙ ap (λ (s : Stack). (stack_shown s).lies) c.into_parts-recorder.ensures.device) c.lies.ensures in (
+    (c.lies-data_lies.ensures ∙ ap (λ (s : Stack). (stack_shown s).lies) c.into_parts-recorder.ensures.device) c.lies.ensures in (
       ran.0,
       is_recorded script ran.0 start last c.into_device-log.result c.hazard-hazard.result c.status-status.result _ c.in_ok-image.image.items _ c.in_ok-running.ensures.starts ran.1
           (c.lines_go_as_one_call.ensures script.names script.commands ran.0 start last ran.1)

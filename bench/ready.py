@@ -1,0 +1,85 @@
+#!/usr/bin/env python3
+"""ready: what the gate would refuse or a reader would miss, found in a minute and without a proof.
+
+  bench/ready.py [--count]
+        Says which files `rt fmt` would change (the gate refuses their crate whole), which must-fail edits name a text that doesn't stand once in
+        its file, which edits have no row in docs/PLANTED.md, and where that page's counts aren't those of its rows. --count writes the counts.
+
+The repository's files stay as they are, but for the counts. It needs the kit's `rt` on the PATH.
+"""
+import glob, os, re, shutil, subprocess, sys, tempfile
+
+root = os.path.dirname(os.path.dirname(os.path.abspath(__file__)))
+
+
+def text_of(path):
+    with open(path, encoding="utf-8") as it:
+        return it.read()
+
+
+def not_laid_out():
+    with tempfile.TemporaryDirectory() as room:
+        shutil.copytree(f"{root}/crates", f"{room}/crates", ignore=shutil.ignore_patterns("out"))
+        shutil.copy(f"{root}/crates.txt", room)
+        for crate in sorted(os.listdir(f"{room}/crates")):
+            said = subprocess.run(["rt", "fmt"], cwd=f"{room}/crates/{crate}", stdout=subprocess.PIPE, stderr=subprocess.STDOUT, text=True).stdout
+            for file in re.findall(r"^rt: formatted (\S+)", said, re.M):
+                yield f"crates/{crate}/{file}: rt fmt would change it"
+
+
+def pieces_of(edit):
+    """The files of an edit, each with a text that it replaces."""
+    file, old = None, None
+    for line in text_of(edit).split("\n") + ["file: "]:
+        word, _, rest = line.partition(": ")
+        if word in ("file", "old", "new"):
+            if old is not None:
+                yield file, "\n".join(old).rstrip("\n")
+            old = [rest] if word == "old" else None
+            file = rest.strip() if word == "file" else file
+        elif old is not None:
+            old.append(line)
+
+
+def edits_off(edits):
+    for edit in edits:
+        folder = os.path.dirname(os.path.dirname(edit))
+        for file, old in pieces_of(edit):
+            count = text_of(f"{folder}/{file}").count(old)
+            if count != 1:
+                yield f"{os.path.relpath(edit, root)}: its text stands {count} times in {file}"
+
+
+def rows_of(page):
+    section = None
+    for line in page.split("\n"):
+        head = re.match(r"### `(\w+)`", line)
+        section = head.group(1) if head else section
+        if line.startswith("| ") and not line.startswith("| Bug") and "---" not in line:
+            cells = [it.strip() for it in line.strip().strip("|").split(" | ")]
+            yield section, cells[0], cells[-1]
+
+
+def main():
+    edits = sorted(glob.glob(f"{root}/crates/*/must-fail/*.edit"))
+    page = text_of(f"{root}/docs/PLANTED.md")
+    rows = list(rows_of(page))
+    by_tests = [it for it in rows if re.search(r"\btests?\b", it[2]) and "goal" not in it[2] and "check of" not in it[2]]
+    found = [*not_laid_out(), *edits_off(edits)]
+    for edit in edits:
+        crate, name = edit.split("/")[-3], os.path.basename(edit)[:-5].replace("-", " ")
+        if not any(section == crate and bug.replace("`", "").split(" (")[0].lower() == name for section, bug, _ in rows):
+            found.append(f"{os.path.relpath(edit, root)}: no row in docs/PLANTED.md")
+    wanted = re.sub(r"\d+ bugs, of which \d+ are refused", f"{len(rows)} bugs, of which {len(by_tests)} are refused", page)
+    wanted = re.sub(r"^\d+ of them stand in", f"{len(edits)} of them stand in", wanted, flags=re.M)
+    if wanted != page and "--count" in sys.argv:
+        with open(f"{root}/docs/PLANTED.md", "w", encoding="utf-8") as it:
+            it.write(wanted)
+    elif wanted != page:
+        found.append(f"docs/PLANTED.md: {len(rows)} bugs, {len(by_tests)} by tests, {len(edits)} edits")
+    print("\n".join(found) or "ready")
+    return 1 if found else 0
+
+
+if __name__ == "__main__":
+    sys.exit(main())

@@ -241,6 +241,13 @@ fn linear(length: u64, offset: u64) -> LayerSpec
     }
 }
 
+// Why a stack was refused that is handed back.
+fn refusal_of<D: Drop>(back: (D, Refusal)) -> Refusal
+    ensures { result ≡ back.1 }
+{
+    back.1
+}
+
 // How a disk of 16 sectors takes these layers at once: the sectors of their top, or the refusal.
 fn under(alloc: Global, layers: &[LayerSpec]) -> Result<Result<u64, Refusal>, Fail>
     requires { AllByRecursion IsLayerSpec layers.now }
@@ -248,7 +255,7 @@ fn under(alloc: Global, layers: &[LayerSpec]) -> Result<Result<u64, Refusal>, Fa
     let disk = SectorDisk::new(alloc, 16)?;
     Ok(match Stack::new(disk).under(layers, Ms::new(0)) {
         Ok(stack) => Ok(stack.sectors()),
-        Err((_, refusal)) => Err(refusal),
+        Err(back) => Err(refusal_of(back)),
     })
 }
 

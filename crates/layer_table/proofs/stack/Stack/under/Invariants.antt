@@ -3,7 +3,7 @@ use Rattle.layer_table.proofs.Under.{AreUnder}
 use Rattle.layer_table.proofs.stack.Stack.under.Given as goal
 
 abbrev pub invariant-loop-spec : goal.invariant-loop-spec
-invariant-loop-spec l = AreUnder l.fn.specs l.rest l.load l.fn.self l.stack
+invariant-loop-spec l = AreUnder l.fn.specs l.rest l.fn.load l.fn.self l.stack
 
 abbrev pub decreases-loop-spec : goal.decreases-loop-spec
 decreases-loop-spec l = length l.rest

@@ -1,5 +1,5 @@
 -- What stands over a disk shows a part of it.
-use Rattle.std.proofs.Common.{◌≡◌, ℕ, ◌+◌, ap, refl, sym, ◌∙◌, arith}
+use Rattle.std.proofs.Common.{ℕ, ◌+◌, ap, refl, ◌∙◌, arith}
 use Rattle.blockdev.specs.declared.device.BlockDev.{Ghosts}
 use Rattle.blockdev.specs.Calls.{IsRange}
 use Rattle.blockdev.specs.View.{View}

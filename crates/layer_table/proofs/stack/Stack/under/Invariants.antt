@@ -1,4 +1,4 @@
-use Rattle.std.proofs.Common.{ℕ, length}
+use Rattle.std.proofs.Common.{length}
 use Rattle.layer_table.proofs.Under.{AreUnder}
 use Rattle.layer_table.proofs.stack.Stack.under.Given as goal
 

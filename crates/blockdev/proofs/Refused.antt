@@ -25,6 +25,7 @@ still = record {
   since = λ moment. Only (all 0);
   faults = 0;
   lies = 0;
+  can_lie = false;
 }
 
 -- a call that puts 1s in sector 0
@@ -90,9 +91,18 @@ faults : Goes one (record still { faults = 1 }) still → ⊥
 unfolding still
 faults goes = let h = goes.faults in omega arith
 
-lies : Goes one (record still { lies = 1 }) still → ⊥
+lies : Goes one (record still { lies = 1; can_lie = true }) (record still { can_lie = true }) → ⊥
 unfolding still
 lies goes = let h = goes.lies in omega arith
+
+-- a lie of a device that can't tell one, and one that learns to
+honest : Goes one still (record still { lies = 1 }) → ⊥
+unfolding still
+honest goes = let h = goes.honest refl in omega arith
+
+can_lie : Goes one still (record still { can_lie = true }) → ⊥
+unfolding still
+can_lie goes = let same = goes.can_lie in cc
 
 -- a write that ended well and left the old value
 landed : Lands one false still still → ⊥

@@ -27,6 +27,8 @@ goes_none patch v = record {
   keeps = λ moment left h may. may;
   faults = omega arith;
   lies = omega arith;
+  can_lie = refl;
+  honest = λ none. refl;
 }
 
 -- what goes by a part of a call goes by the whole one: so a call that failed after a part was a call
@@ -41,6 +43,8 @@ goes_part part whole v w is goes = record {
   keeps = goes.keeps;
   faults = goes.faults;
   lies = goes.lies;
+  can_lie = goes.can_lie;
+  honest = goes.honest;
 }
   where
     wider : (left : Content) → AfterPatch part v.crash left → AfterPatch whole v.crash left
@@ -61,6 +65,8 @@ goes_both patch u v w first second = record {
   keeps = λ moment left h may. second.keeps moment left (let a = first.moment in omega arith) (first.keeps moment left h may);
   faults = let a = first.faults in let b = second.faults in omega arith;
   lies = let a = first.lies in let b = second.lies in omega arith;
+  can_lie = second.can_lie ∙ first.can_lie;
+  honest = λ none. second.honest (first.can_lie ∙ none) ∙ first.honest none;
 }
 
 -- two calls of which each does a part of a whole call go by it together

@@ -1,5 +1,5 @@
 -- The law of a device, as records of its view before a call (v) and after it (w).
-use Rattle.std.specs.Prelude.{◌≡◌, ◌⊎◌, ℕ, ◌<◌, ◌≤◌, Bool, IsTrue, Result, Ok, Err, Some}
+use Rattle.std.specs.Prelude.{◌≡◌, ◌⊎◌, ℕ, ◌<◌, ◌≤◌, Bool, false, IsTrue, Result, Ok, Err, Some}
 use Rattle.bio.specs.declared.outcome.DevError.{DevError}
 use Rattle.bio.specs.declared.outcome.DevError.TheVariants.{Io}
 use Rattle.sectors.specs.Content.{Content, Patch, Patched, put}
@@ -37,6 +37,9 @@ pub record Goes (patch : Patch) (v w : View) : Type 0 where
   -- the counts don't fall
   pub faults : v.faults ≤ w.faults
   pub lies : v.lies ≤ w.lies
+  -- whether it can lie stays, and one that can't tells no new lie
+  pub can_lie : w.can_lie ≡ v.can_lie
+  pub honest : v.can_lie ≡ false → w.lies ≡ v.lies
 
 -- What a write or a discard does that ends well, without a new lie: it puts all of its values.
 pub record Lands (patch : Patch) (fua : Bool) (v w : View) : Type 0 where

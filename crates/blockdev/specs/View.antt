@@ -1,4 +1,4 @@
-use Rattle.std.specs.Prelude.{ℕ, ◌-◌, ◌<◌, ◌≤◌, ◌^◌}
+use Rattle.std.specs.Prelude.{ℕ, Bool, ◌-◌, ◌<◌, ◌≤◌, ◌^◌}
 use Rattle.sectors.specs.Content.{Content, HasWholeSectors}
 
 -- Where a device lies on the disk beneath all layers: its first sector there, and how many sectors that disk has.
@@ -23,6 +23,8 @@ pub record View : Type 1 where
   -- how often it failed, and how often it told a success of what it hadn't done; both stop at 2^64 - 1
   pub faults : ℕ
   pub lies : ℕ
+  -- whether it, or one beneath it, may ever tell a success of what it hadn't done
+  pub can_lie : Bool
 
 -- the highest that a count of faults or lies gets
 abbrev pub last_count : ℕ

@@ -6,7 +6,7 @@ use Rattle.script_runner.specs.declared.error.RunError.{RunError}
 use Rattle.script_runner.specs.declared.error.RunError.TheVariants as faults
 use Rattle.script_runner.specs.Errors.{IsFileError, memory_error}
 use Rattle.dmlw_commands.specs.declared.exit.Exit.{Exit}
-use Rattle.dmlw_commands.specs.declared.exit.Exit.TheVariants.{Done, LoggingEnded, Refused, Usage}
+use Rattle.dmlw_commands.specs.declared.exit.Exit.TheVariants.{Done, LoggingEnded, Refused, RuledOut, Usage}
 use Rattle.dmlw_commands.specs.Exits.{exit_after, exit_at, exit_of, fault_line, status_of, told_line}
 use Rattle.dmlw_commands.specs.declared.ending.Ended.{Ended}
 use Rattle.dmlw_commands.specs.Endings.{Telling, Tells, TellsLine}
@@ -38,6 +38,7 @@ ends_silently writes_old writes_new exit same = record { known = at_most exit; o
     at_most Refused = omega arith
     at_most Usage = omega arith
     at_most LoggingEnded = omega arith
+    at_most RuledOut = omega arith
 
 -- a refused recording has asked for no file or for one
 refused_recording : (contents : Option (List ℕ)) (log : List ℕ) (writes_old writes_new : Option (List Write)) (old new : Option (List ℕ))

@@ -11,7 +11,7 @@ use Rattle.clap.specs.Words.{kind_of}
 use Rattle.dmlw.specs.declared.command_line.Task.{Task}
 use Rattle.dmlw.specs.declared.command_line.Task.TheVariants as tasks
 use Rattle.dmlw_commands.specs.declared.exit.Exit.{Exit}
-use Rattle.dmlw_commands.specs.declared.exit.Exit.TheVariants.{Done, LoggingEnded, Refused, Usage}
+use Rattle.dmlw_commands.specs.declared.exit.Exit.TheVariants.{Done, LoggingEnded, Refused, RuledOut, Usage}
 use Rattle.dmlw_commands.specs.declared.ending.Ended.{Ended}
 use Rattle.dmlw_commands.specs.Endings.{EndsRecording, EndsShowing, Telling, Tells, telling}
 use Rattle.dmlw_commands.specs.Exits.{exit_of, fault_line}
@@ -111,3 +111,4 @@ TellsBy Done ended old new = new ≡ old
 TellsBy Refused ended old new = TellsOneLine ended old new
 TellsBy Usage ended old new = Unit {0}
 TellsBy LoggingEnded ended old new = (new ≡ old) ⊎ TellsOneLine ended old new
+TellsBy RuledOut ended old new = new ≡ old

@@ -1,11 +1,14 @@
 use Rattle.std.specs.Prelude.{◌⊎◌, ◌≡◌, ℕ, List, [], ◌++◌, None, Option, Result, Ok, Err, Some, codes}
+use Rattle.std.specs.Fmt.{decimal}
 use Rattle.bio.specs.declared.outcome.End.{End}
 use Rattle.bio.specs.declared.outcome.Status.{Status}
+use Rattle.refusals.specs.declared.refusal.Refusal.{Refusal}
+use Rattle.refusals.specs.Texts.{refusal_text}
 use Rattle.script_runner.specs.declared.error.RunError.{RunError}
 use Rattle.script_runner.specs.declared.error.RunError.TheVariants as errors
 use Rattle.script_runner.specs.Errors.{error_text}
 use Rattle.dmlw_commands.specs.declared.exit.Exit.{Exit}
-use Rattle.dmlw_commands.specs.declared.exit.Exit.TheVariants.{Done, Refused, Usage, LoggingEnded}
+use Rattle.dmlw_commands.specs.declared.exit.Exit.TheVariants.{Done, Refused, Usage, LoggingEnded, RuledOut}
 
 -- the exit status of the program
 abbrev pub status_of : Exit → ℕ
@@ -13,6 +16,7 @@ status_of Done = 0
 status_of Refused = 1
 status_of Usage = 2
 status_of LoggingEnded = 3
+status_of RuledOut = 1
 
 -- how a command ends by a fault
 abbrev pub exit_of : RunError → Exit
@@ -36,7 +40,7 @@ exit_after (Err fault) = exit_of fault
 
 -- a command ends without having written a file
 abbrev pub IsRefusal : Exit → Type 0
-IsRefusal exit = (exit ≡ Refused) ⊎ (exit ≡ Usage)
+IsRefusal exit = (exit ≡ Refused) ⊎ (exit ≡ Usage) ⊎ (exit ≡ RuledOut)
 
 -- the line that a user is told of a fault
 abbrev pub fault_line : RunError → List ℕ
@@ -46,3 +50,7 @@ fault_line fault = codes "dmlw: " ++ error_text fault ++ codes "\n"
 abbrev pub told_line : {T : Type 0} → Result T RunError → List ℕ
 told_line (Ok done) = []
 told_line (Err fault) = fault_line fault
+
+-- the line that a user is told of a replay that was refused after so many entries
+abbrev pub stopped_line : ℕ → Refusal → List ℕ
+stopped_line applied refusal = codes "dmlw: " ++ refusal_text refusal ++ codes " after " ++ decimal applied ++ codes " entries\n"

@@ -1,9 +1,11 @@
 ghost use Rattle.std.specs.Prelude.{◌≡◌, ◌++◌, [], Err, OnOk, true};
 ghost use Rattle.std.specs.Io.KnownBytes.{Appends, Keeps};
-ghost use Rattle.dmlw_commands.specs.Exits.{exit_after, exit_by, exit_of, fault_line, told_line};
+ghost use Rattle.dmlw_commands.specs.declared.exit.Exit.{Exit};
+ghost use Rattle.dmlw_commands.specs.Exits.{exit_after, exit_by, exit_of, fault_line, stopped_line, told_line};
 
 use crate::exit::Exit;
 use bio::Status;
+use refusals::Refusal;
 use script_runner::RunError;
 use std::alloc::Global;
 use std::io;
@@ -60,7 +62,7 @@ pub(crate) fn end_recording<O: Write, E: Write>(
 }
 
 /// How a command ends so, of which there is no fault to report: `more` is all that goes to `err`.
-pub(crate) fn end_well<E: Write>(exit: Exit, more: &str, err: &mut E) -> Ended
+pub fn end_well<E: Write>(exit: Exit, more: &str, err: &mut E) -> Ended
     ensures exit { result.exit ≡ exit }
     ensures quiet { more.now ≡ [] → E.contents err.new ≡ E.contents err.old }
     ensures told { result.is_told ≡ true → Appends (E.contents err.old) (E.contents err.new) more.now }
@@ -90,6 +92,45 @@ fn tell_fault<E: Write>(alloc: Global, fault: RunError, more: &str, err: &mut E)
         Ok(text) => tell(&text, err),
         Err(_) => {
             write!(err, "dmlw: {fault}\n{more}")?;
+            err.flush()
+        }
+    }
+}
+
+/// Reports that a replay was refused after so many entries, by one line, and `more` behind it, all in one write where there is memory
+/// for it.
+pub fn report_stopped<E: Write>(
+    alloc: Global,
+    applied: u64,
+    refusal: Refusal,
+    more: &str,
+    err: &mut E,
+) -> Ended
+    ensures exit { result.exit ≡ Exit.Refused }
+    ensures told { result.is_told ≡ true →
+        Appends (E.contents err.old) (E.contents err.new) (stopped_line applied refusal ++ more.now) }
+{
+    Ended {
+        exit: Exit::Refused,
+        is_told: tell_stopped(alloc, applied, refusal, more, err).is_ok(),
+    }
+}
+
+// Writes the line of a replay that was refused and what stands behind it: in parts where there is no memory to make them whole.
+fn tell_stopped<E: Write>(
+    alloc: Global,
+    applied: u64,
+    refusal: Refusal,
+    more: &str,
+    err: &mut E,
+) -> io::Result<()>
+    ensures { OnOk result
+        (Appends (E.contents err.old) (E.contents err.new) (stopped_line applied refusal ++ more.now)) }
+{
+    match format!(in alloc; "dmlw: {refusal} after {applied} entries\n{more}") {
+        Ok(text) => tell(&text, err),
+        Err(_) => {
+            write!(err, "dmlw: {refusal} after {applied} entries\n{more}")?;
             err.flush()
         }
     }

@@ -15,6 +15,8 @@ pub enum Exit {
     Usage,
     /// Logging ended before its time: the log is written as far as it came, or none could be made.
     LoggingEnded,
+    /// The verdict on the image is no.
+    RuledOut,
 }
 
 impl Exit {
@@ -27,6 +29,7 @@ impl Exit {
             Exit::Refused => 1,
             Exit::Usage => 2,
             Exit::LoggingEnded => 3,
+            Exit::RuledOut => 1,
         }
     }
 }

@@ -63,6 +63,108 @@ pub(crate) fn explain_reading<F: Files>(
     }
 }
 
+/// What `--explain` adds to how a judging of an image ended, likewise.
+pub fn explain_judging<F: Files>(
+    alloc: Global,
+    explains: bool,
+    done: Result<(), RunError>,
+    script: &str,
+    image: &str,
+    files: &mut F,
+) -> String
+    ensures silent { explains ≡ false → string_bytes result ≡ [] }
+    ensures kept { KeepsFiles (F.contents files.old) (F.contents files.new) }
+    ensures unwritten { F.writes files.new ≡ F.writes files.old }
+{
+    let mut text = String::new(alloc);
+    if !explains {
+        return text;
+    }
+    match write_judging(alloc, done, script, image, files, &mut text) {
+        Ok(()) => text,
+        Err(_) => String::new(alloc),
+    }
+}
+
+/// The names of the files of a replay.
+#[derive(Clone, Copy, Debug)]
+pub struct ReplayNames<'a> {
+    /// The log that is replayed.
+    pub log: &'a str,
+    /// The image that it is replayed on.
+    pub first: &'a str,
+    /// The image that is written.
+    pub out: &'a str,
+}
+
+/// What `--explain` adds to how a replay of these files ended, likewise.
+pub fn explain_replaying<F: Files>(
+    alloc: Global,
+    explains: bool,
+    refusal: Option<Refusal>,
+    names: ReplayNames,
+    files: &mut F,
+) -> String
+    ensures silent { explains ≡ false → string_bytes result ≡ [] }
+    ensures kept { KeepsFiles (F.contents files.old) (F.contents files.new) }
+    ensures unwritten { F.writes files.new ≡ F.writes files.old }
+{
+    let mut text = String::new(alloc);
+    if !explains {
+        return text;
+    }
+    match write_replaying(alloc, refusal, names, files, &mut text) {
+        Ok(()) => text,
+        Err(_) => String::new(alloc),
+    }
+}
+
+// Writes what there is to say of a replay that ended so.
+fn write_replaying<F: Files, W: Write>(
+    alloc: Global,
+    refusal: Option<Refusal>,
+    names: ReplayNames,
+    files: &mut F,
+    to: &mut W,
+) -> fmt::Result
+    ensures kept { KeepsFiles (F.contents files.old) (F.contents files.new) }
+    ensures unwritten { F.writes files.new ≡ F.writes files.old }
+{
+    match refusal {
+        None => Ok(()),
+        Some(Refusal::File) => write_file_of_replaying(alloc, names, files, to),
+        Some(refusal) => write_advice(names.log, refusal, to),
+    }
+}
+
+// Writes which file of a replay can't be used, and why.
+fn write_file_of_replaying<F: Files, W: Write>(
+    alloc: Global,
+    names: ReplayNames,
+    files: &mut F,
+    to: &mut W,
+) -> fmt::Result
+    ensures kept { KeepsFiles (F.contents files.old) (F.contents files.new) }
+    ensures unwritten { F.writes files.new ≡ F.writes files.old }
+{
+    let ReplayNames { log, first, out } = names;
+    if files.is_same(log, out) {
+        return writeln!(
+            to,
+            "  {log} and {out} are one file: the image would be written over the log"
+        );
+    }
+    if let Some(Trouble::Write(error)) = files.trouble() {
+        return writeln!(to, "  {out} can't be written: {error}");
+    }
+    let name = if read_image(alloc, log, files).is_ok() {
+        first
+    } else {
+        log
+    };
+    write_file_of_reading(alloc, name, files, to)
+}
+
 // Writes what there is to say of a recording that ended so.
 fn write_recording<F: Files, W: Write>(
     alloc: Global,
@@ -123,6 +225,46 @@ fn write_reading<F: Files, W: Write>(
             },
         ) => write_file_of_reading(alloc, log, files, to),
         Some(Fault { refusal, .. }) => write_advice(log, refusal, to),
+    }
+}
+
+// Writes what there is to say of a judging that ended so.
+fn write_judging<F: Files, W: Write>(
+    alloc: Global,
+    done: Result<(), RunError>,
+    script: &str,
+    image: &str,
+    files: &mut F,
+    to: &mut W,
+) -> fmt::Result
+    ensures kept { KeepsFiles (F.contents files.old) (F.contents files.new) }
+    ensures unwritten { F.writes files.new ≡ F.writes files.old }
+{
+    match refusal_of(done) {
+        None => Ok(()),
+        Some(
+            Fault {
+                line: Some(number),
+                refusal,
+            },
+        ) => {
+            let text = files
+                .read(alloc, script, MAX_SCRIPT_BYTES)
+                .map_err(|_| fmt::Error)?;
+            write_line(script, number, line_at(&text, number), refusal, to)
+        }
+        Some(
+            Fault {
+                line: None,
+                refusal: Refusal::File,
+            },
+        ) => write_file_of_judging(alloc, script, image, files, to),
+        Some(
+            Fault {
+                line: None,
+                refusal,
+            },
+        ) => write_advice(script, refusal, to),
     }
 }
 
@@ -233,6 +375,29 @@ fn write_file_of_recording<F: Files, W: Write>(
         ),
         Some(Trouble::Write(error)) => writeln!(to, "  {log} can't be written: {error}"),
         None => writeln!(to, "  the standard output can't be written"),
+    }
+}
+
+// Writes which file of a judging can't be used, and why.
+fn write_file_of_judging<F: Files, W: Write>(
+    alloc: Global,
+    script: &str,
+    image: &str,
+    files: &mut F,
+    to: &mut W,
+) -> fmt::Result
+    ensures kept { KeepsFiles (F.contents files.old) (F.contents files.new) }
+    ensures unwritten { F.writes files.new ≡ F.writes files.old }
+{
+    if files.read(alloc, script, MAX_SCRIPT_BYTES).is_ok() {
+        return write_file_of_reading(alloc, image, files, to);
+    }
+    match files.trouble() {
+        Some(Trouble::Read(error)) => writeln!(to, "  {script} can't be read: {error}"),
+        _ => writeln!(
+            to,
+            "  {script} is longer than the 4194304 bytes that a script may have"
+        ),
     }
 }
 

@@ -6,12 +6,14 @@
 //! which no clause knows what it holds.
 #![tactic(auto)]
 
-pub use ending::{Ended, end, report};
+pub use ending::{Ended, end, end_well, report, report_stopped};
 pub use exit::Exit;
+pub use explain::{ReplayNames, explain_judging, explain_replaying};
 pub use files::{FileError, Files, Trouble};
 pub use host_files::HostFiles;
-pub use image::MAX_IMAGE_BYTES;
+pub use image::{MAX_IMAGE_BYTES, read_image};
 pub use output::Output;
+pub use record::read_text;
 
 mod ending;
 mod exit;

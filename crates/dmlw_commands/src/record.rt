@@ -95,8 +95,8 @@ fn run_file<F: Files, O: Write>(
     run_text(alloc, &text, out)
 }
 
-// The text in a script's file.
-fn read_text<F: Files>(alloc: Global, script: &str, files: &mut F) -> Result<Vec<u8>, FileError>
+/// The text in a script's file: at most 4,194,304 bytes. Any other file is refused, as is one that can't be read.
+pub fn read_text<F: Files>(alloc: Global, script: &str, files: &mut F) -> Result<Vec<u8>, FileError>
     ensures contents { IfOk result (λ text. MatchesContents (F.contents files.old script.now) text.items) }
     ensures within { IfOk result (λ text. length text.items ≤ 4194304) }
     ensures readable { IsWithin 4194304 (F.contents files.old script.now) → IfErr result (λ error. error ≡ FileError.Memory) }

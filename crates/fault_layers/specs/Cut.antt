@@ -26,4 +26,5 @@ cut v offset length = record {
   since = λ moment. SeenFrom offset (v.since moment);
   faults = v.faults;
   lies = v.lies;
+  can_lie = v.can_lie;
 }

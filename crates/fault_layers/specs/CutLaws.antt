@@ -77,6 +77,8 @@ goes_cut offset length below patch v w shifted goes = record {
   keeps = λ moment left h may. (may.0, goes.keeps moment may.0 h may.1, may.2);
   faults = goes.faults;
   lies = goes.lies;
+  can_lie = goes.can_lie;
+  honest = goes.honest;
 }
 
 -- what lands beneath lands in the range

@@ -9,6 +9,7 @@ pub mod Cut
 pub mod CutLaws
 pub mod Decided
 pub mod DelayRule
+pub mod DropLaws
 pub mod ErrorRule
 pub mod FuseRule
 pub mod FlakeyRule

@@ -1,4 +1,4 @@
-ghost use Rattle.std.specs.Prelude.{◌≡◌};
+ghost use Rattle.std.specs.Prelude.{◌≡◌, false};
 
 use crate::gate::{Gate, Kind, Verdict};
 use crate::gated::Gated;
@@ -11,17 +11,24 @@ pub struct ErrorGate {}
 
 impl Gate for ErrorGate {
     ghost use Rattle.fault_layers.specs.ErrorRule.{error_verdict};
+    ghost use Rattle.fault_layers.specs.DropLaws.{error_honest, error_stays};
     ghost use Rattle.fault_layers.specs.ReadLaws.{error_keeps_reads};
 
     ghost verdict = { λ gate. error_verdict };
 
     ghost after = { λ gate kind now. gate };
 
+    ghost may_drop = { λ gate. false };
+
     fn decide(&mut self, _kind: Kind, _now: Ms) -> Verdict {
         Verdict::Fail
     }
 
     ghost keeps_reads = { λ gate. error_keeps_reads };
+
+    ghost honest = { λ gate. error_honest };
+
+    ghost stays = { error_stays };
 }
 
 /// A device of which every call answers Io (the target `error` of Linux's device mapper).

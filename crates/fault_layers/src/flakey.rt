@@ -57,12 +57,16 @@ impl FlakeyGate {
 }
 
 impl Gate for FlakeyGate {
+    ghost use Rattle.table_line.specs.Standing.{is_drop_writes};
+    ghost use Rattle.fault_layers.specs.DropLaws.{flakey_honest, flakey_stays};
     ghost use Rattle.fault_layers.specs.FlakeyRule.{flakey_verdict};
     ghost use Rattle.fault_layers.specs.ReadLaws.{flakey_keeps_reads};
 
     ghost verdict = { flakey_verdict };
 
     ghost after = { λ gate kind now. gate };
+
+    ghost may_drop = { λ cycle. is_drop_writes cycle.feature };
 
     fn decide(&mut self, kind: Kind, now: Ms) -> Verdict {
         if self.is_up(now) {
@@ -79,6 +83,10 @@ impl Gate for FlakeyGate {
     }
 
     ghost keeps_reads = { flakey_keeps_reads };
+
+    ghost honest = { flakey_honest };
+
+    ghost stays = { flakey_stays };
 }
 
 /// A device that works for some seconds and is unreliable for some, in turn (Linux's

@@ -34,11 +34,15 @@ impl FuseGate {
 
 impl Gate for FuseGate {
     ghost use Rattle.fault_layers.specs.FuseRule.{fuse_after, fuse_verdict};
+    ghost use Rattle.std.specs.Prelude.{false};
+    ghost use Rattle.fault_layers.specs.DropLaws.{fuse_honest, fuse_stays};
     ghost use Rattle.fault_layers.specs.ReadLaws.{fuse_keeps_reads};
 
     ghost verdict = { fuse_verdict };
 
     ghost after = { fuse_after };
+
+    ghost may_drop = { λ calls. false };
 
     fn decide(&mut self, kind: Kind, _now: Ms) -> Verdict {
         if kind == Kind::Read {
@@ -52,6 +56,10 @@ impl Gate for FuseGate {
     }
 
     ghost keeps_reads = { fuse_keeps_reads };
+
+    ghost honest = { fuse_honest };
+
+    ghost stays = { fuse_stays };
 }
 
 /// A device that fails after so many calls: a target of this project's own, which the kernel doesn't have.

@@ -1,4 +1,4 @@
-ghost use Rattle.std.specs.Prelude.{◌≡◌, ℕ};
+ghost use Rattle.std.specs.Prelude.{◌≡◌, ℕ, Bool, false};
 ghost use Rattle.fault_layers.specs.declared.gate.Kind.{Kind};
 ghost use Rattle.fault_layers.specs.declared.gate.Kind.TheVariants.{Read};
 ghost use Rattle.fault_layers.specs.declared.gate.Verdict.{Verdict};
@@ -34,6 +34,9 @@ pub trait Gate {
     /// The gate after it.
     ghost after: { Self → Kind → ℕ → Self };
 
+    /// Whether it may ever drop a call.
+    ghost may_drop: { Self → Bool };
+
     /// Decides about one call, which begins at the moment `now`, in milliseconds.
     fn decide(&mut self, kind: Kind, now: Ms) -> Verdict
         ensures verdict { result ≡ verdict self.old kind now }
@@ -41,4 +44,10 @@ pub trait Gate {
 
     /// A read can't be dropped: there would be no bytes to answer.
     ghost keeps_reads: { (gate : Self) (now : ℕ) → verdict gate Read now ≡ verdicts.Drop → ⊥ };
+
+    /// A gate that may not drop calls drops none.
+    ghost honest: { (gate : Self) (kind : Kind) (now : ℕ) → may_drop gate ≡ false → verdict gate kind now ≡ verdicts.Drop → ⊥ };
+
+    /// Whether it may stays as it is.
+    ghost stays: { (gate : Self) (kind : Kind) (now : ℕ) → may_drop (after gate kind now) ≡ may_drop gate };
 }

@@ -69,7 +69,7 @@ impl<D: BlockDev + Drop, G: Gate + Drop> BlockDev for Gated<D, G> {
     ghost use Rattle.std.specs.Prelude.{◌≡◌};
     ghost use Rattle.fault_layers.specs.Decided.{IsDecided, kind_of};
 
-    ghost shown = { λ device. counted (D.shown device.lower) device.faults device.lies };
+    ghost shown = { λ device. counted (D.shown device.lower) device.faults device.lies (G.may_drop device.gate) };
 
     // What the gate decides about the call, and the gate after it.
     ghost does = { λ old call now result new.
@@ -120,5 +120,5 @@ impl<D: BlockDev + Drop, G: Gate + Drop> BlockDev for Gated<D, G> {
     }
 
     ghost lawful = { λ device.
-        lawful_counted (D.shown device.lower) device.faults device.lies (D.lawful device.lower) };
+        lawful_counted (D.shown device.lower) device.faults device.lies (G.may_drop device.gate) (D.lawful device.lower) };
 }

@@ -1,6 +1,11 @@
-use bio::Id;
+ghost use Rattle.std.specs.Prelude.{Some};
+ghost use Rattle.judge.specs.Texts.{reason_text, verdict_text};
 
-/// Whether an image could have been on a device, had power failed at some moment.
+use bio::Id;
+use std::fmt;
+
+/// Whether an image could have been on a device, had power failed at some moment. It is shown as `yes`, as
+/// `no sector <sector> ruled out by event <place>`, or as `no sector <sector> holds no submitted value`.
 #[derive(Clone, Copy, Debug, PartialEq, Eq)]
 pub enum Verdict {
     /// Each of its sectors holds a value that the device could hold then.
@@ -8,4 +13,36 @@ pub enum Verdict {
     /// The lowest sector that holds another value; and, of the durable requests that cover the sector,
     /// the one that was submitted last, none where no durable request covers it.
     No { sector: u64, by: Option<Id> },
+}
+
+impl fmt::Display for Verdict {
+    ghost output = { λ verdict. Some (verdict_text verdict) };
+
+    fn fmt<W: fmt::Write>(&self, f: &mut fmt::Formatter<W>) -> fmt::Result {
+        match *self {
+            Verdict::Yes => f.write_str("yes"),
+            Verdict::No { sector, by } => {
+                let reason = Reason(by);
+                write!(f, "no sector {sector} {reason}")
+            }
+        }
+    }
+}
+
+// What rules a sector's value out.
+#[derive(Clone, Copy)]
+struct Reason(Option<Id>);
+
+impl fmt::Display for Reason {
+    ghost output = { λ reason. Some (reason_text reason.0) };
+
+    fn fmt<W: fmt::Write>(&self, f: &mut fmt::Formatter<W>) -> fmt::Result {
+        match self.0 {
+            Some(id) => {
+                let place = id.place();
+                write!(f, "ruled out by event {place}")
+            }
+            None => f.write_str("holds no submitted value"),
+        }
+    }
 }

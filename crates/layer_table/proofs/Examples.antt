@@ -5,9 +5,12 @@ use Rattle.fault_layers.specs.declared.gate.Kind.TheVariants as kinds
 use Rattle.fault_layers.specs.declared.gate.Verdict.TheVariants.{Drop, Fail, Pass}
 use Rattle.table_line.specs.declared.feature.Feature.TheVariants as features
 use Rattle.table_line.specs.declared.layer_spec.Target.TheVariants as targets
+use Rattle.table_line.specs.declared.layer_spec.LayerSpec.{LayerSpec}
+use Rattle.table_line.specs.declared.layer_spec.Target.{Target}
+use Rattle.table_line.specs.Standing.{some_drops}
 use Rattle.layer_table.specs.declared.any_gate.AnyGate.{AnyGate}
 use Rattle.layer_table.specs.declared.any_gate.AnyGate.TheVariants.{Error, Flakey, Fuse}
-use Rattle.layer_table.specs.AnyRule.{any_after, any_verdict}
+use Rattle.layer_table.specs.AnyRule.{any_after, any_may_drop, any_verdict}
 use Rattle.layer_table.specs.Layers.{gate_asked, layer_asked, layers_over, Layer}
 use Rattle.layer_table.specs.Slots.{has_no_gap}
 
@@ -49,6 +52,23 @@ asked = refl
 
 no-gate : gate_asked targets.Linear 7 ≡ None
 no-gate = refl
+
+-- ---- which layers may drop writes
+
+dropping-may : any_may_drop dropping ≡ true
+dropping-may = refl
+
+fuse-may-not : any_may_drop (Fuse 2) ≡ false
+fuse-may-not = refl
+
+abbrev over_eight : Target → LayerSpec
+over_eight target = record { length = 8; offset = 0; target = target }
+
+one-drops : some_drops (over_eight targets.Linear ∷ over_eight (targets.Flakey 0 5 features.DropWrites) ∷ []) ≡ true
+one-drops = refl
+
+none-drops : some_drops (over_eight targets.Error ∷ over_eight (targets.Flakey 0 5 features.ErrorWrites) ∷ over_eight (targets.Fuse 0) ∷ []) ≡ false
+none-drops = refl
 
 -- ---- which slots have a layer
 

@@ -1,11 +1,13 @@
 -- Layers put over a stack, one after another.
-use Rattle.std.proofs.Common.{◌≡◌, ℕ, ◌+◌, ◌<◌, ◌≤◌, List, [], ◌∷◌, length, refl, ap, subst, sym, ◌∙◌, inl, inr, arith}
-use Rattle.std.specs.Prelude.{◌⊎◌}
+use Rattle.std.proofs.Common.{◌≡◌, ℕ, Bool, false, ◌+◌, ◌<◌, ◌≤◌, List, [], ◌∷◌, length, refl, ap, subst, sym, ◌∙◌, inl, inr, arith}
+use Rattle.std.proofs.Math.Bool.{or-false}
+use Rattle.std.proofs.lemmas.Bool.{or_parts}
+use Rattle.std.specs.Prelude.{◌⊎◌, ◌||◌}
 use Rattle.std.specs.List.{AllByRecursion}
 use Rattle.blockdev.specs.View.{Place}
 use Rattle.table_line.specs.declared.layer_spec.LayerSpec.{LayerSpec}
 use Rattle.table_line.specs.Ranges.{IsLayerSpec}
-use Rattle.table_line.specs.Standing.{top_origin, top_sectors, CanStand}
+use Rattle.table_line.specs.Standing.{drops_writes, some_drops, top_origin, top_sectors, CanStand}
 use Rattle.layer_table.specs.declared.stack.Stack.{Stack}
 use Rattle.layer_table.specs.Layers.{disk_of, layer_asked, layers_of, layers_under, stack_shown, AreOver, IsPut, Layer}
 
@@ -20,6 +22,7 @@ pub record AreUnder (specs rest : List LayerSpec) (load : ℕ) (old stack : Stac
   moment : (stack_shown stack).moment ≡ (stack_shown old).moment
   faults : (stack_shown stack).faults ≡ (stack_shown old).faults
   lies : (stack_shown stack).lies ≡ (stack_shown old).lies
+  drops : some_drops specs ≡ false → (some_drops rest ≡ false) × ((stack_shown stack).can_lie ≡ (stack_shown old).can_lie)
   stand : CanStand (stack_shown old).size specs → CanStand (stack_shown stack).size rest
   count : length (layers_of stack) + length rest ≡ length (layers_of old) + length specs
 
@@ -35,6 +38,7 @@ none_under specs load old asked = record {
   moment = refl;
   faults = refl;
   lies = refl;
+  drops = λ none. (none, refl);
   stand = λ stand. stand;
   count = refl;
 }
@@ -60,6 +64,10 @@ one_under specs rest spec above load old stack next is before layers disk put =
       moment = put.moment ∙ are.moment;
       faults = put.faults ∙ are.faults;
       lies = put.lies ∙ are.lies;
+      drops = λ none.
+          let before = are.drops none in
+          let parts = or_parts (drops_writes spec.target) (some_drops above) before.0 in
+          (parts.1, put.can_lie ∙ ap (λ (own : Bool). (stack_shown stack).can_lie || own) parts.0 ∙ or-false (stack_shown stack).can_lie ∙ before.1);
       stand = λ stand. subst (λ (n : ℕ). CanStand n above) (sym put.size) (are.stand stand).2;
       count = let counted = are.count in let grown = ap (λ (ls : List Layer). length ls) layers in omega arith;
     }
@@ -74,7 +82,7 @@ pub all_under : (specs rest : List LayerSpec) (load : ℕ) (old stack : Stack) �
 all_under specs [] load old stack none are = (
   are.layers,
   are.disk,
-  record { size = are.size; place = same_place _ _ are.origin are.disk_sectors; moment = are.moment; faults = are.faults; lies = are.lies },
+  record { size = are.size; place = same_place _ _ are.origin are.disk_sectors; moment = are.moment; faults = are.faults; lies = are.lies; can_lie = λ none. (are.drops none).1 },
 )
 all_under specs (spec ∷ rest) load old stack none are = absurd (omega arith)
 

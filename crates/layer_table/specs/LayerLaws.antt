@@ -11,7 +11,7 @@ use Rattle.fault_layers.specs.Decided.{kind_of}
 use Rattle.sector_disk.specs.declared.disk.SectorDisk.{SectorDisk}
 use Rattle.layer_table.specs.declared.slot.Slot.{Slot}
 use Rattle.layer_table.specs.declared.slot.Slot.TheVariants as slots
-use Rattle.layer_table.specs.AnyRule.{any_verdict}
+use Rattle.layer_table.specs.AnyRule.{any_may_drop, any_verdict}
 use Rattle.layer_table.specs.Layers.{layers_over, layers_with, Layer, LayersDo}
 use Rattle.layer_table.specs.Slots.{device_of, slot_does, slot_shown}
 use Rattle.layer_table.specs.SlotLaws.{decided_keeps}
@@ -25,7 +25,7 @@ pub shown_with : {D : Type 0} {g : Ghosts D} (layers : D → List Layer) (base :
 shown_with {D} {g} layers base same (slots.Bare device) = same device
 shown_with {D} {g} layers base same (slots.Linear range) = ap (λ (v : View). cut v range.offset range.length) (same range.lower)
 shown_with {D} {g} layers base same (slots.Decided layer) =
-    ap (λ (v : View). counted (cut v layer.lower.offset layer.lower.length) layer.faults layer.lies) (same layer.lower.lower)
+    ap (λ (v : View). counted (cut v layer.lower.offset layer.lower.length) layer.faults layer.lies (any_may_drop layer.gate)) (same layer.lower.lower)
 
 -- ---- what calls do
 

@@ -1,5 +1,5 @@
 -- The layers of a stack, and the disk beneath them.
-use Rattle.std.specs.Prelude.{◌≡◌, ◌↔◌, ℕ, ◌+◌, ◌≤◌, List, [], ◌∷◌, Option, Some, None, Result, Err, Ok}
+use Rattle.std.specs.Prelude.{◌≡◌, ◌↔◌, ℕ, ◌+◌, ◌≤◌, ◌||◌, false, List, [], ◌∷◌, Option, Some, None, Result, Err, Ok}
 use Rattle.bio.specs.declared.outcome.DevError.{DevError}
 use Rattle.bio.specs.declared.outcome.DevError.TheVariants.{Io}
 use Rattle.blockdev.specs.declared.device.BlockDev.{Ghosts}
@@ -14,7 +14,7 @@ use Rattle.fault_layers.specs.Decided.{kind_of, KeepsBuffer}
 use Rattle.sector_disk.specs.declared.disk.SectorDisk.{SectorDisk}
 use Rattle.sector_disk.specs.Shown.{Does}
 use Rattle.table_line.specs.declared.layer_spec.LayerSpec.{LayerSpec}
-use Rattle.table_line.specs.Standing.{top_origin, top_sectors}
+use Rattle.table_line.specs.Standing.{drops_writes, some_drops, top_origin, top_sectors}
 use Rattle.table_line.specs.declared.layer_spec.Target.{Target}
 use Rattle.table_line.specs.declared.layer_spec.Target.TheVariants as targets
 use Rattle.layer_table.specs.declared.any_gate.AnyGate.{AnyGate}
@@ -22,7 +22,7 @@ use Rattle.layer_table.specs.declared.any_gate.AnyGate.TheVariants as gates
 use Rattle.layer_table.specs.declared.slot.Slot.{Slot}
 use Rattle.layer_table.specs.declared.slot.Slot.TheVariants as slots
 use Rattle.layer_table.specs.declared.stack.Stack.{Stack}
-use Rattle.layer_table.specs.AnyRule.{any_after, any_verdict}
+use Rattle.layer_table.specs.AnyRule.{any_after, any_may_drop, any_verdict}
 use Rattle.layer_table.specs.Slots.{device_of, slot_does, slot_shown}
 
 -- A layer: the range that it is of what stands beneath, the gate that decides about its calls, where it has one, and how often
@@ -85,7 +85,7 @@ stack_shown stack = slot_shown stack.top
 -- a layer over what shows this: the range, and with a gate its own faults and lies
 abbrev pub layer_over : Option AnyGate → Layer → View → View
 layer_over None layer v = cut v layer.offset layer.length
-layer_over (Some gate) layer v = counted (cut v layer.offset layer.length) layer.faults layer.lies
+layer_over (Some gate) layer v = counted (cut v layer.offset layer.length) layer.faults layer.lies (any_may_drop gate)
 
 -- layers over what shows this
 abbrev pub layers_over : List Layer → View → View
@@ -102,6 +102,7 @@ pub record IsSeenAs (v w : View) : Type 0 where
   pub since : (moment : ℕ) (left : Content) → w.since moment left ↔ v.since moment left
   pub faults : w.faults ≡ v.faults
   pub lies : w.lies ≡ v.lies
+  pub can_lie : w.can_lie ≡ v.can_lie
 
 -- a layer that was just put over what shows v shows w
 pub record IsPut (spec : LayerSpec) (v w : View) : Type 0 where
@@ -113,6 +114,8 @@ pub record IsPut (spec : LayerSpec) (v w : View) : Type 0 where
   pub since : (moment : ℕ) (left : Content) → w.since moment left ↔ SeenFrom spec.offset (v.since moment) left
   pub faults : w.faults ≡ v.faults
   pub lies : w.lies ≡ v.lies
+  -- it can lie where what is beneath can, or where it may drop writes itself
+  pub can_lie : w.can_lie ≡ v.can_lie || drops_writes spec.target
 
 -- what layers that were just put over what shows v show: none of them has failed or dropped a call yet
 pub record AreOver (specs : List LayerSpec) (v w : View) : Type 0 where
@@ -121,6 +124,8 @@ pub record AreOver (specs : List LayerSpec) (v w : View) : Type 0 where
   pub moment : w.moment ≡ v.moment
   pub faults : w.faults ≡ v.faults
   pub lies : w.lies ≡ v.lies
+  -- where none of them may drop writes, they lie no more than what is beneath
+  pub can_lie : some_drops specs ≡ false → w.can_lie ≡ v.can_lie
 
 -- What shows w is a part of the disk that shows v: the sectors at its place. Whatever a crash leaves of the disk, is left of it too, as seen from there.
 pub record IsPartOf (v w : View) : Type 0 where

@@ -15,14 +15,14 @@ use Rattle.fault_layers.specs.Decided.{kind_of, IsDecided}
 use Rattle.layer_table.specs.declared.any_gate.AnyGate.{AnyGate}
 use Rattle.layer_table.specs.declared.slot.Slot.{Slot}
 use Rattle.layer_table.specs.declared.slot.Slot.TheVariants as slots
-use Rattle.layer_table.specs.AnyRule.{any_verdict}
+use Rattle.layer_table.specs.AnyRule.{any_may_drop, any_verdict}
 use Rattle.layer_table.specs.Slots.{shape_with, slot_does, slot_shown}
 
 pub slot_lawful : {D : Type 0} {g : Ghosts D} → ((device : D) → IsLawful (g.shown device)) → (slot : Slot D g) → IsLawful (slot_shown slot)
 slot_lawful {D} {g} lawful (slots.Bare device) = lawful device
 slot_lawful {D} {g} lawful (slots.Linear range) = lawful_cut (g.shown range.lower) range.offset range.length range.fits (lawful range.lower)
 slot_lawful {D} {g} lawful (slots.Decided layer) =
-    lawful_counted (cut (g.shown layer.lower.lower) layer.lower.offset layer.lower.length) layer.faults layer.lies
+    lawful_counted (cut (g.shown layer.lower.lower) layer.lower.offset layer.lower.length) layer.faults layer.lies (any_may_drop layer.gate)
     (lawful_cut (g.shown layer.lower.lower) layer.lower.offset layer.lower.length layer.lower.fits (lawful layer.lower.lower))
 
 -- each call of a device keeps what f says of it

@@ -11,13 +11,13 @@ use Rattle.fault_layers.specs.Cut.{call_from, cut}
 use Rattle.fault_layers.specs.Decided.{IsDecided, kind_of}
 use Rattle.layer_table.specs.declared.slot.Slot.{Slot}
 use Rattle.layer_table.specs.declared.slot.Slot.TheVariants as slots
-use Rattle.layer_table.specs.AnyRule.{any_after, any_verdict}
+use Rattle.layer_table.specs.AnyRule.{any_after, any_may_drop, any_verdict}
 
 -- a range is seen as the device beneath from its offset on, and a layer with a gate as that with faults and lies of its own
 abbrev pub slot_shown : {D : Type 0} {g : Ghosts D} → Slot D g → View
 slot_shown {D} {g} (slots.Bare device) = g.shown device
 slot_shown {D} {g} (slots.Linear range) = cut (g.shown range.lower) range.offset range.length
-slot_shown {D} {g} (slots.Decided layer) = counted (cut (g.shown layer.lower.lower) layer.lower.offset layer.lower.length) layer.faults layer.lies
+slot_shown {D} {g} (slots.Decided layer) = counted (cut (g.shown layer.lower.lower) layer.lower.offset layer.lower.length) layer.faults layer.lies (any_may_drop layer.gate)
 
 -- a range does what the device beneath does at the shifted call, and stays
 abbrev pub IsShifted : {D : Type 0} {g : Ghosts D} → Linear D g → Call → ℕ → Result ℕ DevError → Linear D g → Type 0

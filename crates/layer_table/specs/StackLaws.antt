@@ -58,6 +58,7 @@ seen_as v w same = subst (λ (x : View). IsSeenAs x w) same (record {
   since = λ moment left. (λ may. may, λ may. may);
   faults = refl;
   lies = refl;
+  can_lie = refl;
 })
 
 pub seen_by_layers : (stack : Stack) → IsSeenAs (layers_over (layers_of stack) (shown_of (disk_of stack))) (stack_shown stack)

@@ -35,12 +35,14 @@ impl AnyGate {
 }
 
 impl Gate for AnyGate {
-    ghost use Rattle.layer_table.specs.AnyRule.{any_after, any_verdict};
-    ghost use Rattle.layer_table.specs.AnyLaws.{any_keeps_reads};
+    ghost use Rattle.layer_table.specs.AnyRule.{any_after, any_may_drop, any_verdict};
+    ghost use Rattle.layer_table.specs.AnyLaws.{any_honest, any_keeps_reads, any_stays};
 
     ghost verdict = { any_verdict };
 
     ghost after = { any_after };
+
+    ghost may_drop = { any_may_drop };
 
     fn decide(&mut self, kind: Kind, now: Ms) -> Verdict {
         match self {
@@ -51,4 +53,8 @@ impl Gate for AnyGate {
     }
 
     ghost keeps_reads = { any_keeps_reads };
+
+    ghost honest = { any_honest };
+
+    ghost stays = { any_stays };
 }

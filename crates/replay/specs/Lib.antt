@@ -3,3 +3,4 @@ pub use Rattle.log_reader.specs.Reads
 pub use Rattle.sectors.specs.Content
 pub mod Refusals
 pub mod Replays
+pub mod AlikeLaws

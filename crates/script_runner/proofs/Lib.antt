@@ -7,3 +7,5 @@ mod Writing
 mod Logs
 mod OnDisks
 mod Following
+mod Bare
+mod LawfulRuns

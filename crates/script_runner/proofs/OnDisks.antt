@@ -2,11 +2,9 @@
 use Rattle.std.proofs.Common.{◌≡◌, ◌∙◌, ◌⊎◌, ◌*◌, ◌+◌, ℕ, Option, None, Some, List, [], ◌∷◌, false, length, refl, sym, ap, subst, inl, inr, arith}
 use Rattle.std.proofs.Math.Nat.{mul-div_cancel}
 use Rattle.script_runner.specs.CallLaws.{keeps_same}
-use Rattle.bio.specs.declared.outcome.End.{End}
-use Rattle.bio.specs.declared.outcome.End.TheVariants as ends
 use Rattle.bio.specs.declared.outcome.Status.{Status}
 use Rattle.bio.specs.Lawful.{has_no_close}
-use Rattle.sectors.specs.Content.{AgreeBelow, Content, moved, sector_of, writes}
+use Rattle.sectors.specs.Content.{AgreeBelow, Content, sector_of, writes}
 use Rattle.blockdev.specs.Law.{Goes}
 use Rattle.blockdev.specs.View.{Place}
 use Rattle.layer_table.specs.declared.stack.Stack.{Stack}
@@ -26,7 +24,6 @@ use Rattle.log_format.specs.LogLaws.{log_within}
 use Rattle.log_format.specs.LogOf.{IsLogOf, log_sectors, status_of}
 use Rattle.log_format.specs.Placing.{first_sector}
 use Rattle.log_store.specs.declared.store.LogStore.{LogStore}
-use Rattle.log_store.specs.Calls.{HasFaulted, TellsNoMemory}
 use Rattle.log_store.specs.Shown.{store_of}
 use Rattle.log_store.specs.Store.{entries_of}
 use Rattle.pending.specs.CoreState.{CoreState, new_state}
@@ -38,7 +35,6 @@ use Rattle.recorder.specs.Recording.{log_of}
 use Rattle.recorder.specs.Replayed.{ReplaysToWhatCouldBe}
 use Rattle.recorder.specs.Shown.{recording_of}
 use Rattle.script_runner.specs.declared.error.RunError.{RunError}
-use Rattle.script_runner.specs.declared.error.RunError.TheVariants.{LoggingEnded}
 use Rattle.script_runner.specs.Errors.{memory_error}
 use Rattle.script_runner.specs.OnDisks.{DiskRecorder, DiskRun, FailsOnDisks, IsCounted, IsNew, IsRecorded, IsStackOf, IsUnmade, Starts, file, left_on, on_stack, seen_on, unmade, zeroes}
 use Rattle.dmlw_script.specs.Plans.{top_of, Disk, IsDisk, Plan}
@@ -79,6 +75,7 @@ stacked spec disk bare stack {sectors} {layers} here above blank none beneath se
         moment = over.moment ∙ seen.moment;
         faults = over.faults ∙ seen.faults;
         lies = over.lies ∙ seen.lies;
+        can_lie = λ none. over.can_lie none ∙ seen.can_lie;
       });
     })
 
@@ -187,6 +184,9 @@ is_recorded plan text start last log hazard status lies image picks starts ran g
       counted = counted;
       tells = λ none. tells (honest none);
       lied = told;
+      honest = λ none.
+          let below = new.blank.over.can_lie none in
+          ap (λ (l : Lies). l.log_disk) told ∙ goes.honest (new.made.can_lie ∙ below) ∙ new.made.honest below ∙ new.blank.over.lies;
       size = subst (λ (s : Stack). length image ≡ 512 * (shown_of (disk_of s)).size) same count ∙ ap (λ (n : ℕ). 512 * n) sectors;
       bytes = agree;
       beginning = λ none.

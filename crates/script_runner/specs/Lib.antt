@@ -1,4 +1,5 @@
 pub use Rattle.bio.specs.Check
+pub use Rattle.bio.specs.Lawful
 pub use Rattle.blockdev.specs.Calls
 pub use Rattle.dmlw_script.specs.Plans
 pub use Rattle.recorder.specs.Calls as RecorderCalls
@@ -24,4 +25,5 @@ pub mod Runs
 pub mod Written
 pub mod Followed
 pub mod OnDisks
+pub mod Rehearsals
 pub mod inside

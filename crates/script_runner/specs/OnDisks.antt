@@ -1,12 +1,14 @@
 -- What recording a script on two disks in memory, each under its layers, comes to.
-use Rattle.std.specs.Prelude.{◌≡◌, ℕ, ◌*◌, ◌+◌, ◌<◌, false, List, [], length, replicate, Option, None, Some}
+use Rattle.std.specs.Prelude.{◌≡◌, ℕ, ◌*◌, ◌+◌, ◌<◌, true, false, Err, List, [], length, replicate, Option, None, Some}
 use Rattle.std.specs.Io.KnownBytes.{Keeps}
-use Rattle.bio.specs.declared.outcome.End.{End}
-use Rattle.bio.specs.declared.outcome.End.TheVariants as ends
+use Rattle.bio.specs.Causes.{end_cause}
+use Rattle.bio.specs.declared.outcome.DevError.{DevError}
+use Rattle.bio.specs.declared.outcome.DevError.TheVariants.{Io}
 use Rattle.bio.specs.declared.outcome.Status.{Status}
 use Rattle.bio.specs.Lawful.{has_no_close}
 use Rattle.sectors.specs.Content.{AgreeBelow, Content, moved, sector_of, writes}
 use Rattle.blockdev.specs.declared.device.BlockDev.{Ghosts}
+use Rattle.blockdev.specs.Calls.{Writes}
 use Rattle.blockdev.specs.Law.{Goes}
 use Rattle.sector_disk.specs.declared.disk.SectorDisk.{SectorDisk}
 use Rattle.sector_disk.specs.Candidates.{left_by}
@@ -16,8 +18,8 @@ use Rattle.log_format.specs.LogOf.{IsLogOf, status_of}
 use Rattle.log_format.specs.Placing.{first_sector}
 use Rattle.layer_table.specs.declared.stack.Stack.{Stack}
 use Rattle.layer_table.specs.Layers.{disk_of, layers_of, layers_under, stack_does, stack_shown, AreOver}
-use Rattle.table_line.specs.Standing.{top_origin}
-use Rattle.log_store.specs.Calls.{HasFaulted, TellsNoMemory}
+use Rattle.table_line.specs.Standing.{some_drops, top_origin}
+use Rattle.log_store.specs.Calls.{HasFaulted}
 use Rattle.log_store.specs.Shown.{store_of}
 use Rattle.log_store.specs.Store.{entries_of}
 use Rattle.pending.specs.CoreState.{new_state}
@@ -71,16 +73,15 @@ pub record IsNew (disk : Disk) (recorder : DiskRecorder) : Type 0 where
   pub empty : (stack_shown recorder.store.device).lies ≡ 0 → (left : Content) → (stack_shown recorder.store.device).crash left →
       IsLogOf (top_of disk) left 512 []
 
--- No log could be made on a disk of zeroes under its layers: a device failed, or told that it has no memory, and that is the cause.
+-- No log could be made on a disk of zeroes under its layers: the write of its super block was answered by this error, and that is the cause.
 pub record IsUnmade (disk : Disk) (fault : RunError) : Type 0 where
   pub stack : Stack
   pub blank : IsStackOf disk stack
   pub last : Stack
-  pub end : End
-  pub not_full : end ≡ ends.Full → ⊥
-  pub failed : end ≡ ends.Device → HasFaulted (stack_shown stack) (stack_shown last)
-  pub told : end ≡ ends.Memory → TellsNoMemory stack_does 0 stack last
-  pub ends_by : fault ≡ LoggingEnded end
+  pub error : DevError
+  pub answered : stack_does stack (Writes 0 (first_sector 512 0) true) 0 (Err error) last
+  pub failed : error ≡ Io → HasFaulted (stack_shown stack) (stack_shown last)
+  pub ends_by : fault ≡ LoggingEnded (end_cause error)
 
 -- A script's run before its first line, at moment 0: on a data disk of zeroes and a new log, both of the sizes and under the layers that the script names.
 pub record Starts (plan : Plan) (run : DiskRun) : Type 0 where
@@ -117,6 +118,8 @@ pub record IsRecorded (plan : Plan) (text : List ℕ) (hazard : Option Hazard) (
   pub lied : lies ≡ record { data_disk = (stack_shown last.disk).lies; log_disk = (stack_shown last.recorder.store.device).lies }
   pub size : length image ≡ 512 * plan.log_disk.sectors
   pub bytes : AgreeBelow plan.log_disk.sectors (left_on plan.ending (disk_of last.recorder.store.device)) (sector_of image)
+  -- where none of the log's layers may drop writes, none of them lied
+  pub honest : some_drops plan.log_disk.layers ≡ false → lies.log_disk ≡ 0
   -- unless the log's device lied, the status is that of what is placed
   pub tells : lies.log_disk ≡ 0 → status ≡ status_of 512 (entries_of (store_of last.recorder.store)) last.recorder.end
   -- unless it lied, the bytes have a log, as seen through its layers, which is a beginning of the completion list of the recorder's

@@ -1,4 +1,4 @@
-ghost use Rattle.std.specs.Prelude.{◌++◌, ◌≡◌, ◌≤◌, List, None, Some, false, length, slice_get, take, ℕ};
+ghost use Rattle.std.specs.Prelude.{◌++◌, ◌≡◌, ◌≤◌, [], List, None, Some, false, length, slice_get, take, ℕ};
 ghost use Rattle.bio.specs.declared.event.CoreEvent.TheVariants.{Mark};
 ghost use Rattle.recorder.specs.declared.reply.Reply.TheVariants.{Queued};
 ghost use Rattle.dmlw_script.specs.declared.command.Command.{Command};
@@ -10,7 +10,11 @@ ghost use Rattle.recorder.specs.Growth.{HasWholeLog, RecorderGoes};
 ghost use Rattle.recorder.specs.Recording.{log_of};
 ghost use Rattle.recorder.specs.Replayed.{ReplaysToWhatCouldBe};
 ghost use Rattle.layer_table.specs.Layers.{stack_shown};
-ghost use Rattle.script_runner.specs.OnDisks.{DiskRecorder};
+ghost use Rattle.script_runner.specs.OnDisks.{DiskRecorder, IsUnmade};
+ghost use Rattle.script_runner.specs.declared.error.RunError.{RunError};
+ghost use Rattle.script_runner.specs.declared.error.RunError.TheVariants.{LoggingEnded};
+ghost use Rattle.dmlw_script.specs.Plans.{Disk};
+ghost use Rattle.bio.specs.declared.outcome.End.TheVariants as ends;
 ghost use Rattle.recorder.specs.Shown.{recording_of};
 ghost use Rattle.sectors.specs.Content.{Content};
 ghost use Rattle.std.specs.List.{AllZip};
@@ -39,6 +43,13 @@ pub fn headline()
         ReplaysToWhatCouldBe (recording_of old) (recording_of new) left }
 {
     recorder::laws::crashed_logs_replay_to_what_could_be::<Stack>();
+}
+
+/// A log on a disk under no layers can always be made, unless there is no memory for it.
+pub fn bare_logs_fail_by_memory_alone()
+    ensures { (disk : Disk) (fault : RunError) → disk.layers ≡ [] → IsUnmade disk fault → fault ≡ LoggingEnded ends.Memory }
+{
+    layer_table::laws::stacks_do_what_their_layers_do();
 }
 
 /// To the recorder the lines of a script are as one call: its events only grow, and what is placed and settled stays so.

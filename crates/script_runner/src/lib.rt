@@ -7,6 +7,7 @@
 
 pub use error::RunError;
 pub use recording::{Lies, Recorded, record};
+pub use rehearsing::{Rehearsed, rehearse};
 pub use request::Request;
 pub use run_script::run;
 pub use running::Running;
@@ -18,6 +19,7 @@ mod handing;
 pub mod laws;
 mod print;
 mod recording;
+mod rehearsing;
 mod request;
 mod run_script;
 mod running;

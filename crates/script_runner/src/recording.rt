@@ -87,7 +87,7 @@ pub fn record<O: Write>(
 }
 
 // A script's run before its first line.
-fn start(alloc: Global, script: &Script) -> Result<Running<Stack, Stack>, RunError>
+pub(crate) fn start(alloc: Global, script: &Script) -> Result<Running<Stack, Stack>, RunError>
     ensures starts { IfOk result (Starts script.now) }
     ensures faults { IfErr result (λ fault. (fault ≡ memory_error) ⊎ IsUnmade script.now.log_disk fault) }
 {

@@ -68,6 +68,51 @@ fn scripts_are_run(rt: HostRuntime) -> Result<(), Fail> {
     Ok(())
 }
 
+// Scripts of the same form, with how many events they leave, or the fault: a Close ends recording and a Stop logging, and what a line asks then
+// is no event.
+const REHEARSALS: &str = "log 32,r 5 1,turn,at 7=0
+log 32,w a 5 1 41,c a,f b,c b,close=5
+log 32,w a 5 1 41,c a,d b 4 1,mark here,c b=5
+log 5,w a 5 1 41,c a,f b,c b,close=5
+log 1,mark a,turn,mark b=2
+log 32,close,close,mark late=1
+log 32,w a 5 1 41,c a,w b 6 1 42,close=line 6: 24 Busy
+log 32,log-layer 0 32 error,w a 5 1 41=19 Device";
+
+// How many events a rehearsal of the script leaves, or how it fails.
+fn rehearsed(alloc: Global, text: &str) -> Result<String, Fail> {
+    let script = read_script(alloc, text.as_bytes(), Kind::Record)?;
+    match rehearse(alloc, text.as_bytes(), &script) {
+        Ok(rehearsed) => Ok(rehearsed.events().len().to_string(alloc)?),
+        Err(error) => Ok(error.to_string(alloc)?),
+    }
+}
+
+#[test]
+fn scripts_are_rehearsed(rt: HostRuntime) -> Result<(), Fail> {
+    let alloc = rt.alloc();
+    for row in REHEARSALS.lines() {
+        let mut parts = row.split("=");
+        let text = text_of(alloc, parts.next().unwrap_or_default())?;
+        let shown = rehearsed(alloc, text.as_str())?;
+        assert_eq!(rt; Some(shown.as_str()), parts.next(), "{row}");
+    }
+    Ok(())
+}
+
+// A long script is rehearsed too.
+#[test]
+fn long_scripts_are_rehearsed(rt: HostRuntime) -> Result<(), Fail> {
+    let alloc = rt.alloc();
+    let mut lines = String::from_str(alloc, "log 20000")?;
+    for number in 0..3000 {
+        lines.push_str(format!(in alloc; ",w a{number} 7 2 41,c a{number}")?.as_str())?;
+    }
+    let text = text_of(alloc, lines.as_str())?;
+    assert_eq!(rt; rehearsed(alloc, text.as_str())?.as_str(), "6000");
+    Ok(())
+}
+
 // A long script finds memory for all that it asks.
 #[test]
 fn long_scripts_are_run(rt: HostRuntime) -> Result<(), Fail> {

@@ -168,6 +168,8 @@ goes_puts size start past patch fua = record {
   keeps = λ moment left h may. since-kept start (Puts patch fua) past moment left h may;
   faults = omega arith;
   lies = omega arith;
+  can_lie = refl;
+  honest = λ none. refl;
 }
 
 -- and lands
@@ -194,6 +196,8 @@ goes_flush size start past = record {
   keeps = λ moment left h may. since-kept start Flushes past moment left h may;
   faults = omega arith;
   lies = omega arith;
+  can_lie = refl;
+  honest = λ none. refl;
 }
 
 -- and syncs

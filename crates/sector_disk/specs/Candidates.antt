@@ -63,6 +63,7 @@ view_of size start past = record {
   since = LeftSince start past;
   faults = 0;
   lies = 0;
+  can_lie = false;
 }
 
 -- 1 for a sector that has more candidates than its durable value, and else 0

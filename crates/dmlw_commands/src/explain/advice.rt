@@ -31,10 +31,18 @@ pub(crate) fn advice(refusal: Refusal) -> &'static str {
         Refusal::Device => "the log's device failed",
         Refusal::CutShort =>
             "the log is shorter than it says: it was cut, or wasn't written to its end; what stands before the fault is whole",
+        Refusal::NoSuchMark => "no mark of the log has this text: `dmlw list` tells its marks",
+        Refusal::NoFlush =>
+            "the log has no entry with FLUSH that is no mark: `dmlw list` tells its entries",
+        Refusal::PastTarget =>
+            "the next entry reaches past the end of the image: give it the sectors of the device that was recorded",
+        Refusal::PastEntries => "the log has fewer entries: `dmlw status` tells how many it counts",
         Refusal::Busy =>
             "a request is still open here: end each by a line `c <id>` before the `close`",
         Refusal::BadId =>
             "an id is submitted once in a script, and `c <id>` ends one that was submitted and hasn't ended",
+        Refusal::BadMoment =>
+            "a moment is a number of the run's events, and the image has the sectors of the data disk under its layers",
         _ => "",
     }
 }

@@ -1,3 +1,4 @@
+ghost use Rattle.std.specs.Prelude.{false};
 ghost use Rattle.blockdev.specs.Counted.{counted, lawful_counted};
 
 use bio::{DevError, Ms};
@@ -12,7 +13,7 @@ pub struct Failing<D: BlockDev + Drop> {
 }
 
 impl<D: BlockDev + Drop> BlockDev for Failing<D> {
-    ghost shown = { λ device. counted (D.shown device.lower) device.faults 0 };
+    ghost shown = { λ device. counted (D.shown device.lower) device.faults 0 false };
 
     ghost does = { λ _ _ _ _ _. Unit {0} };
 
@@ -59,5 +60,5 @@ impl<D: BlockDev + Drop> BlockDev for Failing<D> {
         self.lower.lies()
     }
 
-    ghost lawful = { λ device. lawful_counted (D.shown device.lower) device.faults 0 (D.lawful device.lower) };
+    ghost lawful = { λ device. lawful_counted (D.shown device.lower) device.faults 0 false (D.lawful device.lower) };
 }

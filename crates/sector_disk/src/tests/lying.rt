@@ -1,3 +1,4 @@
+ghost use Rattle.std.specs.Prelude.{true};
 ghost use Rattle.blockdev.specs.Counted.{counted, lawful_counted};
 
 use bio::{DevError, Ms};
@@ -11,7 +12,7 @@ pub struct Lying<D: BlockDev + Drop> {
 }
 
 impl<D: BlockDev + Drop> BlockDev for Lying<D> {
-    ghost shown = { λ device. counted (D.shown device.lower) 0 device.lies };
+    ghost shown = { λ device. counted (D.shown device.lower) 0 device.lies true };
 
     ghost does = { λ _ _ _ _ _. Unit {0} };
 
@@ -46,5 +47,5 @@ impl<D: BlockDev + Drop> BlockDev for Lying<D> {
         self.lower.lies().saturating_add(self.lies)
     }
 
-    ghost lawful = { λ device. lawful_counted (D.shown device.lower) 0 device.lies (D.lawful device.lower) };
+    ghost lawful = { λ device. lawful_counted (D.shown device.lower) 0 device.lies true (D.lawful device.lower) };
 }

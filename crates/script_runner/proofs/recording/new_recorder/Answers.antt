@@ -1,4 +1,5 @@
-use Rattle.std.proofs.Common.{ap, inr}
+use Rattle.std.proofs.Common.{◌∙◌, ap, inr}
+use Rattle.bio.specs.Causes.{end_cause}
 use Rattle.script_runner.specs.declared.error.RunError.TheVariants.{LoggingEnded}
 use Rattle.script_runner.proofs.OnDisks.{new_log}
 use Rattle.script_runner.proofs.recording.new_recorder.Goals as goal
@@ -16,9 +17,8 @@ returns-in-Err-clause-faults c =
       stack = c.in_ok-stack.stack;
       blank = c.in_ok-stack.ensures.stack;
       last = c.in-Err.refused.0;
-      end = c.in-Err.refused.1;
-      not_full = refused.fits;
-      failed = refused.failed;
-      told = refused.memory;
-      ends_by = ap LoggingEnded c.end_of.ensures;
+      error = refused.does.0;
+      answered = refused.does.2;
+      failed = λ is. refused.failed (refused.does.1 ∙ ap end_cause is);
+      ends_by = ap LoggingEnded (c.end_of.ensures ∙ refused.does.1);
     })

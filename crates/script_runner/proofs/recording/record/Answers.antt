@@ -1,4 +1,4 @@
-use Rattle.std.proofs.Common.{◌≡◌, ◌∙◌, ap, refl, subst, sym, inr}
+use Rattle.std.proofs.Common.{◌≡◌, ◌∙◌, ap, subst, sym, inr}
 use Rattle.script_runner.specs.CallLaws.{on_error}
 use Rattle.script_runner.specs.OnDisks.{DiskRecorder, FailsOnDisks, IsCounted, file, run}
 use Rattle.log_format.specs.LogOf.{status_of}

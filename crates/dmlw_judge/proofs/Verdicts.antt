@@ -1,0 +1,170 @@
+-- What a judging comes to.
+use Rattle.std.proofs.Common.{◌≡◌, ◌∙◌, ◌⊎◌, ◌*◌, ◌+◌, ◌<◌, ◌≤◌, ℕ, Bool, true, false, Option, Some, None, List, [], ◌++◌, Result, Ok, Err, IfErr, IfOk, ap, arith, inl, inr, length, refl, subst, sym}
+use Rattle.std.specs.Prelude.{replicate, take, ◌/◌, ◌%◌}
+use Rattle.std.specs.Io.KnownBytes.{Appends, Keeps}
+use Rattle.std.specs.Result.{IsErrAnd}
+use Rattle.bio.specs.declared.event.CoreEvent.{CoreEvent}
+use Rattle.sectors.specs.Content.{sector_of}
+use Rattle.refusals.specs.declared.fault.Fault.{Fault}
+use Rattle.refusals.specs.declared.refusal.Refusal.TheVariants as refusals
+use Rattle.pending.specs.Hazards.{last_moment}
+use Rattle.dmlw_script.specs.Grammar.{IsTextOf}
+use Rattle.dmlw_script.specs.Plans.{Plan, top_of}
+use Rattle.dmlw_script.specs.Reading.{IsFaultOf, is_memory}
+use Rattle.judge.specs.declared.verdict.Verdict.{Verdict}
+use Rattle.judge.specs.Verdicts.{IsVerdict}
+use Rattle.script_runner.specs.declared.error.RunError.{RunError}
+use Rattle.script_runner.specs.declared.error.RunError.TheVariants.{Refused}
+use Rattle.script_runner.specs.CallLaws.{keeps_same, keeps_twice, appends_kept}
+use Rattle.script_runner.specs.Errors.{IsFileError, memory_error, refused_by}
+use Rattle.script_runner.specs.Rehearsals.{FailsRehearsal, IsRehearsed}
+use Rattle.dmlw_commands.specs.declared.ending.Ended.{Ended}
+use Rattle.dmlw_commands.specs.declared.files.FileError.{FileError}
+use Rattle.dmlw_commands.specs.declared.files.FileError.TheVariants as errors
+use Rattle.dmlw_commands.specs.Endings.{Telling, TellsLine}
+use Rattle.dmlw_commands.specs.Exits.{told_line}
+use Rattle.dmlw_commands.specs.FileErrors.{file_refusal}
+use Rattle.dmlw_commands.specs.Files.{MatchesContents, Write}
+use Rattle.dmlw_commands.specs.Lists.{IsImage}
+use Rattle.dmlw_judge.specs.Judgements.{AreRead, CanJudge, CannotJudge, EndsJudging, HasNoVerdict, HasVerdict, IsJudged, Judges, Question, blank, exit_judged, file, moment as no_moment, question, run as no_run, text as unread, verdict_line}
+
+-- a verdict after these events is one of the script's run
+pub judged_by : (text image : List ℕ) (asked sectors : ℕ) (plan : Plan) (events : List CoreEvent) (r : Result Verdict RunError) → IsImage image → IsTextOf text plan
+    → IsRehearsed plan events → sectors ≡ top_of plan.data_disk
+    → IfOk r (λ verdict. CanJudge sectors events asked image × IsVerdict sectors (take asked events) (blank (length image)) (sector_of image) verdict)
+    → IfOk r (HasVerdict (question text image asked))
+judged_by text image asked sectors plan events (Err fault) whole spelled rehearsed same judged = tt
+judged_by text image asked sectors plan events (Ok verdict) whole spelled rehearsed same judged =
+    let here = subst (λ (n : ℕ). CanJudge n events asked image × IsVerdict n (take asked events) (blank (length image)) (sector_of image) verdict) same judged in
+    record {
+      text = text;
+      image = image;
+      read = record { script_holds = refl; image_holds = refl; whole = whole };
+      plan = plan;
+      spelled = spelled;
+      judged = record { events = events; rehearsed = rehearsed; can_judge = here.0; holds = here.1 };
+    }
+
+-- and so is a fault
+pub faulted_by : (text image : List ℕ) (asked sectors : ℕ) (plan : Plan) (events : List CoreEvent) (r : Result Verdict RunError) → IsImage image → IsTextOf text plan
+    → IsRehearsed plan events → sectors ≡ top_of plan.data_disk
+    → IfErr r (λ fault. (fault ≡ memory_error) ⊎ ((fault ≡ refused_by refusals.BadMoment) × CannotJudge sectors events asked image))
+    → IfErr r (HasNoVerdict (question text image asked))
+faulted_by text image asked sectors plan events (Ok verdict) whole spelled rehearsed same fails = tt
+faulted_by text image asked sectors plan events (Err fault) whole spelled rehearsed same (inl memory) = file fault (inr memory)
+faulted_by text image asked sectors plan events (Err fault) whole spelled rehearsed same (inr (is, cannot)) =
+    subst (HasNoVerdict (question text image asked)) (sym is)
+    (no_moment text image plan events (record { script_holds = refl; image_holds = refl; whole = whole }) spelled rehearsed
+    (subst (λ (n : ℕ). CannotJudge n events asked image) same cannot))
+
+-- a run that fails
+pub failed_run : (text image : List ℕ) (asked : ℕ) (plan : Plan) (fault again : RunError) → IsImage image → IsTextOf text plan → FailsRehearsal text plan fault
+    → again ≡ fault → HasNoVerdict (question text image asked) again
+failed_run text image asked plan fault again whole spelled fails same =
+    subst (HasNoVerdict (question text image asked)) (sym same)
+    (no_run text image plan fault (record { script_holds = refl; image_holds = refl; whole = whole }) spelled fails)
+
+-- a text that is no script's
+pub failed_text : (text image : List ℕ) (asked : ℕ) (error : Fault) (fault : RunError) → IsImage image → IsFaultOf text error error.line
+    → ((plan : Plan) → IsTextOf text plan → error ≡ is_memory) → fault ≡ Refused error → HasNoVerdict (question text image asked) fault
+failed_text text image asked error fault whole wrong only output =
+    subst (HasNoVerdict (question text image asked)) (sym output) (by_line error.line refl wrong)
+  where
+    by_line : (line : Option ℕ) → error.line ≡ line → IsFaultOf text error line
+        → HasNoVerdict (question text image asked) (Refused (record { line = line; refusal = error.refusal }))
+    by_line None here memory = file _ (inr (ap (λ (e : Fault). Refused (record { line = None; refusal = e.refusal })) memory))
+    by_line (Some number) here first = unread text image number error.refusal (record { script_holds = refl; image_holds = refl; whole = whole })
+        (λ plan spells. let memory = only plan spells in absurd (cc (ap (λ (e : Fault). e.line) memory, here))) first
+
+-- a file's error is printed as such
+file_told : (error : FileError) → IsFileError (refused_by (file_refusal error))
+file_told errors.Unusable = inl refl
+file_told errors.Memory = inr refl
+
+-- what a file can't be read for, is why there is no verdict
+pub failed_file : (asked : Question) (error : FileError) (fault : RunError) → fault ≡ refused_by (file_refusal error) → HasNoVerdict asked fault
+failed_file asked error fault is = file fault (subst IsFileError (sym is) (file_told error))
+
+-- what was read of known bytes is them
+match_some : (contents : Option (List ℕ)) (bytes known : List ℕ) → MatchesContents contents bytes → known ≡ bytes → MatchesContents contents known
+match_some contents bytes known is same = subst (MatchesContents contents) (sym same) is
+
+-- a verdict on what was read of files is one on the files
+pub verdict_of_files : (asked : Question) (text image : List ℕ) (verdict : Verdict) → MatchesContents asked.script text → MatchesContents asked.image image
+    → HasVerdict (question text image asked.moment) verdict → HasVerdict asked verdict
+verdict_of_files asked text image verdict script bytes has = record {
+  text = has.text;
+  image = has.image;
+  read = record {
+    script_holds = match_some asked.script text has.text script has.read.script_holds;
+    image_holds = match_some asked.image image has.image bytes has.read.image_holds;
+    whole = has.read.whole;
+  };
+  plan = has.plan;
+  spelled = has.spelled;
+  judged = has.judged;
+}
+
+-- and so is why there is none
+pub fault_of_files : (asked : Question) (text image : List ℕ) (fault : RunError) → MatchesContents asked.script text → MatchesContents asked.image image
+    → HasNoVerdict (question text image asked.moment) fault → HasNoVerdict asked fault
+fault_of_files asked text image fault script bytes (file f is) = file f is
+fault_of_files asked text image fault script bytes (unread known seen line refusal read none first) =
+    unread known seen line refusal (record {
+      script_holds = match_some asked.script text known script read.script_holds;
+      image_holds = match_some asked.image image seen bytes read.image_holds;
+      whole = read.whole;
+    }) none first
+fault_of_files asked text image fault script bytes (no_run known seen plan f read spelled fails) =
+    no_run known seen plan f (record {
+      script_holds = match_some asked.script text known script read.script_holds;
+      image_holds = match_some asked.image image seen bytes read.image_holds;
+      whole = read.whole;
+    }) spelled fails
+fault_of_files asked text image fault script bytes (no_moment known seen plan events read spelled rehearsed cannot) =
+    no_moment known seen plan events (record {
+      script_holds = match_some asked.script text known script read.script_holds;
+      image_holds = match_some asked.image image seen bytes read.image_holds;
+      whole = read.whole;
+    }) spelled rehearsed cannot
+
+-- what was judged and printed
+pub judged_files : (asked : Question) (text image : List ℕ) (before after : Option (List ℕ)) (judged done : Result Verdict RunError)
+    → MatchesContents asked.script text → MatchesContents asked.image image
+    → IfOk judged (HasVerdict (question text image asked.moment)) → IfErr judged (HasNoVerdict (question text image asked.moment))
+    → IfOk done (λ verdict. (judged ≡ Ok verdict) × Appends before after (verdict_line verdict))
+    → IfErr done (λ fault. IsFileError fault ⊎ ((judged ≡ Err fault) × Keeps before after)) → Judges asked before after done
+judged_files asked text image before after judged (Ok verdict) script bytes has none printed fails = (
+  verdict_of_files asked text image verdict script bytes
+      (subst (λ (r : Result Verdict RunError). IfOk r (HasVerdict (question text image asked.moment))) printed.0 has),
+  printed.1,
+)
+judged_files asked text image before after judged (Err fault) script bytes has none printed (inl is) = (file fault is, inr is)
+judged_files asked text image before after judged (Err fault) script bytes has none printed (inr (same, kept)) = (
+  fault_of_files asked text image fault script bytes
+      (subst (λ (r : Result Verdict RunError). IfErr r (HasNoVerdict (question text image asked.moment))) same none),
+  inl kept,
+)
+
+-- a judging that ended before anything was printed
+pub judged_none : (asked : Question) (known : Option (List ℕ)) {Q : RunError → Type 0} (r : Result Verdict RunError) → IsErrAnd r Q
+    → ((fault : RunError) → Q fault → HasNoVerdict asked fault) → Judges asked known known r
+judged_none asked known (Ok verdict) fails why = absurd fails
+judged_none asked known (Err fault) fails why = (why fault fails, inl (keeps_same known))
+
+-- what is kept after a judging
+judges_kept : (asked : Question) (old mid new : Option (List ℕ)) (done : Result Verdict RunError) → Judges asked old mid done → Keeps mid new → Judges asked old new done
+judges_kept asked old mid new (Ok verdict) (has, printed) kept = (has, appends_kept old mid new _ printed kept)
+judges_kept asked old mid new (Err fault) (none, inl same) kept = (none, inl (keeps_twice old mid new same kept))
+judges_kept asked old mid new (Err fault) (none, inr is) kept = (none, inr is)
+
+-- how the command ends
+pub judging_ends : (asked : Question) (writes_old writes_mid writes_new : Option (List Write)) (old mid new : Option (List ℕ)) (t : Telling) (done : Result Verdict RunError) (ended : Ended)
+    → Judges asked old mid done → Keeps mid new → writes_mid ≡ writes_old → writes_new ≡ writes_mid
+    → TellsLine t (exit_judged done) (told_line done) ended → EndsJudging asked writes_old writes_new old new t ended
+judging_ends asked writes_old writes_mid writes_new old mid new t done ended judged kept first second tells = record {
+  unwritten = second ∙ first;
+  done = done;
+  judged = judges_kept asked old mid new done judged kept;
+  tells = tells;
+}

@@ -1,0 +1,31 @@
+use Rattle.std.proofs.Common.{◌∙◌, IfErr, IfOk, Result, ap, subst, sym}
+use Rattle.dmlw_script.specs.Plans.{top_of}
+use Rattle.judge.specs.declared.verdict.Verdict.{Verdict}
+use Rattle.script_runner.specs.declared.error.RunError.{RunError}
+use Rattle.script_runner.specs.CallLaws.{on_error}
+use Rattle.script_runner.specs.Rehearsals.{IsRehearsed}
+use Rattle.dmlw_judge.specs.Judgements.{HasNoVerdict, HasVerdict, question}
+use Rattle.dmlw_judge.proofs.Verdicts.{failed_run, faulted_by, judged_by}
+use Rattle.dmlw_judge.proofs.judging.judge_script.Goals as goal
+
+pub returns-in_err-rehearsed-clause-faults : goal.returns-in_err-rehearsed-clause-faults
+returns-in_err-rehearsed-clause-faults c =
+    on_error c.from_residual.result c.from_residual.ensures.1
+    (λ fault is. failed_run c.args.text.now c.args.image.now c.args.moment c.args.script.now _ fault c.requires.whole c.requires.spelled
+    c.in_err-rehearsed.ensures.faults is)
+
+pub returns-clause-verdict : goal.returns-clause-verdict
+returns-clause-verdict c =
+    let same = c.top_sectors-sectors.ensures ∙ ap top_of c.data.ensures.disk in
+    let rehearsed = subst (IsRehearsed c.args.script.now) (sym c.events.ensures) c.in_ok-rehearsed.ensures.rehearsed in
+    subst (λ (r : Result Verdict RunError). IfOk r (HasVerdict (question c.args.text.now c.args.image.now c.args.moment))) (sym c.judged_by.ensures)
+    (judged_by c.args.text.now c.args.image.now c.args.moment c.top_sectors-sectors.result c.args.script.now c.events.result.now c.judge_events-judged.result
+    c.requires.whole c.requires.spelled rehearsed same c.judge_events-judged.ensures.verdict)
+
+pub returns-clause-faults : goal.returns-clause-faults
+returns-clause-faults c =
+    let same = c.top_sectors-sectors.ensures ∙ ap top_of c.data.ensures.disk in
+    let rehearsed = subst (IsRehearsed c.args.script.now) (sym c.events.ensures) c.in_ok-rehearsed.ensures.rehearsed in
+    subst (λ (r : Result Verdict RunError). IfErr r (HasNoVerdict (question c.args.text.now c.args.image.now c.args.moment))) (sym c.judged_by.ensures)
+    (faulted_by c.args.text.now c.args.image.now c.args.moment c.top_sectors-sectors.result c.args.script.now c.events.result.now c.judge_events-judged.result
+    c.requires.whole c.requires.spelled rehearsed same c.judge_events-judged.ensures.faults)

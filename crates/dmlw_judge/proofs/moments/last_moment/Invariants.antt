@@ -1,0 +1,7 @@
+use Rattle.std.proofs.Common.{◌≡◌, None}
+use Rattle.sectors.specs.Places.{first_below}
+use Rattle.dmlw_judge.proofs.Stopping.{stops_at}
+use Rattle.dmlw_judge.proofs.moments.last_moment.Given as goal
+
+abbrev pub invariant-loop-place : goal.invariant-loop-place
+invariant-loop-place l = first_below (stops_at l.events) l.place ≡ None

@@ -1,0 +1,107 @@
+-- What judging an image by the script in a file comes to.
+use Rattle.std.specs.Prelude.{◌≡◌, ◌⊎◌, ◌<◌, ◌≤◌, ◌*◌, ℕ, List, ◌++◌, Option, Some, Result, Ok, Err, codes, length, replicate, take}
+use Rattle.std.specs.Io.KnownBytes.{Appends, Keeps}
+use Rattle.sectors.specs.Content.{Content, sector_of}
+use Rattle.bio.specs.declared.event.CoreEvent.{CoreEvent}
+use Rattle.refusals.specs.declared.refusal.Refusal.{Refusal}
+use Rattle.refusals.specs.declared.refusal.Refusal.TheVariants as refusals
+use Rattle.pending.specs.Hazards.{last_moment}
+use Rattle.dmlw_script.specs.Grammar.{IsTextOf}
+use Rattle.dmlw_script.specs.Lines.{lines_of}
+use Rattle.dmlw_script.specs.Plans.{Plan, top_of}
+use Rattle.dmlw_script.specs.Reading.{IsFirstFault}
+use Rattle.judge.specs.declared.verdict.Verdict.{Verdict}
+use Rattle.judge.specs.declared.verdict.Verdict.TheVariants as verdicts
+use Rattle.judge.specs.Texts.{verdict_text}
+use Rattle.judge.specs.Verdicts.{IsVerdict}
+use Rattle.script_runner.specs.declared.error.RunError.{RunError}
+use Rattle.script_runner.specs.declared.error.RunError.TheVariants.{Refused}
+use Rattle.script_runner.specs.Errors.{IsFileError, refused_by}
+use Rattle.script_runner.specs.Rehearsals.{FailsRehearsal, IsRehearsed}
+use Rattle.dmlw_commands.specs.declared.ending.Ended.{Ended}
+use Rattle.dmlw_commands.specs.declared.exit.Exit.{Exit}
+use Rattle.dmlw_commands.specs.declared.exit.Exit.TheVariants as exits
+use Rattle.dmlw_commands.specs.Endings.{Telling, TellsLine}
+use Rattle.dmlw_commands.specs.Exits.{exit_of, told_line}
+use Rattle.dmlw_commands.specs.Files.{MatchesContents, Write}
+use Rattle.dmlw_commands.specs.Lists.{IsImage}
+use Rattle.dmlw_commands.specs.Records.{IsNoScript}
+
+-- an image of so many bytes that are zero
+abbrev pub blank : ℕ → Content
+blank count = sector_of (replicate count 0)
+
+-- the number is a moment of these events, and the image is one of a device of so many sectors
+abbrev pub CanJudge : ℕ → List CoreEvent → ℕ → List ℕ → Type 0
+CanJudge sectors events moment image = (moment ≤ last_moment events) × (length image ≡ 512 * sectors)
+
+-- it isn't: the number is past the last moment, or the image is of another size
+abbrev pub CannotJudge : ℕ → List CoreEvent → ℕ → List ℕ → Type 0
+CannotJudge sectors events moment image = (last_moment events < moment) ⊎ (length image ≡ 512 * sectors → ⊥)
+
+-- The verdict on an image, after so many events of a script's run, over zeroes.
+pub record IsJudged (plan : Plan) (moment : ℕ) (image : List ℕ) (verdict : Verdict) : Type 0 where
+  pub events : List CoreEvent
+  pub rehearsed : IsRehearsed plan events
+  pub can_judge : CanJudge (top_of plan.data_disk) events moment image
+  pub holds : IsVerdict (top_of plan.data_disk) (take moment events) (blank (length image)) (sector_of image) verdict
+
+-- what a script's file and an image's file are known to hold, and the moment
+pub record Question : Type 0 where
+  pub script : Option (List ℕ)
+  pub image : Option (List ℕ)
+  pub moment : ℕ
+
+-- what a text and an image are that were read
+abbrev pub question : List ℕ → List ℕ → ℕ → Question
+question text image moment = record { script = Some text; image = Some image; moment = moment }
+
+-- The files' bytes, of which the second are an image.
+pub record AreRead (asked : Question) (text image : List ℕ) : Type 0 where
+  pub script_holds : MatchesContents asked.script text
+  pub image_holds : MatchesContents asked.image image
+  pub whole : IsImage image
+
+-- There is a verdict: the script's file spells a script, and this is the verdict on the image by it.
+pub record HasVerdict (asked : Question) (verdict : Verdict) : Type 0 where
+  pub text : List ℕ
+  pub image : List ℕ
+  pub read : AreRead asked text image
+  pub plan : Plan
+  pub spelled : IsTextOf text plan
+  pub judged : IsJudged plan asked.moment image verdict
+
+-- Why there is no verdict: a file can't be read, or is too long or no image, or there is no memory; the text is no script's, of
+-- which the first line at fault is named; its run fails; or the moment is none of its moments, or the image is of another size.
+pub data HasNoVerdict (asked : Question) : RunError → Type 0 where
+  file : (fault : RunError) → IsFileError fault → HasNoVerdict asked fault
+  text : (bytes image : List ℕ) (line : ℕ) (refusal : Refusal) → AreRead asked bytes image → IsNoScript bytes
+      → IsFirstFault (lines_of bytes) line refusal → HasNoVerdict asked (Refused (record { line = Some line; refusal = refusal }))
+  run : (bytes image : List ℕ) (plan : Plan) (fault : RunError) → AreRead asked bytes image → IsTextOf bytes plan
+      → FailsRehearsal bytes plan fault → HasNoVerdict asked fault
+  moment : (bytes image : List ℕ) (plan : Plan) (events : List CoreEvent) → AreRead asked bytes image → IsTextOf bytes plan
+      → IsRehearsed plan events → CannotJudge (top_of plan.data_disk) events asked.moment image
+      → HasNoVerdict asked (refused_by refusals.BadMoment)
+
+-- the line of a verdict
+abbrev pub verdict_line : Verdict → List ℕ
+verdict_line verdict = verdict_text verdict ++ codes "\n"
+
+-- What judging comes to: the verdict, which was printed; or why there is none, and nothing was printed, unless it is the output
+-- that can't be written.
+abbrev pub Judges : Question → Option (List ℕ) → Option (List ℕ) → Result Verdict RunError → Type 0
+Judges asked before after (Ok verdict) = HasVerdict asked verdict × Appends before after (verdict_line verdict)
+Judges asked before after (Err fault) = HasNoVerdict asked fault × (Keeps before after ⊎ IsFileError fault)
+
+-- how a judging ends: done by a yes, ruled out by a no, and else by its fault
+abbrev pub exit_judged : Result Verdict RunError → Exit
+exit_judged (Ok verdicts.Yes) = exits.Done
+exit_judged (Ok (verdicts.No sector by)) = exits.RuledOut
+exit_judged (Err fault) = exit_of fault
+
+-- How the command ends: no file was asked to be written, and it ends as what it did has it.
+pub record EndsJudging (asked : Question) (writes_old writes_new : Option (List Write)) (old new : Option (List ℕ)) (t : Telling) (ended : Ended) : Type 0 where
+  pub unwritten : writes_new ≡ writes_old
+  pub done : Result Verdict RunError
+  pub judged : Judges asked old new done
+  pub tells : TellsLine t (exit_judged done) (told_line done) ended

@@ -1,0 +1,97 @@
+ghost use Rattle.std.specs.Prelude.{◌≡◌, ◌⊎◌, ◌/◌, IfErr, IfOk, length};
+ghost use Rattle.sector_disk.specs.Shown.{shown_of};
+ghost use Rattle.sector_disk.specs.Sizes.{Begins};
+ghost use Rattle.sectors.specs.Content.{sector_of};
+ghost use Rattle.log_reader.specs.Shown.{reader_of};
+ghost use Rattle.script_runner.specs.Errors.{memory_error};
+ghost use Rattle.dmlw_commands.specs.Lists.{IsImage, RefusesImage};
+ghost use Rattle.dmlw_replay.specs.Opened.{IsOpened, IsReplayedOn};
+ghost use Rattle.dmlw_replay.specs.Replays.{FailsOnImages, IsReplayed};
+
+use crate::stop::Stop;
+use log_reader::{LogReader, OpenDeviceError};
+use refusals::Refusal;
+use replay::Upto;
+use script_runner::RunError;
+use sector_disk::SectorDisk;
+use std::alloc::Global;
+
+/// What a replay left.
+#[derive(Debug, Drop)]
+pub(crate) struct Replayed {
+    /// How many entries were replayed.
+    pub(crate) count: u64,
+    /// The image that came of it.
+    pub(crate) image: Vec<u8>,
+}
+
+/// Replays a log on a first image, up to the entry that is named.
+pub(crate) fn replay_images(
+    alloc: Global,
+    log: Vec<u8>,
+    first: Vec<u8>,
+    upto: &Upto,
+) -> Result<Replayed, Stop>
+    requires log { IsImage log.items }
+    requires first { IsImage first.items }
+    ensures replayed { IfOk result (λ done. IsReplayed log.items first.items upto.now done.count done.image.items) }
+    ensures fails { IfErr result (FailsOnImages log.items first.items upto.now) }
+{
+    let (count, disk) = replay_on_disks(alloc, log, first, upto)?;
+    match disk.bytes() {
+        Ok(image) => Ok(Replayed { count, image }),
+        Err(error) => Err(Stop::Fault(RunError::from(error))),
+    }
+}
+
+// Replays a log on the disk that a first image is; the log's reader is gone after it.
+fn replay_on_disks(
+    alloc: Global,
+    log: Vec<u8>,
+    first: Vec<u8>,
+    upto: &Upto,
+) -> Result<(u64, SectorDisk), Stop>
+    requires log { IsImage log.items }
+    requires first { IsImage first.items }
+    ensures replayed { IfOk result (λ done. IsReplayedOn log.items first.items upto.now done.0 (shown_of done.1)) }
+    ensures fails { IfErr result (FailsOnImages log.items first.items upto.now) }
+{
+    let mut reader = open_log(alloc, log)?;
+    let mut target = disk_of(alloc, first)?;
+    match replay::replay(&mut reader, &mut target, upto) {
+        Ok(count) => Ok((count, target)),
+        Err(fault) => Err(Stop::Replay(fault)),
+    }
+}
+
+// Opens the log that an image holds.
+fn open_log(alloc: Global, log: Vec<u8>) -> Result<LogReader<SectorDisk>, RunError>
+    requires { IsImage log.items }
+    ensures opened { IfOk result (λ reader. IsOpened log.items (reader_of reader)) }
+    ensures fails { IfErr result (λ fault. (fault ≡ memory_error) ⊎ RefusesImage log.items fault) }
+{
+    let disk = disk_of(alloc, log)?;
+    match LogReader::open(alloc, disk) {
+        Ok(reader) => Ok(reader),
+        Err(refused) => Err(RunError::from(Refusal::from(error_of(refused)))),
+    }
+}
+
+// Why a device, which goes, isn't opened.
+fn error_of<D: Drop>(refused: (D, OpenDeviceError)) -> OpenDeviceError
+    ensures { result ≡ refused.1 }
+{
+    refused.1
+}
+
+// The disk that an image is.
+fn disk_of(alloc: Global, image: Vec<u8>) -> Result<SectorDisk, RunError>
+    requires { IsImage image.items }
+    ensures begins { IfOk result (λ disk. Begins (length image.items / 512) (sector_of image.items) (shown_of disk)) }
+    ensures memory { IfErr result (λ fault. fault ≡ memory_error) }
+{
+    match SectorDisk::from_bytes(alloc, image) {
+        Ok(disk) => Ok(disk),
+        Err(error) => Err(RunError::from(error)),
+    }
+}

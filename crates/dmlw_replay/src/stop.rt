@@ -1,0 +1,22 @@
+ghost use Rattle.std.specs.Prelude.{◌≡◌};
+ghost use Rattle.dmlw_replay.specs.declared.stop.Stop.TheVariants as stops;
+
+use replay::ReplayFault;
+use script_runner::RunError;
+
+/// Why a log wasn't replayed.
+#[derive(Clone, Copy, Debug, PartialEq, Eq)]
+pub enum Stop {
+    /// A file or the output can't be used, the image is no log, or there is no memory.
+    Fault(RunError),
+    /// The replay was refused.
+    Replay(ReplayFault),
+}
+
+impl From<RunError> for Stop {
+    ghost from_gives = { λ fault stop. stop ≡ stops.Fault fault };
+
+    fn from(fault: RunError) -> Stop {
+        Stop::Fault(fault)
+    }
+}

@@ -1,0 +1,216 @@
+ghost use Rattle.std.specs.Prelude.{None};
+
+use crate::replay;
+use dmlw_commands::record::record;
+use dmlw_commands::{FileError, Files, ReplayNames, Trouble};
+use replay::Upto;
+use std::alloc::Global;
+use std::test::Fail;
+
+// A file of a test.
+#[derive(Debug, Drop)]
+struct Named<'a> {
+    name: &'a str,
+    bytes: Vec<u8>,
+}
+
+// Files by their names; those whose names begin with "fixed" can't be written.
+#[derive(Debug, Drop)]
+struct FakeFiles<'a> {
+    files: Vec<Named<'a>>,
+    written: Option<Vec<u8>>,
+}
+
+impl Files for FakeFiles<'_> {
+    ghost contents = { λ _ _. None };
+
+    ghost writes = { λ _. None };
+
+    fn read(&mut self, alloc: Global, name: &str, limit: u64) -> Result<Vec<u8>, FileError> {
+        match self.files.iter().find(|file| file.name == name) {
+            Some(file) if file.bytes.len() as u64 <= limit => {
+                Vec::from_slice(alloc, &file.bytes).map_err(|_| FileError::Memory)
+            }
+            _ => Err(FileError::Unusable),
+        }
+    }
+
+    fn write(&mut self, alloc: Global, name: &str, bytes: &[u8]) -> Result<(), FileError> {
+        if name.starts_with("fixed") {
+            return Err(FileError::Unusable);
+        }
+        let bytes = Vec::from_slice(alloc, bytes).map_err(|_| FileError::Memory)?;
+        self.written = Some(bytes);
+        Ok(())
+    }
+
+    fn trouble(&self) -> Option<&Trouble> {
+        None
+    }
+
+    fn is_same(&self, first: &str, second: &str) -> bool {
+        first == second
+    }
+}
+
+// A write of a sector, a flush and the end mark.
+const SCRIPT: &[u8] = b"data 16\nlog 32\nw a 5 1 41\nc a\nf b\nc b\nclose\n";
+
+// The log of that script.
+fn recorded(alloc: Global) -> Result<Vec<u8>, Fail> {
+    let mut files = FakeFiles {
+        files: Vec::new(alloc),
+        written: None,
+    };
+    files.files.push(Named {
+        name: "script",
+        bytes: Vec::from_slice(alloc, SCRIPT)?,
+    })?;
+    let mut out = Vec::new(alloc);
+    let mut err = Vec::new(alloc);
+    let _ = record(
+        alloc, false, "script", "log", &mut files, &mut out, &mut err,
+    );
+    Ok(files.written.take().ok_or("a log")?)
+}
+
+// The log of one write of the bytes 1, 2, 3 and 4, 512 of each, in two sectors of 1,024 bytes, at the fifth of them.
+fn large(alloc: Global) -> Result<Vec<u8>, Fail> {
+    let mut image = Vec::new(alloc);
+    image.extend_from_slice(b"rhswfsj\0")?;
+    for number in [1_u64, 1, 1024] {
+        image.extend_from_slice(&number.to_le_bytes())?;
+    }
+    image.resize(1024, 0)?;
+    for number in [5_u64, 2, 0, 0] {
+        image.extend_from_slice(&number.to_le_bytes())?;
+    }
+    image.resize(2048, 0)?;
+    for sector in 1_u8..5 {
+        let length = image.len();
+        image.resize(length.saturating_add(512), sector)?;
+    }
+    image.resize(16_384, 0)?;
+    Ok(image)
+}
+
+// What a replay did: its exit status, what it told, and of the image that was written its size and the first byte of each sector that isn't 0.
+fn shown(
+    alloc: Global,
+    log: &[u8],
+    sectors: usize,
+    names: ReplayNames,
+    upto: &Upto,
+) -> Result<String, Fail> {
+    let mut files = FakeFiles {
+        files: Vec::new(alloc),
+        written: None,
+    };
+    files.files.push(Named {
+        name: "log",
+        bytes: Vec::from_slice(alloc, log)?,
+    })?;
+    files.files.push(Named {
+        name: "first",
+        bytes: vec![in alloc; 0; sectors.min(4_096) * 512]?,
+    })?;
+    let mut out = Vec::new(alloc);
+    let mut err = Vec::new(alloc);
+    let ended = replay(alloc, false, names, upto, &mut files, &mut out, &mut err);
+    let mut text = format!(in alloc; "{}:", ended.exit.status())?;
+    text.push_str(str::from_utf8(&out).unwrap_or_default())?;
+    text.push_str(str::from_utf8(&err).unwrap_or_default())?;
+    if let Some(image) = &files.written {
+        push_image(alloc, image, &mut text)?;
+    }
+    Ok(text)
+}
+
+// The size of an image in sectors, and the first byte of each that isn't 0.
+fn push_image(alloc: Global, image: &[u8], text: &mut String) -> Result<(), Fail> {
+    let count = image.len() / 512;
+    text.push_str(format!(in alloc; "{count}")?.as_str())?;
+    let mut sector = 0_usize;
+    for bytes in image.chunks(512) {
+        let first = bytes.first().copied().unwrap_or(0);
+        if first != 0 {
+            text.push_str(format!(in alloc; " {sector}={first}")?.as_str())?;
+        }
+        sector = sector.saturating_add(1);
+    }
+    Ok(())
+}
+
+const NAMES: ReplayNames<'static> = ReplayNames {
+    log: "log",
+    first: "first",
+    out: "out",
+};
+
+#[test]
+fn logs_are_replayed(rt: HostRuntime) -> Result<(), Fail> {
+    let alloc = rt.alloc();
+    let log = recorded(alloc)?;
+    let rows: [(usize, Upto, &str); 8] = [
+        (16, Upto::Flush, "0:replayed 2\n16 5=65"),
+        (
+            16,
+            Upto::Mark(b"dm-log-writes-end"),
+            "0:replayed 3\n16 5=65",
+        ),
+        (16, Upto::Count(1), "0:replayed 1\n16 5=65"),
+        (16, Upto::Count(0), "0:replayed 0\n16"),
+        (4_096, Upto::Count(3), "0:replayed 3\n4096 5=65"),
+        (
+            16,
+            Upto::Count(4),
+            "1:dmlw: 33 PastEntries after 0 entries\n",
+        ),
+        (
+            16,
+            Upto::Mark(b"none"),
+            "1:dmlw: 25 NoSuchMark after 0 entries\n",
+        ),
+        (5, Upto::Flush, "1:dmlw: 27 PastTarget after 0 entries\n"),
+    ];
+    for (sectors, upto, wanted) in &rows {
+        let ran = shown(alloc, &log, *sectors, NAMES, upto)?;
+        assert_eq!(rt; ran.as_str(), *wanted);
+    }
+    Ok(())
+}
+
+#[test]
+fn sectors_of_a_log_may_be_large(rt: HostRuntime) -> Result<(), Fail> {
+    let alloc = rt.alloc();
+    let log = large(alloc)?;
+    let ran = shown(alloc, &log, 16, NAMES, &Upto::Count(1))?;
+    assert_eq!(rt; ran.as_str(), "0:replayed 1\n16 10=1 11=2 12=3 13=4");
+    let ran = shown(alloc, &log, 13, NAMES, &Upto::Count(1))?;
+    assert_eq!(rt; ran.as_str(), "1:dmlw: 27 PastTarget after 0 entries\n");
+    Ok(())
+}
+
+#[test]
+fn files_are_refused(rt: HostRuntime) -> Result<(), Fail> {
+    let alloc = rt.alloc();
+    let log = recorded(alloc)?;
+    let rows = [
+        ("log", "first", "first", "0:replayed 2\n16 5=65"),
+        ("log", "first", "fixed", "1:replayed 2\ndmlw: 32 File\n"),
+        ("log", "first", "log", "1:dmlw: 32 File\n"),
+        ("none", "first", "out", "1:dmlw: 32 File\n"),
+        ("log", "none", "out", "1:dmlw: 32 File\n"),
+        ("first", "first", "out", "1:dmlw: 13 BadMagic\n"),
+    ];
+    for (log_name, first, out, wanted) in rows {
+        let names = ReplayNames {
+            log: log_name,
+            first,
+            out,
+        };
+        let ran = shown(alloc, &log, 16, names, &Upto::Flush)?;
+        assert_eq!(rt; ran.as_str(), wanted);
+    }
+    Ok(())
+}

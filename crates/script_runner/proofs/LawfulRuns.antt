@@ -1,0 +1,226 @@
+-- The events of a script's run are lawful for a device of the size of the data disk's top.
+use Rattle.std.proofs.Common.{◌≡◌, ◌∙◌, ℕ, zero, suc, Bool, true, false, Option, Some, None, List, [], ◌∷◌, ◌++◌, Result, Ok, Err, ap, inl, inr, refl, subst, sym, arith}
+use Rattle.std.specs.Prelude.{if◌then◌else◌, is_ok, length, replicate, slice_get, ◌*◌, ◌/◌, ◌%◌, ◌==◌}
+use Rattle.std.proofs.Math.Nat.{mul-div_cancel, mul-mod_left}
+use Rattle.std.proofs.lemmas.List.{length-replicate}
+use Rattle.sectors.specs.PlaceLaws.{bool_cases}
+use Rattle.bio.specs.declared.event.CoreEvent.{CoreEvent}
+use Rattle.bio.specs.declared.event.CoreEvent.TheVariants as events
+use Rattle.bio.specs.declared.outcome.End.{End}
+use Rattle.bio.specs.declared.request.Bio.{Bio}
+use Rattle.bio.specs.Check.{check_answer, range_answer}
+use Rattle.bio.specs.declared.request.BadBio.TheVariants.{NotWhole}
+use Rattle.bio.specs.Events.{is_open_at}
+use Rattle.bio.specs.EventLaws.{well_formed-lawful}
+use Rattle.bio.specs.Lawful.{has_no_close, is_lawful, is_recording, is_text, is_well_formed, is_within}
+use Rattle.blockdev.specs.declared.device.BlockDev.{Ghosts}
+use Rattle.refusals.specs.declared.refusal.Refusal.TheVariants as refusals
+use Rattle.dmlw_script.specs.declared.command.Command.{Command}
+use Rattle.dmlw_script.specs.declared.command.Command.TheVariants as commands
+use Rattle.dmlw_script.specs.declared.command.Step.{Step}
+use Rattle.dmlw_script.specs.declared.command.Step.TheVariants as steps
+use Rattle.dmlw_script.specs.declared.command.Submission.{Submission}
+use Rattle.dmlw_script.specs.declared.command.Submission.TheVariants as submits
+use Rattle.dmlw_script.specs.declared.script_id.ScriptId.{ScriptId}
+use Rattle.dmlw_script.specs.Plans.{IsPlan, IsWellFormed, Plan, name_at, submission_answer, top_of}
+use Rattle.pending.specs.CoreState.{CoreState, added_to, records, stopped_by}
+use Rattle.recorder.specs.declared.recorder.Recorder.{Recorder}
+use Rattle.recorder.specs.declared.reply.Reply.{Reply}
+use Rattle.recorder.specs.declared.reply.Reply.TheVariants as replies
+use Rattle.recorder.specs.declared.reply.Turn.{Turn}
+use Rattle.recorder.specs.declared.reply.Turn.TheVariants as turns
+use Rattle.recorder.specs.Calls.{Closes, Completes, Drains, Marks, Stops, Submits, Turns}
+use Rattle.script_runner.specs.declared.request.Request.{Request}
+use Rattle.script_runner.specs.declared.request.Request.TheVariants as requests
+use Rattle.script_runner.specs.declared.running.Running.{Running}
+use Rattle.script_runner.specs.Lines.{Asks, EndsRequest, HearsEnd, TakesStep, reply_of}
+use Rattle.script_runner.specs.OnDisks.{DiskRun, Starts}
+use Rattle.script_runner.specs.Runs.{RunsLines}
+use Rattle.script_runner.specs.Submitted.{bio_of}
+
+-- each request among the events passed the test of a device of so many sectors
+abbrev AreWithin : ℕ → List CoreEvent → Type 0
+AreWithin sectors events = (place : ℕ) → is_within sectors (slice_get events place) ≡ true
+
+-- one more event
+within_snoc : (sectors : ℕ) (es : List CoreEvent) (e : CoreEvent) → AreWithin sectors es → is_within sectors (Some e) ≡ true → AreWithin sectors (es ++ e ∷ [])
+within_snoc sectors [] e within here zero = here
+within_snoc sectors [] e within here (suc place) = refl
+within_snoc sectors (first ∷ es) e within here zero = within zero
+within_snoc sectors (first ∷ es) e within here (suc place) = within_snoc sectors es e (λ p. within (suc p)) here place
+
+-- of a core that grew by an event
+grown_within : (sectors : ℕ) (core grown : CoreState) (e : CoreEvent) → grown ≡ added_to core e → is_within sectors (Some e) ≡ true
+    → AreWithin sectors core.events → AreWithin sectors grown.events
+grown_within sectors core grown e is here within =
+    subst (λ (c : CoreState). AreWithin sectors c.events) (sym is) (within_snoc sectors core.events e within here)
+
+-- of a core that is the same
+same_within : (sectors : ℕ) (core same : CoreState) → same ≡ core → AreWithin sectors core.events → AreWithin sectors same.events
+same_within sectors core same is within = subst (λ (c : CoreState). AreWithin sectors c.events) (sym is) within
+
+-- where logging ends
+stopped_within : (sectors : ℕ) (core : CoreState) (cause : End) → AreWithin sectors core.events → AreWithin sectors (stopped_by core cause).events
+stopped_within sectors core cause within = by_case (is_recording core.events)
+  where
+    by_case : (going : Bool) → AreWithin sectors (if going then core.events ++ events.Stop cause ∷ [] else core.events)
+    by_case true = within_snoc sectors core.events (events.Stop cause) within refl
+    by_case false = within
+
+stops_within : {L : Type 0} {l : Ghosts L} (sectors : ℕ) (cause : End) (old new : Recorder L l) → Stops cause old new
+    → AreWithin sectors old.core.events → AreWithin sectors new.core.events
+stops_within sectors cause old new stops within =
+    subst (λ (es : List CoreEvent). AreWithin sectors es) (sym stops.events) (stopped_within sectors old.core cause within)
+
+-- a submission of a request that passes the test
+submitted_within : {L : Type 0} {l : Ghosts L} (sectors : ℕ) (bio : Bio) (reply : Reply) (old new : Recorder L l) → Submits bio reply old new
+    → is_ok (check_answer bio sectors) ≡ true → AreWithin sectors old.core.events → AreWithin sectors new.core.events
+submitted_within {L} {l} sectors bio reply old new submits passes within = elim (bool_cases (records old.core bio)) [
+  | inl recorded ↦ elim (submits.recorded recorded) [
+    | inl tracked ↦ grown_within sectors old.core new.core (events.Submit bio) tracked.1.core passes within
+    | inr refused ↦ stops_within {l = l} sectors _ old new refused.1 within
+  ]
+  | inr other ↦ same_within sectors old.core new.core (submits.passed other).1.core within
+]
+
+-- the end of a request
+completed_within : {L : Type 0} {l : Ghosts L} (sectors id : ℕ) (ok : Bool) (reply : Reply) (old new : Recorder L l) → Completes id ok reply old new
+    → AreWithin sectors old.core.events → AreWithin sectors new.core.events
+completed_within sectors id ok reply old new completes within = elim (bool_cases (is_open_at old.core.events id)) [
+  | inl opened ↦ grown_within sectors old.core new.core (events.Complete id ok) (completes.recorded opened).1 refl within
+  | inr other ↦ same_within sectors old.core new.core (completes.unknown other).1 within
+]
+
+-- a mark
+marked_within : {L : Type 0} {l : Ghosts L} (sectors : ℕ) (text : List ℕ) (reply : Reply) (old new : Recorder L l) → Marks text reply old new
+    → AreWithin sectors old.core.events → AreWithin sectors new.core.events
+marked_within sectors text reply old new marks within = elim (bool_cases (is_text text)) [
+  | inl heard ↦ elim (bool_cases (is_recording old.core.events)) [
+    | inl going ↦ elim (marks.recorded heard going) [
+      | inl queued ↦ grown_within sectors old.core new.core (events.Mark text) queued.1 refl within
+      | inr refused ↦ same_within sectors old.core new.core refused.1 within
+    ]
+    | inr over ↦ same_within sectors old.core new.core (marks.passed heard over).1 within
+  ]
+  | inr bad ↦ same_within sectors old.core new.core (marks.unheard bad) within
+]
+
+-- the end of recording
+closed_within : {L : Type 0} {l : Ghosts L} (sectors : ℕ) (reply : Reply) (old new : Recorder L l) → Closes reply old new
+    → AreWithin sectors old.core.events → AreWithin sectors new.core.events
+closed_within sectors reply old new closes within = elim closes.answer [
+  | inl done ↦ subst (λ (c : CoreState). AreWithin sectors c.events) (sym done.1) (by_case (has_no_close old.core.events))
+  | inr other ↦ elim other [
+    | inl busy ↦ same_within sectors old.core new.core busy.1 within
+    | inr memory ↦ same_within sectors old.core new.core memory.1 within
+  ]
+]
+  where
+    by_case : (going : Bool) → AreWithin sectors (if going then added_to old.core events.Close else old.core).events
+    by_case true = within_snoc sectors old.core.events events.Close within refl
+    by_case false = within
+
+-- a turn of the writer
+turned_within : {L : Type 0} {l : Ghosts L} (sectors : ℕ) (turn : Turn) (old new : Recorder L l) → Turns turn old new
+    → AreWithin sectors old.core.events → AreWithin sectors new.core.events
+turned_within {L} {l} sectors turn old new turned within = by_end old.end refl
+  where
+    going : new.core.events ≡ old.core.events → AreWithin sectors new.core.events
+    going same = subst (λ (es : List CoreEvent). AreWithin sectors es) (sym same) within
+
+    by_turn : (turn : Turn) → old.end ≡ None → Turns turn old new → AreWithin sectors new.core.events
+    by_turn turns.Nothing on did = same_within sectors old.core new.core (did.logging on).1.core within
+    by_turn (turns.Placed index) on did = going (did.logging on).0.events
+    by_turn (turns.Settled index) on did = going (did.logging on).0.events
+    by_turn (turns.Ended cause) on did = stops_within {l = l} sectors cause old new (did.logging on).stops within
+
+    by_end : (end : Option End) → old.end ≡ end → AreWithin sectors new.core.events
+    by_end None is = by_turn turn is turned
+    by_end (Some cause) is = same_within sectors old.core new.core (turned.ended cause is).1.core within
+
+-- turns until the log is written
+drained_within : {L : Type 0} {l : Ghosts L} (sectors : ℕ) (answer : Result Unit End) (old new : Recorder L l) → Drains answer old new
+    → AreWithin sectors old.core.events → AreWithin sectors new.core.events
+drained_within {L} {l} sectors answer old new drains within = by_end old.end refl
+  where
+    by_answer : (answer : Result Unit End) → old.end ≡ None → Drains answer old new → AreWithin sectors new.core.events
+    by_answer (Ok done) on drained = subst (λ (es : List CoreEvent). AreWithin sectors es) (sym (drained.logging on).0.events) within
+    by_answer (Err cause) on drained = stops_within {l = l} sectors cause old new (drained.logging on) within
+
+    by_end : (end : Option End) → old.end ≡ end → AreWithin sectors new.core.events
+    by_end None is = by_answer answer is drains
+    by_end (Some cause) is = same_within sectors old.core new.core (drains.ended cause is).1.core within
+
+-- the request of a line passes the test that its line passes
+bio_passes : (sectors : ℕ) (submission : Submission) → submission_answer sectors submission ≡ Ok tt → is_ok (check_answer (bio_of submission) sectors) ≡ true
+bio_passes sectors (submits.Write first count byte options) passes = ap is_ok (whole (length (replicate (count * 512) byte)) (length-replicate (count * 512) byte) ∙ passes)
+  where
+    whole : (n : ℕ) → n ≡ count * 512 → (if n % 512 == 0 then range_answer first (n / 512) sectors else Err NotWhole) ≡ range_answer first count sectors
+    whole n is =
+        subst (λ (m : ℕ). (if m % 512 == 0 then range_answer first (m / 512) sectors else Err NotWhole) ≡ range_answer first count sectors) (sym is)
+        (rw (mul-mod_left count 512, mul-div_cancel count {n = 512} (omega arith)) refl)
+bio_passes sectors submits.Flush passes = refl
+bio_passes sectors (submits.Discard first count) passes = ap is_ok passes
+
+-- a request that is asked
+asked_within : {L : Type 0} {l : Ghosts L} (sectors : ℕ) (bio : Bio) (request : Request) (old new : Recorder L l) → Asks bio request old new
+    → is_ok (check_answer bio sectors) ≡ true → AreWithin sectors old.core.events → AreWithin sectors new.core.events
+asked_within {L} {l} sectors bio (requests.Asked kept id) old new asks passes within = submitted_within {l = l} sectors bio (reply_of id) old new asks.1 passes within
+asked_within {L} {l} sectors bio requests.Failed old new asks passes within = elim asks [
+  | inl unasked ↦ subst (λ (r : Recorder L l). AreWithin sectors r.core.events) (sym unasked.1) within
+  | inr refused ↦ submitted_within {l = l} sectors bio (replies.Refused refusals.Memory) old new refused passes within
+]
+
+-- a request's end
+heard_within : {L : Type 0} {l : Ghosts L} (sectors : ℕ) (id : Option ℕ) (ok : Bool) (old new : Recorder L l) → HearsEnd id ok old new
+    → AreWithin sectors old.core.events → AreWithin sectors new.core.events
+heard_within {L} {l} sectors (Some id) ok old new hears within = completed_within {l = l} sectors id ok hears.0 old new hears.1 within
+heard_within {L} {l} sectors None ok old new hears within = subst (λ (r : Recorder L l). AreWithin sectors r.core.events) (sym hears) within
+
+ended_within : {D L : Type 0} {d : Ghosts D} {l : Ghosts L} (sectors : ℕ) (found : Option Request) (name : ScriptId) (text : List ℕ) (old new : Running D L d l)
+    → EndsRequest found name text old new → AreWithin sectors old.recorder.core.events → AreWithin sectors new.recorder.core.events
+ended_within {D} {L} {d} {l} sectors None name text old new does within = absurd does
+ended_within {D} {L} {d} {l} sectors (Some requests.Failed) name text old new does within =
+    subst (λ (r : Recorder L l). AreWithin sectors r.core.events) (sym does.1) within
+ended_within {D} {L} {d} {l} sectors (Some (requests.Asked bio id)) name text old new does within =
+    heard_within {l = l} sectors id does.ok old.recorder new.recorder does.hears within
+
+-- a line that names no request
+step_within : {D L : Type 0} {d : Ghosts D} {l : Ghosts L} (sectors : ℕ) (step : Step) (text : List ℕ) (old new : Running D L d l) → TakesStep step text old new
+    → AreWithin sectors old.recorder.core.events → AreWithin sectors new.recorder.core.events
+step_within {D} {L} {d} {l} sectors steps.Close text old new does within =
+    drained_within {l = l} sectors does.answer does.closed new.recorder does.drains
+    (closed_within {l = l} sectors replies.Closed old.recorder does.closed does.closes within)
+step_within {D} {L} {d} {l} sectors (steps.Read first count) text old new does within =
+    subst (λ (r : Recorder L l). AreWithin sectors r.core.events) (sym does.log) within
+step_within {D} {L} {d} {l} sectors steps.Turn text old new does within =
+    turned_within {l = l} sectors does.turn old.recorder new.recorder does.turns within
+step_within {D} {L} {d} {l} sectors (steps.Mark mark) text old new does within =
+    marked_within {l = l} sectors mark does.reply old.recorder new.recorder does.marks within
+step_within {D} {L} {d} {l} sectors (steps.At moment) text old new does within =
+    same_within sectors old.recorder.core new.recorder.core does.core within
+
+-- the lines of a script, where each request fits a device of so many sectors
+lines_within : {D L : Type 0} {d : Ghosts D} {l : Ghosts L} (sectors : ℕ) (names : List ScriptId) (before body : List Command) (text : List ℕ) (old new : Running D L d l)
+    → IsWellFormed sectors before body → RunsLines names body text old new → AreWithin sectors old.recorder.core.events → AreWithin sectors new.recorder.core.events
+lines_within {D} {L} {d} {l} sectors names before [] text old new fit ran within =
+    subst (λ (run : Running D L d l). AreWithin sectors run.recorder.core.events) (sym ran.1) within
+lines_within {D} {L} {d} {l} sectors names before (commands.Submit submission ∷ body) text old new fit ran within =
+    let does = ran.4.does in
+    lines_within {d = d} {l = l} sectors names (before ++ commands.Submit submission ∷ []) body ran.2 ran.0 new fit.1 ran.5
+    (asked_within {l = l} sectors (bio_of submission) does.request old.recorder ran.0.recorder does.asks (bio_passes sectors submission fit.0.0) within)
+lines_within {D} {L} {d} {l} sectors names before (commands.Complete request ∷ body) text old new fit ran within =
+    lines_within {d = d} {l = l} sectors names (before ++ commands.Complete request ∷ []) body ran.2 ran.0 new fit.1 ran.5
+    (ended_within {d = d} {l = l} sectors (slice_get old.requests.items request) (name_at names request) ran.1 old ran.0 ran.4.does within)
+lines_within {D} {L} {d} {l} sectors names before (commands.Step step ∷ body) text old new fit ran within =
+    lines_within {d = d} {l = l} sectors names (before ++ commands.Step step ∷ []) body ran.2 ran.0 new fit.1 ran.5
+    (step_within {d = d} {l = l} sectors step ran.1 old ran.0 ran.4.does within)
+
+-- the events of a script's run are lawful
+pub run_lawful : (plan : Plan) (text : List ℕ) (start last : DiskRun) → IsPlan plan → Starts plan start → RunsLines plan.names plan.commands text start last
+    → is_well_formed last.recorder.core.events ≡ true → is_lawful (top_of plan.data_disk) last.recorder.core.events ≡ true
+run_lawful plan text start last is starts ran well_formed =
+    let none : AreWithin (top_of plan.data_disk) start.recorder.core.events =
+    subst (λ (c : CoreState). AreWithin (top_of plan.data_disk) c.events) (sym starts.log_disk.core) (λ place. refl) in
+    let within = lines_within (top_of plan.data_disk) plan.names [] plan.commands text start last is.well_formed ran none in
+    well_formed-lawful (top_of plan.data_disk) last.recorder.core.events well_formed (λ place here. within place)

@@ -1,0 +1,5 @@
+use Rattle.script_runner.proofs.Bare.{bare_log_fails}
+use Rattle.script_runner.proofs.laws.bare_logs_fail_by_memory_alone.Goals as goal
+
+pub returns : goal.returns
+returns c = bare_log_fails c.stacks_do_what_their_layers_do.ensures

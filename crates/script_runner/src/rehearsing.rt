@@ -1,0 +1,56 @@
+ghost use Rattle.std.specs.Prelude.{◌≡◌, IfErr, IfOk, true};
+ghost use Rattle.bio.specs.Lawful.{is_lawful};
+ghost use Rattle.dmlw_script.specs.Plans.{top_of};
+ghost use Rattle.script_runner.specs.Rehearsals.{FailsRehearsal, IsRehearsed};
+
+use crate::error::RunError;
+use crate::recording::start;
+use crate::run_script::run;
+use bio::CoreEvent;
+use dmlw_script::Script;
+use layer_table::Stack;
+use recorder::Recorder;
+use std::alloc::Global;
+use std::io;
+use std::marker::Model;
+
+/// What rehearsing a script left. Contracts see it as the recorder's events.
+#[derive(Drop)]
+pub struct Rehearsed {
+    recorder: Recorder<Stack>,
+}
+
+impl Model for Rehearsed {
+    ghost use Rattle.std.specs.Prelude.{List};
+    ghost use Rattle.bio.specs.declared.event.CoreEvent.{CoreEvent};
+
+    ghost Value = { List CoreEvent };
+
+    ghost view = { λ rehearsed. rehearsed.recorder.core.events };
+}
+
+impl Rehearsed {
+    /// The recorder's events, in their order.
+    pub fn events(&self) -> &[CoreEvent]
+        ensures { result.now ≡ self.now }
+    {
+        self.recorder.events()
+    }
+}
+
+/// Runs a script, which was read from `text`, as `record` does, on two disks in memory, and keeps the recorder's events alone: what its
+/// lines print is dropped, and so is the log. Where logging ends before the script does, the run goes on. It fails as `record` does.
+pub fn rehearse(alloc: Global, text: &[u8], script: &Script) -> Result<Rehearsed, RunError>
+    ensures rehearsed { IfOk result (IsRehearsed script.now) }
+    // They are events of a device of the size of the data disk's top.
+    ensures lawful { IfOk result (λ events. is_lawful (top_of script.now.data_disk) events ≡ true) }
+    ensures faults { IfErr result (FailsRehearsal text.now script.now) }
+{
+    let _commands = script.commands();
+    let mut running = start(alloc, script)?;
+    run(text, script, &mut running, &mut io::sink())?;
+    let _events = running.recorder().events();
+    let (recorder, data) = running.into_parts();
+    drop(data);
+    Ok(Rehearsed { recorder })
+}

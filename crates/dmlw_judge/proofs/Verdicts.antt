@@ -1,13 +1,12 @@
 -- What a judging comes to.
-use Rattle.std.proofs.Common.{◌≡◌, ◌∙◌, ◌⊎◌, ◌*◌, ◌+◌, ◌<◌, ◌≤◌, ℕ, Bool, true, false, Option, Some, None, List, [], ◌++◌, Result, Ok, Err, IfErr, IfOk, ap, arith, inl, inr, length, refl, subst, sym}
-use Rattle.std.specs.Prelude.{replicate, take, ◌/◌, ◌%◌}
+use Rattle.std.proofs.Common.{◌≡◌, ◌∙◌, ◌⊎◌, ℕ, Option, Some, None, List, Result, Ok, Err, IfErr, IfOk, ap, inl, inr, length, refl, subst, sym}
+use Rattle.std.specs.Prelude.{take}
 use Rattle.std.specs.Io.KnownBytes.{Appends, Keeps}
 use Rattle.std.specs.Result.{IsErrAnd}
 use Rattle.bio.specs.declared.event.CoreEvent.{CoreEvent}
 use Rattle.sectors.specs.Content.{sector_of}
 use Rattle.refusals.specs.declared.fault.Fault.{Fault}
 use Rattle.refusals.specs.declared.refusal.Refusal.TheVariants as refusals
-use Rattle.pending.specs.Hazards.{last_moment}
 use Rattle.dmlw_script.specs.Grammar.{IsTextOf}
 use Rattle.dmlw_script.specs.Plans.{Plan, top_of}
 use Rattle.dmlw_script.specs.Reading.{IsFaultOf, is_memory}
@@ -26,7 +25,7 @@ use Rattle.dmlw_commands.specs.Exits.{told_line}
 use Rattle.dmlw_commands.specs.FileErrors.{file_refusal}
 use Rattle.dmlw_commands.specs.Files.{MatchesContents, Write}
 use Rattle.dmlw_commands.specs.Lists.{IsImage}
-use Rattle.dmlw_judge.specs.Judgements.{AreRead, CanJudge, CannotJudge, EndsJudging, HasNoVerdict, HasVerdict, IsJudged, Judges, Question, blank, exit_judged, file, moment as no_moment, question, run as no_run, text as unread, verdict_line}
+use Rattle.dmlw_judge.specs.Judgements.{CanJudge, CannotJudge, EndsJudging, HasNoVerdict, HasVerdict, Judges, Question, blank, exit_judged, file, moment as no_moment, question, run as no_run, text as unread, verdict_line}
 
 -- a verdict after these events is one of the script's run
 pub judged_by : (text image : List ℕ) (asked sectors : ℕ) (plan : Plan) (events : List CoreEvent) (r : Result Verdict RunError) → IsImage image → IsTextOf text plan

@@ -13,8 +13,8 @@ const MAX_BESIDE: u32 = 1000;
 /// The system's files. No clause knows what they hold.
 ///
 /// A regular file is written whole or not at all: beside it, as `NAME.dmlw-tmp-<n>`, and then renamed over
-/// it. A link stays, and the file that it leads to is replaced. A pipe or a device, and any name in `/dev/`,
-/// is written as it is, after what it holds.
+/// it. A link stays, and the file that it leads to is replaced. A pipe or a device is written as it is, and so
+/// is, after what it holds, a file that a stream of the process leads to, as `/dev/stdout`.
 #[derive(Drop)]
 pub struct HostFiles<'a, R: std::rt::Files> {
     runtime: &'a R,
@@ -105,7 +105,7 @@ fn write_file<R: std::rt::Files>(
     name: &str,
     bytes: &[u8],
 ) -> io::Result<()> {
-    if name.starts_with("/dev/") {
+    if is_stream(name) {
         return write_through(runtime, name, bytes);
     }
     match fs::metadata(runtime, name) {
@@ -130,6 +130,14 @@ fn write_file<R: std::rt::Files>(
             replace(runtime, alloc, name, None, bytes)
         }
     }
+}
+
+// Whether a name is that of an open stream of the process, whatever the stream leads to.
+fn is_stream(name: &str) -> bool {
+    name == "/dev/stdout"
+        || name == "/dev/stderr"
+        || name.starts_with("/dev/fd/")
+        || name.starts_with("/proc/self/fd/")
 }
 
 // Writes to what has no length of its own, as a pipe or a device.

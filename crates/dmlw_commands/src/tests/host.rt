@@ -75,3 +75,18 @@ fn links_and_modes_are_kept(rt: HostRuntime) -> Result<(), Fail> {
     fs::remove_file(&rt, beside)?;
     Ok(())
 }
+
+// A file in the memory of the machine is a file as any other: it is replaced, though its name begins with /dev/.
+#[test]
+fn files_in_memory_are_replaced(rt: HostRuntime) -> Result<(), Fail> {
+    let alloc = rt.alloc();
+    let name = "/dev/shm/dmlw-test-memory";
+    let mut files = HostFiles::new(&rt);
+    // Not every machine has such a folder.
+    if fs::write(&rt, name, b"older and longer".as_slice()).is_ok() {
+        files.write(alloc, name, b"new".as_slice())?;
+        assert!(rt; holds(&rt, alloc, name, b"new".as_slice()));
+        fs::remove_file(&rt, name)?;
+    }
+    Ok(())
+}

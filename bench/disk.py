@@ -11,7 +11,7 @@ import shutil
 import subprocess
 import tempfile
 
-from measure import MIB, ROOT, run
+from measure import MIB, ROOT, measure
 
 LIBRARIES = ["sectors", "refusals", "bio", "blockdev", "sector_disk"]
 
@@ -61,10 +61,10 @@ def main():
         before = None
         for sectors, writes in ((1_048_576, 0), (65_536, 100_000), (65_536, 200_000), (65_536, 400_000)):
             program = build(folder, sectors, writes)
-            seconds, peak = min(run(program, [], {}) for _ in range(3))
-            ratio = f"{seconds / before:6.2f}" if before and writes > 100_000 else "      "
-            before = seconds
-            print(f"{sectors:8d} {writes:8d} {seconds:8.2f} {ratio} {peak / MIB:9.1f}")
+            ran = measure(program, [], {}, 3)
+            ratio = f"{ran.seconds / before:6.2f}" if before and writes > 100_000 else "      "
+            before = ran.seconds
+            print(f"{sectors:8d} {writes:8d} {ran.seconds:8.2f} {ratio} {ran.peak / MIB:9.1f}")
 
 
 if __name__ == "__main__":

@@ -7,6 +7,7 @@ Prints a line for each trial, and ends with status 1 where one fails. The trial 
 """
 import os, pathlib, subprocess, sys, tempfile, threading
 
+
 PROGRAM = os.path.realpath(sys.argv[1]) if len(sys.argv) > 1 else str(pathlib.Path(__file__).resolve().parent.parent / "crates/dmlw/out/dmlw")
 FIRST = b"data 16\nlog 32\nw a 5 1 41\nc a\nf b\nc b\nclose\n"
 TOLD = b"a ok\nb ok\n3 4\n"
@@ -61,6 +62,51 @@ def files(room):
     run("record", script, log)
     trial("zeroes at the end take no room", log.stat().st_size == 1 << 29 and log.stat().st_blocks < 1000, log.stat())
     script.write_bytes(FIRST)
+
+
+def memory(room):
+    script, log = room / "script", pathlib.Path("/dev/shm/dmlw-outside-log")
+    if not log.parent.is_dir():
+        print("--   a file in memory: no /dev/shm")
+        return
+    script.write_bytes(FIRST)
+    try:
+        for older in (None, b"older and longer" * 4096):
+            log.unlink(missing_ok=True)
+            if older:
+                log.write_bytes(older)
+            ran = run("record", script, log)
+            trial(f"a file in /dev/shm is {'replaced' if older else 'made'}", ran.returncode == 0 and log.stat().st_size == 16384, ran)
+    finally:
+        log.unlink(missing_ok=True)
+
+
+def replays(room):
+    script, log, first, out = (room / it for it in ("script", "log", "first", "out"))
+    script.write_bytes(FIRST)
+    run("record", script, log)
+    whole = log.read_bytes()
+    first.write_bytes(bytes(8192))
+    ran = run("replay", log, first, out, "mark:dm-log-writes-end")
+    left = bytes(2560) + b"A" * 512 + bytes(5120)
+    trial("replay writes an image", (ran.returncode, ran.stdout, ran.stderr) == (0, b"replayed 3\n", b"") and out.read_bytes() == left, ran)
+    ran = run("replay", log, first, out, "mark:none")
+    trial("a refused replay leaves the older image", (ran.returncode, ran.stderr) == (1, b"dmlw: 25 NoSuchMark after 0 entries\n") and out.read_bytes() == left, ran)
+    ran = run("replay", log, first, "/dev/stdout", "flush")
+    trial("an image on standard output", ran.stdout == b"replayed 2\n" + left, ran.stderr)
+    ran = run("replay", log, first, log, "flush")
+    trial("a log isn't written over", (ran.returncode, ran.stderr) == (1, b"dmlw: 32 File\n") and log.read_bytes() == whole, ran)
+    ran = run("replay", log, first, first, "flush")
+    trial("an image may be replayed in place", ran.returncode == 0 and first.read_bytes() == left, ran)
+    ran = run("replay", log, first, out, "entries:x")
+    trial("a word that is none of the forms is a usage fault", ran.returncode == 2 and ran.stdout == b"" and ran.stderr != b"", ran)
+    for moment, image, told, status in ((4, left, b"yes\n", 0), (4, bytes(8192), b"no sector 5 ruled out by event 0\n", 1), (2, bytes(8192), b"yes\n", 0)):
+        out.write_bytes(image)
+        ran = run("judge", script, moment, out)
+        trial(f"judge at {moment} says {told.decode().strip()}", (ran.returncode, ran.stdout, ran.stderr) == (status, told, b""), ran)
+    loop = pathlib.Path(__file__).resolve().parent.parent / "examples/each-mark.sh"
+    ran = subprocess.run([loop, log, first, "cmp", first], capture_output=True)
+    trial("examples/each-mark.sh goes over the marks", ran.returncode == 0 and ran.stdout == b"replayed 3\nentry 2: passed\n", ran)
 
 
 def texts(room):
@@ -137,6 +183,6 @@ def killed(room):
 
 
 with tempfile.TemporaryDirectory() as at:
-    for part in (files, texts, pipes, full_disk, killed):
+    for part in (files, memory, replays, texts, pipes, full_disk, killed):
         part(pathlib.Path(at))
 sys.exit(1 if failed else 0)

@@ -38,7 +38,7 @@ pub(crate) fn replay_images(
     ensures fails { IfErr result (FailsOnImages log.items first.items upto.now) }
 {
     let (count, disk) = replay_on_disks(alloc, log, first, upto)?;
-    match disk.bytes() {
+    match disk.into_bytes() {
         Ok(image) => Ok(Replayed { count, image }),
         Err(error) => Err(Stop::Fault(RunError::from(error))),
     }

@@ -6,3 +6,4 @@ pub mod Moved
 pub mod Beginning
 pub mod Lawful
 pub mod Examples
+mod Giving

@@ -1,8 +1,8 @@
 -- What a call does to a disk is what the law asks for.
-use Rattle.std.proofs.Common.{◌≡◌, ℕ, suc, zero, ◌+◌, ◌-◌, ◌≤◌, Bool, true, false, Some, None, List, ◌∷◌, length, refl, ap, subst, sym, ◌∙◌, arith}
+use Rattle.std.proofs.Common.{◌≡◌, ℕ, suc, zero, ◌+◌, ◌-◌, ◌*◌, ◌≤◌, Bool, true, false, Some, None, List, ◌∷◌, length, refl, ap, subst, sym, ◌∙◌, arith}
 use Rattle.std.specs.Prelude.{Option, slice_get}
-use Rattle.sectors.specs.Content.{Content, Patch, gather, nothing, writes}
-use Rattle.sectors.specs.SectorLaws.{gather-ext}
+use Rattle.sectors.specs.Content.{AgreeBelow, Content, Patch, gather, nothing, sector_of, writes}
+use Rattle.sectors.specs.SectorLaws.{gather-ext, length-gather, sector_of-gather}
 use Rattle.blockdev.specs.JoinLaws.{goes_none}
 use Rattle.blockdev.specs.Law.{Goes, Lands}
 use Rattle.blockdev.specs.View.{View}
@@ -12,6 +12,7 @@ use Rattle.sector_disk.specs.Candidates.{Flushes, Puts, Step, view_of}
 use Rattle.sector_disk.specs.CandidateLaws.{goes_flush, goes_puts, lands_puts}
 use Rattle.sector_disk.specs.Shown.{HasPast, cache_of, flushed_after, shown_of, start_of}
 use Rattle.sector_disk.specs.Shown as shown
+use Rattle.sector_disk.specs.ShownLaws.{content_whole}
 use Rattle.sector_disk.specs.inside.Storage.{content_at, past_of, step_after, steps_of}
 
 -- what holds of a view holds of an equal one
@@ -83,3 +84,22 @@ read_of disk calls newest buffer first n same_calls same_newest within is =
     ∙ ap (λ (cs : List Call). gather (content_at cs newest) first n) same_calls
     ∙ ap (λ (places : List ℕ). gather (content_at disk.calls.items places) first n) same_newest
     ∙ read_now disk first n within
+
+-- The bytes of all sectors of a disk, which has given them.
+pub record IsGiven (disk : SectorDisk) (image : List ℕ) : Type 0 where
+  pub content : image ≡ gather (shown_of disk).content 0 (shown_of disk).size
+  pub sectors : AgreeBelow (shown_of disk).size (shown_of disk).content (sector_of image)
+  pub length : length image ≡ 512 * (shown_of disk).size
+
+-- what was read of all the sectors of a disk is its image
+pub given_of : (disk : SectorDisk) (calls : List Call) (newest image : List ℕ) → calls ≡ disk.calls.items → newest ≡ disk.newest.items
+    → image ≡ gather (content_at calls newest) 0 (length newest) → IsGiven disk image
+given_of disk calls newest image same_calls same_newest is =
+    let count = ap length same_newest ∙ disk.kept.newest_length in
+    let whole = content_whole disk in
+    let read = read_of disk calls newest image 0 disk.sectors same_calls same_newest (omega arith) (is ∙ ap (gather (content_at calls newest) 0) count) in
+    record {
+      content = read;
+      sectors = subst (λ (xs : List ℕ). AgreeBelow disk.sectors (shown_of disk).content (sector_of xs)) (sym read) (sector_of-gather disk.sectors (shown_of disk).content whole);
+      length = ap length read ∙ length-gather disk.sectors (shown_of disk).content 0 disk.sectors whole (omega arith);
+    }

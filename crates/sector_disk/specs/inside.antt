@@ -1,3 +1,4 @@
 pub mod Storage
 pub mod Chosen
 pub mod Added
+pub mod Given

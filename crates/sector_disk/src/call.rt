@@ -1,10 +1,12 @@
-ghost use Rattle.std.specs.Prelude.{◌∷◌, ◌++◌, ◌≡◌, ◌%◌, ◌+◌, ◌/◌, ◌≤◌, IfOk, MatchOption, None, OnErr, OnOk, Some, [], drop, length, slice_get, take, ℕ};
+ghost use Rattle.std.specs.Prelude.{true, ◌∷◌, ◌++◌, ◌≡◌, ◌%◌, ◌*◌, ◌+◌, ◌/◌, ◌≤◌, IfOk, MatchOption, None, OnErr, OnOk, Some, [], drop, length, slice_get, take, ℕ};
 ghost use Rattle.sector_disk.specs.inside.Added.{IsFilled, count_of};
+ghost use Rattle.sector_disk.specs.inside.Given.{is_image_in, is_write_of, put_over};
 ghost use Rattle.sector_disk.specs.inside.Storage.{before_at, content_at, is_open, value_at, value_in};
 ghost use Rattle.sectors.specs.Content.{gather, writes};
 
 use sectors::SECTOR_BYTES;
 use std::alloc::{AllocError, Global};
+use std::mem;
 
 /// A sector's size in bytes.
 pub const SECTOR: usize = SECTOR_BYTES as usize;
@@ -97,6 +99,70 @@ pub fn read_places(calls: &[Call], places: &[usize], first: usize, buffer: &mut 
             &mut buffer[from..from + SECTOR],
         );
     }
+}
+
+/// Whether the first of these calls is a write of so many sectors, from the first sector on.
+pub fn begins_with_image(calls: &[Call], sectors: usize) -> bool
+    requires { sectors ≤ 1048576 }
+    ensures { result ≡ is_image_in (slice_get calls.now 0) sectors }
+{
+    match calls.first() {
+        Some(call) => call.first == 0 && is_write_of(&call.change, sectors),
+        None => false,
+    }
+}
+
+// Whether a change is a write of so many sectors.
+fn is_write_of(change: &Change, sectors: usize) -> bool
+    requires { sectors ≤ 1048576 }
+    ensures { result ≡ is_write_of change.now sectors }
+{
+    match change {
+        Change::Write(bytes) => bytes.len() == sectors * SECTOR,
+        Change::Discard(_) => false,
+    }
+}
+
+// Puts into an image, each in its place, the sectors that calls after the first one left.
+fn put_later(later: &[Call], places: &[usize], image: &mut [u8])
+    requires { length image.old ≡ 512 * length places.now }
+    ensures { image.new ≡ gather (put_over later.now places.now image.old) 0 (length places.now) }
+{
+    for sector in 0..places.len() {
+        let place = places[sector];
+        if place > 0 {
+            let from = sector * SECTOR;
+            read_place(
+                later,
+                place - 1,
+                sector as u64,
+                &mut image[from..from + SECTOR],
+            );
+        }
+    }
+}
+
+// Puts them into an image that is a vector.
+fn put_in(later: &[Call], places: &[usize], image: &mut Vec<u8>)
+    requires { length image.old.items ≡ 512 * length places.now }
+    ensures { image.new.items ≡ gather (put_over later.now places.now image.old.items) 0 (length places.now) }
+{
+    put_later(later, places, image);
+}
+
+/// The bytes of all sectors, each as the call at its place left it, in the bytes of the first call, which is a write of all of them.
+pub fn take_image(alloc: Global, calls: &mut [Call], places: &[usize]) -> Vec<u8>
+    requires { is_image_in (slice_get calls.old 0) (length places.now) ≡ true }
+    ensures { result.items ≡ gather (content_at calls.old places.now) 0 (length places.now) }
+{
+    let mut image = Vec::new(alloc);
+    if let [first, later @ ..] = calls {
+        if let Change::Write(bytes) = &mut first.change {
+            image = mem::replace(bytes, image);
+            put_in(later, places, &mut image);
+        }
+    }
+    image
 }
 
 /// The places of a range of sectors. Want of memory is an error.

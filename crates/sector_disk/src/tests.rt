@@ -137,6 +137,28 @@ fn crashes_leave_what_the_picks_name(rt: HostRuntime) -> Result<(), Fail> {
     Ok(())
 }
 
+// An image is given back with the sectors that were put since, also after a crash.
+#[test]
+fn images_are_given_back(rt: HostRuntime) -> Result<(), Fail> {
+    let alloc = rt.alloc();
+    for crashes in [false, true] {
+        let mut disk = SectorDisk::from_bytes(alloc, vec![in alloc; 7; 2048]?)?;
+        disk.write(Ms::new(0), 3, &[9; 512], true)?;
+        disk.write(Ms::new(0), 1, &[8; 512], false)?;
+        disk.discard(Ms::new(0), 1, 1)?;
+        if crashes {
+            disk.crash(&[1]);
+        }
+        let middle = if crashes { 8 } else { 0 };
+        let image = disk.into_bytes()?;
+        for (sector, bytes) in image.chunks(512).enumerate() {
+            let wanted = [7, middle, 7, 9].get(sector).copied().unwrap_or(255);
+            assert!(rt; bytes.iter().all(|byte| *byte == wanted), "sector {sector}");
+        }
+    }
+    Ok(())
+}
+
 // Images of each size are made, written, discarded and given back.
 #[test]
 fn disks_of_each_size_are_kept(rt: HostRuntime) -> Result<(), Fail> {
@@ -157,6 +179,10 @@ fn disks_of_each_size_are_kept(rt: HostRuntime) -> Result<(), Fail> {
             disk.bytes()?.as_slice() == zeroes.as_slice(),
             "{sectors} discarded"
         );
+        assert!(rt;
+            disk.into_bytes()?.as_slice() == zeroes.as_slice(),
+            "{sectors} given back"
+        );
         let mut new = SectorDisk::new(alloc, sectors)?;
         assert!(rt;
             new.bytes()?.as_slice() == zeroes.as_slice(),
@@ -168,6 +194,7 @@ fn disks_of_each_size_are_kept(rt: HostRuntime) -> Result<(), Fail> {
             new.bytes()?.as_slice() == image.as_slice(),
             "{sectors} written"
         );
+        assert!(rt; new.into_bytes()?.as_slice() == image.as_slice());
     }
     let mut large = SectorDisk::new(alloc, 1_048_576)?;
     assert_eq!(rt; large.sectors(), 1_048_576);

@@ -1,11 +1,11 @@
-ghost use Rattle.std.specs.Prelude.{◌≡◌, ◌*◌, ◌/◌, IfOk, length, replicate};
+ghost use Rattle.std.specs.Prelude.{◌≡◌, ◌*◌, ◌/◌, ◌≤◌, IfOk, length, replicate};
 ghost use Rattle.sector_disk.specs.Shown.{shown_of};
 ghost use Rattle.sector_disk.specs.Sizes.{Begins, IsDiskSize, IsImageSize};
 ghost use Rattle.sector_disk.specs.inside.Added.{count_of};
 ghost use Rattle.sector_disk.specs.inside.Storage.{change_values, content_at};
 ghost use Rattle.sectors.specs.Content.{AgreeBelow, gather, put, sector_of};
 
-use crate::call::{Call, Change, SECTOR, read_places};
+use crate::call::{Call, Change, SECTOR, begins_with_image, read_places, take_image};
 use crate::disk::SectorDisk;
 use std::alloc::{AllocError, Global};
 
@@ -46,6 +46,20 @@ fn read_all(calls: &[Call], places: &[usize], image: &mut Vec<u8>)
     read_places(calls, places, 0, image);
 }
 
+// Gives the bytes of all the sectors of a disk, which goes: in the bytes of its first call, where that is a write of all sectors.
+fn give_all(alloc: Global, calls: Vec<Call>, places: &[usize]) -> Result<Vec<u8>, AllocError>
+    requires { length places.now ≤ 1048576 }
+    ensures { IfOk result (λ image. image.items ≡ gather (content_at calls.items places.now) 0 (length places.now)) }
+{
+    let mut calls = calls;
+    if begins_with_image(&calls, places.len()) {
+        return Ok(take_image(alloc, &mut calls, places));
+    }
+    let mut image = vec![in alloc; 0; places.len() * SECTOR]?;
+    read_all(&calls, places, &mut image);
+    Ok(image)
+}
+
 impl SectorDisk {
     /// A disk of so many sectors of zeroes, 1 to 1,048,576. Want of memory is an error.
     pub fn new(alloc: Global, sectors: u64) -> Result<SectorDisk, AllocError>
@@ -75,5 +89,22 @@ impl SectorDisk {
         let mut image = vec![in self.alloc; 0; self.sectors as usize * SECTOR]?;
         read_all(&self.calls, &self.newest, &mut image);
         Ok(image)
+    }
+
+    /// The image of the disk, which goes. A disk that was made of an image gives that one back, with what was put since, and takes no
+    /// memory; else want of memory is an error.
+    pub fn into_bytes(self) -> Result<Vec<u8>, AllocError>
+        ensures content { IfOk result (λ image.
+            image.items ≡ gather (shown_of self).content 0 (shown_of self).size) }
+        ensures sectors { IfOk result (λ image. AgreeBelow (shown_of self).size (shown_of self).content (sector_of image.items)) }
+        ensures length { IfOk result (λ image. length image.items ≡ 512 * (shown_of self).size) }
+    {
+        let SectorDisk {
+            alloc,
+            calls,
+            newest,
+            ..
+        } = self;
+        give_all(alloc, calls, &newest)
     }
 }

@@ -1,2 +1,3 @@
 mod Stopping
 mod Verdicts
+mod Replaying

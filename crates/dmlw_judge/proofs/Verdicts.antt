@@ -1,9 +1,10 @@
 -- What a judging comes to.
-use Rattle.std.proofs.Common.{◌≡◌, ◌∙◌, ◌⊎◌, ℕ, Option, Some, None, List, Result, Ok, Err, IfErr, IfOk, ap, inl, inr, length, refl, subst, sym}
+use Rattle.std.proofs.Common.{◌≡◌, ◌∙◌, ◌⊎◌, ℕ, true, Option, Some, None, List, Result, Ok, Err, IfErr, IfOk, ap, inl, inr, length, refl, subst, sym}
 use Rattle.std.specs.Prelude.{take}
 use Rattle.std.specs.Io.KnownBytes.{Appends, Keeps}
 use Rattle.std.specs.Result.{IsErrAnd}
 use Rattle.bio.specs.declared.event.CoreEvent.{CoreEvent}
+use Rattle.bio.specs.Lawful.{is_lawful}
 use Rattle.sectors.specs.Content.{sector_of}
 use Rattle.refusals.specs.declared.fault.Fault.{Fault}
 use Rattle.refusals.specs.declared.refusal.Refusal.TheVariants as refusals
@@ -29,11 +30,11 @@ use Rattle.dmlw_judge.specs.Judgements.{CanJudge, CannotJudge, EndsJudging, HasN
 
 -- a verdict after these events is one of the script's run
 pub judged_by : (text image : List ℕ) (asked sectors : ℕ) (plan : Plan) (events : List CoreEvent) (r : Result Verdict RunError) → IsImage image → IsTextOf text plan
-    → IsRehearsed plan events → sectors ≡ top_of plan.data_disk
+    → IsRehearsed plan events → is_lawful (top_of plan.data_disk) events ≡ true → sectors ≡ top_of plan.data_disk
     → IfOk r (λ verdict. CanJudge sectors events asked image × IsVerdict sectors (take asked events) (blank (length image)) (sector_of image) verdict)
     → IfOk r (HasVerdict (question text image asked))
-judged_by text image asked sectors plan events (Err fault) whole spelled rehearsed same judged = tt
-judged_by text image asked sectors plan events (Ok verdict) whole spelled rehearsed same judged =
+judged_by text image asked sectors plan events (Err fault) whole spelled rehearsed lawful same judged = tt
+judged_by text image asked sectors plan events (Ok verdict) whole spelled rehearsed lawful same judged =
     let here = subst (λ (n : ℕ). CanJudge n events asked image × IsVerdict n (take asked events) (blank (length image)) (sector_of image) verdict) same judged in
     record {
       text = text;
@@ -41,7 +42,7 @@ judged_by text image asked sectors plan events (Ok verdict) whole spelled rehear
       read = record { script_holds = refl; image_holds = refl; whole = whole };
       plan = plan;
       spelled = spelled;
-      judged = record { events = events; rehearsed = rehearsed; can_judge = here.0; holds = here.1 };
+      judged = record { events = events; rehearsed = rehearsed; lawful = lawful; can_judge = here.0; holds = here.1 };
     }
 
 -- and so is a fault

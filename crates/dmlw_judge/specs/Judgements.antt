@@ -1,8 +1,9 @@
 -- What judging an image by the script in a file comes to.
-use Rattle.std.specs.Prelude.{◌≡◌, ◌⊎◌, ◌<◌, ◌≤◌, ◌*◌, ℕ, List, ◌++◌, Option, Some, Result, Ok, Err, codes, length, replicate, take}
+use Rattle.std.specs.Prelude.{◌≡◌, ◌⊎◌, ◌<◌, ◌≤◌, ◌*◌, ℕ, true, List, ◌++◌, Option, Some, Result, Ok, Err, codes, length, replicate, take}
 use Rattle.std.specs.Io.KnownBytes.{Appends, Keeps}
 use Rattle.sectors.specs.Content.{Content, sector_of}
 use Rattle.bio.specs.declared.event.CoreEvent.{CoreEvent}
+use Rattle.bio.specs.Lawful.{is_lawful}
 use Rattle.refusals.specs.declared.refusal.Refusal.{Refusal}
 use Rattle.refusals.specs.declared.refusal.Refusal.TheVariants as refusals
 use Rattle.pending.specs.Hazards.{last_moment}
@@ -39,10 +40,11 @@ CanJudge sectors events moment image = (moment ≤ last_moment events) × (lengt
 abbrev pub CannotJudge : ℕ → List CoreEvent → ℕ → List ℕ → Type 0
 CannotJudge sectors events moment image = (last_moment events < moment) ⊎ (length image ≡ 512 * sectors → ⊥)
 
--- The verdict on an image, after so many events of a script's run, over zeroes.
+-- The verdict on an image, after so many events of a script's run, over zeroes; they are events of a device of the size of the data disk's top.
 pub record IsJudged (plan : Plan) (moment : ℕ) (image : List ℕ) (verdict : Verdict) : Type 0 where
   pub events : List CoreEvent
   pub rehearsed : IsRehearsed plan events
+  pub lawful : is_lawful (top_of plan.data_disk) events ≡ true
   pub can_judge : CanJudge (top_of plan.data_disk) events moment image
   pub holds : IsVerdict (top_of plan.data_disk) (take moment events) (blank (length image)) (sector_of image) verdict
 

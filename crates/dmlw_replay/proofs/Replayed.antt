@@ -1,5 +1,5 @@
 -- What replaying the log of an image on a disk comes to.
-use Rattle.std.proofs.Common.{◌≡◌, ◌∙◌, ◌⊎◌, ℕ, ◌+◌, ◌*◌, ◌/◌, ◌<◌, ◌≤◌, List, Option, Result, Ok, Err, IfErr, IfOk, ap, arith, inl, inr, length, refl, subst, sym}
+use Rattle.std.proofs.Common.{◌≡◌, ◌∙◌, ◌⊎◌, ℕ, ◌+◌, ◌*◌, ◌/◌, ◌<◌, ◌≤◌, false, List, Option, Result, Ok, Err, IfErr, IfOk, ap, arith, inl, inr, length, refl, subst, sym}
 use Rattle.sectors.specs.Content.{AgreeBelow, Content, HasWholeSectors, sector_of}
 use Rattle.blockdev.specs.View.{View}
 use Rattle.blockdev.specs.Law.{NoLie}
@@ -85,12 +85,13 @@ some_sector log image = let least = image.least in omega arith
 
 -- a log that is opened
 pub opened_on : (log : List ℕ) (v : View) (reader : Reader) → IsImage log → Begins (length log / 512) (sector_of log) v → Undisturbed v reader.device
-    → BeginsWith v.content reader.head → reader.next ≡ 0 → HasWholeSectors reader.device.size reader.device.content → IsOpened log reader
-opened_on log v reader image begins same super_block place whole = record {
+    → BeginsWith v.content reader.head → reader.next ≡ 0 → reader.failed ≡ false → HasWholeSectors reader.device.size reader.device.content → IsOpened log reader
+opened_on log v reader image begins same super_block place fresh whole = record {
   size = same.size ∙ begins.size;
   content = same_sectors log v reader.device begins same;
   super_block = subst (λ (c : Content). BeginsWith c reader.head) (sym same.content) super_block;
   place = place;
+  fresh = fresh;
   whole = whole;
 }
 
@@ -158,24 +159,24 @@ replayed_on log first upto count reader v w image opened begins size honest leav
 
 -- what stopped a replay on disks that never fail
 cause_on : (es : List Entry) (fault : Option LogFault) (upto : Upto) (old new : Reader) (v w : View) (disk applied : ℕ) (cause : ReplayError)
-    → old.next ≡ 0 → v.size ≡ disk → (HasFaulted old.device new.device → ⊥) → (HasFaulted v w → ⊥)
+    → old.next ≡ 0 → old.failed ≡ false → v.size ≡ disk → (HasFaulted old.device new.device → ⊥) → (HasFaulted v w → ⊥)
     → HasReplayCause es fault upto old new v w applied cause → HasStopCause upto old.head es fault disk applied cause
-cause_on es fault upto old new v w disk applied replays.PastEntries place size reader target (none, asks) =
+cause_on es fault upto old new v w disk applied replays.PastEntries place fresh size reader target (none, asks) =
     (none, subst (AsksTooMany upto old.head.count) place asks)
-cause_on es fault upto old new v w disk applied replays.NoSuchMark place size reader target (none, lacks, whole) =
+cause_on es fault upto old new v w disk applied replays.NoSuchMark place fresh size reader target (none, lacks, whole) =
     (none, subst (LacksMark upto es) place lacks, whole)
-cause_on es fault upto old new v w disk applied replays.NoFlush place size reader target (none, lacks, whole) =
+cause_on es fault upto old new v w disk applied replays.NoFlush place fresh size reader target (none, lacks, whole) =
     (none, subst (LacksFlush upto es) place lacks, whole)
-cause_on es fault upto old new v w disk applied replays.PastTarget place size reader target reaches =
+cause_on es fault upto old new v w disk applied replays.PastTarget place fresh size reader target reaches =
     let here : old.next + applied ≡ applied = omega arith in
     subst (λ (n : ℕ). ReachesPast old.head.sectorsize es applied n) size
     (subst (λ (p : ℕ). ReachesPast old.head.sectorsize es p v.size) here reaches)
-cause_on es fault upto old new v w disk applied (replays.Log (reads.Log found)) place size reader target is = is
-cause_on es fault upto old new v w disk applied (replays.Log reads.Device) place size reader target failed = absurd (reader failed)
-cause_on es fault upto old new v w disk applied (replays.Log reads.Memory) place size reader target is = tt
-cause_on es fault upto old new v w disk applied (replays.Log reads.Failed) place size reader target is = is
-cause_on es fault upto old new v w disk applied (replays.Target devices.Io) place size reader target failed = absurd (target (failed refl))
-cause_on es fault upto old new v w disk applied (replays.Target devices.Memory) place size reader target is = tt
+cause_on es fault upto old new v w disk applied (replays.Log (reads.Log found)) place fresh size reader target is = is
+cause_on es fault upto old new v w disk applied (replays.Log reads.Device) place fresh size reader target failed = absurd (reader failed)
+cause_on es fault upto old new v w disk applied (replays.Log reads.Memory) place fresh size reader target is = tt
+cause_on es fault upto old new v w disk applied (replays.Log reads.Failed) place fresh size reader target refused = cc (fresh, refused)
+cause_on es fault upto old new v w disk applied (replays.Target devices.Io) place fresh size reader target failed = absurd (target (failed refl))
+cause_on es fault upto old new v w disk applied (replays.Target devices.Memory) place fresh size reader target is = tt
 
 -- a replay that stopped
 pub stopped_on : (log first : List ℕ) (upto : Upto) (stop : ReplayFault) (old new : Reader) (v w : View) → IsImage log → IsOpened log old
@@ -190,7 +191,7 @@ stopped_on log first upto stop old new v w image opened begins reader target cau
       entries = known.entries;
       fault = known.fault;
       reading = reading_on log old known.entries known.fault image opened known.reads;
-      cause = cause_on known.entries known.fault upto old new v w (length first / 512) stop.applied stop.cause opened.place begins.size reader target
+      cause = cause_on known.entries known.fault upto old new v w (length first / 512) stop.applied stop.cause opened.place opened.fresh begins.size reader target
           (causes known.entries known.fault known.reads);
     }
 

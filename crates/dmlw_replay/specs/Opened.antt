@@ -1,5 +1,5 @@
 -- The log and the image of a replay, as disks in memory.
-use Rattle.std.specs.Prelude.{◌≡◌, ℕ, ◌/◌, ◌<◌, ◌≤◌, List, Option, length}
+use Rattle.std.specs.Prelude.{◌≡◌, ℕ, ◌/◌, ◌<◌, ◌≤◌, false, List, Option, length}
 use Rattle.sectors.specs.Content.{AgreeBelow, HasWholeSectors, sector_of}
 use Rattle.blockdev.specs.View.{View}
 use Rattle.log_format.specs.declared.entry.Entry.{Entry}
@@ -18,6 +18,7 @@ pub record IsOpened (log : List ℕ) (reader : Reader) : Type 0 where
   pub content : AgreeBelow (length log / 512) (sector_of log) reader.device.content
   pub super_block : BeginsWith reader.device.content reader.head
   pub place : reader.next ≡ 0
+  pub fresh : reader.failed ≡ false
   pub whole : HasWholeSectors reader.device.size reader.device.content
 
 -- the entries of a log up to the one that is named, which are so many, were replayed on a first image, and left this device

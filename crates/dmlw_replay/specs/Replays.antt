@@ -50,7 +50,8 @@ pub record IsReplayed (log first : List ℕ) (upto : Upto) (count : ℕ) (image 
   pub size : length image ≡ length first
   pub content : AgreeBelow (length first / 512) (replay head.sectorsize (entries_from entries 0 count) (sector_of first)) (sector_of image)
 
--- the cause by which a replay on an image of so many sectors stopped after so many entries, of a log with this super block, these entries and this fault
+-- the cause by which a replay on an image of so many sectors stopped after so many entries, of a log with this super block, these entries and this fault;
+-- its reader has not refused before
 abbrev pub HasStopCause : Upto → Super → List Entry → Option LogFault → ℕ → ℕ → ReplayError → Type 0
 HasStopCause upto head es fault disk applied replays.PastEntries = (applied ≡ 0) × AsksTooMany upto head.count 0
 HasStopCause upto head es fault disk applied replays.NoSuchMark = (applied ≡ 0) × LacksMark upto es 0 × (fault ≡ None)
@@ -58,7 +59,6 @@ HasStopCause upto head es fault disk applied replays.NoFlush = (applied ≡ 0) �
 HasStopCause upto head es fault disk applied replays.PastTarget = ReachesPast head.sectorsize es applied disk
 HasStopCause upto head es fault disk applied (replays.Log (reads.Log found)) = fault ≡ Some found
 HasStopCause upto head es fault disk applied (replays.Log reads.Memory) = Unit {0}
-HasStopCause upto head es fault disk applied (replays.Log reads.Failed) = Unit {0}
 HasStopCause upto head es fault disk applied (replays.Target devices.Memory) = Unit {0}
 HasStopCause upto head es fault disk applied other = ⊥
 

@@ -56,15 +56,15 @@ impl Files for FakeFiles<'_> {
 // A write of a sector, a flush and the end mark.
 const SCRIPT: &[u8] = b"data 16\nlog 32\nw a 5 1 41\nc a\nf b\nc b\nclose\n";
 
-// The log of that script.
-fn recorded(alloc: Global) -> Result<Vec<u8>, Fail> {
+// The log of a script.
+fn recorded(alloc: Global, script: &[u8]) -> Result<Vec<u8>, Fail> {
     let mut files = FakeFiles {
         files: Vec::new(alloc),
         written: None,
     };
     files.files.push(Named {
         name: "script",
-        bytes: Vec::from_slice(alloc, SCRIPT)?,
+        bytes: Vec::from_slice(alloc, script)?,
     })?;
     let mut out = Vec::new(alloc);
     let mut err = Vec::new(alloc);
@@ -150,7 +150,7 @@ const NAMES: ReplayNames<'static> = ReplayNames {
 #[test]
 fn logs_are_replayed(rt: HostRuntime) -> Result<(), Fail> {
     let alloc = rt.alloc();
-    let log = recorded(alloc)?;
+    let log = recorded(alloc, SCRIPT)?;
     let rows: [(usize, Upto, &str); 8] = [
         (16, Upto::Flush, "0:replayed 2\n16 5=65"),
         (
@@ -180,6 +180,46 @@ fn logs_are_replayed(rt: HostRuntime) -> Result<(), Fail> {
     Ok(())
 }
 
+// Writes of three sectors, of which the flush takes two along; a FUA write that overtakes an earlier one; a flush that overtakes a write, which
+// another one takes along; and a discard of what was written.
+const SPLICE: &[u8] =
+    b"data 64\nlog 32\nw w1 10 1 11\nw w2 20 1 22\nw w3 30 1 33\nc w3\nc w2\nf wf\nc w1\nc wf\nclose\n";
+
+const FUA: &[u8] = b"data 16\nlog 32\nw a 5 1 61\nc a\nw b 5 1 62 fua\nc b\nf g\nc g\nclose\n";
+
+const FLUSH: &[u8] =
+    b"data 16\nlog 32\nw a 5 1 61\nc a\nf f0\nf f1\nc f1\nw x 9 1 63 fua\nc x\nc f0\nclose\n";
+
+const DISCARD: &[u8] = b"data 16\nlog 32\nw a 1 1 7f\nc a\nd b 1 1\nc b\nf g\nc g\nclose\n";
+
+// What each beginning of a script's log leaves.
+#[test]
+fn beginnings_of_a_log_are_replayed(rt: HostRuntime) -> Result<(), Fail> {
+    let alloc = rt.alloc();
+    let rows: [(&[u8], usize, u64, &str); 14] = [
+        (SPLICE, 64, 0, "0:replayed 0\n64"),
+        (SPLICE, 64, 1, "0:replayed 1\n64 30=51"),
+        (SPLICE, 64, 2, "0:replayed 2\n64 20=34 30=51"),
+        (SPLICE, 64, 3, "0:replayed 3\n64 20=34 30=51"),
+        (SPLICE, 64, 5, "0:replayed 5\n64 10=17 20=34 30=51"),
+        (FUA, 16, 1, "0:replayed 1\n16 5=98"),
+        (FUA, 16, 2, "0:replayed 2\n16 5=97"),
+        (FUA, 16, 4, "0:replayed 4\n16 5=97"),
+        (FLUSH, 16, 1, "0:replayed 1\n16"),
+        (FLUSH, 16, 2, "0:replayed 2\n16 9=99"),
+        (FLUSH, 16, 5, "0:replayed 5\n16 5=97 9=99"),
+        (DISCARD, 16, 1, "0:replayed 1\n16 1=127"),
+        (DISCARD, 16, 2, "0:replayed 2\n16"),
+        (DISCARD, 16, 4, "0:replayed 4\n16"),
+    ];
+    for (script, sectors, count, wanted) in rows {
+        let log = recorded(alloc, script)?;
+        let ran = shown(alloc, &log, sectors, NAMES, &Upto::Count(count))?;
+        assert_eq!(rt; ran.as_str(), wanted);
+    }
+    Ok(())
+}
+
 #[test]
 fn sectors_of_a_log_may_be_large(rt: HostRuntime) -> Result<(), Fail> {
     let alloc = rt.alloc();
@@ -194,7 +234,7 @@ fn sectors_of_a_log_may_be_large(rt: HostRuntime) -> Result<(), Fail> {
 #[test]
 fn files_are_refused(rt: HostRuntime) -> Result<(), Fail> {
     let alloc = rt.alloc();
-    let log = recorded(alloc)?;
+    let log = recorded(alloc, SCRIPT)?;
     let rows = [
         ("log", "first", "first", "0:replayed 2\n16 5=65"),
         ("log", "first", "fixed", "1:replayed 2\ndmlw: 32 File\n"),

@@ -1,4 +1,6 @@
-use Rattle.std.proofs.Common.{◌∙◌, IfErr, IfOk, Result, ap, subst, sym}
+use Rattle.std.proofs.Common.{◌≡◌, ◌∙◌, true, IfErr, IfOk, List, Result, ap, subst, sym}
+use Rattle.bio.specs.declared.event.CoreEvent.{CoreEvent}
+use Rattle.bio.specs.Lawful.{is_lawful}
 use Rattle.dmlw_script.specs.Plans.{top_of}
 use Rattle.judge.specs.declared.verdict.Verdict.{Verdict}
 use Rattle.script_runner.specs.declared.error.RunError.{RunError}
@@ -18,9 +20,10 @@ pub returns-clause-verdict : goal.returns-clause-verdict
 returns-clause-verdict c =
     let same = c.top_sectors-sectors.ensures ∙ ap top_of c.data.ensures.disk in
     let rehearsed = subst (IsRehearsed c.args.script.now) (sym c.events.ensures) c.in_ok-rehearsed.ensures.rehearsed in
+    let lawful = subst (λ (es : List CoreEvent). is_lawful (top_of c.args.script.now.data_disk) es ≡ true) (sym c.events.ensures) c.in_ok-rehearsed.ensures.lawful in
     subst (λ (r : Result Verdict RunError). IfOk r (HasVerdict (question c.args.text.now c.args.image.now c.args.moment))) (sym c.judged_by.ensures)
     (judged_by c.args.text.now c.args.image.now c.args.moment c.top_sectors-sectors.result c.args.script.now c.events.result.now c.judge_events-judged.result
-    c.requires.whole c.requires.spelled rehearsed same c.judge_events-judged.ensures.verdict)
+    c.requires.whole c.requires.spelled rehearsed lawful same c.judge_events-judged.ensures.verdict)
 
 pub returns-clause-faults : goal.returns-clause-faults
 returns-clause-faults c =

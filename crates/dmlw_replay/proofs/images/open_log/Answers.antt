@@ -10,7 +10,7 @@ use Rattle.dmlw_replay.proofs.images.open_log.Goals as goal
 pub returns-in-Ok-clause-opened : goal.returns-in-Ok-clause-opened
 returns-in-Ok-clause-opened c =
     opened_on c.args.log.items (shown_of c.in_ok-disk.disk) (reader_of c.in-Ok.reader) c.requires c.in_ok-disk.ensures.begins
-    c.in-Ok.ensures.undisturbed c.in-Ok.ensures.super_block c.in-Ok.ensures.begins.0 (content_whole c.in-Ok.reader.device)
+    c.in-Ok.ensures.undisturbed c.in-Ok.ensures.super_block c.in-Ok.ensures.begins.0 c.in-Ok.ensures.begins.1 (content_whole c.in-Ok.reader.device)
 
 pub returns-in-Err-clause-fails : goal.returns-in-Err-clause-fails
 returns-in-Err-clause-fails c =

@@ -22,6 +22,8 @@ use Rattle.dmlw_commands.specs.Files.{AsksFor, Write}
 use Rattle.dmlw_commands.specs.Lists.{ListsImage, ShowsStatus}
 use Rattle.dmlw_judge.specs.Judgements.{EndsJudging}
 use Rattle.dmlw_replay.specs.Replays.{EndsReplaying}
+use Rattle.dmlw_replay.specs.Whats.{IsWhat}
+use Rattle.replay.specs.declared.upto.Upto.{Upto}
 use Rattle.dmlw.specs.CommandLine.{has_explain, without_explain}
 use Rattle.dmlw.specs.Tasks.{IsRead}
 
@@ -86,6 +88,12 @@ pub record EndsPage (page : List ℕ) (writes_old writes_new : Option (List Writ
   pub unwritten : writes_new ≡ writes_old
   pub told : TellsPage page old new t ended
 
+-- How the replay of the log in a file ends, up to what a word names.
+abbrev pub ReplaysWhat : List ℕ → Option (List ℕ) → Option (List ℕ) → List ℕ → Option (List Write) → Option (List Write) → Option (List ℕ)
+    → Option (List ℕ) → Telling → Ended → Type 0
+ReplaysWhat what log_file first_file name writes_old writes_new old new t ended =
+    (upto : Upto) × IsWhat what upto × EndsReplaying log_file first_file name upto writes_old writes_new old new t ended
+
 -- what a user is told of a word that is none of those that stand in its place
 abbrev pub flaw_text : Flaw → List ℕ
 flaw_text flaws.What = codes "error: <WHAT> is entries:<n>, mark:<text> or flush\n"
@@ -123,8 +131,8 @@ pub record DoesWords (words : List (List ℕ)) (contents : List ℕ → Option (
 
 -- The line of a fault by which a command ends so: of the fault itself, or of a replay that it refused after so many entries.
 pub data IsFaultLine (exit : Exit) (line : List ℕ) : Type 0 where
-  fault : (cause : RunError) → exit ≡ exit_of cause → line ≡ fault_line cause → IsFaultLine exit line
-  stopped : (applied : ℕ) (cause : Refusal) → exit ≡ Refused → line ≡ stopped_line applied cause → IsFaultLine exit line
+  of_fault : (cause : RunError) → exit ≡ exit_of cause → line ≡ fault_line cause → IsFaultLine exit line
+  of_replay : (applied : ℕ) (cause : Refusal) → exit ≡ Refused → line ≡ stopped_line applied cause → IsFaultLine exit line
 
 -- One line was told, of a fault by which the command ends so, and nothing else, where the error stream took it.
 pub record TellsOneLine (ended : Ended) (old new : Option (List ℕ)) : Type 0 where

@@ -2,7 +2,8 @@ ghost use Rattle.std.specs.Prelude.{◌≡◌, ◌⊎◌, List, ℕ, ◌++◌, I
 ghost use Rattle.std.specs.List.{filter, list_any};
 ghost use Rattle.clap.specs.Words.{FailsBy, fault_of, found_of, kind_of, rows_of, subcommand_of, subcommand_rows_of};
 ghost use Rattle.dmlw.specs.CommandLine.{Entered, has_explain, is_explain, is_formats, program_app, without_explain};
-ghost use Rattle.dmlw.specs.Tasks.{IsAskedBy, IsComplete, IsRead, IsReadByClap};
+ghost use Rattle.dmlw.specs.Names.{HasWords};
+ghost use Rattle.dmlw.specs.Tasks.{AsksBy, IsAskedBy, IsComplete, IsRead, IsReadByClap};
 
 use crate::asking::{judge_task, list_task, record_task, replay_task, status_task};
 use crate::formats::FORMATS;
@@ -20,8 +21,25 @@ fn task_of<'a>(matches: &ArgMatches<'a>) -> Option<Task<'a>>
     ensures complete { (entered : Entered) → subcommand_rows_of matches.now ≡ Some entered →
         IsComplete entered → is_some result ≡ true }
 {
-    let (name, found) = matches.subcommand()?;
-    match Name::of(name)? {
+    let (word, found) = entered(matches)?;
+    let name = Name::of(word)?;
+    task_by(name, found)
+}
+
+// The word by which a command was entered, and what was found of its own words.
+fn entered<'m, 'a>(matches: &'m ArgMatches<'a>) -> Option<(&'a str, &'m ArgMatches<'a>)>
+    ensures some { IfSome result (λ found. subcommand_rows_of matches.now ≡ Some (found.0.now, rows_of (found_of found.1.now))) }
+    ensures none { result ≡ None → subcommand_rows_of matches.now ≡ None }
+{
+    matches.subcommand()
+}
+
+// The task that a command asks for with the words that were entered.
+fn task_by<'a>(name: Name, found: &ArgMatches<'a>) -> Option<Task<'a>>
+    ensures asks { IfSome result (AsksBy name (rows_of (found_of found.now))) }
+    ensures complete { HasWords name (rows_of (found_of found.now)) → is_some result ≡ true }
+{
+    match name {
         Name::Record => record_task(found),
         Name::List => list_task(found),
         Name::Status => status_task(found),

@@ -7,7 +7,7 @@ use std::alloc::Global;
 use std::io;
 use std::test::Fail;
 
-mod words;
+mod doing;
 
 // The files "script" and "image" can be read, and the file "log" written.
 #[derive(Drop)]

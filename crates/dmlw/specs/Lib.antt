@@ -1,3 +1,4 @@
+pub mod Names
 pub mod CommandLine
 pub mod Tasks
 pub mod Commands

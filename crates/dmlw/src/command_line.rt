@@ -1,115 +1,51 @@
-ghost use Rattle.std.specs.Prelude.{◌≡◌, ◌⊎◌, ℕ, List, ◌++◌, IfOk, IfSome, OnOk, Some, false, is_some, map, not, true};
+ghost use Rattle.std.specs.Prelude.{◌≡◌, ◌⊎◌, List, ℕ, ◌++◌, IfOk, IfSome, None, OnOk, Some, false, is_some, map, not, true};
 ghost use Rattle.std.specs.List.{filter, list_any};
-ghost use Rattle.clap.specs.Words.{App, FailsBy, app_of, fault_of, kind_of, rule_of, subcommand_of, subcommand_rows_of, with_subcommand};
-ghost use Rattle.dmlw.specs.CommandLine.{Entered, IsCommandOf, bare_app, entered_of, file_rule, has_explain, is_explain, is_formats, log_app, program_app, record_app, without_explain};
-ghost use Rattle.dmlw.specs.Tasks.{IsAskedBy, IsComplete, IsRead, IsReadByClap};
+ghost use Rattle.clap.specs.Words.{FailsBy, fault_of, found_of, kind_of, rows_of, subcommand_of, subcommand_rows_of};
+ghost use Rattle.dmlw.specs.CommandLine.{Entered, has_explain, is_explain, is_formats, program_app, without_explain};
+ghost use Rattle.dmlw.specs.Names.{HasWords};
+ghost use Rattle.dmlw.specs.Tasks.{AsksBy, IsAskedBy, IsComplete, IsRead, IsReadByClap};
 
+use crate::asking::{judge_task, list_task, record_task, replay_task, status_task};
 use crate::formats::FORMATS;
+use crate::name::Name;
+use crate::program::program_command;
+use crate::task::Task;
 use clap::error::ErrorKind;
-use clap::{Arg, ArgMatches, Command, Error};
+use clap::{ArgMatches, Error};
 use std::alloc::{AllocError, Global};
 use std::convert::AsStr;
 
-// What help says after its lists.
-const AFTER_HELP: &str = "\
-Exit status: 0 done, 1 refused, 2 usage, 3 logging ended before its time.
-A status such as 3 4 says: 3 entries, of which the last uses sector 4.
-With --explain, in any place: what helps stands behind a fault's line.
-dmlw help formats: the grammar of scripts, the faults and the limits.";
-
-/// What a command line asks for.
-#[derive(Debug, Drop)]
-pub enum Task<'a> {
-    /// To record the requests of a script in a new log. Both are names of files.
-    Record { script: &'a str, log: &'a str },
-    /// To list the entries of the log in the file of this name.
-    List { log: &'a str },
-    /// To print the status of the log in the file of this name.
-    Status { log: &'a str },
-    /// To print this page: what is read and printed.
-    Formats(&'static str),
-    /// To show a text: help, the version, or why the line isn't one of the program's.
-    Show(Error),
-}
-
-// A word that names a file.
-fn file<'a>(alloc: Global, name: &'a str, help: &'a str) -> Arg<'a>
-    ensures rule { rule_of result ≡ file_rule name.entry.now }
-    ensures own { result.global ≡ false }
-{
-    Arg::new(alloc, name).required(true).help(help)
-}
-
-fn record_command<'a>(alloc: Global) -> Result<Command<'a>, AllocError>
-    ensures { IfOk result (IsCommandOf record_app) }
-{
-    Command::new(alloc, "record")
-        .about("Records the requests of a script in a new log")
-        .arg(file(alloc, "SCRIPT", "The script to read"))?
-        .arg(file(alloc, "LOG", "The log to write"))
-}
-
-// A command that reads a log.
-fn log_command<'a>(alloc: Global, name: &'a str, about: &'a str) -> Result<Command<'a>, AllocError>
-    ensures { IfOk result (IsCommandOf (log_app name.entry.now)) }
-{
-    Command::new(alloc, name)
-        .about(about)
-        .arg(file(alloc, "LOG", "The log to read"))
-}
-
-// The program's command without those that it is asked by.
-fn bare_command<'a>(alloc: Global) -> Command<'a>
-    ensures { app_of result ≡ bare_app }
-{
-    Command::new(alloc, "dmlw")
-        .about("Records block requests in a log, and reads logs back")
-        .version("0.1 (log format version 1)")
-        .after_help(AFTER_HELP)
-        .subcommand_required(true)
-        .arg_required_else_help(true)
-}
-
-// The program's command with one more that it is asked by.
-fn with_command<'a>(
-    program: Command<'a>,
-    made: Result<Command<'a>, AllocError>,
-) -> Result<Command<'a>, AllocError>
-    ensures { (lower : App) → IfOk made.entry (IsCommandOf lower) →
-        IfOk result (λ command. app_of command ≡ with_subcommand (app_of program.entry) lower.top) }
-{
-    program.subcommand(made?)
-}
-
-fn program_command<'a>(alloc: Global) -> Result<Command<'a>, AllocError>
-    ensures { IfOk result (λ command. app_of command ≡ program_app) }
-{
-    let program = with_command(bare_command(alloc), record_command(alloc))?;
-    let list = log_command(alloc, "list", "Lists the entries of a log");
-    let program = with_command(program, list)?;
-    let status = log_command(alloc, "status", "Tells how far a log has come");
-    with_command(program, status)
-}
-
 // The task that a parse found.
 fn task_of<'a>(matches: &ArgMatches<'a>) -> Option<Task<'a>>
-    ensures asks { IfSome result (IsAskedBy (entered_of (subcommand_rows_of matches.now))) }
-    ensures complete { (entered : Entered) → entered_of (subcommand_rows_of matches.now) ≡ Some entered →
+    ensures asks { IfSome result (IsAskedBy (subcommand_rows_of matches.now)) }
+    ensures complete { (entered : Entered) → subcommand_rows_of matches.now ≡ Some entered →
         IsComplete entered → is_some result ≡ true }
 {
-    let (name, found) = matches.subcommand()?;
-    let log = found.get_str("LOG")?;
-    if name == "record" {
-        let script = found.get_str("SCRIPT")?;
-        return Some(Task::Record { script, log });
+    let (word, found) = entered(matches)?;
+    let name = Name::of(word)?;
+    task_by(name, found)
+}
+
+// The word by which a command was entered, and what was found of its own words.
+fn entered<'m, 'a>(matches: &'m ArgMatches<'a>) -> Option<(&'a str, &'m ArgMatches<'a>)>
+    ensures some { IfSome result (λ found. subcommand_rows_of matches.now ≡ Some (found.0.now, rows_of (found_of found.1.now))) }
+    ensures none { result ≡ None → subcommand_rows_of matches.now ≡ None }
+{
+    matches.subcommand()
+}
+
+// The task that a command asks for with the words that were entered.
+fn task_by<'a>(name: Name, found: &ArgMatches<'a>) -> Option<Task<'a>>
+    ensures asks { IfSome result (AsksBy name (rows_of (found_of found.now))) }
+    ensures complete { HasWords name (rows_of (found_of found.now)) → is_some result ≡ true }
+{
+    match name {
+        Name::Record => record_task(found),
+        Name::List => list_task(found),
+        Name::Status => status_task(found),
+        Name::Replay => replay_task(found),
+        Name::Judge => judge_task(found),
     }
-    if name == "list" {
-        return Some(Task::List { log });
-    }
-    if name == "status" {
-        return Some(Task::Status { log });
-    }
-    None
 }
 
 // Parses the command line.

@@ -1,22 +1,25 @@
-ghost use Rattle.std.specs.Prelude.{◌≡◌, ◌⊎◌, Bool, IfErr, MatchResult, false, map};
+ghost use Rattle.std.specs.Prelude.{◌≡◌, ◌⊎◌, Bool, IfErr, MatchResult, false, map, true};
 ghost use Rattle.std.specs.Io.KnownBytes.{Appends, Keeps};
 ghost use Rattle.std.specs.IoError.{error_kind};
 ghost use Rattle.clap.specs.Words.{kind_of};
 ghost use Rattle.dmlw.specs.CommandLine.{has_explain};
-ghost use Rattle.dmlw.specs.Commands.{AsksForOne, DoesWords, EndsCommand, EndsTask, EndsUntasked, TellsBy, TellsPage, TellsUntasked, is_asked_for, unread_exit};
+ghost use Rattle.dmlw.specs.Commands.{AsksForOne, DoesWords, EndsCommand, EndsTask, EndsUntasked, TellsBy, TellsPage, TellsUntasked, flaw_text, is_asked_for, unread_exit};
 ghost use Rattle.dmlw_commands.specs.Endings.{telling};
 ghost use Rattle.script_runner.specs.Errors.{IsFileError};
 ghost use Rattle.dmlw_commands.specs.Files.{KeepsFiles};
-ghost use Rattle.dmlw_commands.specs.declared.exit.Exit.TheVariants.{LoggingEnded};
+ghost use Rattle.dmlw_commands.specs.declared.exit.Exit.TheVariants.{LoggingEnded, Usage};
 ghost use Rattle.dmlw_commands.specs.Exits.{IsRefusal, status_of};
 
-use crate::command_line::{Task, has_explain, read_words, unread, without_explain};
+use crate::command_line::{has_explain, read_words, unread, without_explain};
+use crate::task::{Flaw, Task};
 use clap::Error;
 use clap::error::ErrorKind;
 use dmlw_commands::list::list;
 use dmlw_commands::record::record;
 use dmlw_commands::status::status;
 use dmlw_commands::{Ended, Exit, Files, end, report};
+use dmlw_judge::judge;
+use dmlw_replay::replay;
 use refusals::Refusal;
 use script_runner::RunError;
 use std::alloc::Global;
@@ -24,8 +27,8 @@ use std::convert::AsStr;
 use std::io;
 use std::io::Write;
 
-/// Does what a command line asks for, and answers how it ended: its exit status is 0 done, 1 refused, 2 a
-/// command line that isn't one of the program's, 3 logging ended before its time. `words` begin with the
+/// Does what a command line asks for, and answers how it ended: its exit status is 0 done, 1 refused or an
+/// image that is ruled out, 2 a command line that isn't one of the program's, 3 logging ended before its time. `words` begin with the
 /// program's name. What the user is to read goes to `out`; faults go to `err`, and with `--explain` among
 /// the words what helps against them. Where `out` can't be written the command is refused, as by a file
 /// that can't be.
@@ -81,8 +84,15 @@ fn perform<F: Files, O: Write, E: Write>(
         Task::Record { script, log } => record(alloc, explains, script, log, files, out, err),
         Task::List { log } => list(alloc, explains, log, files, out, err),
         Task::Status { log } => status(alloc, explains, log, files, out, err),
+        Task::Replay { names, upto } => replay(alloc, explains, names, &upto, files, out, err),
+        Task::Judge {
+            script,
+            moment,
+            image,
+        } => judge(alloc, explains, script, moment, image, files, out, err),
         Task::Formats(page) => print_page(alloc, page, out, err),
         Task::Show(text) => show(alloc, text, out, err),
+        Task::Flawed(flaw) => tell_flaw(flaw, err),
     }
 }
 
@@ -116,6 +126,17 @@ fn write_page<O: Write>(page: &str, out: &mut O) -> Result<(), RunError>
     out.write_all(page.as_bytes())?;
     out.flush()?;
     Ok(())
+}
+
+// Tells that a word is none of those that stand in its place.
+fn tell_flaw<E: Write>(flaw: Flaw, err: &mut E) -> Ended
+    ensures usage { result.exit ≡ Usage }
+    ensures told { result.is_told ≡ true → Appends (E.contents err.old) (E.contents err.new) (flaw_text flaw) }
+{
+    Ended {
+        exit: Exit::Usage,
+        is_told: write_page(flaw.text(), err).is_ok(),
+    }
 }
 
 // Shows the text of a command line that has no other task.

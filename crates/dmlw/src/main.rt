@@ -9,10 +9,14 @@
 //! and streams, of which no clause knows what they hold.
 #![tactic(auto)]
 
+mod asking;
 mod command_line;
 mod execute;
 mod formats;
 mod laws;
+mod name;
+mod program;
+mod task;
 #[cfg(test)]
 mod tests;
 

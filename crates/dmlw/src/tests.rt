@@ -7,6 +7,8 @@ use std::alloc::Global;
 use std::io;
 use std::test::Fail;
 
+mod doing;
+
 // The files "script" and "image" can be read, and the file "log" written.
 #[derive(Drop)]
 struct FakeFiles<'a> {
@@ -92,7 +94,7 @@ fn run(alloc: Global, words: &[&str], bytes: &[u8]) -> Ran {
 
 const FIRST: &str = "data 16\nlog 32\nw a 5 1 41\nc a\nf b\nc b\nclose\n";
 
-// The three commands, by their words.
+// The first three commands, by their words.
 #[test]
 fn does_what_words_ask_for(rt: HostRuntime) -> Result<(), Fail> {
     let alloc = rt.alloc();
@@ -132,7 +134,23 @@ record -x b|2|unexpected argument '-x'
 --explain frob|2|unrecognized subcommand 'frob'
 list|2|<LOG>
 status|2|<LOG>
-list a b|2|unexpected argument 'b'";
+list a b|2|unexpected argument 'b'
+help|0|replay  Replays the beginning of a log on an image
+help|0|judge   Judges whether an image could have been on the device
+replay --help|0|Usage: dmlw replay <LOG> <FIRST> <OUT> <WHAT>
+replay --help|0|entries:<n>, mark:<text> or flush
+judge --help|0|Usage: dmlw judge <SCRIPT> <M> <IMAGE>
+help judge|0|The number of events before the power failure
+replay|2|<LOG>
+replay a b c|2|<WHAT>
+replay a b c flush d|2|unexpected argument 'd'
+replay a b -c flush|2|unexpected argument '-c'
+replay a b c what|2|<WHAT> is entries:<n>, mark:<text> or flush
+replay a b c entries:18446744073709551616|2|<WHAT> is
+judge a 1|2|<IMAGE>
+judge a 1 b c|2|unexpected argument 'c'
+judge a -1 b|2|unexpected argument '-1'
+judge a x b|2|<M> is a number of 1 to 20 digits, below 2^64";
 
 #[test]
 fn reads_command_lines(rt: HostRuntime) -> Result<(), Fail> {

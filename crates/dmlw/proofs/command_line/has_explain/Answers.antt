@@ -1,6 +1,6 @@
 use Rattle.std.proofs.Common.{◌∙◌, ◌≤◌, ◌-◌, arith, drop, length, length-drop}
 use Rattle.std.proofs.lemmas.List.{take_all}
-use Rattle.dmlw.proofs.PlainWords.{explains_of}
+use Rattle.dmlw.proofs.Entering.{explains_of}
 use Rattle.dmlw.proofs.command_line.has_explain.Goals as goal
 
 pub returns-in-len1-up : goal.returns-in-len1-up

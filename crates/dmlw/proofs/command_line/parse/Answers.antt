@@ -1,7 +1,7 @@
 use Rattle.std.proofs.Common.{◌∙◌, List, map, ap, subst}
 use Rattle.std.proofs.lemmas.Result.{IfOk-weaker}
 use Rattle.clap.specs.Words.{App, FailsBy, Kinds, Text, fault_of, is_simple, is_simple_and_free, subcommand_of}
-use Rattle.dmlw.proofs.PlainWords.{is_free_program, is_simple_app}
+use Rattle.dmlw.proofs.Entering.{is_free_program, is_simple_app}
 use Rattle.dmlw.proofs.command_line.parse.Goals as goal
 
 pub returns-clause-entered : goal.returns-clause-entered

@@ -1,7 +1,7 @@
 use Rattle.std.proofs.Common.{IfOk, subst}
 use Rattle.dmlw.specs.CommandLine.{IsCommandOf}
 use Rattle.dmlw.proofs.Apps.{command_added}
-use Rattle.dmlw.proofs.command_line.with_command.Goals as goal
+use Rattle.dmlw.proofs.program.with_command.Goals as goal
 
 pub returns : goal.returns
 returns c = λ lower made.

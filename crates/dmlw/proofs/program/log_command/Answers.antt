@@ -1,11 +1,11 @@
 use Rattle.std.proofs.Common.{◌∙◌, ap}
 use Rattle.clap.specs.Simple.{app_of_fields}
 use Rattle.dmlw.proofs.Apps.{arg_added}
-use Rattle.dmlw.proofs.command_line.log_command.Goals as goal
+use Rattle.dmlw.proofs.program.log_command.Goals as goal
 
 pub returns : goal.returns
 returns c =
-    arg_added c.about.result c.file.result _ _ c.arg.result c.arg.ensures c.file.ensures.own (record {
+    arg_added c.about.result c.argument.result _ _ c.arg.result c.arg.ensures c.argument.ensures.own (record {
       reads = ap app_of_fields c.about.ensures ∙ c.new.ensures.app;
       own = ap (λ f. f.has_globals) c.about.ensures ∙ c.new.ensures.local;
-    }) c.file.ensures.rule
+    }) c.argument.ensures.rule

@@ -4,3 +4,4 @@ pub mod Law
 pub mod JoinLaws
 pub mod DurableLaws
 pub mod Counted
+pub mod Messages

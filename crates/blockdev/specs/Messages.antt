@@ -1,0 +1,103 @@
+-- What a message may change, and what it is refused by.
+use Rattle.std.proofs.Common.{◌≡◌, ℕ, ◌≤◌, Bool, refl, ap, ◌∙◌, inl, arith}
+use Rattle.std.specs.Prelude.{◌||◌}
+use Rattle.refusals.specs.declared.refusal.Refusal.{Refusal}
+use Rattle.refusals.specs.declared.refusal.Refusal.TheVariants as refusals
+use Rattle.sectors.specs.Content.{Content, nothing}
+use Rattle.sectors.specs.ContentLaws.{patched-same}
+use Rattle.blockdev.specs.declared.message.MessageError.{MessageError}
+use Rattle.blockdev.specs.declared.message.MessageError.TheVariants as errors
+use Rattle.blockdev.specs.Counted.{counted, sum_of}
+use Rattle.blockdev.specs.Law.{Goes, Stays}
+use Rattle.blockdev.specs.View.{View}
+
+-- the refusal that a message's error is shown by
+abbrev pub message_refusal : MessageError → Refusal
+message_refusal errors.BadMessage = refusals.BadMessage
+message_refusal errors.AlreadyBad = refusals.AlreadyBad
+message_refusal errors.NotBad = refusals.NotBad
+message_refusal errors.Memory = refusals.Memory
+
+-- What contracts see of a device is what it was.
+pub record Unchanged (v w : View) : Type 0 where
+  pub size : w.size ≡ v.size
+  pub place : w.place ≡ v.place
+  pub content : w.content ≡ v.content
+  -- a crash may leave the same, now and since any moment
+  pub crash : (left : Content) → v.crash left → w.crash left
+  pub crash_before : (left : Content) → w.crash left → v.crash left
+  pub moment : w.moment ≡ v.moment
+  pub since : (moment : ℕ) (left : Content) → v.since moment left → w.since moment left
+  pub since_before : (moment : ℕ) (left : Content) → w.since moment left → v.since moment left
+  pub faults : w.faults ≡ v.faults
+  pub lies : w.lies ≡ v.lies
+  pub can_lie : w.can_lie ≡ v.can_lie
+
+-- a view is what it is
+pub unchanged_none : (v : View) → Unchanged v v
+unchanged_none v = record {
+  size = refl;
+  place = refl;
+  content = refl;
+  crash = λ left may. may;
+  crash_before = λ left may. may;
+  moment = refl;
+  since = λ moment left may. may;
+  since_before = λ moment left may. may;
+  faults = refl;
+  lies = refl;
+  can_lie = refl;
+}
+
+-- nothing was changed in two steps where nothing was in either
+pub unchanged_both : (u v w : View) → Unchanged u v → Unchanged v w → Unchanged u w
+unchanged_both u v w first second = record {
+  size = second.size ∙ first.size;
+  place = second.place ∙ first.place;
+  content = second.content ∙ first.content;
+  crash = λ left may. second.crash left (first.crash left may);
+  crash_before = λ left may. first.crash_before left (second.crash_before left may);
+  moment = second.moment ∙ first.moment;
+  since = λ moment left may. second.since moment left (first.since moment left may);
+  since_before = λ moment left may. first.since_before moment left (second.since_before moment left may);
+  faults = second.faults ∙ first.faults;
+  lies = second.lies ∙ first.lies;
+  can_lie = second.can_lie ∙ first.can_lie;
+}
+
+-- so a device goes through a message as through a call that changes nothing
+pub unchanged_goes : (v w : View) → Unchanged v w → Goes nothing v w
+unchanged_goes v w same = record {
+  size = same.size;
+  place = same.place;
+  content = λ sector. inl (ap (λ (c : Content). c sector) same.content);
+  crash = λ left may. (left, same.crash_before left may, patched-same nothing left);
+  moment = let at = same.moment in omega arith;
+  gains = λ moment left h may. inl (same.since_before moment left may);
+  keeps = λ moment left h may. same.since moment left may;
+  faults = let count = same.faults in omega arith;
+  lies = let count = same.lies in omega arith;
+  can_lie = same.can_lie;
+  honest = λ none. same.lies;
+}
+
+-- and what a crash may leave stays
+pub unchanged_stays : (v w : View) → Unchanged v w → Stays v w
+unchanged_stays v w same = record { crash = same.crash }
+
+-- where nothing is changed beneath a layer, nothing is in it
+pub unchanged_counted : (v w : View) (faults lies : ℕ) (drops : Bool) → Unchanged v w
+    → Unchanged (counted v faults lies drops) (counted w faults lies drops)
+unchanged_counted v w faults lies drops same = record {
+  size = same.size;
+  place = same.place;
+  content = same.content;
+  crash = same.crash;
+  crash_before = same.crash_before;
+  moment = same.moment;
+  since = same.since;
+  since_before = same.since_before;
+  faults = ap (λ (count : ℕ). sum_of count faults) same.faults;
+  lies = ap (λ (count : ℕ). sum_of count lies) same.lies;
+  can_lie = ap (λ (below : Bool). below || drops) same.can_lie;
+}

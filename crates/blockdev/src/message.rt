@@ -1,0 +1,61 @@
+ghost use Rattle.std.specs.Prelude.{◌≡◌, List, Result, ℕ};
+ghost use Rattle.blockdev.specs.Messages.{Unchanged, message_refusal};
+
+use crate::BlockDev;
+use refusals::Refusal;
+use std::alloc::AllocFailed;
+use thiserror::Error;
+
+/// Why a message is refused.
+#[derive(Clone, Copy, Debug, PartialEq, Eq, Error)]
+pub enum MessageError {
+    /// The layer takes no such message, its block isn't within the layer, or there is no such layer.
+    #[error("no such message")]
+    BadMessage,
+    /// The block is listed as bad.
+    #[error("the block is listed as bad")]
+    AlreadyBad,
+    /// The block isn't listed as bad.
+    #[error("the block isn't listed as bad")]
+    NotBad,
+    /// There was no memory.
+    #[error("no memory")]
+    Memory,
+}
+
+impl From<MessageError> for Refusal {
+    ghost from_gives = { λ error refusal. refusal ≡ message_refusal error };
+
+    fn from(error: MessageError) -> Refusal {
+        match error {
+            MessageError::BadMessage => Refusal::BadMessage,
+            MessageError::AlreadyBad => Refusal::AlreadyBad,
+            MessageError::NotBad => Refusal::NotBad,
+            MessageError::Memory => Refusal::Memory,
+        }
+    }
+}
+
+impl<T: Drop> From<AllocFailed<T>> for MessageError {
+    ghost use Rattle.blockdev.specs.declared.message.MessageError.TheVariants.{Memory};
+
+    ghost from_gives = { λ _ error. error ≡ Memory };
+
+    fn from(_error: AllocFailed<T>) -> MessageError {
+        MessageError::Memory
+    }
+}
+
+/// A device of which a layer takes messages, which change what it does with later calls.
+pub trait Message: BlockDev {
+    ghost use Rattle.blockdev.specs.declared.message.MessageError.{MessageError};
+
+    /// Whether the device, before a message to this layer and after it, can have answered this.
+    ghost answers: { Self → ℕ → List ℕ → Result (Unit {0}) MessageError → Self → Type 0 };
+
+    /// Hands a message to a layer, counted from 1. Whatever it answers, what the device holds, what a crash may leave, and
+    /// the counts of faults and lies stay as they are. Refused by BadMessage, AlreadyBad, NotBad or Memory.
+    fn message(&mut self, layer: u64, text: &str) -> Result<(), MessageError>
+        ensures same { Unchanged (Self.shown self.old) (Self.shown self.new) }
+        ensures answers { answers self.old layer text.now result self.new };
+}

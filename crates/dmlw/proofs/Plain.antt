@@ -86,7 +86,7 @@ plain_asks name program words rows task plain enters has read =
     let plainly : IsRead (command_words program name words) task = subst (λ (ws : List Text). IsRead ws task) (stays_plain name program words plain) read in
     asks_for name rows task
     (read_asks (command_words program name words) task (name_text name, rows) (names_help name program words task plainly) enters
-    (name, (refl, has)))
+    (name, refl, has))
 
 -- ---- want of memory
 

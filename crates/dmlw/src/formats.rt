@@ -52,8 +52,20 @@ layer begins on what stands beneath it, within which it lies. Requests are withi
 | `record` | at `c`: `<id> ok` or `<id> failed`; `<id> failed` at a submission that found no memory, and `mark failed` at such a mark; at `r`: `read <first>+<count> ok ` and the first byte of each sector as two digits, joined, or `read <first>+<count> failed`; at the end `hazard H1 at event <n>` or `hazard H2 at event <n>` where there is one, the status, with ` logging_disabled` behind it where logging ended before its time, and `lies <data> <log>` where a layer has lied: how often those of the data disk did, and those of the log's |
 | `list` | `super version 1 entries <n> sectorsize <S>`, then a line of each entry: `<number> @<log sector>`, and `mark <text>`, `discard <sector>+<sectors>`, `flush` or `write <sector>+<sectors>`, the last two with ` flush` (of a write), ` fua`, ` meta` where set |
 | `status` | `<entries> <sector>`: how many entries the log counts, and the highest sector of 512 bytes that they use; `0 0` of an empty log |
+| `replay` | `replayed <n>`: how many entries of the log were applied to the image FIRST. Then the image is written as OUT |
+| `judge` | `yes`, or `no sector <s> ruled out by event <p>`, or `no sector <s> holds no submitted value` where no durable request covers the sector |
 
 `help formats` prints this page.
+
+`replay LOG FIRST OUT WHAT` applies the beginning of a log that WHAT names: `entries:<n>`, so many entries; `mark:<text>`, all up to the first mark
+of exactly this text; `flush`, all up to the first flush. OUT is of the size of FIRST, and is written only where all of them were applied; it may be
+the file FIRST, and isn't written over LOG. FIRST is whole sectors, at most 1,048,576. The images have sectors of 512 bytes, also where the log's are larger.
+
+`judge SCRIPT M IMAGE` runs the script as `record` does, writes no log, and judges whether the image could have been on the data disk, as seen from the top of its
+layers, had power failed after M of the recorder's events; at first the disk holds zeroes. The events are the submissions, ends, marks and the close,
+counted from 0, and where logging ends before its time that.
+
+M, and n of `entries:<n>`, are 1 to 20 decimal digits of a value below 2^64. Another M, or a WHAT of no such form, is a usage fault, told before a file is read.
 
 A hazard is the first end of a request, among the submissions, ends, marks and the close counted from 0, at which the log's order gives up what a disk
 promises: H1 where a FUA write or a write with flush overtakes a write over one of its sectors, H2 where a flush overtakes a write that it made
@@ -68,13 +80,14 @@ and two lower case hexadecimal digits.
 | Status | Meaning |
 |---|---|
 | 0 | done |
-| 1 | refused: a line on standard error says by which number and name |
+| 1 | refused: a line on standard error says by which number and name; or `judge` has printed a `no`, and nothing stands on standard error |
 | 2 | the command line isn't one of the program's |
 | 3 | logging ended before its time: the log is full, its device failed, or memory ran out; it is written as far as it came, unless it couldn't be made |
 
 ## Faults
 
-A fault is one line on standard error: `dmlw: <number> <name>`, or `dmlw: line <n>: <number> <name>` of a script's line.
+A fault is one line on standard error: `dmlw: <number> <name>`, or `dmlw: line <n>: <number> <name>` of a script's line, or
+`dmlw: <number> <name> after <n> entries` of a replay that stopped there.
 
 | No | Name | When a command tells it |
 |---|---|---|
@@ -87,9 +100,13 @@ A fault is one line on standard error: `dmlw: <number> <name>`, or `dmlw: line <
 | 19, 20 | Device, Memory | no log could be made, since its device failed, or for want of memory (status 3) |
 | 21 | CutShort | the log is shorter than it says |
 | 24 | Busy | a `close` where a request is open |
+| 25, 26 | NoSuchMark, NoFlush | a replay up to a mark, or a flush, that the log doesn't have |
+| 27 | PastTarget | a replay of an entry past the end of the image |
 | 30 | BadLine | a line that isn't one of a script's, or isn't in its place; a fifth layer of a disk; a moment that goes back |
 | 31 | BadId | an id that is submitted twice, or ended where it isn't open |
-| 32 | File | a file or the output can't be read or written; a script that is too long; an image that isn't 512 to 536,870,912 bytes in whole sectors; a log that is its own script |
+| 32 | File | a file or the output can't be read or written; a script that is too long; an image that isn't 512 to 536,870,912 bytes in whole sectors; a log that is its own script; an image that is its own log |
+| 33 | PastEntries | a replay of more entries than the log counts |
+| 34 | BadMoment | a moment past the last event, or an image of another size than the data disk |
 
 `crates/refusals` has the whole table; the other numbers are for commands that aren't there yet. Names of files are UTF-8 text; a word that
 isn't is a usage fault (2).

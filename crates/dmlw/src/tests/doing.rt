@@ -134,8 +134,8 @@ judge script 0 none|0|yes;|
 replay log zeroes whole mark:dm-log-writes-end|0|replayed 3;|
 replay log whole whole entries:3|0|replayed 3;|
 replay log zeroes other mark:|1||dmlw: 25 NoSuchMark after 0 entries;
-replay log zeroes other entries:4|1||dmlw: 18 PastEntries after 0 entries;
-replay log zeroes other entries:18446744073709551615|1||dmlw: 18 PastEntries after 0 entries;
+replay log zeroes other entries:4|1||dmlw: 33 PastEntries after 0 entries;
+replay log zeroes other entries:18446744073709551615|1||dmlw: 33 PastEntries after 0 entries;
 replay log zeroes log flush|1||dmlw: 32 File;
 replay log absent other flush|1||dmlw: 32 File;
 replay log zeroes fixed flush|1|replayed 2;|dmlw: 32 File;

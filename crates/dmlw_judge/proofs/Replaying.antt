@@ -1,5 +1,5 @@
 -- That what a beginning of a log leaves is judged possible.
-use Rattle.std.proofs.Common.{◌≡◌, ◌⊎◌, ℕ, ◌*◌, ◌/◌, ◌<◌, ◌≤◌, true, false, Option, Some, None, List, arith, length, refl, subst, sym}
+use Rattle.std.proofs.Common.{◌≡◌, ◌⊎◌, ℕ, ◌*◌, ◌/◌, ◌<◌, ◌≤◌, true, false, Some, List, arith, length, refl, subst, sym}
 use Rattle.std.specs.Prelude.{slice_get, take}
 use Rattle.std.proofs.lemmas.Bool.{and_parts}
 use Rattle.sectors.specs.Places.{all_below}

@@ -73,7 +73,7 @@ impl Files for Folder {
 }
 
 // A script, and an image of zeroes.
-fn folder(alloc: Global) -> Result<Folder, AllocError> {
+fn files_of(alloc: Global) -> Result<Folder, AllocError> {
     let mut folder = Folder {
         files: Vec::new(alloc),
         reads: 0,
@@ -147,7 +147,7 @@ judge -- script 4 -x|0|yes;|";
 #[test]
 fn does_each_command_in_turn(rt: HostRuntime) -> Result<(), Fail> {
     let alloc = rt.alloc();
-    let mut folder = folder(alloc)?;
+    let mut folder = files_of(alloc)?;
     for row in ROWS.split('\n') {
         let (line, want) = row.split_once('|').unwrap_or_default();
         let told = told(alloc, line, &mut folder)?;
@@ -168,7 +168,7 @@ fn does_each_command_in_turn(rt: HostRuntime) -> Result<(), Fail> {
 #[test]
 fn explains_each_command(rt: HostRuntime) -> Result<(), Fail> {
     let alloc = rt.alloc();
-    let mut folder = folder(alloc)?;
+    let mut folder = files_of(alloc)?;
     for row in [
         "--explain replay absent zeroes other flush|1||dmlw: 32 File;  ",
         "replay absent zeroes other flush --explain|1||dmlw: 32 File;  ",
@@ -189,7 +189,7 @@ fn reads_no_file_of_a_flawed_line(rt: HostRuntime) -> Result<(), Fail> {
     let alloc = rt.alloc();
     let what = "2||error: <WHAT> is entries:<n>, mark:<text> or flush;";
     let moment = "2||error: <M> is a number of 1 to 20 digits, below 2^64;";
-    let mut folder = folder(alloc)?;
+    let mut folder = files_of(alloc)?;
     for line in [
         "replay script zeroes other what",
         "replay script zeroes other entries:18446744073709551616",

@@ -35,8 +35,10 @@ use layer_table::Stack;
 ///
 /// `old` is the recorder over a stack of layers before some of its calls, and `new` after them: `RecorderGoes` holds of each call and of
 /// several (`recorder::laws::several_calls_go_as_one`). `left` is what a crash at any moment since `old` may have left of the log's
-/// device. What it asks for: that no layer of the log told a lie. That the log was created with success is of the type: a recorder is
-/// made over no other. A stack keeps the law of a device. The first content may be any.
+/// device. Of five premises one is asked for, that no layer of the log told a lie. That the log was created with success is of the type: a
+/// recorder is made over no other. That the log's device keeps the law of a device is proved of each stack. The first content may be any.
+/// And no device need answer when the log is reopened and replayed: both are definitions here, to which `log_reader::LogReader` and
+/// `replay::replay` come where the devices answer Ok, without a new lie, and memory isn't refused.
 pub fn headline()
     ensures { (old new : DiskRecorder) (left : Content) → RecorderGoes (recording_of old) (recording_of new) →
         (stack_shown new.store.device).lies ≡ 0 → (stack_shown new.store.device).since (stack_shown old.store.device).moment left →

@@ -136,6 +136,15 @@ full : NoLie (record still { lies = last_count }) (record still { lies = last_co
 unfolding still
 full told = let h = told.counted in omega arith
 
+-- a call that tells none, of a device that told some before it, up to one below the end
+told_before : NoLie (record still { lies = 3; can_lie = true }) (record still { lies = 3; can_lie = true })
+unfolding still
+told_before = record { same = refl; counted = omega arith }
+
+told_most : NoLie (record still { lies = 18446744073709551614 }) (record still { lies = 18446744073709551614 })
+unfolding still
+told_most = record { same = refl; counted = omega arith }
+
 -- a failure without a fault, and an end before the call
 failed : HasCause 0 still still (Err Io) → ⊥
 unfolding still

@@ -1,13 +1,16 @@
 -- Verdicts by computation: two writes of sector 3, both ended, and a flush after them.
-use Rattle.std.proofs.Common.{◌≡◌, ℕ, zero, suc, true, false, None, Some, List, [], ◌∷◌, take, get_or, replicate, refl, ap, inl, inr, arith}
-use Rattle.std.specs.Prelude.{◌==◌, if◌then◌else◌, unwrap_or}
+use Rattle.std.proofs.Common.{◌≡◌, ℕ, zero, suc, true, false, None, Some, List, [], ◌∷◌, take, get_or, slice_get, replicate, refl, ap, inl, inr, arith}
+use Rattle.std.specs.Prelude.{◌≤◌, ◌<◌, ◌++◌, ◌==◌, if◌then◌else◌, unwrap_or}
+use Rattle.std.proofs.lemmas.Bool.{and_parts}
 use Rattle.sectors.specs.Content as contents
 use Rattle.sectors.specs.Content.{Content}
 use Rattle.bio.specs.declared.event.CoreEvent.{CoreEvent}
 use Rattle.bio.specs.declared.event.CoreEvent.TheVariants.{Submit, Complete}
 use Rattle.bio.specs.declared.request.Bio.TheVariants.{Write, Flush}
-use Rattle.bio.specs.Possible.{PossibleAt, is_kept}
-use Rattle.judge.specs.Verdicts.{IsRuledOutBy}
+use Rattle.bio.specs.Events.{is_flush_submit}
+use Rattle.bio.specs.Possible.{PossibleAt, ended_ok, is_durable, is_kept}
+use Rattle.judge.specs.Latest.{IsLastFlush}
+use Rattle.judge.specs.Verdicts.{FailsAt, IsLastKept, IsRuledOutBy}
 use Rattle.judge.specs.inside.Last.{last_below}
 
 -- the writes have the bytes 1 and 2; the flush is submitted at the fourth moment and has ended at the sixth
@@ -66,3 +69,78 @@ ruling-nothing = refl
 
 ruling-other : IsRuledOutBy events 4 None
 ruling-other = refl
+
+-- the newer write is the durable request over sector 3 that was submitted last
+last-newer : (later : ℕ) → is_kept events 3 later ≡ true → later ≤ 1
+last-newer zero kept = omega arith
+last-newer (suc zero) kept = omega arith
+last-newer (suc (suc zero)) kept = cc
+last-newer (suc (suc (suc zero))) kept = cc
+last-newer (suc (suc (suc (suc zero)))) kept = cc
+last-newer (suc (suc (suc (suc (suc zero))))) kept = cc
+last-newer (suc (suc (suc (suc (suc (suc later)))))) kept =
+    let parts = and_parts (is_durable events (suc (suc (suc (suc (suc (suc later))))))) false kept in
+    absurd (let contra : false ≡ true = parts.1 in cc)
+
+kept-newer : IsLastKept events 3 1
+kept-newer = record { kept = refl; last = last-newer }
+
+-- an earlier one isn't, nor is one that isn't durable
+kept-older : IsLastKept events 3 0 → ⊥
+kept-older told = let last = told.last 1 refl in omega arith
+
+kept-flush : IsLastKept events 3 4 → ⊥
+kept-flush told = let kept : false ≡ true = told.kept in cc
+
+-- the sectors below it hold what they held at first
+below-first : (lower : ℕ) → lower < 3 → PossibleAt events (holding 0) (holding 0) lower
+below-first zero below = inl (refl, refl)
+below-first (suc zero) below = inl (refl, refl)
+below-first (suc (suc zero)) below = inl (refl, refl)
+below-first (suc (suc (suc lower))) below = absurd (omega arith)
+
+-- so an image of zeroes fails at sector 3
+failing : FailsAt events (holding 0) (holding 0) 16 3 (Some 1)
+failing = record { within = omega arith; fails = gone-first; lowest = below-first; ruled_out = kept-newer }
+
+-- not past its end, not where it is possible, not by an earlier request, and not by none
+failing-outside : FailsAt events (holding 0) (holding 0) 3 3 (Some 1) → ⊥
+failing-outside told = let within = told.within in omega arith
+
+failing-possible : FailsAt events (holding 0) (holding 0) 16 4 None → ⊥
+failing-possible told = told.fails (inl (refl, refl))
+
+failing-older : FailsAt events (holding 0) (holding 0) 16 3 (Some 0) → ⊥
+failing-older told = kept-older told.ruled_out
+
+failing-unnamed : FailsAt events (holding 0) (holding 0) 16 3 None → ⊥
+failing-unnamed told = let none : true ≡ false = told.ruled_out in cc
+
+-- nor at a higher sector that fails too
+abbrev other : Content
+other sector = replicate 512 (if sector == 4 then 9 else 0)
+
+failing-higher : FailsAt events (holding 0) other 16 4 None → ⊥
+failing-higher told = gone-first (told.lowest 3 (omega arith))
+
+-- the flush is the last one that ended with success; a write is none, one that hasn't ended isn't, and one before another isn't
+last-flush : (later : ℕ) → is_flush_submit (slice_get events later) ≡ true → ended_ok events later ≡ true → later ≤ 4
+last-flush zero flush ended = cc
+last-flush (suc zero) flush ended = cc
+last-flush (suc (suc zero)) flush ended = cc
+last-flush (suc (suc (suc zero))) flush ended = cc
+last-flush (suc (suc (suc (suc zero)))) flush ended = omega arith
+last-flush (suc (suc (suc (suc (suc zero))))) flush ended = cc
+last-flush (suc (suc (suc (suc (suc (suc later)))))) flush ended = cc
+
+flush-last : IsLastFlush events 4
+flush-last = record { flush = refl; ended = refl; last = last-flush }
+
+flush-write : IsLastFlush events 1 → ⊥
+flush-write told = let flush : false ≡ true = told.flush in cc
+
+flush-open : IsLastFlush (take 5 events) 4 → ⊥
+flush-open told = let ended : false ≡ true = told.ended in cc
+
+flush-earlier : IsLastFlush (events ++ Submit Flush ∷ Complete 6 true ∷ []) 4 → ⊥
+flush-earlier told = let last = told.last 6 refl refl in omega arith

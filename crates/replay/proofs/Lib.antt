@@ -1,3 +1,4 @@
 pub mod Applied
 pub mod Loops
 pub mod Whole
+mod Refused

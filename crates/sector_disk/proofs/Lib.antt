@@ -7,3 +7,4 @@ pub mod Beginning
 pub mod Lawful
 pub mod Examples
 mod Giving
+mod Refused

@@ -1,0 +1,152 @@
+-- For each clause of what a replay leaves and of the cause of a refusal, what breaks it, and is refused by it.
+use Rattle.std.proofs.Common.{◌≡◌, ℕ, zero, suc, ◌<◌, ◌≤◌, true, false, Option, Some, None, List, [], ◌∷◌, replicate, slice_index_or, refl, ap, sym, ◌∙◌, inl, inr, arith}
+use Rattle.std.specs.Prelude.{slice_get, unwrap_or}
+use Rattle.bio.specs.declared.outcome.DevError.TheVariants.{Io}
+use Rattle.sectors.specs.Content as contents
+use Rattle.sectors.specs.Content.{Content}
+use Rattle.blockdev.specs.View.{View}
+use Rattle.log_format.specs.declared.entry.Entry.{Entry}
+use Rattle.log_format.specs.Entries.{kind_of, no_flags}
+use Rattle.log_format.specs.Replay.{kind_values, replay}
+use Rattle.log_reader.specs.declared.fault.LogFault.TheVariants.{CutShort}
+use Rattle.log_reader.specs.declared.fault.ReadDeviceError.TheVariants as reads
+use Rattle.log_reader.specs.Finding.{IsFlush}
+use Rattle.log_reader.specs.Reader.{Reader}
+use Rattle.replay.specs.declared.fault.ReplayError.TheVariants as replays
+use Rattle.replay.specs.declared.upto.Upto.{Upto}
+use Rattle.replay.specs.declared.upto.Upto.TheVariants.{Count, Flush}
+use Rattle.replay.specs.Replays.{AsksTooMany, HasReplayCause, IsApplied, IsAppliedInPart, IsUpto, KeepsTarget, LacksFlush, LeavesBy, ReachesPast}
+
+-- content of one value in each sector
+all : ℕ → Content
+all value sector = replicate 512 value
+
+-- sectors of one value tell it
+one_value : (a b : ℕ) → replicate 512 a ≡ replicate 512 b → a ≡ b
+one_value a b same = ap (λ (xs : List ℕ). slice_index_or xs 0 0) same
+
+-- a write of 1s to sector 5, and a flush
+write : Entry
+write = record { sector = 5; nr_sectors = 1; flags = no_flags; body = replicate 512 1 }
+
+flush : Entry
+flush = record { sector = 0; nr_sectors = 0; flags = record no_flags { flush = true }; body = [] }
+
+-- a device of 8 sectors of zeroes
+still : View
+still = record { size = 8; place = record { origin = 0; disk = 8 }; content = all 0; crash = λ left. Unit {0}; moment = 0; since = λ moment left. Unit {0}; faults = 1; lies = 1; can_lie = true }
+
+-- the write is applied where it is replayed, and not where its sector stays
+applied : IsApplied 512 (write ∷ []) 0 1 (all 0) (replay 512 (write ∷ []) (all 0))
+unfolding write
+applied = record { some = λ more. omega arith; content = refl }
+
+applied_not : IsApplied 512 (write ∷ []) 0 1 (all 0) (all 0) → ⊥
+unfolding write all contents.over
+applied_not told = let same = one_value 0 1 (ap (λ (c : Content). c 5) told.content) in omega arith
+
+-- no more entries are applied than there are
+applied_past : IsApplied 512 [] 0 1 (all 0) (all 0) → ⊥
+applied_past told = let there = told.some (omega arith) in omega arith
+
+-- an entry that isn't told of isn't applied, but by a target that refused in it
+applied_more : LeavesBy 512 (write ∷ []) 0 (all 0) (replay 512 (write ∷ []) (all 0)) 0 replays.PastTarget → ⊥
+unfolding write all contents.over
+applied_more told = let same = one_value 1 0 (ap (λ (c : Content). c 5) told.content) in omega arith
+
+-- and then just the next one is, in part
+part_none : IsAppliedInPart 512 [] 0 0 (all 0) (all 0) → ⊥
+part_none told = let there = told.there in cc
+
+part_other : (told : IsAppliedInPart 512 (write ∷ []) 0 0 (all 0) (all 2)) → told.next ≡ write → ⊥
+unfolding write all contents.over
+part_other told is = elim (told.content 6) [
+  | inl old ↦ let same = one_value 2 0 old in omega arith
+  | inr new ↦ let same = one_value 2 0 (new ∙ ap (λ (e : Entry). unwrap_or (values e 6) (replicate 512 0)) is) in omega arith
+]
+  where
+    values : Entry → ℕ → Option (List ℕ)
+    values e sector = kind_values 512 (kind_of e.flags) e sector
+
+-- so many entries are so many
+upto_count : (es : List Entry) → IsUpto (Count 2) es 0 1 → ⊥
+upto_count es same = omega arith
+
+-- up to the first flush, which is included, and not up to the second one
+upto_flush : IsUpto Flush (write ∷ flush ∷ flush ∷ []) 0 2
+unfolding write flush
+upto_flush = (1, refl, record { element = flush; behind = omega arith; there = refl; is = record { flush = refl; no_mark = refl }; least = none })
+  where
+    none : (k : ℕ) (x : Entry) → 0 ≤ k → k < 1 → slice_get (write ∷ flush ∷ flush ∷ []) k ≡ Some x → IsFlush x → ⊥
+    none zero x low high there is =
+        let same : false ≡ true = ap (λ (o : Option Entry). (unwrap_or o write).flags.flush) there ∙ is.flush in cc
+    none (suc k) x low high there is = omega arith
+
+upto_second : IsUpto Flush (write ∷ flush ∷ flush ∷ []) 0 3 → ⊥
+unfolding flush
+upto_second (last, sum, first) = first.least 1 flush (omega arith) (omega arith) refl (record { flush = refl; no_mark = refl })
+
+-- more entries are asked for than there are; just as many aren't
+asks_more : AsksTooMany (Count 3) 2 0
+asks_more = omega arith
+
+asks_later : AsksTooMany (Count 2) 2 1
+asks_later = omega arith
+
+asks_all : AsksTooMany (Count 2) 2 0 → ⊥
+asks_all told = omega arith
+
+asks_flush : AsksTooMany Flush 2 0 → ⊥
+asks_flush told = told
+
+-- a flush is there
+lacks : LacksFlush Flush (write ∷ flush ∷ []) 0 → ⊥
+unfolding flush
+lacks none = none 1 flush (omega arith) refl (record { flush = refl; no_mark = refl })
+
+-- the write reaches past a target of 5 sectors, and not past one of 6
+reaches : ReachesPast 512 (write ∷ []) 0 5
+unfolding write
+reaches = record { next = write; there = refl; past = omega arith }
+
+reaches_end : ReachesPast 512 (write ∷ []) 0 6 → ⊥
+unfolding write
+reaches_end told =
+    let sector : 5 ≡ told.next.sector = ap (λ (o : Option Entry). (unwrap_or o write).sector) told.there in
+    let count : 1 ≡ told.next.nr_sectors = ap (λ (o : Option Entry). (unwrap_or o write).nr_sectors) told.there in
+    let past = told.past in
+    omega arith
+
+-- a target of another size, and counts that fall
+keeps_size : KeepsTarget still (record still { size = 9 }) → ⊥
+unfolding still
+keeps_size kept = let same = kept.size in omega arith
+
+keeps_faults : KeepsTarget still (record still { faults = 0 }) → ⊥
+unfolding still
+keeps_faults kept = let grows = kept.faults in omega arith
+
+keeps_lies : KeepsTarget still (record still { lies = 0 }) → ⊥
+unfolding still
+keeps_lies kept = let grows = kept.lies in omega arith
+
+-- causes that aren't: too few entries after one that was applied, or in a search; a flush that is lacking where the log has a fault; a fault that it
+-- hasn't; a reader that refuses for the first time by an earlier refusal; a target that didn't fail
+cause_applied : (old new : Reader) → HasReplayCause [] None (Count 1) old new still still 1 replays.PastEntries → ⊥
+cause_applied old new cause = let none = cause.0 in omega arith
+
+cause_search : (old new : Reader) → HasReplayCause [] None Flush old new still still 0 replays.PastEntries → ⊥
+cause_search old new cause = cause.1
+
+cause_flush : (old new : Reader) → HasReplayCause [] (Some CutShort) Flush old new still still 0 replays.NoFlush → ⊥
+cause_flush old new cause = let none = cause.2 in cc
+
+cause_fault : (old new : Reader) (upto : Upto) → HasReplayCause [] None upto old new still still 0 (replays.Log (reads.Log CutShort)) → ⊥
+cause_fault old new upto cause = let some = cause in cc
+
+cause_failed : (old new : Reader) (upto : Upto) → old.failed ≡ false → HasReplayCause [] None upto old new still still 0 (replays.Log reads.Failed) → ⊥
+cause_failed old new upto fresh cause = let same : false ≡ true = sym fresh ∙ cause in cc
+
+cause_target : (old new : Reader) (upto : Upto) → HasReplayCause [] None upto old new still still 0 (replays.Target Io) → ⊥
+unfolding still
+cause_target old new upto cause = elim (cause refl) [ inl grew ↦ omega arith | inr end ↦ omega arith ]

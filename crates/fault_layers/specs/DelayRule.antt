@@ -2,6 +2,8 @@
 use Rattle.std.specs.Prelude.{◌≡◌, ◌≤◌, ℕ, Ok, Result}
 use Rattle.bio.specs.declared.outcome.DevError.{DevError}
 use Rattle.blockdev.specs.Calls.{Call, Discards, Flushes, Reads, Writes}
+use Rattle.sector_disk.specs.Shown.{Does}
+use Rattle.sector_disk.specs.declared.disk.SectorDisk.{SectorDisk}
 use Rattle.fault_layers.specs.declared.delay.Delay.{Delay}
 
 -- how much later a call begins, in milliseconds; a discard is delayed as a write is
@@ -20,3 +22,10 @@ pub record IsDelayed {D : Type 0} (below : Type 0) (begun : ℕ) (result : Resul
   pub read : new.read ≡ old.read
   pub write : new.write ≡ old.write
   pub flush : new.flush ≡ old.flush
+
+-- a call of a disk in memory that ends well ends at once
+pub ends_at_once : (old new : SectorDisk) (call : Call) (now end : ℕ) → Does old call now (Ok end) new → end ≡ now
+ends_at_once old new (Reads first before after) now end (same, past, read) = cc
+ends_at_once old new (Writes first bytes fua) now end (same, past) = same
+ends_at_once old new (Discards first count) now end (same, past) = same
+ends_at_once old new Flushes now end (same, past) = cc

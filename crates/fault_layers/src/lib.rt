@@ -18,6 +18,7 @@ mod flakey;
 mod fuse;
 mod gate;
 mod gated;
+pub mod laws;
 mod linear;
 #[cfg(test)]
 mod tests;

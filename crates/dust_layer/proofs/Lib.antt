@@ -1,0 +1,4 @@
+mod Passing
+mod OrderLaws
+mod Dusting
+mod OnlyGood

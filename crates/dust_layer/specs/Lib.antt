@@ -1,0 +1,11 @@
+pub use Rattle.blockdev.specs.Calls
+pub use Rattle.blockdev.specs.Law
+pub use Rattle.blockdev.specs.View
+pub mod Bad
+pub mod Change
+pub mod Walk
+pub mod Orders
+pub mod inside
+pub mod DustRule
+pub mod Sizes
+pub mod MessageRule

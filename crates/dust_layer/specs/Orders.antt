@@ -1,0 +1,103 @@
+-- The orders that a device with bad blocks takes as messages: which words ask for each, and what each answers and leaves.
+use Rattle.std.specs.Prelude.{◌≡◌, ℕ, ◌*◌, ◌<◌, ◌≤◌, Bool, true, false, List, [], ◌∷◌, Some, None, Result, Ok, Err, codes, is_some}
+use Rattle.std.specs.List.{join_with_byte}
+use Rattle.words.specs.Words.{IsNumber}
+use Rattle.blockdev.specs.declared.message.MessageError.{MessageError}
+use Rattle.blockdev.specs.declared.message.MessageError.TheVariants as errors
+use Rattle.dust_layer.specs.declared.order.Order.{Order}
+use Rattle.dust_layer.specs.declared.order.Order.TheVariants as orders
+use Rattle.dust_layer.specs.Bad.{Bad, IsList, with_entry}
+
+-- ---- words
+
+-- words with one space between each two
+abbrev pub spaced : List (List ℕ) → List ℕ
+spaced words = join_with_byte 32 words
+
+-- no word is count 0, and one word is a count from 0 to 255
+abbrev pub IsCount : List (List ℕ) → ℕ → Type 0
+IsCount [] count = count ≡ 0
+IsCount (word ∷ []) count = IsNumber word count × (count ≤ 255)
+IsCount (word ∷ more ∷ words) count = ⊥
+
+-- the text lists a block: its word, the block's number, and its count or none
+pub record AsksToAdd (text : List ℕ) (block count : ℕ) : Type 0 where
+  pub block_word : List ℕ
+  pub count_words : List (List ℕ)
+  pub number : IsNumber block_word block
+  pub counted : IsCount count_words count
+  pub spelled : text ≡ spaced (codes "addbadblock" ∷ block_word ∷ count_words)
+
+-- the text takes a block from the list: its word, and the block's number
+pub record AsksToRemove (text : List ℕ) (block : ℕ) : Type 0 where
+  pub block_word : List ℕ
+  pub number : IsNumber block_word block
+  pub spelled : text ≡ spaced (codes "removebadblock" ∷ block_word ∷ [])
+
+-- the text asks for this order
+abbrev pub AsksFor : List ℕ → Order → Type 0
+AsksFor text (orders.Add block count) = AsksToAdd text block count
+AsksFor text (orders.Remove block) = AsksToRemove text block
+AsksFor text orders.Clear = text ≡ codes "clearbadblocks"
+AsksFor text orders.Enable = text ≡ codes "enable"
+AsksFor text orders.Disable = text ≡ codes "disable"
+
+-- ---- answers
+
+-- the first sector of a block of so many sectors is within a layer of so many
+abbrev pub IsWithin : ℕ → ℕ → ℕ → Type 0
+IsWithin block size sectors = block * size < sectors
+
+-- a block is listed, or it isn't
+abbrev pub IsListed : Bad → ℕ → Type 0
+IsListed bad block = is_some (bad block) ≡ true
+
+abbrev pub IsUnlisted : Bad → ℕ → Type 0
+IsUnlisted bad block = is_some (bad block) ≡ false
+
+-- nothing refuses an order but memory
+abbrev pub CanBeDone : ℕ → ℕ → Order → Bad → Type 0
+CanBeDone size sectors (orders.Add block count) bad = IsWithin block size sectors × IsUnlisted bad block
+CanBeDone size sectors (orders.Remove block) bad = IsWithin block size sectors × IsListed bad block
+CanBeDone size sectors orders.Clear bad = Unit {0}
+CanBeDone size sectors orders.Enable bad = Unit {0}
+CanBeDone size sectors orders.Disable bad = Unit {0}
+
+-- An order is refused by this: a block that isn't within the layer by BadMessage; within it, a listed one can't be added, and one that
+-- isn't listed can't be removed; memory refuses only what could be added. No other order is refused.
+abbrev pub IsRefused : ℕ → ℕ → Order → Bad → MessageError → Type 0
+IsRefused size sectors (orders.Add block count) bad errors.BadMessage = sectors ≤ block * size
+IsRefused size sectors (orders.Add block count) bad errors.AlreadyBad = IsWithin block size sectors × IsListed bad block
+IsRefused size sectors (orders.Add block count) bad errors.NotBad = ⊥
+IsRefused size sectors (orders.Add block count) bad errors.Memory = IsWithin block size sectors × IsUnlisted bad block
+IsRefused size sectors (orders.Remove block) bad errors.BadMessage = sectors ≤ block * size
+IsRefused size sectors (orders.Remove block) bad errors.AlreadyBad = ⊥
+IsRefused size sectors (orders.Remove block) bad errors.NotBad = IsWithin block size sectors × IsUnlisted bad block
+IsRefused size sectors (orders.Remove block) bad errors.Memory = ⊥
+IsRefused size sectors orders.Clear bad error = ⊥
+IsRefused size sectors orders.Enable bad error = ⊥
+IsRefused size sectors orders.Disable bad error = ⊥
+
+-- the list that an order leaves where it is done
+abbrev pub list_ordered : Order → Bad → Bad
+list_ordered (orders.Add block count) bad = with_entry block (Some count) bad
+list_ordered (orders.Remove block) bad = with_entry block None bad
+list_ordered orders.Clear bad = λ block. None
+list_ordered orders.Enable bad = bad
+list_ordered orders.Disable bad = bad
+
+-- whether the bad blocks count after an order that is done
+abbrev pub mode_ordered : Order → Bool → Bool
+mode_ordered (orders.Add block count) enabled = enabled
+mode_ordered (orders.Remove block) enabled = enabled
+mode_ordered orders.Clear enabled = enabled
+mode_ordered orders.Enable enabled = true
+mode_ordered orders.Disable enabled = false
+
+-- What an order answers over blocks of so many sectors in a layer of so many, and what it leaves: what it is for where it is done, and all
+-- as it was where it is refused.
+abbrev pub IsAnswered : ℕ → ℕ → Order → Result (Unit {0}) MessageError → Bad → Bool → Bad → Bool → Type 0
+IsAnswered size sectors order (Ok done) old was new enabled =
+    CanBeDone size sectors order old × IsList new (list_ordered order old) × (enabled ≡ mode_ordered order was)
+IsAnswered size sectors order (Err error) old was new enabled =
+    IsRefused size sectors order old error × IsList new old × (enabled ≡ was)

@@ -1,0 +1,99 @@
+ghost use Rattle.std.specs.Prelude.{◌≡◌, ◌≤◌, ◌-◌, IfErr, Err, Ok, OnErr, OnOk, Some, None, false, is_some, nat_lt, true, ℕ};
+ghost use Rattle.blockdev.specs.declared.message.MessageError.TheVariants.{AlreadyBad, Memory, NotBad};
+ghost use Rattle.dust_layer.specs.Bad.{IsList, IsNoList, left_at, listed, with_entry};
+
+use blockdev::MessageError;
+use std::alloc::{AllocError, Global};
+use std::collections::BTreeMap;
+
+/// The bad blocks of a device, each with the count of writes and discards that it still fails.
+#[derive(Drop)]
+pub(crate) struct BadBlocks {
+    counts: BTreeMap<u64, u8>,
+}
+
+impl BadBlocks {
+    /// No bad blocks.
+    pub(crate) fn new(alloc: Global) -> BadBlocks
+        ensures { IsNoList (listed result) }
+    {
+        BadBlocks {
+            counts: BTreeMap::new(alloc),
+        }
+    }
+
+    /// Whether a block is listed.
+    pub(crate) fn has(&self, block: u64) -> bool
+        ensures { result ≡ is_some (listed self.now block) }
+    {
+        self.counts.contains_key(&block)
+    }
+
+    /// Whether a block fails a write or a discard: where it is listed with a count above 0, which is then one less.
+    pub(crate) fn strike(&mut self, block: u64) -> bool
+        ensures struck { result ≡ nat_lt 0 (left_at (listed self.old) block) }
+        ensures less { result ≡ true → IsList (listed self.new) (with_entry block (Some (left_at (listed self.old) block - 1)) (listed self.old)) }
+        ensures same { result ≡ false → IsList (listed self.new) (listed self.old) }
+    {
+        match self.counts.get_mut(&block) {
+            Some(count) if *count > 0 => {
+                *count -= 1;
+                true
+            }
+            _ => false,
+        }
+    }
+
+    /// Takes a block from the list, if it is there.
+    pub(crate) fn forget(&mut self, block: u64)
+        ensures { IsList (listed self.new) (with_entry block None (listed self.old)) }
+    {
+        let _count = self.counts.remove(&block);
+    }
+
+    /// Lists a block with its count. Refused where there is no memory, and the list then stays.
+    pub(crate) fn add(&mut self, block: u64, count: u8) -> Result<(), AllocError>
+        ensures added { OnOk result (IsList (listed self.new) (with_entry block (Some count) (listed self.old))) }
+        ensures same { OnErr result (IsList (listed self.new) (listed self.old)) }
+    {
+        self.counts.insert(block, count)?;
+        Ok(())
+    }
+
+    /// Takes all blocks from the list.
+    pub(crate) fn clear(&mut self)
+        ensures { IsNoList (listed self.new) }
+    {
+        self.counts.clear();
+    }
+
+    /// Lists a block with its count, where it isn't listed yet. Refused by AlreadyBad where it is, and else by Memory; the list then stays.
+    pub(crate) fn list(&mut self, block: u64, count: u8) -> Result<(), MessageError>
+        ensures added { OnOk result (IsList (listed self.new) (with_entry block (Some count) (listed self.old))) }
+        ensures same { OnErr result (IsList (listed self.new) (listed self.old)) }
+        ensures already { is_some (listed self.old block) ≡ true → result ≡ Err AlreadyBad }
+        ensures fresh { is_some (listed self.old block) ≡ false → IfErr result (λ error. error ≡ Memory) }
+    {
+        if self.has(block) {
+            return Err(MessageError::AlreadyBad);
+        }
+        match self.add(block, count) {
+            Ok(()) => Ok(()),
+            Err(_) => Err(MessageError::Memory),
+        }
+    }
+
+    /// Takes a block from the list. Refused by NotBad where it isn't listed, and the list then stays.
+    pub(crate) fn unlist(&mut self, block: u64) -> Result<(), MessageError>
+        ensures removed { is_some (listed self.old block) ≡ true →
+            (result ≡ Ok tt) × IsList (listed self.new) (with_entry block None (listed self.old)) }
+        ensures refused { is_some (listed self.old block) ≡ false →
+            (result ≡ Err NotBad) × IsList (listed self.new) (listed self.old) }
+    {
+        if !self.has(block) {
+            return Err(MessageError::NotBad);
+        }
+        self.forget(block);
+        Ok(())
+    }
+}

@@ -1,0 +1,91 @@
+ghost use Rattle.std.specs.Prelude.{◌≡◌, ◌<◌, ◌≤◌, ◌/◌, OnOk, false, length, ℕ};
+ghost use Rattle.blockdev.specs.Calls.{IsByteRange, IsRange, Reads};
+ghost use Rattle.blockdev.specs.Law.{Goes, Lands, NoLie, Stays};
+ghost use Rattle.sectors.specs.Content.{gather, nothing};
+ghost use Rattle.dust_layer.specs.Bad.{listed};
+ghost use Rattle.dust_layer.specs.Change.{call_of, fua_of};
+ghost use Rattle.dust_layer.specs.Walk.{ByBlock, HasCauseBelow, count_of, patch_of};
+
+use crate::bad_blocks::BadBlocks;
+use crate::parts::{Change, SECTOR, Stop, change_part, reach, read_part};
+use bio::Ms;
+use blockdev::BlockDev;
+
+/// Does a write or a discard block by block, each part from the moment on at which the one before ended. A block with a count above 0 stops
+/// it, and the count is then one less; another listed block leaves the list once its part is done.
+pub(crate) fn change_blocks<D: BlockDev>(
+    lower: &mut D,
+    bad: &mut BadBlocks,
+    block: u64,
+    now: Ms,
+    first: u64,
+    count: u64,
+    change: Change<'_>,
+) -> Result<Ms, Stop>
+    requires some { 0 < block }
+    requires few { block ≤ 2097152 }
+    requires range { IsRange (D.shown lower.old).size first count }
+    requires count { count_of (call_of first count change) ≡ count }
+    ensures goes { Goes (patch_of (call_of first count change.entry)) (D.shown lower.old) (D.shown lower.new) }
+    ensures lands { OnOk result (NoLie (D.shown lower.old) (D.shown lower.new) →
+        Lands (patch_of (call_of first count change.entry)) (fua_of change.entry) (D.shown lower.old) (D.shown lower.new)) }
+    ensures cause { HasCauseBelow now (D.shown lower.old) (D.shown lower.new) result }
+    ensures blocks { ByBlock D.does block (call_of first count change.entry) (listed bad.old) (listed bad.new) lower.old now lower.new result }
+{
+    let begin = first / block;
+    let blocks = (first + count - 1) / block + 1 - begin;
+    let mut from = first;
+    let mut end = now;
+    for done in 0..blocks {
+        let place = begin + done;
+        if bad.strike(place) {
+            return Err(Stop::Struck);
+        }
+        let to = reach(block, first, count, place + 1);
+        end = match change_part(lower, end, first, count, from, to, change) {
+            Ok(end) => end,
+            Err(error) => return Err(Stop::Below(error)),
+        };
+        bad.forget(place);
+        from = to;
+    }
+    Ok(end)
+}
+
+/// Does a read block by block, each part from the moment on at which the one before ended. The first listed block stops it; the list stays.
+pub(crate) fn read_blocks<D: BlockDev>(
+    lower: &mut D,
+    bad: &BadBlocks,
+    block: u64,
+    now: Ms,
+    first: u64,
+    buffer: &mut [u8],
+) -> Result<Ms, Stop>
+    requires some { 0 < block }
+    requires few { block ≤ 2097152 }
+    requires range { IsByteRange (D.shown lower.old).size first (length buffer.old) }
+    ensures bytes { OnOk result (buffer.new ≡ gather (D.shown lower.old).content first (length buffer.old / 512)) }
+    ensures goes { Goes nothing (D.shown lower.old) (D.shown lower.new) }
+    ensures stays { Stays (D.shown lower.old) (D.shown lower.new) }
+    ensures cause { HasCauseBelow now (D.shown lower.old) (D.shown lower.new) result }
+    ensures blocks { ByBlock D.does block (Reads first buffer.old buffer.new) (listed bad.now) (listed bad.now) lower.old now lower.new result }
+{
+    let count = buffer.len() as u64 / SECTOR;
+    let begin = first / block;
+    let blocks = (first + count - 1) / block + 1 - begin;
+    let mut from = first;
+    let mut end = now;
+    for done in 0..blocks {
+        let place = begin + done;
+        if bad.has(place) {
+            return Err(Stop::Struck);
+        }
+        let to = reach(block, first, count, place + 1);
+        end = match read_part(lower, end, first, from, to, buffer) {
+            Ok(end) => end,
+            Err(error) => return Err(Stop::Below(error)),
+        };
+        from = to;
+    }
+    Ok(end)
+}

@@ -1,0 +1,18 @@
+//! A device over any other one that has bad blocks: what is read or written there fails, until it is written well.
+#![tactic(auto)]
+
+pub use dust::Dust;
+pub use mode::Mode;
+
+mod bad_blocks;
+mod blocks;
+mod dust;
+pub mod laws;
+mod mode;
+mod obey;
+mod order;
+#[cfg(test)]
+mod order_tests;
+mod parts;
+#[cfg(test)]
+mod tests;

@@ -1,0 +1,46 @@
+ghost use Rattle.dust_layer.specs.MessageRule.{is_enabled};
+ghost use Rattle.dust_layer.specs.Sizes.{mode_text};
+
+/// What a device does about its bad blocks.
+#[derive(Clone, Copy, Debug, PartialEq, Eq)]
+pub enum Mode {
+    /// Nothing: every call is passed.
+    Bypass,
+    /// Calls at bad blocks fail.
+    FailReadOnBadBlock,
+}
+
+impl Mode {
+    ghost use Rattle.std.specs.Prelude.{◌≡◌};
+
+    /// Its word, as dm-dust tells it.
+    pub fn text(self) -> &'static str
+        ensures { result.now ≡ mode_text self }
+    {
+        match self {
+            Mode::Bypass => "bypass",
+            Mode::FailReadOnBadBlock => "fail_read_on_bad_block",
+        }
+    }
+
+    // The mode in which bad blocks fail calls, or the other one.
+    pub(crate) fn of(enabled: bool) -> Mode
+        ensures { is_enabled result ≡ enabled }
+    {
+        if enabled {
+            Mode::FailReadOnBadBlock
+        } else {
+            Mode::Bypass
+        }
+    }
+
+    // Whether bad blocks fail calls.
+    pub(crate) fn is_enabled(self) -> bool
+        ensures { result ≡ is_enabled self }
+    {
+        match self {
+            Mode::Bypass => false,
+            Mode::FailReadOnBadBlock => true,
+        }
+    }
+}

@@ -1,0 +1,107 @@
+ghost use Rattle.std.specs.Prelude.{◌≡◌, ◌<◌, ◌≤◌, ◌+◌, ◌-◌, ◌*◌, ◌/◌, Err, OnOk, drop, length, take, ℕ};
+ghost use Rattle.blockdev.specs.Calls.{IsByteRange, IsRange, Reads};
+ghost use Rattle.blockdev.specs.Law.{Goes, HasCause, Lands, NoLie, Stays};
+ghost use Rattle.sectors.specs.Content.{gather, nothing};
+ghost use Rattle.sectors.specs.Parts.{between};
+ghost use Rattle.dust_layer.specs.Change.{call_of, fua_of};
+ghost use Rattle.dust_layer.specs.Walk.{bytes_within, count_of, part_within, patch_of, reach};
+
+use bio::{DevError, Ms};
+use blockdev::BlockDev;
+
+/// The bytes of a sector.
+pub(crate) const SECTOR: u64 = 512;
+
+/// Why a call goes no further.
+pub(crate) enum Stop {
+    /// At a bad block.
+    Struck,
+    /// At an error of the device beneath.
+    Below(DevError),
+}
+
+/// What a call does to its sectors.
+#[derive(Clone, Copy)]
+pub(crate) enum Change<'a> {
+    /// It writes these bytes, durable at its end or not.
+    Write(&'a [u8], bool),
+    /// It discards them.
+    Discard,
+}
+
+/// The sector at which a call's part before this block ends; `block` is the sectors of a block.
+pub(crate) fn reach(block: u64, first: u64, count: u64, place: u64) -> u64
+    requires block { place * block < 18446744073709551616 }
+    requires end { first + count < 18446744073709551616 }
+    ensures { result ≡ reach block first count place }
+{
+    (first + count).min(first.max(place * block))
+}
+
+// The bytes of a write's sectors from `from` to before `to`.
+fn bytes_within(bytes: &[u8], first: u64, from: u64, to: u64) -> &[u8]
+    requires from { first ≤ from }
+    requires order { from ≤ to }
+    requires within { 512 * (to - first) ≤ length bytes.now }
+    ensures { result.now ≡ bytes_within first from to bytes.now }
+{
+    let (_before, rest) = bytes.split_at((SECTOR * (from - first)) as usize);
+    let (part, _after) = rest.split_at((SECTOR * (to - from)) as usize);
+    part
+}
+
+/// Does the part of a write or a discard from one sector to before another.
+pub(crate) fn change_part<D: BlockDev>(
+    lower: &mut D,
+    now: Ms,
+    first: u64,
+    count: u64,
+    from: u64,
+    to: u64,
+    change: Change<'_>,
+) -> Result<Ms, DevError>
+    requires range { IsRange (D.shown lower.old).size first count }
+    requires count { count_of (call_of first count change) ≡ count }
+    requires from { first ≤ from }
+    requires order { from < to }
+    requires within { to ≤ first + count }
+    ensures goes { Goes (patch_of (part_within from to (call_of first count change.entry))) (D.shown lower.old) (D.shown lower.new) }
+    ensures lands { OnOk result (NoLie (D.shown lower.old) (D.shown lower.new) →
+        Lands (patch_of (part_within from to (call_of first count change.entry))) (fua_of change.entry) (D.shown lower.old) (D.shown lower.new)) }
+    ensures cause { HasCause now (D.shown lower.old) (D.shown lower.new) result }
+    ensures does { D.does lower.old (part_within from to (call_of first count change.entry)) now result lower.new }
+{
+    match change {
+        Change::Write(bytes, fua) => {
+            lower.write(now, from, bytes_within(bytes, first, from, to), fua)
+        }
+        Change::Discard => lower.discard(now, from, to - from),
+    }
+}
+
+/// Does the part of a read from one sector to before another.
+pub(crate) fn read_part<D: BlockDev>(
+    lower: &mut D,
+    now: Ms,
+    first: u64,
+    from: u64,
+    to: u64,
+    buffer: &mut [u8],
+) -> Result<Ms, DevError>
+    requires range { IsByteRange (D.shown lower.old).size first (length buffer.old) }
+    requires from { first ≤ from }
+    requires order { from < to }
+    requires within { to ≤ first + length buffer.old / 512 }
+    ensures length { length buffer.new ≡ length buffer.old }
+    ensures before { take (512 * (from - first)) buffer.new ≡ take (512 * (from - first)) buffer.old }
+    ensures behind { drop (512 * (to - first)) buffer.new ≡ drop (512 * (to - first)) buffer.old }
+    ensures bytes { OnOk result (bytes_within first from to buffer.new ≡ gather (D.shown lower.old).content from (to - from)) }
+    ensures goes { Goes nothing (D.shown lower.old) (D.shown lower.new) }
+    ensures stays { Stays (D.shown lower.old) (D.shown lower.new) }
+    ensures cause { HasCause now (D.shown lower.old) (D.shown lower.new) result }
+    ensures does { D.does lower.old (Reads from (bytes_within first from to buffer.old) (bytes_within first from to buffer.new)) now result lower.new }
+{
+    let start = (SECTOR * (from - first)) as usize;
+    let size = (SECTOR * (to - from)) as usize;
+    lower.read(now, from, &mut buffer[start..start + size])
+}

@@ -10,6 +10,9 @@ use std::{fs, io};
 // How many names are tried for the file beside a log.
 const MAX_BESIDE: u32 = 1000;
 
+// Zeroes at a file's end are looked for in blocks of so many bytes.
+const BLOCK: usize = 4096;
+
 /// The system's files. No clause knows what they hold.
 ///
 /// A regular file is written whole or not at all: beside it, as `NAME.dmlw-tmp-<n>`, and then renamed over
@@ -192,13 +195,22 @@ fn fill<R: std::rt::Files>(
     bytes: &[u8],
 ) -> io::Result<()> {
     let mut file = file;
-    let used = bytes.iter().rposition(|byte| *byte != 0);
-    if let Some(last) = used {
-        file.write_all(bytes.get(..=last).unwrap_or(bytes))?;
-    }
+    file.write_all(without_zeroes(bytes))?;
     file.set_len(bytes.len() as u64)?;
     if let Some(permissions) = permissions {
         let _ = file.set_permissions(permissions);
     }
     file.sync_all()
+}
+
+// The bytes up to the blocks of zeroes at their end.
+fn without_zeroes(bytes: &[u8]) -> &[u8] {
+    let mut used = bytes.len();
+    for block in bytes.rchunks(BLOCK) {
+        if block.iter().fold(0, |values: u8, byte| values | *byte) != 0 {
+            break;
+        }
+        used = used.saturating_sub(block.len());
+    }
+    bytes.get(..used).unwrap_or(bytes)
 }

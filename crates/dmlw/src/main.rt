@@ -2,26 +2,14 @@
 //!
 //! `dmlw record SCRIPT LOG` runs a script of writes, flushes and their ends, and writes the log of the
 //! whole run, byte for byte. `dmlw list LOG` prints a log's entries up to the first fault, `dmlw status
-//! LOG` how far the log has come. `execute` does one command line over files and writers of any kind; its
-//! contract says of each command what it has printed and which file it has asked to be written, in
-//! the words of `specs/Commands`. The commands themselves stand in `dmlw_commands`; `command_line` reads the
-//! words, `laws` says which plain words are which command. `main` calls `execute` over the system's files
-//! and streams, of which no clause knows what they hold.
+//! LOG` how far the log has come. `dmlw replay LOG FIRST OUT WHAT` puts a beginning of a log on an image,
+//! `dmlw judge SCRIPT M IMAGE` says whether an image could have been on the device after M events, had power
+//! failed there. Here `dmlw_dispatch::execute` is called over the system's files and streams, of which no clause knows
+//! what they hold.
 #![tactic(auto)]
 
-mod asking;
-mod command_line;
-mod execute;
-mod formats;
-mod laws;
-mod name;
-mod program;
-mod task;
-#[cfg(test)]
-mod tests;
-
 use dmlw_commands::{HostFiles, Output};
-use execute::{execute, refuse};
+use dmlw_dispatch::{execute, refuse};
 use std::io::{BufWriter, Write};
 use std::process::ExitCode;
 use std::rt::{Env, Files};

@@ -1,5 +1,0 @@
-use Rattle.dmlw.proofs.Ends.{asks_for_one}
-use Rattle.dmlw.proofs.execute.perform.Goals as goal
-
-pub returns-in-Record-clause-unmade : goal.returns-in-Record-clause-unmade
-returns-in-Record-clause-unmade g c = λ ended. asks_for_one _ _ _ _ (c.record.ensures.unmade ended)

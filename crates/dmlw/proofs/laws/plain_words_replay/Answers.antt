@@ -1,5 +1,0 @@
-use Rattle.dmlw.proofs.Plain.{replay_done}
-use Rattle.dmlw.proofs.laws.plain_words_replay.Goals as goal
-
-pub returns : goal.returns
-returns c = replay_done

@@ -1,0 +1,36 @@
+ghost use Rattle.std.specs.Prelude.{◌≡◌};
+ghost use Rattle.dmlw_dispatch.specs.Names.{name_of};
+
+/// The name of a command.
+#[derive(Clone, Copy, Debug, PartialEq, Eq)]
+pub enum Name {
+    Record,
+    List,
+    Status,
+    Replay,
+    Judge,
+}
+
+impl Name {
+    /// The command that a word names: None for any other word.
+    pub fn of(word: &str) -> Option<Name>
+        ensures { result ≡ name_of word.now }
+    {
+        if word == "record" {
+            return Some(Name::Record);
+        }
+        if word == "list" {
+            return Some(Name::List);
+        }
+        if word == "status" {
+            return Some(Name::Status);
+        }
+        if word == "replay" {
+            return Some(Name::Replay);
+        }
+        if word == "judge" {
+            return Some(Name::Judge);
+        }
+        None
+    }
+}

@@ -1,0 +1,97 @@
+ghost use Rattle.std.specs.Prelude.{◌≡◌, IfOk, codes, false};
+ghost use Rattle.clap.specs.Words.{App, app_of, new_app, rule_of, with_rule, with_subcommand};
+ghost use Rattle.dmlw_dispatch.specs.CommandLine.{IsCommandOf, bare_app, command_app, needed, program_app};
+ghost use Rattle.dmlw_dispatch.specs.declared.name.Name.TheVariants as names;
+
+use clap::{Arg, Command};
+use std::alloc::{AllocError, Global};
+
+// What help says after its lists.
+const AFTER_HELP: &str = "\
+Exit status: 0 done, 1 refused or ruled out, 2 usage, 3 logging ended before its time.
+A status such as 3 4 says: 3 entries, of which the last uses sector 4.
+With --explain, in any place: what helps stands behind a fault's line.
+dmlw help formats: the grammar of scripts, the faults and the limits.";
+
+/// The program's command line, as `clap` is to read it.
+pub fn program_command<'a>(alloc: Global) -> Result<Command<'a>, AllocError>
+    ensures { IfOk result (λ command. app_of command ≡ program_app) }
+{
+    let program = with_command(bare_command(alloc), record_command(alloc))?;
+    let list = log_command(alloc, "list", "Lists the entries of a log");
+    let program = with_command(program, list)?;
+    let status = log_command(alloc, "status", "Tells how far a log has come");
+    let program = with_command(program, status)?;
+    let program = with_command(program, replay_command(alloc))?;
+    with_command(program, judge_command(alloc))
+}
+
+// The program's command without those that it is asked by.
+fn bare_command<'a>(alloc: Global) -> Command<'a>
+    ensures { app_of result ≡ bare_app }
+{
+    Command::new(alloc, "dmlw")
+        .about("Records block requests in a log, and reads logs back")
+        .version("0.1 (log format version 1)")
+        .after_help(AFTER_HELP)
+        .subcommand_required(true)
+        .arg_required_else_help(true)
+}
+
+// The program's command with one more that it is asked by.
+fn with_command<'a>(
+    program: Command<'a>,
+    made: Result<Command<'a>, AllocError>,
+) -> Result<Command<'a>, AllocError>
+    ensures { (lower : App) → IfOk made.entry (IsCommandOf lower) →
+        IfOk result (λ command. app_of command ≡ with_subcommand (app_of program.entry) lower.top) }
+{
+    program.subcommand(made?)
+}
+
+// A word that a command has to have.
+fn argument<'a>(alloc: Global, name: &'a str, help: &'a str) -> Arg<'a>
+    ensures rule { rule_of result ≡ needed name.entry.now }
+    ensures own { result.global ≡ false }
+{
+    Arg::new(alloc, name).required(true).help(help)
+}
+
+fn record_command<'a>(alloc: Global) -> Result<Command<'a>, AllocError>
+    ensures { IfOk result (IsCommandOf (command_app names.Record)) }
+{
+    Command::new(alloc, "record")
+        .about("Records the requests of a script in a new log")
+        .arg(argument(alloc, "SCRIPT", "The script to read"))?
+        .arg(argument(alloc, "LOG", "The log to write"))
+}
+
+// A command that reads a log.
+fn log_command<'a>(alloc: Global, name: &'a str, about: &'a str) -> Result<Command<'a>, AllocError>
+    ensures { IfOk result (IsCommandOf (with_rule (new_app name.entry.now) (needed (codes "LOG")))) }
+{
+    Command::new(alloc, name)
+        .about(about)
+        .arg(argument(alloc, "LOG", "The log to read"))
+}
+
+fn replay_command<'a>(alloc: Global) -> Result<Command<'a>, AllocError>
+    ensures { IfOk result (IsCommandOf (command_app names.Replay)) }
+{
+    Command::new(alloc, "replay")
+        .about("Replays the beginning of a log on an image")
+        .arg(argument(alloc, "LOG", "The log to read"))?
+        .arg(argument(alloc, "FIRST", "The image to begin with"))?
+        .arg(argument(alloc, "OUT", "The image to write"))?
+        .arg(argument(alloc, "WHAT", "entries:<n>, mark:<text> or flush"))
+}
+
+fn judge_command<'a>(alloc: Global) -> Result<Command<'a>, AllocError>
+    ensures { IfOk result (IsCommandOf (command_app names.Judge)) }
+{
+    Command::new(alloc, "judge")
+        .about("Judges whether an image could have been on the device")
+        .arg(argument(alloc, "SCRIPT", "The script to read"))?
+        .arg(argument(alloc, "M", "The number of events before the power failure"))?
+        .arg(argument(alloc, "IMAGE", "The image to judge"))
+}

@@ -1,0 +1,242 @@
+ghost use Rattle.std.specs.Prelude.{None};
+
+use crate::executing::{execute, refuse};
+use crate::formats::FORMATS;
+use dmlw_commands::{FileError, Files, Trouble};
+use std::alloc::Global;
+use std::io;
+use std::test::Fail;
+
+mod doing;
+mod forced;
+
+// The files "script" and "image" can be read, and the file "log" written.
+#[derive(Drop)]
+struct FakeFiles<'a> {
+    bytes: &'a [u8],
+    // How many bytes it takes to hold the file that is read.
+    length: u64,
+    log: Option<Vec<u8>>,
+}
+
+impl<'a> FakeFiles<'a> {
+    fn new(bytes: &'a [u8]) -> FakeFiles<'a> {
+        FakeFiles {
+            bytes,
+            length: bytes.len() as u64,
+            log: None,
+        }
+    }
+}
+
+impl Files for FakeFiles<'_> {
+    ghost contents = { λ _ _. None };
+
+    ghost writes = { λ _. None };
+
+    fn read(&mut self, alloc: Global, name: &str, limit: u64) -> Result<Vec<u8>, FileError> {
+        let is_known = name == "script" || name == "image";
+        if !is_known || self.length.max(self.bytes.len() as u64) > limit {
+            return Err(FileError::Unusable);
+        }
+        Vec::from_slice(alloc, self.bytes).map_err(|_| FileError::Memory)
+    }
+
+    fn write(&mut self, alloc: Global, name: &str, bytes: &[u8]) -> Result<(), FileError> {
+        if name != "log" {
+            return Err(FileError::Unusable);
+        }
+        let bytes = Vec::from_slice(alloc, bytes).map_err(|_| FileError::Memory)?;
+        self.log = Some(bytes);
+        Ok(())
+    }
+
+    fn trouble(&self) -> Option<&Trouble> {
+        None
+    }
+
+    fn is_same(&self, first: &str, second: &str) -> bool {
+        first == second
+    }
+}
+
+// What a command did.
+#[derive(Debug, Drop)]
+struct Ran {
+    status: u8,
+    out: Vec<u8>,
+    err: Vec<u8>,
+    log: Option<Vec<u8>>,
+}
+
+impl Ran {
+    // The status, and what was printed.
+    fn is(&self, status: u8, out: &str, err: &str) -> bool {
+        self.status == status
+            && self.out.as_slice() == out.as_bytes()
+            && self.err.as_slice() == err.as_bytes()
+    }
+}
+
+fn run(alloc: Global, words: &[&str], bytes: &[u8]) -> Ran {
+    let mut files = FakeFiles::new(bytes);
+    let mut out = Vec::new(alloc);
+    let mut err = Vec::new(alloc);
+    let ended = execute(alloc, words, &mut files, &mut out, &mut err);
+    let status = ended.exit.status();
+    let log = files.log.take();
+    Ran {
+        status,
+        out,
+        err,
+        log,
+    }
+}
+
+const FIRST: &str = "data 16\nlog 32\nw a 5 1 41\nc a\nf b\nc b\nclose\n";
+
+// The first three commands, by their words.
+#[test]
+fn does_what_words_ask_for(rt: HostRuntime) -> Result<(), Fail> {
+    let alloc = rt.alloc();
+    let ran = run(
+        alloc,
+        &["dmlw", "record", "script", "log"],
+        FIRST.as_bytes(),
+    );
+    assert!(rt; ran.is(0, "a ok\nb ok\n3 4\n", ""));
+    let log = ran.log.ok_or("a log")?;
+    let ran = run(alloc, &["dmlw", "list", "image"], &log);
+    let listed =
+        "super version 1 entries 3 sectorsize 512\n0 @1 write 5+1\n1 @3 flush\n2 @4 mark dm-log-writes-end\n";
+    assert!(rt; ran.is(0, listed, "") && ran.log.is_none());
+    let ran = run(alloc, &["dmlw", "status", "image"], &log);
+    assert!(rt; ran.is(0, "3 4\n", "") && ran.log.is_none());
+    Ok(())
+}
+
+// The command line after the program's name, the status, and a part of the text that is shown: on the output
+// at status 0, on the error stream at 2.
+const LINES: &str = "--help|0|Usage: dmlw <COMMAND>
+help|0|record  Records the requests of a script in a new log
+record --help|0|Usage: dmlw record <SCRIPT> <LOG>
+help|0|list    Lists the entries of a log
+help|0|status  Tells how far a log has come
+list --help|0|Usage: dmlw list <LOG>
+help status|0|Usage: dmlw status <LOG>
+--version|0|dmlw 0.1 (log format version 1)
+--help|0|Exit status: 0 done
+--help|0|With --explain
+frob|2|unrecognized subcommand 'frob'
+help frob|2|unrecognized subcommand 'frob'
+record a|2|<LOG>
+record a b c|2|unexpected argument 'c'
+record -x b|2|unexpected argument '-x'
+--explain frob|2|unrecognized subcommand 'frob'
+list|2|<LOG>
+status|2|<LOG>
+list a b|2|unexpected argument 'b'
+help|0|replay  Replays the beginning of a log on an image
+help|0|judge   Judges whether an image could have been on the device
+replay --help|0|Usage: dmlw replay <LOG> <FIRST> <OUT> <WHAT>
+replay --help|0|entries:<n>, mark:<text> or flush
+judge --help|0|Usage: dmlw judge <SCRIPT> <M> <IMAGE>
+help judge|0|The number of events before the power failure
+replay|2|<LOG>
+replay a b c|2|<WHAT>
+replay a b c flush d|2|unexpected argument 'd'
+replay a b -c flush|2|unexpected argument '-c'
+replay a b c what|2|<WHAT> is entries:<n>, mark:<text> or flush
+replay a b c entries:18446744073709551616|2|<WHAT> is
+judge a 1|2|<IMAGE>
+judge a 1 b c|2|unexpected argument 'c'
+judge a -1 b|2|unexpected argument '-1'
+judge a x b|2|<M> is a number of 1 to 20 digits, below 2^64";
+
+#[test]
+fn reads_command_lines(rt: HostRuntime) -> Result<(), Fail> {
+    let alloc = rt.alloc();
+    for line in LINES.split('\n') {
+        let (line, rest) = line.split_once('|').unwrap_or_default();
+        let (status, part) = rest.split_once('|').unwrap_or_default();
+        let mut words = vec![in alloc; "dmlw"]?;
+        for word in line.split(' ') {
+            words.push(word)?;
+        }
+        let ran = run(alloc, &words, b"");
+        let (code, text, other) = if status == "0" {
+            (0, &ran.out, &ran.err)
+        } else {
+            (2, &ran.err, &ran.out)
+        };
+        assert!(rt; ran.status == code && other.is_empty(), "{line}");
+        let text = str::from_utf8(text).unwrap_or_default();
+        assert!(rt; text.contains(part), "{line}: {text}");
+    }
+    let ran = run(alloc, [].as_slice(), b"");
+    assert!(rt; ran.status == 2 && run(alloc, &["dmlw"], b"").status == 2);
+    Ok(())
+}
+
+// The page of the formats is printed as it is.
+#[test]
+fn prints_the_formats(rt: HostRuntime) {
+    let ran = run(rt.alloc(), &["dmlw", "help", "formats"], b"");
+    assert!(rt; ran.is(0, FORMATS, "") && FORMATS.starts_with("# Formats\n"));
+}
+
+// `--explain` may stand anywhere after the program's name.
+#[test]
+fn explains_itself_where_it_is_asked(rt: HostRuntime) {
+    let alloc = rt.alloc();
+    let shown =
+        "dmlw: line 1: 30 BadLine\n  script ends before its line 1; a script begins with the lines `data` and `log`:\n";
+    for words in [
+        ["dmlw", "--explain", "record", "script", "log"],
+        ["dmlw", "record", "--explain", "script", "log"],
+        ["dmlw", "record", "script", "log", "--explain"],
+    ] {
+        let ran = run(alloc, &words, b"");
+        assert!(rt;
+            ran.status == 1 && ran.err.as_slice().starts_with(shown.as_bytes()),
+            "{ran:?}"
+        );
+    }
+    let ran = run(alloc, &["--explain", "record", "script", "log"], b"");
+    assert!(rt; ran.is(1, "", "dmlw: line 1: 30 BadLine\n"));
+}
+
+#[test]
+fn takes_names_after_two_hyphens(rt: HostRuntime) {
+    let alloc = rt.alloc();
+    let ran = run(
+        alloc,
+        &["dmlw", "record", "--", "script", "log"],
+        FIRST.as_bytes(),
+    );
+    assert!(rt; ran.is(0, "a ok\nb ok\n3 4\n", "") && ran.log.is_some());
+    for words in [
+        ["dmlw", "record", "--", "-x", "log"].as_slice(),
+        ["dmlw", "record", "script", "--", "-x"].as_slice(),
+        ["dmlw", "list", "--", "-x"].as_slice(),
+        ["dmlw", "status", "--", "-x"].as_slice(),
+    ] {
+        let ran = run(alloc, words, FIRST.as_bytes());
+        assert!(rt; ran.status == 1 && ran.log.is_none(), "status of {words:?}");
+        assert!(rt;
+            ran.err.as_slice() == b"dmlw: 32 File\n".as_slice(),
+            "fault of {words:?}"
+        );
+    }
+}
+
+#[test]
+fn refuses_unreadable_words(rt: HostRuntime) {
+    let mut err = Vec::new(rt.alloc());
+    let error = io::Error::from(io::ErrorKind::InvalidData);
+    assert_eq!(rt; refuse(rt.alloc(), error, &mut err), 2);
+    let error = io::Error::from(io::ErrorKind::OutOfMemory);
+    assert_eq!(rt; refuse(rt.alloc(), error, &mut err), 1);
+    let shown = "error: a word of the command line isn't UTF-8 text\ndmlw: 2 Memory\n";
+    assert!(rt; err.as_slice() == shown.as_bytes());
+}

@@ -1,0 +1,178 @@
+// Generated scripts under layers, crashed at each of their lines: the log that is found lists with no fault, and where no hazard was told each beginning
+// of it replays to an image of which the verdict is yes at one of the moments at least.
+use super::doing::{Folder, told};
+use std::alloc::{AllocError, Global};
+use std::process::Abort;
+use std::test::Fail;
+
+// The heads of scripts: their disks, and layers that fail calls and tell no lie.
+const HEADS: [&str; 6] = [
+    "data 6\nlog 40\n",
+    "data 6\nlog 40\nlog-layer 0 40 fuse disk 0 9\n",
+    "data 6\nlog 40\ndata-layer 0 6 fuse disk 0 2\nlog-layer 0 38 linear disk 0\n",
+    "data 8\nlog 40\ndata-layer 0 6 linear disk 1\nlog-layer 0 40 flakey disk 0 2 1 1 error_writes\n",
+    "data 6\nlog 40\ndata-layer 0 6 flakey disk 0 1 1 1 drop_writes\n",
+    "data 6\nlog 12\nlog-layer 0 12 fuse disk 0 30\nlog-layer 0 11 linear disk 0\n",
+];
+
+// How many sectors a script's requests use, and how many lines it has behind its head.
+const SECTORS: u64 = 6;
+
+const LINES: u64 = 12;
+
+// Numbers that look like those of a die, from a seed on.
+#[derive(Drop)]
+struct Numbers {
+    state: u64,
+}
+
+impl Numbers {
+    // The next one, below this one.
+    fn below(&mut self, count: u64) -> u64 {
+        self.state ^= self.state << 13;
+        self.state ^= self.state >> 7;
+        self.state ^= self.state << 17;
+        (self.state >> 20) % count.max(1)
+    }
+}
+
+// A line that submits the request of a number.
+fn submission(alloc: Global, numbers: &mut Numbers, id: u64) -> Result<String, AllocError> {
+    let first = numbers.below(SECTORS);
+    let options = match numbers.below(6) {
+        0 => " fua",
+        1 => " flush",
+        2 => " flush fua",
+        _ => "",
+    };
+    match numbers.below(6) {
+        0 => format!(in alloc; "f {id}\n"),
+        1 => format!(in alloc; "d {id} {first} 1\n"),
+        _ => {
+            let byte = numbers.below(8).saturating_add(1);
+            format!(in alloc; "w {id} {first} 1 0{byte}{options}\n")
+        }
+    }
+}
+
+// The next line of a script, where these requests are open.
+fn next_line(
+    alloc: Global,
+    numbers: &mut Numbers,
+    open: &mut Vec<u64>,
+    id: u64,
+) -> Result<String, AllocError> {
+    let at = numbers.below(open.len() as u64) as usize;
+    match numbers.below(12) {
+        0..=4 if at < open.len() => {
+            let ended = open.swap_remove(at);
+            format!(in alloc; "c {ended}\n")
+        }
+        5 => format!(in alloc; "mark m{id}\n"),
+        6 | 7 => format!(in alloc; "turn\n"),
+        8 => format!(in alloc; "at {id}000\n"),
+        _ => {
+            open.push(id)?;
+            submission(alloc, numbers, id)
+        }
+    }
+}
+
+// The lines of a seed's script behind its head.
+fn lines_of(alloc: Global, numbers: &mut Numbers) -> Result<Vec<String>, AllocError> {
+    let mut open = Vec::new(alloc);
+    let mut lines = Vec::new(alloc);
+    for id in 0..LINES {
+        lines.push(next_line(alloc, numbers, &mut open, id)?)?;
+    }
+    Ok(lines)
+}
+
+// A script up to one of its lines, and a crash there.
+fn crashed(
+    alloc: Global,
+    numbers: &mut Numbers,
+    head: &str,
+    lines: &[String],
+) -> Result<String, AllocError> {
+    let mut text = String::from_str(alloc, head)?;
+    for line in lines {
+        text.push_str(line)?;
+    }
+    text.push_str("crash")?;
+    for _ in 0..numbers.below(8) {
+        text.push(' ')?;
+        text.push_str(numbers.below(5).to_string(alloc)?.as_str())?;
+    }
+    text.push('\n')?;
+    Ok(text)
+}
+
+// What was seen of all cases.
+#[derive(Debug, Drop)]
+struct Seen {
+    // Logs that were found after a crash, and beginnings of them.
+    logs: u64,
+    beginnings: u64,
+}
+
+// Whether the verdict on the image is yes at one of so many moments.
+fn is_held(alloc: Global, moments: u64, folder: &mut Folder) -> Result<bool, AllocError> {
+    for moment in 0..=moments {
+        let line = format!(in alloc; "judge script {moment} image")?;
+        if told(alloc, &line, folder)?.as_str() == "0|yes;|" {
+            return Ok(true);
+        }
+    }
+    Ok(false)
+}
+
+// Records a script that ends by a crash, and replays and judges each beginning of the log that is found.
+fn force(rt: &impl Abort, alloc: Global, script: &str, seen: &mut Seen) -> Result<(), Fail> {
+    let mut folder = Folder::new(alloc);
+    folder.put(alloc, "script", script.as_bytes())?;
+    folder.put(alloc, "zeroes", &vec![in alloc; 0; 3072]?)?;
+    let recorded = told(alloc, "record script log", &mut folder)?;
+    let listed = told(alloc, "list log", &mut folder)?;
+    assert!(rt; listed.ends_with(";|"), "{script}{recorded}{listed}");
+    seen.logs = seen.logs.saturating_add(1);
+    if recorded.contains("hazard") {
+        return Ok(());
+    }
+    let entries = listed.matches(';').count().saturating_sub(1);
+    for count in 0..=entries {
+        let line = format!(in alloc; "replay log zeroes image entries:{count}")?;
+        let replayed = told(alloc, &line, &mut folder)?;
+        assert!(rt; replayed.starts_with("0|replayed "), "{script}{replayed}");
+        assert!(rt;
+            is_held(alloc, LINES, &mut folder)?,
+            "{script}{listed}{count}"
+        );
+        seen.beginnings = seen.beginnings.saturating_add(1);
+    }
+    Ok(())
+}
+
+#[test]
+fn crashes_leave_beginnings_that_are_judged_possible(rt: HostRuntime) -> Result<(), Fail> {
+    let alloc = rt.alloc();
+    let mut seen = Seen {
+        logs: 0,
+        beginnings: 0,
+    };
+    for seed in 1..=24 {
+        let mut numbers = Numbers {
+            state: (seed as u64).wrapping_mul(0x9e37_79b9_7f4a_7c15) | 1,
+        };
+        let head = HEADS.get(seed % HEADS.len()).copied().unwrap_or_default();
+        let lines = lines_of(alloc, &mut numbers)?;
+        for count in 0..=lines.len() {
+            let begun = lines.get(..count).unwrap_or_default();
+            let script = crashed(alloc, &mut numbers, head, begun)?;
+            force(&rt, alloc, &script, &mut seen)?;
+        }
+    }
+    assert_eq!(rt; seen.logs, 312);
+    assert!(rt; seen.beginnings > 300);
+    Ok(())
+}

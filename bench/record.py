@@ -1,6 +1,7 @@
 #!/usr/bin/env python3
 """Measures `dmlw record`: makes scripts, runs the program on them, and prints CPU times, the ratio to the script before of
-the same kind, the ratio to the plain Rust program of bench/peer.rs, and the peak memory beside what it is made of. Needs
+the same kind, the ratios to the plain Rust program of bench/peer.rs, which writes the log into one list of bytes, and to the same over two disks
+in memory, and the peak memory beside what it is made of. Needs
 Python 3, and for the peer a rustc.
 
 usage: bench/record.py            (builds the program where needed, by ./dmlw)
@@ -77,7 +78,7 @@ def main():
     if sys.argv[1:] == ["--sizes"]:
         return sizes(program, always)
     print(f"any run holds {always / MIB:.1f} MiB")
-    print("script                         requests  CPU s  ratio  times the peer   peak MiB   log MiB   rest a request")
+    print("script                         requests  CPU s  ratio  times the peer   over two disks   peak MiB   log MiB   rest a request")
     kinds = [(kind, [small(size, flush_every) for size in (MIB, 2 * MIB, 4 * MIB)]) for kind, flush_every in KINDS.items()]
     kinds += [("writes of 1 MiB", [large(writes) for writes in (255, 511)])]
     with tempfile.TemporaryDirectory() as folder:
@@ -88,12 +89,13 @@ def main():
                 files = {"script": script.text}
                 ours = measure(program, ["record", "script", "log"], files)
                 theirs = peer and measure(peer, ["record", "script", "log"], files)
+                on_disks = peer and measure(peer, ["record-disks", "script", "log"], files)
                 ratio = f"{ours.seconds / before:5.2f}" if before else "     "
                 before = ours.seconds
                 each = bytes_of_request(script, ours, always)
                 print(
                     f"{kind:19}{len(script.text) / MIB:6.2f} MiB {script.requests:9d} {ours.seconds:6.2f}  {ratio}  {ours.beside(theirs)}"
-                    f"         {ours.peak / MIB:10.1f} {script.image / MIB:9.1f}"
+                    f"          {ours.beside(on_disks)}         {ours.peak / MIB:10.1f} {script.image / MIB:9.1f}"
                     f"   {each:6.0f} bytes beside 3.5 times the log and 16 bytes a sector"
                 )
 

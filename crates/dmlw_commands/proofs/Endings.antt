@@ -2,8 +2,8 @@ use Rattle.std.proofs.Common.{◌≡◌, ◌∙◌, ◌⊎◌, ℕ, List, Option
 use Rattle.std.specs.Io.KnownBytes.{Keeps}
 use Rattle.dmlw_commands.specs.declared.ending.Ended.{Ended}
 use Rattle.script_runner.specs.declared.error.RunError.{RunError}
-use Rattle.script_runner.specs.OnDisks.{DiskRun, FailsOnDisks, file as no_file, run as no_run, unmade}
-use Rattle.script_runner.specs.Runs.{EndsRun, close, file as by_file}
+use Rattle.script_runner.specs.OnDisks.{stack_answering, DiskRun, FailsOnDisks, file as no_file, run as no_run, unmade}
+use Rattle.script_runner.specs.Runs.{EndsRun, close, file as by_file, message}
 use Rattle.bio.specs.declared.outcome.Status.{Status}
 use Rattle.dmlw_commands.specs.Endings.{EndsRecording, EndsShowing, Telling, Tells, TellsLine}
 use Rattle.dmlw_commands.specs.Exits.{exit_after, told_line}
@@ -15,11 +15,13 @@ use Rattle.dmlw_commands.proofs.Listing.{IsKept, shows_kept}
 use Rattle.script_runner.specs.CallLaws.{appends_kept, keeps_twice}
 
 -- why a run ended is kept
-run_kept : (text : List ℕ) (script : Plan) (old middle new : Option (List ℕ)) (start : DiskRun) (fault : RunError) → EndsRun text script old middle start fault
-    → Keeps middle new → EndsRun text script old new start fault
+run_kept : (text : List ℕ) (script : Plan) (old middle new : Option (List ℕ)) (start : DiskRun) (fault : RunError) → EndsRun stack_answering text script old middle start fault
+    → Keeps middle new → EndsRun stack_answering text script old new start fault
 run_kept text script old middle new start fault (by_file f is) kept = by_file f is
 run_kept text script old middle new start fault (close place refusal printed is output) kept =
     close place refusal printed is (appends_kept old middle new printed output kept)
+run_kept text script old middle new start fault (message place error printed is output) kept =
+    message place error printed is (appends_kept old middle new printed output kept)
 
 -- why recording on disks failed is kept
 disks_kept : (text : List ℕ) (script : Plan) (old middle new : Option (List ℕ)) (fault : RunError) → FailsOnDisks text script old middle fault

@@ -8,8 +8,8 @@ What dmlw reads and prints. Every line ends with a line feed. The log's own byte
 
 A script is ASCII text without zero bytes, at most 4,194,304 bytes long. Lines end with a line feed; the last may lack it. Empty lines and
 lines that begin with `#` are skipped. One space stands between words. So these are refused as 30 BadLine at their line: a carriage return at
-a line's end, a byte order mark, a tab, two spaces, an upper case letter in a word. Only a mark's text is taken as it stands, and a layer's
-table line, whose words one or more spaces part.
+a line's end, a byte order mark, a tab, two spaces, an upper case letter in a word. Only the text of a mark or a message is taken as it
+stands, and a layer's table line, whose words one or more spaces part.
 
 | Line | Meaning | Range |
 |---|---|---|
@@ -25,6 +25,8 @@ table line, whose words one or more spaces part.
 | `r <first> <count>` | reads from the data disk | 1 to 2,048 sectors |
 | `turn` | one turn of the log's writer | |
 | `mark <text>` | a mark of this text goes into the log | all that stands behind `mark` and one space; may be empty |
+| `message data <layer> <text>` | a message to a layer of the data disk | a `dust` layer, counted from 1, the lowest |
+| `message log <layer> <text>` | the same for the log's disk | |
 | `close` | ends recording, and writes the log to its end, with its end mark | no request is open |
 | `crash <pick> ..` | the log's disk loses power, with none or more picks; the last line | each a number |
 
@@ -44,6 +46,19 @@ layer begins on what stands beneath it, within which it lies. Requests are withi
 | `0 <length> flakey <dev> <offset> <up> <down>` | passes each call for `up` seconds, then fails each for `down` seconds, and so on from moment 0; together 1 to 4,294,967,295 seconds |
 | the same, then `0`, or `1` and a feature | while it is down: `error_reads` fails reads alone, `error_writes` all but reads; `drop_writes` does nothing of a write, discard or flush and tells that it was done, which is a lie |
 | `0 <length> fuse <dev> <offset> <calls>` | passes so many writes, discards and flushes, and fails each one behind them; reads pass |
+| `0 <length> dust <dev> <offset> <blksz>` | has bad blocks of so many bytes, a power of two from 512 to 1,073,741,824: none at first, and they fail no call until messages list some and enable it |
+| `0 <length> delay <dev> <offset> <ms>` | begins each call so much later, at most 4,294,967,295 milliseconds |
+| the same, then `<dev> <offset> <ms>` once more, or twice | the second delay is that of writes, discards and flushes, the third that of flushes; each of the same device and offset |
+
+A dust layer takes these messages, their words with one space between each two. A block is counted from 0, and begins within the layer. What no layer
+takes is refused as 6 BadMessage at its line, a listed block that is added as 7 AlreadyBad, and one that isn't listed and is removed as 8 NotBad.
+
+| Message | From then on |
+|---|---|
+| `addbadblock <block>`, or `addbadblock <block> <count>` | the block is bad: a read there fails; so many writes and discards fail, 0 to 255, and none where no count is given; the next one is done, and the block is bad no more |
+| `removebadblock <block>` | the block is bad no more |
+| `clearbadblocks` | no block is bad |
+| `enable`, `disable` | bad blocks fail calls, or fail none, as at first |
 
 ## What is printed
 

@@ -217,6 +217,7 @@ step_ok sectors moment steps.Close x e = (refl, tt)
 step_ok sectors moment (steps.Read first count) x e = (told_ok (step_answer sectors (steps.Read first count)) x e, tt)
 step_ok sectors moment steps.Turn x e = (refl, tt)
 step_ok sectors moment (steps.Mark text) x e = (refl, tt)
+step_ok sectors moment (steps.Message over layer text) x e = (refl, tt)
 step_ok sectors moment (steps.At later) x e = (refl, ltb-false _ _ (later_ok (nat_lt later moment) x e))
 
 -- so is one that may come
@@ -225,6 +226,7 @@ step_again sectors moment steps.Close fine in_time = refl
 step_again sectors moment (steps.Read first count) fine in_time = ap as_refusal fine
 step_again sectors moment steps.Turn fine in_time = refl
 step_again sectors moment (steps.Mark text) fine in_time = refl
+step_again sectors moment (steps.Message over layer text) fine in_time = refl
 step_again sectors moment (steps.At later) fine in_time = cond-false _ _ _ (le-ltb _ _ in_time)
 
 -- an end that is taken was of an open request

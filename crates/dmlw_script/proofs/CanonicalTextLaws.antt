@@ -1,5 +1,5 @@
 use Rattle.std.proofs.Common.{◌≡◌, ◌≢◌, ℕ, zero, suc, ◌+◌, ◌-◌, ◌^◌, ◌<◌, ◌≤◌, Bool, true, false, not, ◌&&◌, cond, List, [], ◌∷◌, ◌++◌, length, Option, Some, None, Ok, Err, refl, ap, ◌∙◌, sym, subst, arith, append_assoc}
-use Rattle.std.specs.Prelude.{◌/◌, ◌%◌, ◌==◌, codes, decimal, flat_map, map, nat_le, nat_lt, replicate, Result}
+use Rattle.std.specs.Prelude.{◌/◌, ◌%◌, ◌==◌, codes, decimal, flat_map, map, nat_eq, nat_le, nat_lt, replicate, Result}
 use Rattle.std.specs.Char.{is_ascii_digit}
 use Rattle.std.specs.List.{onto_first, AllByRecursion, AllZip}
 use Rattle.std.proofs.lemmas.Bool.{and_from, and_parts, cond-true, leb-true, ltb-false}
@@ -24,7 +24,7 @@ use Rattle.dmlw_script.specs.declared.command.Submission.TheVariants as submits
 use Rattle.dmlw_script.specs.declared.command.Step.{Step}
 use Rattle.dmlw_script.specs.declared.command.Step.TheVariants as steps
 use Rattle.dmlw_script.specs.inside.Parsing.{step, submit}
-use Rattle.dmlw_script.specs.Grammar.{layer_verb, spaced, IsId, ParsesAs, IsTextOf, AreLinesOf}
+use Rattle.dmlw_script.specs.Grammar.{layer_verb, message_verb, spaced, IsId, ParsesAs, IsTextOf, AreLinesOf}
 use Rattle.words.specs.WordLaws.{decimal_number, number_model}
 use Rattle.dmlw_script.specs.Lines.{with_line_feeds, is_ascii_line, is_line_byte, is_line_text, unskipped, lines_of, IsUnbroken}
 use Rattle.dmlw_script.specs.Ids.{is_id, is_name_byte, letters_of, script_id}
@@ -36,7 +36,7 @@ use Rattle.words.specs.Words.{before_byte, IsNumber}
 use Rattle.table_line.specs.LineLaws.{printed_again}
 use Rattle.table_line.specs.Ranges.{IsLayerSpec, IsTargetInRange}
 use Rattle.table_line.specs.Texts as table_texts
-use Rattle.table_line.specs.Texts.{feature_words, target_words}
+use Rattle.table_line.specs.Texts.{feature_words, set_words, target_words}
 use Rattle.table_line.specs.declared.feature.Feature.{Feature}
 use Rattle.table_line.specs.declared.feature.Feature.TheVariants as features
 use Rattle.table_line.specs.declared.layer_spec.LayerSpec.{LayerSpec}
@@ -258,6 +258,17 @@ picks_spelled word (pick ∷ picks) = ap (λ (x : List ℕ). word ++ 32 ∷ x) (
 at_written : (moment : ℕ) → moment < 2 ^ 64 → IsWritten (step (steps.At moment))
 at_written moment low = record { says = record { word = decimal moment; number = decimal_number moment low; spelled = refl }; good = written_number (codes "at") moment refl low }
 
+-- a message's line
+message_written : (over : DiskName) (layer : ℕ) (text : List ℕ) → layer < 2 ^ 64 → IsLineText text → IsWritten (step (steps.Message over layer text))
+message_written over layer text low good = record {
+  says = record { layer_word = decimal layer; number = decimal_number layer low; plain = good; spelled = refl };
+  good = line_text_append (message_verb over) (32 ∷ (decimal layer ++ 32 ∷ text)) (line_verb over) (line_text_append (decimal layer) (32 ∷ text) (line_number layer low) good);
+}
+  where
+    line_verb : (name : DiskName) → IsLineText (message_verb name)
+    line_verb disks.Data = refl
+    line_verb disks.Log = refl
+
 -- words that may stand in a line, with one space between each two
 line_spaced : (words : List (List ℕ)) → AllByRecursion IsLineText words → IsLineText (spaced words)
 line_spaced [] good = refl
@@ -271,6 +282,14 @@ line_feature features.ErrorReads = (refl, (refl, tt))
 line_feature features.ErrorWrites = (refl, (refl, tt))
 line_feature features.DropWrites = (refl, (refl, tt))
 
+-- so may those of the later sets of a delay
+line_sets : (one same : Bool) (offset write flush : ℕ) → offset < 2 ^ 64 → write < 2 ^ 64 → flush < 2 ^ 64
+    → AllByRecursion IsLineText (cond one [] (set_words offset write ++ cond same [] (set_words offset flush)))
+line_sets true same offset write flush low write_low flush_low = tt
+line_sets false true offset write flush low write_low flush_low = (refl, (line_number offset low, (line_number write write_low, tt)))
+line_sets false false offset write flush low write_low flush_low =
+    (refl, (line_number offset low, (line_number write write_low, (refl, (line_number offset low, (line_number flush flush_low, tt))))))
+
 -- so may those of a target
 line_target : (offset : ℕ) (target : Target) → offset < 2 ^ 64 → IsTargetInRange offset target → AllByRecursion IsLineText (target_words offset target)
 line_target offset targets.Linear low has = (refl, (refl, (line_number offset low, tt)))
@@ -279,6 +298,16 @@ line_target offset (targets.Flakey up down feature) low has =
     let few : up + down ≤ 4294967295 = has.few in
     (refl, (refl, (line_number offset low, (line_number up (omega (arith, few)), (line_number down (omega (arith, few)), line_feature feature)))))
 line_target offset (targets.Fuse calls) low has = (refl, (refl, (line_number offset low, (line_number calls has, tt))))
+line_target offset (targets.Dust bytes) low has =
+    let few : bytes ≤ 1073741824 = has.few in
+    (refl, (refl, (line_number offset low, (line_number bytes (omega (arith, few)), tt))))
+line_target offset (targets.Delay read write flush) low has =
+    let r : read ≤ 4294967295 = has.reads in
+    let w : write ≤ 4294967295 = has.writes in
+    let f : flush ≤ 4294967295 = has.flushes in
+    let read_low : read < 2 ^ 64 = omega (arith, r) in
+    let later = line_sets (nat_eq read write && nat_eq write flush) (nat_eq write flush) offset write flush low (omega (arith, w)) (omega (arith, f)) in
+    (refl, (refl, (line_number offset low, (line_number read read_low, later))))
 
 -- a layer's line
 layer_written : (over : DiskName) (spec : LayerSpec) → IsLayerSpec spec → IsWritten (layer_line over spec)
@@ -365,6 +394,7 @@ step_written sectors (steps.Read first count) small passes text =
     read_written first count (omega (arith, r.1)) (omega (arith, r.0))
 step_written sectors steps.Turn small passes text = record { says = refl; good = refl }
 step_written sectors (steps.At moment) small passes low = at_written moment low
+step_written sectors (steps.Message over layer text) small passes has = message_written over layer text has.0 has.1
 step_written sectors (steps.Mark mark) small passes text = record { says = record { plain = text; spelled = refl }; good = text }
 
 -- a request's id is one

@@ -114,6 +114,22 @@ reads_another_word = refl
 mark_text : step_text (steps.Mark (codes "# here")) ≡ codes "mark # here"
 mark_text = refl
 
+-- a message's text is all behind its layer's number and one space
+reads_message : parse_line (codes "message data 007 x  y ") ≡ Some (step (steps.Message disks.Data 7 (codes "x  y ")))
+reads_message = refl
+
+reads_log_message : parse_line (codes "message log 0 ") ≡ Some (step (steps.Message disks.Log 0 []))
+reads_log_message = refl
+
+reads_no_text : parse_line (codes "message data 1") ≡ None
+reads_no_text = refl
+
+reads_no_disk : parse_line (codes "message disk 1 enable") ≡ None
+reads_no_disk = refl
+
+message_text : step_text (steps.Message disks.Log 4 (codes "addbadblock 60")) ≡ codes "message log " ++ (decimal 4 ++ codes " addbadblock 60")
+message_text = refl
+
 -- a text of 600 bytes may stand in a line; one with a line feed, a zero byte or a byte above 127 may not
 long_text : is_line_text (replicate 600 0x78) ≡ true
 long_text = refl

@@ -418,6 +418,7 @@ step_refused d l b steps.Close refusal e = absurd (cc)
 step_refused d l b (steps.Read first count) refusal e = inr (tt, answered_err (step_answer (top_of d) (steps.Read first count)) refusal e)
 step_refused d l b steps.Turn refusal e = absurd (cc)
 step_refused d l b (steps.Mark text) refusal e = absurd (cc)
+step_refused d l b (steps.Message over layer text) refusal e = absurd (cc)
 step_refused d l b (steps.At later) refusal e =
     let p = later_refused (nat_lt later (moment_after b.body)) tt refusal e in
     let back : later < moment_after b.body = ltb-true _ _ p.0 in

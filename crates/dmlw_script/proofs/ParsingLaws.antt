@@ -19,11 +19,11 @@ use Rattle.dmlw_script.specs.declared.line.BodyLine.TheVariants as body_lines
 use Rattle.dmlw_script.specs.declared.command.Submission.TheVariants as submits
 use Rattle.dmlw_script.specs.declared.command.Step.TheVariants as steps
 use Rattle.dmlw_script.specs.declared.command.WriteOptions.{WriteOptions}
-use Rattle.dmlw_script.specs.Grammar.{layer_verb, spaced, AsksFor, IsId, ParsesAs, ParsesAsCrash, ParsesAsId, ParsesAsNumber}
+use Rattle.dmlw_script.specs.Grammar.{layer_verb, message_verb, spaced, AsksFor, IsId, ParsesAs, ParsesAsCrash, ParsesAsId, ParsesAsNumber}
 use Rattle.words.specs.WordLaws.{number_again, number_read}
 use Rattle.dmlw_script.specs.Lines.{is_line_text, is_skipped}
 use Rattle.dmlw_script.specs.Ids.{is_id, is_name_byte, id_of_word}
-use Rattle.dmlw_script.specs.inside.Parsing.{◌>>=◌, asked_of, body_words, discard_of, found_options, layer_of, lone_word, mark_of, numbers_of, options_of, take_word, parse_parts, parse_words, parse_line, picks_of, plain_parts, read_of, split_words, step, submit, with_number, write_of}
+use Rattle.dmlw_script.specs.inside.Parsing.{◌>>=◌, asked_of, body_words, discard_of, disk_of_word, found_options, layer_of, lone_word, mark_of, message_of, message_to, numbers_of, options_of, take_word, parse_parts, parse_words, parse_line, picks_of, plain_parts, read_of, split_words, step, submit, with_number, write_of}
 use Rattle.dmlw_script.specs.Options.{option_text, option_word, option_words, options_text}
 use Rattle.dmlw_script.specs.Words.{byte_from, byte_of, byte_text, half_of, hex_digit}
 use Rattle.dmlw_script.proofs.LayerLaws.{asked_is, one_asked}
@@ -481,7 +481,7 @@ before_all : (mark : ℕ) (bytes : List ℕ) → after_byte mark bytes ≡ None 
 before_all mark [] none = refl
 before_all mark (b ∷ bytes) none = all_step (b == mark) b bytes _ _ none (before_all mark bytes)
 
--- what is heard of the parts of a line that is neither a crash nor a mark is said
+-- what is heard of the parts of a line that is no crash, no mark and no message is said
 plain_read : (line : List ℕ) (rest : Option (List ℕ)) (s : Said) → after_byte 32 line ≡ rest → plain_parts (before_byte 32 line) rest ≡ Some s → ParsesAs line s
 plain_read line (Some words) s cut e = subst (λ (x : List ℕ). ParsesAs x s) (sym (cut_joined 32 line words cut)) (said_read (before_byte 32 line) words s e)
 plain_read line None s cut e = subst (λ (x : List ℕ). ParsesAs x s) (before_all 32 line cut) (lone_read (before_byte 32 line) s e)
@@ -605,13 +605,59 @@ mark_read line (Some text) s cut verb e =
     subst (λ (x : Said). ParsesAs line x) p.1
     (record { plain = p.0; spelled = cut_joined 32 line text cut ∙ ap (λ (v : List ℕ). v ++ 32 ∷ text) verb })
 
+-- a word that names a disk is the second of its messages
+disk_read : (word rest : List ℕ) (over : DiskName) → disk_of_word word ≡ Some over → first_word (codes "message") (word ++ rest) ≡ message_verb over ++ rest
+disk_read word rest over e =
+    ⊎_elim
+    (λ (h : (bytes_eq word (codes "data") ≡ true) × (Some disks.Data ≡ Some over)). named (codes "data") disks.Data (same_bytes _ _ h.0) refl h.1)
+    (λ (h : (bytes_eq word (codes "data") ≡ false) × (cond (bytes_eq word (codes "log")) (Some disks.Log) None ≡ Some over)).
+    let p = cond_some (bytes_eq word (codes "log")) disks.Log over h.1 in named (codes "log") disks.Log (same_bytes _ _ p.0) refl (ap Some p.1))
+    (chosen (bytes_eq word (codes "data")) _ _ (Some over) e)
+  where
+    named : (name : List ℕ) (disk : DiskName) → word ≡ name → first_word (codes "message") name ≡ message_verb disk → Some disk ≡ Some over
+        → first_word (codes "message") (word ++ rest) ≡ message_verb over ++ rest
+    named name disk is spelled same =
+        let one : disk ≡ over = cc in
+        ap (λ (w : List ℕ). first_word (codes "message") (w ++ rest)) is ∙ ap (λ (v : List ℕ). v ++ rest) spelled ∙ ap (λ (d : DiskName). message_verb d ++ rest) one
+
+-- what is heard as a message is said
+message_read : (line : List ℕ) (rest : Option (List ℕ)) (s : Said) → after_byte 32 line ≡ rest → before_byte 32 line ≡ codes "message" → message_of rest ≡ Some s → ParsesAs line s
+message_read line None s cut verb e = absurd (cc)
+message_read line (Some words) s cut verb e =
+    let d = bind_some (disk_of_word (before_byte 32 words)) _ s e in
+    let a = bind_some (after_byte 32 words) _ s d.2 in
+    let n = bind_some (number_of (before_byte 32 a.0)) _ s a.2 in
+    let t = bind_some (after_byte 32 a.0) _ s n.2 in
+    let p = cond_some (is_line_text t.0) (step (steps.Message d.0 n.0 t.0)) s t.2 in
+    subst (λ (x : Said). ParsesAs line x) p.1 (record {
+      layer_word = before_byte 32 a.0;
+      number = number_read (before_byte 32 a.0) n.0 n.1;
+      plain = p.0;
+      spelled =
+          cut_joined 32 line words cut ∙ ap (λ (v : List ℕ). first_word v words) verb
+          ∙ ap (λ (w : List ℕ). first_word (codes "message") w) (cut_joined 32 words a.0 a.1)
+          ∙ disk_read (before_byte 32 words) (32 ∷ a.0) d.0 d.1 ∙ ap (λ (w : List ℕ). message_verb d.0 ++ 32 ∷ w) (cut_joined 32 a.0 t.0 t.1);
+    })
+
+-- what is heard of the parts of a line that is neither a crash nor a mark
+abbrev unmarked : List ℕ → Option (List ℕ) → Option Said
+unmarked verb rest = cond (bytes_eq verb (codes "message")) (message_of rest) (plain_parts verb rest)
+
+-- what is heard so is said
+unmarked_read : (line : List ℕ) (rest : Option (List ℕ)) (s : Said) → after_byte 32 line ≡ rest → unmarked (before_byte 32 line) rest ≡ Some s → ParsesAs line s
+unmarked_read line rest s cut e =
+    ⊎_elim
+    (λ (h : (bytes_eq (before_byte 32 line) (codes "message") ≡ true) × (message_of rest ≡ Some s)). message_read line rest s cut (same_bytes _ _ h.0) h.1)
+    (λ (h : (bytes_eq (before_byte 32 line) (codes "message") ≡ false) × (plain_parts (before_byte 32 line) rest ≡ Some s)). plain_read line rest s cut h.1)
+    (chosen (bytes_eq (before_byte 32 line) (codes "message")) _ _ (Some s) e)
+
 -- what is heard of the parts of a line that is no crash is said
 uncrashed_read : (line : List ℕ) (rest : Option (List ℕ)) (s : Said) → after_byte 32 line ≡ rest
-    → cond (bytes_eq (before_byte 32 line) (codes "mark")) (mark_of rest) (plain_parts (before_byte 32 line) rest) ≡ Some s → ParsesAs line s
+    → cond (bytes_eq (before_byte 32 line) (codes "mark")) (mark_of rest) (unmarked (before_byte 32 line) rest) ≡ Some s → ParsesAs line s
 uncrashed_read line rest s cut e =
     ⊎_elim
     (λ (h : (bytes_eq (before_byte 32 line) (codes "mark") ≡ true) × (mark_of rest ≡ Some s)). mark_read line rest s cut (same_bytes _ _ h.0) h.1)
-    (λ (h : (bytes_eq (before_byte 32 line) (codes "mark") ≡ false) × (plain_parts (before_byte 32 line) rest ≡ Some s)). plain_read line rest s cut h.1)
+    (λ (h : (bytes_eq (before_byte 32 line) (codes "mark") ≡ false) × (unmarked (before_byte 32 line) rest ≡ Some s)). unmarked_read line rest s cut h.1)
     (chosen (bytes_eq (before_byte 32 line) (codes "mark")) _ _ (Some s) e)
 
 -- what is heard of the parts of a line is said
@@ -622,7 +668,7 @@ parts_read line rest s cut e =
     let p = map_some (λ (ps : List ℕ). parsed_lines.Crash ps) (picks_of rest) s h.1 in
     subst (λ (x : Said). ParsesAs line x) p.2 (crash_read line rest p.0 cut (same_bytes _ _ h.0) p.1))
     (λ (h : (bytes_eq (before_byte 32 line) (codes "crash") ≡ false)
-    × (cond (bytes_eq (before_byte 32 line) (codes "mark")) (mark_of rest) (plain_parts (before_byte 32 line) rest) ≡ Some s)). uncrashed_read line rest s cut h.1)
+    × (cond (bytes_eq (before_byte 32 line) (codes "mark")) (mark_of rest) (unmarked (before_byte 32 line) rest) ≡ Some s)). uncrashed_read line rest s cut h.1)
     (chosen (bytes_eq (before_byte 32 line) (codes "crash")) _ _ (Some s) e)
 
 -- what is heard is said
@@ -679,6 +725,13 @@ read_again fw cw first count is_first is_count =
     (bind_at _ _ _ _ a.1
     (bind_at _ _ _ _ (number_again cw count is_count) refl))
 
+-- a message is heard as it is
+message_again : (over : DiskName) (lw text : List ℕ) (layer : ℕ) → IsNumber lw layer → is_line_text text ≡ true → message_to over (lw ++ 32 ∷ text) ≡ Some (step (steps.Message over layer text))
+message_again over lw text layer is_layer plain =
+    let a = cut_at 32 lw text (number_lacks_space lw is_layer.0) in
+    bind_at _ _ _ _ (ap number_of a.0 ∙ number_again lw layer is_layer)
+    (bind_at _ _ _ _ a.1 (cond-true _ _ _ plain))
+
 -- a layer is heard as it is
 layer_again : (over : DiskName) (text : List ℕ) (asked : Result LayerSpec TableError) → AsksFor (words_of text) asked → layer_of over text ≡ parsed_lines.Head (head_lines.Layer over asked)
 layer_again over text asked asks =
@@ -707,6 +760,10 @@ parsed_again line (parsed_lines.Body (body_lines.Step steps.Turn)) says = rw say
 parsed_again line (parsed_lines.Body (body_lines.Step (steps.Mark text))) says = rw says.spelled (cond-true _ _ _ says.plain)
 parsed_again line (parsed_lines.Body (body_lines.Step (steps.At moment))) says =
     rw says.spelled (ap (option_map (λ k. step (steps.At k))) (number_again says.word moment says.number))
+parsed_again line (parsed_lines.Body (body_lines.Step (steps.Message disks.Data layer text))) says =
+    rw says.spelled (message_again disks.Data says.layer_word text layer says.number says.plain)
+parsed_again line (parsed_lines.Body (body_lines.Step (steps.Message disks.Log layer text))) says =
+    rw says.spelled (message_again disks.Log says.layer_word text layer says.number says.plain)
 parsed_again line (parsed_lines.Crash picks) says = rw says.spelled (crash_again says.words picks says.numbers)
 
 -- a line says one thing

@@ -75,6 +75,7 @@ fine_said line (parsed_lines.Body (body_lines.Step (steps.Read first count))) sa
 fine_said line (parsed_lines.Body (body_lines.Step steps.Turn)) says = tt
 fine_said line (parsed_lines.Body (body_lines.Step (steps.Mark text))) says = says.plain
 fine_said line (parsed_lines.Body (body_lines.Step (steps.At moment))) says = number_low says.word moment says.number
+fine_said line (parsed_lines.Body (body_lines.Step (steps.Message over layer text))) says = (number_low says.layer_word layer says.number, says.plain)
 fine_said line (parsed_lines.Crash picks) says = numbers_low says.words picks says.numbers
 
 -- what lines say is fine

@@ -10,7 +10,7 @@ use Rattle.dmlw_script.specs.declared.command.Step.{Step}
 use Rattle.dmlw_script.specs.declared.command.Step.TheVariants as steps
 use Rattle.dmlw_script.specs.declared.disk_name.DiskName.{DiskName}
 use Rattle.dmlw_script.specs.declared.script_id.ScriptId.{ScriptId}
-use Rattle.dmlw_script.specs.Grammar.{layer_verb, spaced}
+use Rattle.dmlw_script.specs.Grammar.{layer_verb, message_verb, spaced}
 use Rattle.dmlw_script.specs.Ids.{letters_of}
 use Rattle.dmlw_script.specs.Options.{option_words}
 use Rattle.dmlw_script.specs.Plans.{lines_of_script, Plan}
@@ -33,6 +33,7 @@ step_text (steps.Read first count) = spaced (codes "r" ∷ decimal first ∷ dec
 step_text steps.Turn = codes "turn"
 step_text (steps.Mark text) = codes "mark " ++ text
 step_text (steps.At moment) = spaced (codes "at" ∷ decimal moment ∷ [])
+step_text (steps.Message over layer text) = message_verb over ++ 32 ∷ (decimal layer ++ 32 ∷ text)
 
 -- the line of a layer: behind its first word the one spelling of a table line; a line that asks for none is never printed
 abbrev pub layer_text : DiskName → Result LayerSpec TableError → List ℕ

@@ -76,6 +76,19 @@ pub record ParsesAsMark (line text : List ℕ) : Type 0 where
   pub plain : is_line_text text ≡ true
   pub spelled : line ≡ codes "mark " ++ text
 
+-- the first words of a message's line
+abbrev pub message_verb : DiskName → List ℕ
+message_verb disks.Data = codes "message data"
+message_verb disks.Log = codes "message log"
+
+-- the line is a message: to a layer of this number, and its text is all that stands behind the number and one space, and may
+-- be empty
+pub record ParsesAsMessage (over : DiskName) (line : List ℕ) (layer : ℕ) (text : List ℕ) : Type 0 where
+  pub layer_word : List ℕ
+  pub number : IsNumber layer_word layer
+  pub plain : is_line_text text ≡ true
+  pub spelled : line ≡ message_verb over ++ 32 ∷ (layer_word ++ 32 ∷ text)
+
 -- the line is a crash: its picks
 pub record ParsesAsCrash (line picks : List ℕ) : Type 0 where
   pub words : List (List ℕ)
@@ -113,6 +126,7 @@ ParsesAs line (parsed_lines.Body (body_lines.Step (steps.Read first count))) = P
 ParsesAs line (parsed_lines.Body (body_lines.Step steps.Turn)) = line ≡ codes "turn"
 ParsesAs line (parsed_lines.Body (body_lines.Step (steps.Mark text))) = ParsesAsMark line text
 ParsesAs line (parsed_lines.Body (body_lines.Step (steps.At moment))) = ParsesAsNumber (codes "at") line moment
+ParsesAs line (parsed_lines.Body (body_lines.Step (steps.Message over layer text))) = ParsesAsMessage over line layer text
 ParsesAs line (parsed_lines.Crash picks) = ParsesAsCrash line picks
 
 -- the lines are those of a script of a recorder: plain ones, of which those that aren't skipped say what the script's

@@ -100,6 +100,7 @@ step_answer sectors (steps.Read first count) = range_answer first count sectors
 step_answer sectors steps.Turn = Ok tt
 step_answer sectors (steps.Mark text) = Ok tt
 step_answer sectors (steps.At moment) = Ok tt
+step_answer sectors (steps.Message over layer text) = Ok tt
 
 -- what a submission writes is a byte
 abbrev pub WritesByte : Submission → Type 0
@@ -107,13 +108,15 @@ WritesByte (submits.Write first count byte options) = byte < 256
 WritesByte submits.Flush = Unit {0}
 WritesByte (submits.Discard first count) = Unit {0}
 
--- what a line that names no request has may stand in a line: the text of a mark, and a moment, which 64 bits hold
+-- what a line that names no request has may stand in a line: the text of a mark or of a message, and a moment or a message's
+-- layer, which 64 bits hold
 abbrev pub HasLineText : Step → Type 0
 HasLineText steps.Close = Unit {0}
 HasLineText (steps.Read first count) = Unit {0}
 HasLineText steps.Turn = Unit {0}
 HasLineText (steps.Mark text) = is_line_text text ≡ true
 HasLineText (steps.At moment) = moment < 2 ^ 64
+HasLineText (steps.Message over layer text) = (layer < 2 ^ 64) × (is_line_text text ≡ true)
 
 -- the moment after a line that names no request, before which it was this
 abbrev pub moment_at_step : ℕ → Step → ℕ
@@ -122,6 +125,7 @@ moment_at_step moment (steps.Read first count) = moment
 moment_at_step moment steps.Turn = moment
 moment_at_step moment (steps.Mark text) = moment
 moment_at_step moment (steps.At later) = later
+moment_at_step moment (steps.Message over layer text) = moment
 
 -- the moment after a command, before which it was this
 abbrev pub moment_at : ℕ → Command → ℕ
@@ -145,10 +149,11 @@ IsInTime moment (steps.Read first count) = Unit {0}
 IsInTime moment steps.Turn = Unit {0}
 IsInTime moment (steps.Mark text) = Unit {0}
 IsInTime moment (steps.At later) = moment ≤ later
+IsInTime moment (steps.Message over layer text) = Unit {0}
 
 -- the command may come after these, for a data disk of so many sectors: what it covers passes the test of its sectors, a
--- write writes a byte, a mark's text may stand in a line, no moment is less than before, and an end is that of a request that
--- was submitted and hasn't ended
+-- write writes a byte, the text of a mark or of a message may stand in a line, no moment is less than before, and an end is
+-- that of a request that was submitted and hasn't ended
 abbrev pub CanFollow : ℕ → List Command → Command → Type 0
 CanFollow sectors before (commands.Submit submission) = (submission_answer sectors submission ≡ Ok tt) × WritesByte submission
 CanFollow sectors before (commands.Complete request) = (request < submissions before) × (is_ended request before ≡ false)

@@ -1,3 +1,4 @@
+use crate::disk_name::DiskName;
 use bio::{Bytes, Ms};
 
 /// What a write asks for beside its sectors.
@@ -38,14 +39,29 @@ pub enum Step {
     Close,
     /// A read of `count` sectors from sector `first` on. In a script it covers 1 to 2,048 sectors, all
     /// of them within the top of the data disk.
-    Read { first: u64, count: u64 },
+    Read {
+        first: u64,
+        count: u64,
+    },
     /// One turn of the writer.
     Turn,
     /// A mark of this text, which may be empty. In a script its bytes are those of a line: ASCII, no
     /// zero byte and no line feed. They are shared: a clone of them takes no memory.
-    Mark { text: Bytes },
+    Mark {
+        text: Bytes,
+    },
     /// The moment from here on. In a script it is no less than the one before it, which at first is 0.
-    At { moment: Ms },
+    At {
+        moment: Ms,
+    },
+    /// A message to a layer of this disk, which counts from 1, the lowest: one of the dust target's
+    /// messages. In a script the text's bytes are those of a line: ASCII, no zero byte and no line feed.
+    /// They are shared: a clone of them takes no memory.
+    Message {
+        over: DiskName,
+        layer: u64,
+        text: Bytes,
+    },
 }
 
 /// One line of a script's body.

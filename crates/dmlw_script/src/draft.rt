@@ -178,7 +178,9 @@ fn check_step(step: &Step, sectors: u64, moment: Ms) -> Result<(), LineError>
         Step::At { moment: later } if later.milliseconds() < moment.milliseconds() => {
             Err(LineError::Refused(Refusal::BadLine))
         }
-        Step::Close | Step::Turn | Step::Mark { .. } | Step::At { .. } => Ok(()),
+        Step::Close | Step::Turn | Step::Mark { .. } | Step::At { .. } | Step::Message { .. } => Ok(
+            (),
+        ),
     }
 }
 

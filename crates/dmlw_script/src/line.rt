@@ -1,7 +1,7 @@
 ghost use Rattle.std.specs.Prelude.{◌≡◌, option_copied, option_map};
 ghost use Rattle.dmlw_script.specs.Said.{as_said};
 ghost use Rattle.dmlw_script.specs.Lines.{is_line_byte as is_a_line_byte, is_line_text as is_a_line_text};
-ghost use Rattle.dmlw_script.specs.inside.Parsing.{body_words, discard_of as the_discard, layer_of as the_layer, lone_word, parse_words, plain_parts, read_of as the_read, write_of as the_write};
+ghost use Rattle.dmlw_script.specs.inside.Parsing.{body_words, discard_of as the_discard, disk_of_word, layer_of as the_layer, lone_word, message_of as the_message, parse_words, plain_parts, read_of as the_read, step, write_of as the_write};
 
 use crate::command::{Step, Submission};
 use crate::disk_name::DiskName;
@@ -51,11 +51,11 @@ pub(crate) enum BodyLine {
     Complete {
         name: ScriptId,
     },
-    /// `close`, `r <first> <count>`, `turn`, `mark <text>`, or `at <ms>`
+    /// `close`, `r <first> <count>`, `turn`, `mark <text>`, `message data|log <layer> <text>`, or `at <ms>`
     Step(Step),
 }
 
-/// What a line of this first word says that is neither a crash nor a mark, whose other words are
+/// What a line of this first word says that is no crash, no mark and no message, whose other words are
 /// these, if it is of the grammar.
 pub(crate) fn parse_parts(verb: &[u8], words: Option<&[u8]>) -> Option<Line>
     ensures { option_map as_said result ≡ plain_parts verb.now (option_copied words.entry) }
@@ -173,6 +173,32 @@ fn read_of(words: &[u8]) -> Option<Line>
         first: number_of(first)?,
         count: number_of(count?)?,
     })))
+}
+
+/// What a message says, whose other words these are, if it is of the grammar: its disk, its layer and its
+/// text.
+pub(crate) fn message_of(words: Option<&[u8]>) -> Option<(DiskName, u64, &[u8])>
+    ensures { option_map (λ message. step (Step.Message message.0 message.1 message.2.now)) result ≡ the_message (option_copied words.entry) }
+{
+    let (disk, rest) = cut(words?, b' ');
+    let over = disk_of(disk)?;
+    let (layer, text) = cut(rest?, b' ');
+    let layer = number_of(layer)?;
+    match text {
+        Some(text) if is_line_text(text) => Some((over, layer, text)),
+        _ => None,
+    }
+}
+
+// The disk that a word names.
+fn disk_of(word: &[u8]) -> Option<DiskName>
+    ensures { result ≡ disk_of_word word.now }
+{
+    match word {
+        b"data" => Some(DiskName::Data),
+        b"log" => Some(DiskName::Log),
+        _ => None,
+    }
 }
 
 /// Whether each byte of a text may stand in a line.

@@ -1,5 +1,5 @@
 ghost use Rattle.std.specs.Prelude.{◌≡◌, ◌<◌, ◌+◌, ◌^◌, ◌++◌, ◌∷◌, [], codes, decimal, flat_map, length, map, IfOk, OnOk};
-ghost use Rattle.dmlw_script.specs.Grammar.{IsTextOf};
+ghost use Rattle.dmlw_script.specs.Grammar.{message_verb, IsTextOf};
 ghost use Rattle.dmlw_script.specs.Said as parsed_lines;
 ghost use Rattle.dmlw_script.specs.Ids.{letters_of};
 ghost use Rattle.dmlw_script.specs.Plans.{count_after_command, head_of, layer_line, lines_of_body, line_at, HasName};
@@ -158,6 +158,7 @@ fn push_step(out: &mut Vec<u8>, step: &Step) -> Result<(), AllocError>
         Step::Turn => out.extend_from_slice(b"turn"),
         Step::Mark { text } => push_mark(out, text.as_slice()),
         Step::At { moment } => push_value(out, b"at ", moment.milliseconds()),
+        Step::Message { over, layer, text } => push_message(out, *over, *layer, text.as_slice()),
     }
 }
 
@@ -236,6 +237,30 @@ fn push_mark(out: &mut Vec<u8>, text: &[u8]) -> Result<(), AllocError>
     ensures { OnOk result (out.new.items ≡ out.old.items ++ (codes "mark " ++ text.now)) }
 {
     out.extend_from_slice(b"mark ")?;
+    out.extend_from_slice(text)
+}
+
+// The line of a message, but for its line feed.
+fn push_message(
+    out: &mut Vec<u8>,
+    over: DiskName,
+    layer: u64,
+    text: &[u8],
+) -> Result<(), AllocError>
+    ensures { OnOk result (out.new.items ≡ out.old.items ++ (message_verb over ++ 32 ∷ (decimal layer ++ 32 ∷ text.now))) }
+{
+    match over {
+        DiskName::Data => push_valued(out, b"message data ", layer, text),
+        DiskName::Log => push_valued(out, b"message log ", layer, text),
+    }
+}
+
+// A line's first words and space, a number, and a text behind a space.
+fn push_valued(out: &mut Vec<u8>, verb: &[u8], number: u64, text: &[u8]) -> Result<(), AllocError>
+    ensures { OnOk result (out.new.items ≡ out.old.items ++ (verb.now ++ (decimal number ++ 32 ∷ text.now))) }
+{
+    push_value(out, verb, number)?;
+    out.push(b' ')?;
     out.extend_from_slice(text)
 }
 

@@ -1,7 +1,7 @@
 ghost use Rattle.std.specs.Prelude.{◌≡◌, ◌<◌, ◌≤◌, ◌∷◌, [], None, IfErr, IfOk, MatchOption, OnOk, length, option_copied, option_map};
 ghost use Rattle.dmlw_script.specs.Said.{as_said};
 ghost use Rattle.dmlw_script.specs.Said as parsed_lines;
-ghost use Rattle.dmlw_script.specs.inside.Parsing.{mark_of, parse_parts, picks_of as the_picks, plain_parts};
+ghost use Rattle.dmlw_script.specs.inside.Parsing.{mark_of, message_of as the_message, parse_parts, picks_of as the_picks, plain_parts};
 ghost use Rattle.dmlw_script.specs.Lines.{command_line, lines_of, is_ascii_line as is_plain_line, is_skipped as is_a_skipped_line};
 ghost use Rattle.dmlw_script.specs.Grammar.{IsTextOf};
 ghost use Rattle.dmlw_script.specs.Plans.{Plan};
@@ -11,7 +11,7 @@ ghost use Rattle.dmlw_script.specs.inside.Readers.{fault_of, read_text, Reads};
 use crate::command::Step;
 use crate::draft::Draft;
 use crate::head::{Head, Part};
-use crate::line::{BodyLine, HeadLine, Line, is_line_text, parse_parts};
+use crate::line::{BodyLine, HeadLine, Line, is_line_text, message_of, parse_parts};
 use crate::line_error::LineError;
 use crate::script::Script;
 use crate::values::picks_of;
@@ -84,10 +84,14 @@ impl Reader {
         ensures kind { OnOk result (self.new.kind ≡ self.old.kind) }
         ensures step { Follows result (progress_of self.new) (step_if_parsed self.old.kind (progress_of self.old) (parse_parts verb.now (option_copied words.entry))) }
     {
-        match verb {
-            b"crash" => self.read_crash(words),
-            b"mark" => self.read_mark(words),
-            _ => self.read_plain(verb, words),
+        if verb == b"crash".as_slice() {
+            self.read_crash(words)
+        } else if verb == b"mark".as_slice() {
+            self.read_mark(words)
+        } else if verb == b"message".as_slice() {
+            self.read_message(words)
+        } else {
+            self.read_plain(verb, words)
         }
     }
 
@@ -142,6 +146,22 @@ impl Reader {
             }
             _ => Err(LineError::Refused(Refusal::BadLine)),
         }
+    }
+
+    // Reads a message, whose disk, layer and text these words are.
+    fn read_message(&mut self, words: Option<&[u8]>) -> Result<(), LineError>
+        requires { IsReader self.old }
+        ensures reader { OnOk result (IsReader self.new) }
+        ensures kind { OnOk result (self.new.kind ≡ self.old.kind) }
+        ensures step { Follows result (progress_of self.new) (step_if_parsed self.old.kind (progress_of self.old) (the_message (option_copied words.entry))) }
+    {
+        let (over, layer, text) = message_of(words).ok_or(Refusal::BadLine)?;
+        let shared = shared_text(self.alloc, text)?;
+        self.read_parsed(Line::Body(BodyLine::Step(Step::Message {
+            over,
+            layer,
+            text: shared,
+        })))
     }
 
     // Reads the next line that isn't skipped, and is no crash.

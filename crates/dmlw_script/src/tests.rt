@@ -922,6 +922,158 @@ at 5
 log-layer 0 1 error
 =line 4: 30 BadLine";
 
+// The same, where bodies have messages.
+const MESSAGE_TEXTS: &str = "data 16
+log 32
+message data 1 enable
+message log 4 addbadblock 60 1
+message data 0\x20
+message data 007 x  y\x20
+#message data x
+message log 5  # no comment \r\t
+message data 18446744073709551615 message log 1 clearbadblocks=data 16
+log 32
+message data 1 enable
+message log 4 addbadblock 60 1
+message data 0\x20
+message data 7 x  y\x20
+message log 5  # no comment \r\t
+message data 18446744073709551615 message log 1 clearbadblocks
+
+~data 16
+log 32
+data-layer 0 16 dust disk 0 512
+f a
+message data 1 queryblock 3
+c a
+at 5
+message log 1 quiet
+at 5
+close
+message data 1 disable
+crash
+=data 16
+log 32
+data-layer 0 16 dust disk 0 512
+f a
+message data 1 queryblock 3
+c a
+at 5
+message log 1 quiet
+at 5
+close
+message data 1 disable
+crash
+
+~data 16
+log 32
+message
+=line 3: 30 BadLine
+~data 16
+log 32
+message\x20
+=line 3: 30 BadLine
+~data 16
+log 32
+message data
+=line 3: 30 BadLine
+~data 16
+log 32
+message data\x20
+=line 3: 30 BadLine
+~data 16
+log 32
+message data 1
+=line 3: 30 BadLine
+~data 16
+log 32
+message log 1
+=line 3: 30 BadLine
+~data 16
+log 32
+message disk 1 enable
+=line 3: 30 BadLine
+~data 16
+log 32
+message 1 enable
+=line 3: 30 BadLine
+~data 16
+log 32
+message data x enable
+=line 3: 30 BadLine
+~data 16
+log 32
+message data  1 enable
+=line 3: 30 BadLine
+~data 16
+log 32
+message  data 1 enable
+=line 3: 30 BadLine
+~data 16
+log 32
+message data\t1 enable
+=line 3: 30 BadLine
+~data 16
+log 32
+message data 18446744073709551616 enable
+=line 3: 30 BadLine
+~data 16
+log 32
+message data 000000000000000000001 enable
+=line 3: 30 BadLine
+~data 16
+log 32
+message data -1 enable
+=line 3: 30 BadLine
+~data 16
+log 32
+Message data 1 enable
+=line 3: 30 BadLine
+~data 16
+log 32
+message Data 1 enable
+=line 3: 30 BadLine
+~data 16
+log 32
+messages data 1 enable
+=line 3: 30 BadLine
+~data 16
+log 32
+ message data 1 enable
+=line 3: 30 BadLine
+~data 16
+log 32
+message data 1 a\0b
+=line 3: 30 BadLine
+~data 16
+log 32
+message data 1 caf\u{e9}
+=line 3: 30 BadLine
+~message data 1 enable
+data 16
+log 32
+=line 1: 30 BadLine
+~data 16
+message data 1 enable
+log 32
+=line 2: 30 BadLine
+~data 16
+log 32
+crash
+message data 1 enable
+=line 4: 30 BadLine
+~data 16
+log 32
+message log 1 enable
+log-layer 0 1 error
+=line 4: 30 BadLine
+~data 16
+log 32
+at 5
+message data 1 enable
+at 4
+=line 5: 30 BadLine";
+
 // The same, where a run's head has layers.
 const RUN_LAYER_TEXTS: &str = "data 16
 log 32
@@ -936,6 +1088,10 @@ f a
 ~data 16
 log 32
 at 5
+=line 3: 30 BadLine
+~data 16
+log 32
+message data 1 enable
 =line 3: 30 BadLine
 ~data 16
 log 32
@@ -967,7 +1123,13 @@ const LAYERS: &str = "0 16|10 WrongCount
 0 16 error|=
 0 16 flakey disk 0 10 5|=
 0 15 flakey disk 1 10 5 1 drop_writes|=
-0 16 fuse disk 0 0|=";
+0 16 fuse disk 0 0|=
+0 8 dust disk 8 4096|=
+0 16 dust disk 0 1000|12 OutOfRange
+0 16 delay disk 0 7|=
+0 16 delay disk 0 7 disk 0 8|=
+0 16 delay disk 0 7 disk 0 8 disk 0 0|=
+0 16 delay disk 0 4294967296|12 OutOfRange";
 
 // What is answered to each line of a table over a disk, by its first word.
 fn assert_layers(rt: &impl Abort, alloc: Global, verb: &str) -> Result<(), Fail> {
@@ -995,6 +1157,33 @@ fn layers(rt: HostRuntime) -> Result<(), Fail> {
 fn layer_texts(rt: HostRuntime) -> Result<(), Fail> {
     assert_texts(&rt, rt.alloc(), LAYER_TEXTS, Kind::Record)?;
     assert_texts(&rt, rt.alloc(), RUN_LAYER_TEXTS, Kind::Run)
+}
+
+#[test]
+fn message_texts(rt: HostRuntime) -> Result<(), Fail> {
+    assert_texts(&rt, rt.alloc(), MESSAGE_TEXTS, Kind::Record)
+}
+
+// A message's disk, its layer and its text, of any length.
+#[test]
+fn messages_keep_their_words(rt: HostRuntime) -> Result<(), Fail> {
+    let alloc = rt.alloc();
+    let mut text = String::from_str(
+        alloc,
+        "data 16\nlog 32\nmessage log 4  up \nmessage data 0 ",
+    )?;
+    for _ in 0..70_000 {
+        text.push_str("x")?;
+    }
+    let script = read_script(alloc, text.as_bytes(), Kind::Record)?;
+    let mut shown = String::new(alloc);
+    for command in script.commands() {
+        if let Command::Step(Step::Message { over, layer, text }) = command {
+            shown.push_str(format!(in alloc; " {over:?} {layer} {}", text.len())?.as_str())?;
+        }
+    }
+    assert_eq!(rt; shown.as_str(), " Log 4 4 Data 0 70000");
+    Ok(())
 }
 
 // A script with a layer over each disk, and what its disks are.

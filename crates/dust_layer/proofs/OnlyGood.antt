@@ -10,7 +10,7 @@ use Rattle.dust_layer.specs.declared.mode.Mode.TheVariants.{FailReadOnBadBlock}
 use Rattle.dust_layer.specs.declared.parts.Stop.{Stop}
 use Rattle.dust_layer.specs.declared.parts.Stop.TheVariants.{Below, Struck}
 use Rattle.dust_layer.specs.Bad.{Bad, left_at, listed}
-use Rattle.dust_layer.specs.DustRule.{IsChecked, IsDoneBy, IsDusted, answer_of}
+use Rattle.dust_layer.specs.DustRule.{IsChecked, IsDoneBy, IsDusted, answer_of, held}
 use Rattle.dust_layer.specs.Walk.{ByBlock, IsTouched, count_of, first_of, stops}
 
 -- a call that ended well went over blocks that don't stop it
@@ -36,8 +36,8 @@ pub good_writes : {D : Type 0} (does : D → Call → ℕ → Result ℕ DevErro
     (now end place : ℕ) → old.mode ≡ FailReadOnBadBlock → IsDusted does (Writes first bytes fua) now (Ok end) old new
     → IsTouched old.block first (length bytes / 512) place → left_at (listed old.bad) place ≡ 0
 good_writes does old new first bytes fua now end place mode dusted touched =
-    let checked : IsChecked does (Writes first bytes fua) now (Ok end) old new =
-    subst (λ (m : Mode). IsDoneBy does m (Writes first bytes fua) now (Ok end) old new) mode dusted.done in
+    let checked : IsChecked does old.block (Writes first bytes fua) now (Ok end) (held old) (held new) =
+    subst (λ (m : Mode). IsDoneBy does m old.block (Writes first bytes fua) now (Ok end) (held old) (held new)) mode dusted.done in
     none-left (left_at (listed old.bad) place)
     (ended does old.block (Writes first bytes fua) (listed old.bad) (listed new.bad) old.lower now new.lower checked.stop end place checked.answer checked.blocks touched)
 
@@ -45,8 +45,8 @@ pub good_discards : {D : Type 0} (does : D → Call → ℕ → Result ℕ DevEr
     (now end place : ℕ) → old.mode ≡ FailReadOnBadBlock → IsDusted does (Discards first count) now (Ok end) old new
     → IsTouched old.block first count place → left_at (listed old.bad) place ≡ 0
 good_discards does old new first count now end place mode dusted touched =
-    let checked : IsChecked does (Discards first count) now (Ok end) old new =
-    subst (λ (m : Mode). IsDoneBy does m (Discards first count) now (Ok end) old new) mode dusted.done in
+    let checked : IsChecked does old.block (Discards first count) now (Ok end) (held old) (held new) =
+    subst (λ (m : Mode). IsDoneBy does m old.block (Discards first count) now (Ok end) (held old) (held new)) mode dusted.done in
     none-left (left_at (listed old.bad) place)
     (ended does old.block (Discards first count) (listed old.bad) (listed new.bad) old.lower now new.lower checked.stop end place checked.answer checked.blocks touched)
 
@@ -54,7 +54,7 @@ pub good_reads : {D : Type 0} (does : D → Call → ℕ → Result ℕ DevError
     (now end place : ℕ) → old.mode ≡ FailReadOnBadBlock → IsDusted does (Reads first before after) now (Ok end) old new
     → IsTouched old.block first (length before / 512) place → listed old.bad place ≡ None
 good_reads does old new first before after now end place mode dusted touched =
-    let checked : IsChecked does (Reads first before after) now (Ok end) old new =
-    subst (λ (m : Mode). IsDoneBy does m (Reads first before after) now (Ok end) old new) mode dusted.done in
+    let checked : IsChecked does old.block (Reads first before after) now (Ok end) (held old) (held new) =
+    subst (λ (m : Mode). IsDoneBy does m old.block (Reads first before after) now (Ok end) (held old) (held new)) mode dusted.done in
     not-listed (listed old.bad place)
     (ended does old.block (Reads first before after) (listed old.bad) (listed new.bad) old.lower now new.lower checked.stop end place checked.answer checked.blocks touched)

@@ -1,11 +1,14 @@
 pub use Rattle.blockdev.specs.Calls
 pub use Rattle.blockdev.specs.Law
+pub use Rattle.blockdev.specs.Messages
 pub use Rattle.blockdev.specs.View
+pub use Rattle.table_line.specs.Ranges
 pub mod Bad
 pub mod Change
 pub mod Walk
 pub mod Orders
 pub mod inside
 pub mod DustRule
+pub mod CarryLaws
 pub mod Sizes
 pub mod MessageRule

@@ -1,15 +1,9 @@
 -- The sizes of blocks, and the words for what a device does about bad ones.
-use Rattle.std.specs.Prelude.{◌≡◌, ℕ, ◌<◌, ◌≤◌, ◌^◌, List, codes}
+use Rattle.std.specs.Prelude.{ℕ, ◌<◌, ◌≤◌, List, codes}
 use Rattle.std.proofs.Common.{refl, arith}
+use Rattle.table_line.specs.Ranges.{IsBlockSize}
 use Rattle.dust_layer.specs.declared.mode.Mode.{Mode}
 use Rattle.dust_layer.specs.declared.mode.Mode.TheVariants.{Bypass, FailReadOnBadBlock}
-
--- the bytes of a block: a power of two, from 512 to 1,073,741,824
-pub record IsBlockSize (bytes : ℕ) : Type 0 where
-  pub power : ℕ
-  pub is_power : bytes ≡ 2 ^ power
-  pub some : 512 ≤ bytes
-  pub few : bytes ≤ 1073741824
 
 -- the sectors of a block: at least one, and at most 2,097,152
 pub record IsBlock (sectors : ℕ) : Type 0 where
@@ -23,7 +17,9 @@ mode_text FailReadOnBadBlock = codes "fail_read_on_bad_block"
 
 -- blocks may have 512 bytes, and 1,024
 pub of_512 : IsBlockSize 512
-of_512 = record { power = 9; is_power = refl; some = omega arith; few = omega arith }
+unfolding lib.Count.ones
+of_512 = record { power = refl; some = omega arith; few = omega arith }
 
 pub of_1024 : IsBlockSize 1024
-of_1024 = record { power = 10; is_power = refl; some = omega arith; few = omega arith }
+unfolding lib.Count.ones
+of_1024 = record { power = refl; some = omega arith; few = omega arith }

@@ -1,5 +1,6 @@
 ghost use Rattle.std.proofs.Props.{props};
-ghost use Rattle.dust_layer.specs.Sizes.{IsBlock, IsBlockSize};
+ghost use Rattle.table_line.specs.Ranges.{IsBlockSize};
+ghost use Rattle.dust_layer.specs.Sizes.{IsBlock};
 
 use crate::bad_blocks::BadBlocks;
 use crate::blocks::{change_blocks, read_blocks};
@@ -158,6 +159,23 @@ impl<D: BlockDev + Drop> BlockDev for Dust<D> {
     }
 
     ghost lawful = { λ device. lawful_counted (D.shown device.lower) device.faults 0 false (D.lawful device.lower) };
+}
+
+impl<D: Message + Drop> Dust<D> {
+    ghost use Rattle.std.specs.Prelude.{◌≡◌};
+    ghost use Rattle.blockdev.specs.Messages.{Unchanged};
+
+    /// Hands a message to the device beneath, whose layers count from 1; its bad blocks stay. Refused as that device refuses it.
+    pub fn message_below(&mut self, layer: u64, text: &str) -> Result<(), MessageError>
+        ensures same { Unchanged (D.shown self.old.lower) (D.shown self.new.lower) }
+        ensures answers { D.answers self.old.lower layer text.now result self.new.lower }
+        ensures block { self.new.block ≡ self.old.block }
+        ensures bad { self.new.bad ≡ self.old.bad }
+        ensures mode { self.new.mode ≡ self.old.mode }
+        ensures faults { self.new.faults ≡ self.old.faults }
+    {
+        self.lower.message(layer, text)
+    }
 }
 
 impl<D: BlockDev + Drop> Message for Dust<D> {

@@ -2,188 +2,112 @@ use crate::bad_blocks::BadBlocks;
 use crate::obey::obey;
 use crate::order::{Order, order_of};
 use refusals::Refusal;
+use std::alloc::Global;
 use std::test::Fail;
+
+// What a text asks for, in words.
+fn asked(alloc: Global, text: &str) -> Result<String, Fail> {
+    Ok(match order_of(text.as_bytes()) {
+        Some(Order::Add { block, count }) => format!(in alloc; "add {block} {count}")?,
+        Some(Order::Remove { block }) => format!(in alloc; "remove {block}")?,
+        Some(Order::Clear) => format!(in alloc; "clear")?,
+        Some(Order::Enable) => format!(in alloc; "enable")?,
+        Some(Order::Disable) => format!(in alloc; "disable")?,
+        None => format!(in alloc; "none")?,
+    })
+}
+
+// A text, and what it asks for.
+const ORDERS: &str = "addbadblock 60|add 60 0
+addbadblock 60 1|add 60 1
+addbadblock 00000000000000000007 00000000000000000255|add 7 255
+addbadblock 18446744073709551615 0|add 18446744073709551615 0
+removebadblock 60|remove 60
+clearbadblocks|clear
+enable|enable
+disable|disable";
 
 #[test]
 fn texts_that_ask_for_an_order(rt: HostRuntime) -> Result<(), Fail> {
-    for (text, want) in [
-        (
-            "addbadblock 60",
-            Order::Add {
-                block: 60,
-                count: 0,
-            },
-        ),
-        (
-            "addbadblock 60 1",
-            Order::Add {
-                block: 60,
-                count: 1,
-            },
-        ),
-        (
-            "addbadblock 00000000000000000007 00000000000000000255",
-            Order::Add {
-                block: 7,
-                count: 255,
-            },
-        ),
-        (
-            "addbadblock 18446744073709551615 0",
-            Order::Add {
-                block: 18446744073709551615,
-                count: 0,
-            },
-        ),
-        ("removebadblock 60", Order::Remove { block: 60 }),
-        ("clearbadblocks", Order::Clear),
-        ("enable", Order::Enable),
-        ("disable", Order::Disable),
-    ] {
-        assert_eq!(rt; order_of(text.as_bytes()), Some(want));
+    for row in ORDERS.split('\n') {
+        let (text, want) = row.split_once('|').unwrap_or_default();
+        assert_eq!(rt; asked(rt.alloc(), text)?.as_str(), want);
     }
     Ok(())
 }
+
+// Texts that ask for none, with a bar behind each.
+const NO_ORDERS: &str =
+    "| |addbadblock|addbadblock |addbadblock  60|addbadblock 60 |addbadblock 60  1|addbadblock 60 1 |addbadblock 60 1 1| addbadblock 60|addbadblock 60 256|addbadblock 60 -1|addbadblock x|addbadblock 60 x|addbadblock 0x3c|addbadblock\t60|addbadblock 18446744073709551616|addbadblock 000000000000000000060|ADDBADBLOCK 60|addbadblocks 60|removebadblock|removebadblock 60 |removebadblock  60|removebadblock 60 1|clearbadblocks | clearbadblocks|clearbadblocks 1|clearbadblock|enable |Enable|enable 1|disable\n|quiet|countbadblocks";
 
 #[test]
 fn texts_that_ask_for_none(rt: HostRuntime) -> Result<(), Fail> {
-    for text in [
-        "",
-        " ",
-        "addbadblock",
-        "addbadblock ",
-        "addbadblock  60",
-        "addbadblock 60 ",
-        "addbadblock 60  1",
-        "addbadblock 60 1 ",
-        "addbadblock 60 1 1",
-        " addbadblock 60",
-        "addbadblock 60 256",
-        "addbadblock 60 -1",
-        "addbadblock x",
-        "addbadblock 60 x",
-        "addbadblock 0x3c",
-        "addbadblock\t60",
-        "addbadblock 18446744073709551616",
-        "addbadblock 000000000000000000060",
-        "ADDBADBLOCK 60",
-        "addbadblocks 60",
-        "removebadblock",
-        "removebadblock 60 ",
-        "removebadblock  60",
-        "removebadblock 60 1",
-        "clearbadblocks ",
-        " clearbadblocks",
-        "clearbadblocks 1",
-        "clearbadblock",
-        "enable ",
-        "Enable",
-        "enable 1",
-        "disable\n",
-        "quiet",
-        "countbadblocks",
-    ] {
-        assert_eq!(rt; order_of(text.as_bytes()), None);
+    for text in NO_ORDERS.split('|') {
+        assert_eq!(rt; asked(rt.alloc(), text)?.as_str(), "none");
     }
     Ok(())
 }
 
-// Messages to a layer of 99 sectors with blocks of 2, one after another: the text, what refuses it, and whether the device then is enabled
-// and lists the blocks 0 and 49.
-const ANSWERS: [(&str, Option<Refusal>, bool, bool, bool); 22] = [
-    (
-        "removebadblock 0",
-        Some(Refusal::NotBad),
-        false,
-        false,
-        false,
-    ),
-    ("clearbadblocks", None, false, false, false),
-    ("disable", None, false, false, false),
-    ("addbadblock 0 3", None, false, true, false),
-    (
-        "addbadblock 0",
-        Some(Refusal::AlreadyBad),
-        false,
-        true,
-        false,
-    ),
-    (
-        "addbadblock 0 256",
-        Some(Refusal::BadMessage),
-        false,
-        true,
-        false,
-    ),
-    ("addbadblock 49", None, false, true, true),
-    (
-        "addbadblock 50",
-        Some(Refusal::BadMessage),
-        false,
-        true,
-        true,
-    ),
-    (
-        "removebadblock 50",
-        Some(Refusal::BadMessage),
-        false,
-        true,
-        true,
-    ),
-    (
-        "addbadblock 18446744073709551615 1",
-        Some(Refusal::BadMessage),
-        false,
-        true,
-        true,
-    ),
-    (
-        "addbadblock 9223372036854775808 1",
-        Some(Refusal::BadMessage),
-        false,
-        true,
-        true,
-    ),
-    (
-        "removebadblock 18446744073709551615",
-        Some(Refusal::BadMessage),
-        false,
-        true,
-        true,
-    ),
-    ("removebadblock 1", Some(Refusal::NotBad), false, true, true),
-    ("enable", None, true, true, true),
-    ("enable", None, true, true, true),
-    ("removebadblock 0", None, true, false, true),
-    ("removebadblock 0", Some(Refusal::NotBad), true, false, true),
-    ("addbadblock 0 255", None, true, true, true),
-    ("nothing", Some(Refusal::BadMessage), true, true, true),
-    ("disable", None, false, true, true),
-    ("clearbadblocks", None, false, false, false),
-    (
-        "removebadblock 49",
-        Some(Refusal::NotBad),
-        false,
-        false,
-        false,
-    ),
-];
+// Messages to a layer of 99 sectors with blocks of 2, one after another: the text, the answer, and whether the device then is enabled
+// (`e`) and lists the blocks 0 (`f`) and 49 (`l`).
+const ANSWERS: &str = "removebadblock 0|8 NotBad|---
+clearbadblocks|ok|---
+disable|ok|---
+addbadblock 0 3|ok|-f-
+addbadblock 0|7 AlreadyBad|-f-
+addbadblock 0 256|6 BadMessage|-f-
+addbadblock 49|ok|-fl
+addbadblock 50|6 BadMessage|-fl
+removebadblock 50|6 BadMessage|-fl
+addbadblock 18446744073709551615 1|6 BadMessage|-fl
+addbadblock 9223372036854775808 1|6 BadMessage|-fl
+removebadblock 18446744073709551615|6 BadMessage|-fl
+removebadblock 1|8 NotBad|-fl
+enable|ok|efl
+enable|ok|efl
+removebadblock 0|ok|e-l
+removebadblock 0|8 NotBad|e-l
+addbadblock 0 255|ok|efl
+nothing|6 BadMessage|efl
+disable|ok|-fl
+clearbadblocks|ok|---
+removebadblock 49|8 NotBad|---";
+
+// What a message answers that these blocks take.
+fn answer(
+    alloc: Global,
+    bad: &mut BadBlocks,
+    enabled: &mut bool,
+    text: &str,
+) -> Result<String, Fail> {
+    let refusal = match order_of(text.as_bytes()) {
+        Some(order) => match obey(bad, enabled, 2, 99, order) {
+            Ok(()) => return Ok(format!(in alloc; "ok")?),
+            Err(error) => Refusal::from(error),
+        },
+        None => Refusal::BadMessage,
+    };
+    Ok(format!(in alloc; "{refusal}")?)
+}
+
+// A letter, or a dash.
+fn mark(holds: bool, letter: char) -> char {
+    if holds { letter } else { '-' }
+}
 
 #[test]
 fn answers_of_messages(rt: HostRuntime) -> Result<(), Fail> {
-    let mut bad = BadBlocks::new(rt.alloc());
+    let alloc = rt.alloc();
+    let mut bad = BadBlocks::new(alloc);
     let mut enabled = false;
-    for (text, want, is_enabled, has_first, has_last) in ANSWERS {
-        let answer = match order_of(text.as_bytes()) {
-            Some(order) => obey(&mut bad, &mut enabled, 2, 99, order)
-                .err()
-                .map(|error| Refusal::from(error)),
-            None => Some(Refusal::BadMessage),
-        };
-        assert_eq!(rt; answer, want);
-        assert_eq!(rt; enabled, is_enabled);
-        assert_eq!(rt; bad.has(0), has_first);
-        assert_eq!(rt; bad.has(49), has_last);
+    for row in ANSWERS.split('\n') {
+        let (text, want) = row.split_once('|').unwrap_or_default();
+        let said = answer(alloc, &mut bad, &mut enabled, text)?;
+        let first = mark(bad.has(0), 'f');
+        let last = mark(bad.has(49), 'l');
+        let state = mark(enabled, 'e');
+        let found = format!(in alloc; "{said}|{state}{first}{last}")?;
+        assert_eq!(rt; found.as_str(), want);
     }
     Ok(())
 }

@@ -4,6 +4,7 @@ use Rattle.std.specs.Prelude.{◌/◌, Option, replicate, unwrap_or}
 use Rattle.blockdev.specs.Calls.{IsRange}
 use Rattle.blockdev.specs.View.{IsLawful, Place, View}
 use Rattle.blockdev.specs.Law.{AfterPatch, Goes, Lands, NoLie}
+use Rattle.blockdev.specs.Messages.{Unchanged}
 use Rattle.sectors.specs.Content.{Content, Patch, Patched, discards, gather, moved, nothing, put, sector_of, writes}
 use Rattle.sectors.specs.ContentLaws.{over-shift}
 use Rattle.sectors.specs.PlaceLaws.{collect-ext}
@@ -45,6 +46,22 @@ after-shifted offset below patch set left low shifted seen after = (
     | inr has ↦ inr (seen sector ∙ has)
   ],
 )
+
+-- where nothing is changed beneath, nothing is in a range
+pub unchanged_cut : (v w : View) (offset length : ℕ) → Unchanged v w → Unchanged (cut v offset length) (cut w offset length)
+unchanged_cut v w offset length same = record {
+  size = refl;
+  place = ap (λ (place : Place). record { origin = place.origin + offset; disk = place.disk }) same.place;
+  content = ap (λ (content : Content). moved offset content) same.content;
+  crash = λ left may. (may.0, same.crash may.0 may.1, may.2);
+  crash_before = λ left may. (may.0, same.crash_before may.0 may.1, may.2);
+  moment = same.moment;
+  since = λ moment left may. (may.0, same.since moment may.0 may.1, may.2);
+  since_before = λ moment left may. (may.0, same.since_before moment may.0 may.1, may.2);
+  faults = same.faults;
+  lies = same.lies;
+  can_lie = same.can_lie;
+}
 
 -- a range of a lawful device is lawful
 pub lawful_cut : (v : View) (offset length : ℕ) → IsRange v.size offset length → IsLawful v → IsLawful (cut v offset length)

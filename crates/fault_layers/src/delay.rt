@@ -1,5 +1,5 @@
 use bio::{DevError, Ms};
-use blockdev::BlockDev;
+use blockdev::{BlockDev, Message, MessageError};
 
 /// A device whose calls begin later (Linux's Documentation/admin-guide/device-mapper/delay.rst).
 #[derive(Drop)]
@@ -79,4 +79,16 @@ impl<D: BlockDev + Drop> BlockDev for Delay<D> {
     }
 
     ghost lawful = { λ device. D.lawful device.lower };
+}
+
+impl<D: Message + Drop> Message for Delay<D> {
+    ghost use Rattle.std.specs.Prelude.{◌≡◌};
+
+    // What the device beneath answers, and the delays stay.
+    ghost answers = { λ old layer text result new.
+        D.answers old.lower layer text result new.lower × (new.read ≡ old.read) × (new.write ≡ old.write) × (new.flush ≡ old.flush) };
+
+    fn message(&mut self, layer: u64, text: &str) -> Result<(), MessageError> {
+        self.lower.message(layer, text)
+    }
 }

@@ -1,6 +1,6 @@
 use crate::gate::{Gate, Kind, Verdict};
 use bio::{DevError, Ms};
-use blockdev::BlockDev;
+use blockdev::{BlockDev, Message, MessageError};
 
 /// A device of which a gate decides, call by call, whether the one beneath does it.
 #[derive(Drop)]
@@ -121,4 +121,17 @@ impl<D: BlockDev + Drop, G: Gate + Drop> BlockDev for Gated<D, G> {
 
     ghost lawful = { λ device.
         lawful_counted (D.shown device.lower) device.faults device.lies (G.may_drop device.gate) (D.lawful device.lower) };
+}
+
+impl<D: Message + Drop, G: Gate + Drop> Message for Gated<D, G> {
+    ghost use Rattle.std.specs.Prelude.{◌≡◌};
+    ghost use Rattle.blockdev.specs.Messages.{unchanged_counted};
+
+    // What the device beneath answers, and the gate and its counts stay.
+    ghost answers = { λ old layer text result new.
+        D.answers old.lower layer text result new.lower × (new.gate ≡ old.gate) × (new.faults ≡ old.faults) × (new.lies ≡ old.lies) };
+
+    fn message(&mut self, layer: u64, text: &str) -> Result<(), MessageError> {
+        self.lower.message(layer, text)
+    }
 }

@@ -2,7 +2,7 @@ ghost use Rattle.std.proofs.Props.{props};
 ghost use Rattle.blockdev.specs.Calls.{IsRange};
 
 use bio::{DevError, Ms};
-use blockdev::BlockDev;
+use blockdev::{BlockDev, Message, MessageError};
 
 /// A range of another device's sectors, as a device of its own: its sector 0 is the sector `offset` beneath (Linux's
 /// Documentation/admin-guide/device-mapper/linear.rst).
@@ -84,4 +84,17 @@ impl<D: BlockDev + Drop> BlockDev for Linear<D> {
 
     ghost lawful = { λ device.
         lawful_cut (D.shown device.lower) device.offset device.length device.fits (D.lawful device.lower) };
+}
+
+impl<D: Message + Drop> Message for Linear<D> {
+    ghost use Rattle.std.specs.Prelude.{◌≡◌};
+
+    // What the device beneath answers, and the range stays.
+    ghost answers = { λ old layer text result new.
+        D.answers old.lower layer text result new.lower × (new.offset ≡ old.offset) × (new.length ≡ old.length) };
+
+    #[tactic(auto, using(crate::specs::CutLaws::unchanged_cut))]
+    fn message(&mut self, layer: u64, text: &str) -> Result<(), MessageError> {
+        self.lower.message(layer, text)
+    }
 }

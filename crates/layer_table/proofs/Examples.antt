@@ -1,5 +1,6 @@
 -- The definitions on examples: what holds, and what doesn't.
 use Rattle.std.proofs.Common.{◌≡◌, true, false, [], ◌∷◌, Some, None, refl}
+use Rattle.blockdev.specs.Calls.{Discards, Flushes}
 use Rattle.blockdev.specs.View.{View}
 use Rattle.fault_layers.specs.declared.gate.Kind.TheVariants as kinds
 use Rattle.fault_layers.specs.declared.gate.Verdict.TheVariants.{Drop, Fail, Pass}
@@ -11,7 +12,7 @@ use Rattle.table_line.specs.Standing.{some_drops}
 use Rattle.layer_table.specs.declared.any_gate.AnyGate.{AnyGate}
 use Rattle.layer_table.specs.declared.any_gate.AnyGate.TheVariants.{Error, Flakey, Fuse}
 use Rattle.layer_table.specs.AnyRule.{any_after, any_may_drop, any_verdict}
-use Rattle.layer_table.specs.Layers.{gate_asked, layer_asked, layers_over, Layer}
+use Rattle.layer_table.specs.Layers.{gate_asked, layer_asked, layers_over, later_of, Deciding, Delaying, Layer, Passing}
 use Rattle.layer_table.specs.Slots.{has_no_gap}
 
 -- ---- gates
@@ -47,11 +48,21 @@ fails = refl
 
 -- ---- what a line asks for
 
-asked : layer_asked (record { length = 8; offset = 4; target = targets.Fuse 3 }) 7 ≡ record { offset = 4; length = 8; gate = Some (Fuse 3); faults = 0; lies = 0 }
+asked : layer_asked (record { length = 8; offset = 4; target = targets.Fuse 3 }) 7 ≡ record { offset = 4; length = 8; rule = Deciding (Fuse 3); faults = 0; lies = 0 }
 asked = refl
 
 no-gate : gate_asked targets.Linear 7 ≡ None
 no-gate = refl
+
+asked-later : layer_asked (record { length = 8; offset = 4; target = targets.Delay 1 2 3 }) 7 ≡ record { offset = 4; length = 8; rule = Delaying 1 2 3; faults = 0; lies = 0 }
+asked-later = refl
+
+-- a discard is delayed as a write is
+discarded-later : later_of 1 2 3 (Discards 0 8) ≡ 2
+discarded-later = refl
+
+flushed-later : later_of 1 2 3 Flushes ≡ 3
+flushed-later = refl
 
 -- ---- which layers may drop writes
 
@@ -84,10 +95,10 @@ gap-beneath = refl
 -- ---- what layers show
 
 abbrev four-on : Layer
-four-on = record { offset = 4; length = 8; gate = None; faults = 0; lies = 0 }
+four-on = record { offset = 4; length = 8; rule = Passing; faults = 0; lies = 0 }
 
 abbrev two-on : Layer
-two-on = record { offset = 2; length = 3; gate = Some (Fuse 3); faults = 5; lies = 0 }
+two-on = record { offset = 2; length = 3; rule = Deciding (Fuse 3); faults = 5; lies = 0 }
 
 -- the top's sector 1 is sector 7 of what is shown beneath; its size is its own, and its faults are its own and those beneath
 top-sector : (v : View) → (layers_over (two-on ∷ four-on ∷ []) v).content 1 ≡ v.content 7

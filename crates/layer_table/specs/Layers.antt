@@ -1,11 +1,16 @@
 -- The layers of a stack, and the disk beneath them.
-use Rattle.std.specs.Prelude.{◌≡◌, ◌↔◌, ℕ, ◌+◌, ◌≤◌, ◌||◌, false, List, [], ◌∷◌, Option, Some, None, Result, Err, Ok}
+use Rattle.std.specs.Prelude.{◌≡◌, ◌↔◌, ℕ, zero, suc, length, ◌+◌, ◌/◌, ◌≤◌, ◌||◌, false, List, [], ◌∷◌, Option, Some, None, Result, Err, Ok}
 use Rattle.bio.specs.declared.outcome.DevError.{DevError}
 use Rattle.bio.specs.declared.outcome.DevError.TheVariants.{Io}
+use Rattle.bio.specs.Moments.{later_by}
 use Rattle.blockdev.specs.declared.device.BlockDev.{Ghosts}
-use Rattle.blockdev.specs.Calls.{Call}
+use Rattle.blockdev.specs.Calls.{Call, Discards, Flushes, Reads, Writes}
 use Rattle.blockdev.specs.Counted.{counted, one_more}
 use Rattle.blockdev.specs.View.{View}
+use Rattle.dust_layer.specs.declared.mode.Mode.{Mode}
+use Rattle.dust_layer.specs.declared.mode.Mode.TheVariants.{Bypass}
+use Rattle.dust_layer.specs.Bad.{Bad, listed}
+use Rattle.dust_layer.specs.DustRule.{IsDoneBy}
 use Rattle.fault_layers.specs.declared.gate.Verdict.{Verdict}
 use Rattle.fault_layers.specs.declared.gate.Verdict.TheVariants.{Drop, Fail, Pass}
 use Rattle.sectors.specs.Content.{Content}
@@ -25,12 +30,19 @@ use Rattle.layer_table.specs.declared.stack.Stack.{Stack}
 use Rattle.layer_table.specs.AnyRule.{any_after, any_may_drop, any_verdict}
 use Rattle.layer_table.specs.Slots.{device_of, slot_does, slot_shown}
 
--- A layer: the range that it is of what stands beneath, the gate that decides about its calls, where it has one, and how often
--- it failed a call, and dropped one, itself.
+-- What a layer does with its calls: it passes each, a gate decides about them, they begin so many milliseconds later, or they go block by block
+-- over a list of bad blocks, of so many sectors each.
+pub data Rule : Type 0 where
+  Passing : Rule
+  Deciding : (gate : AnyGate) → Rule
+  Delaying : (read write flush : ℕ) → Rule
+  Dusting : (block : ℕ) (bad : Bad) (mode : Mode) → Rule
+
+-- A layer: the range that it is of what stands beneath, its rule, and how often it failed a call, and dropped one, itself.
 pub record Layer : Type 0 where
   pub offset : ℕ
   pub length : ℕ
-  pub gate : Option AnyGate
+  pub rule : Rule
   pub faults : ℕ
   pub lies : ℕ
 
@@ -38,9 +50,13 @@ pub record Layer : Type 0 where
 abbrev pub layers_with : {D : Type 0} {g : Ghosts D} → (D → List Layer) → Slot D g → List Layer
 layers_with {D} {g} beneath (slots.Bare device) = beneath device
 layers_with {D} {g} beneath (slots.Linear range) =
-    record { offset = range.offset; length = range.length; gate = None; faults = 0; lies = 0 } ∷ beneath range.lower
+    record { offset = range.offset; length = range.length; rule = Passing; faults = 0; lies = 0 } ∷ beneath range.lower
 layers_with {D} {g} beneath (slots.Decided layer) =
-    record { offset = layer.lower.offset; length = layer.lower.length; gate = Some layer.gate; faults = layer.faults; lies = layer.lies } ∷ beneath layer.lower.lower
+    record { offset = layer.lower.offset; length = layer.lower.length; rule = Deciding layer.gate; faults = layer.faults; lies = layer.lies } ∷ beneath layer.lower.lower
+layers_with {D} {g} beneath (slots.Delayed layer) =
+    record { offset = layer.lower.offset; length = layer.lower.length; rule = Delaying layer.read layer.write layer.flush; faults = 0; lies = 0 } ∷ beneath layer.lower.lower
+layers_with {D} {g} beneath (slots.Dusted layer) =
+    record { offset = layer.lower.offset; length = layer.lower.length; rule = Dusting layer.block (listed layer.bad) layer.mode; faults = layer.faults; lies = 0 } ∷ beneath layer.lower.lower
 
 -- the layers of four slots, the top first, and the device beneath them
 abbrev pub layers_in : {D : Type 0} {g : Ghosts D} {h : Ghosts (Slot D g)} {i : Ghosts (Slot (Slot D g) h)}
@@ -66,10 +82,21 @@ gate_asked targets.Linear load = None
 gate_asked targets.Error load = Some (gates.Error (record {}))
 gate_asked (targets.Flakey up down feature) load = Some (gates.Flakey (record { up = up; down = down; feature = feature; load = load }))
 gate_asked (targets.Fuse calls) load = Some (gates.Fuse calls)
+gate_asked (targets.Dust bytes) load = None
+gate_asked (targets.Delay read write flush) load = None
+
+-- the rule of a target; blocks are sectors of 512 bytes, none is bad at first, and calls pass
+abbrev pub rule_asked : Target → ℕ → Rule
+rule_asked targets.Linear load = Passing
+rule_asked targets.Error load = Deciding (gates.Error (record {}))
+rule_asked (targets.Flakey up down feature) load = Deciding (gates.Flakey (record { up = up; down = down; feature = feature; load = load }))
+rule_asked (targets.Fuse calls) load = Deciding (gates.Fuse calls)
+rule_asked (targets.Dust bytes) load = Dusting (bytes / 512) (λ block. None) Bypass
+rule_asked (targets.Delay read write flush) load = Delaying read write flush
 
 -- the layer that a line asks for
 abbrev pub layer_asked : LayerSpec → ℕ → Layer
-layer_asked spec load = record { offset = spec.offset; length = spec.length; gate = gate_asked spec.target load; faults = 0; lies = 0 }
+layer_asked spec load = record { offset = spec.offset; length = spec.length; rule = rule_asked spec.target load; faults = 0; lies = 0 }
 
 -- layers over others, the top first, where these lines ask for them, the lowest first
 abbrev pub layers_under : List LayerSpec → ℕ → List Layer → List Layer
@@ -82,15 +109,17 @@ layers_under (spec ∷ specs) load layers = layers_under specs load (layer_asked
 abbrev pub stack_shown : Stack → View
 stack_shown stack = slot_shown stack.top
 
--- a layer over what shows this: the range, and with a gate its own faults and lies
-abbrev pub layer_over : Option AnyGate → Layer → View → View
-layer_over None layer v = cut v layer.offset layer.length
-layer_over (Some gate) layer v = counted (cut v layer.offset layer.length) layer.faults layer.lies (any_may_drop gate)
+-- a layer over what shows this: the range, with a gate its own faults and lies, and with bad blocks its own faults
+abbrev pub layer_over : Rule → Layer → View → View
+layer_over Passing layer v = cut v layer.offset layer.length
+layer_over (Delaying read write flush) layer v = cut v layer.offset layer.length
+layer_over (Dusting block bad mode) layer v = counted (cut v layer.offset layer.length) layer.faults 0 false
+layer_over (Deciding gate) layer v = counted (cut v layer.offset layer.length) layer.faults layer.lies (any_may_drop gate)
 
 -- layers over what shows this
 abbrev pub layers_over : List Layer → View → View
 layers_over [] v = v
-layers_over (layer ∷ layers) v = layer_over layer.gate layer (layers_over layers v)
+layers_over (layer ∷ layers) v = layer_over layer.rule layer (layers_over layers v)
 
 -- two devices show the same
 pub record IsSeenAs (v w : View) : Type 0 where
@@ -147,21 +176,67 @@ pub record Decides (verdict : Verdict) (below same : Type 0) (call : Call) (now 
   pub fails : verdict ≡ Fail → (result ≡ Err Io) × (after.faults ≡ one_more layer.faults) × (after.lies ≡ layer.lies) × same × KeepsBuffer call
   pub drops : verdict ≡ Drop → (result ≡ Ok now) × (after.faults ≡ layer.faults) × (after.lies ≡ one_more layer.lies) × same
 
--- a layer without a gate passes each call
-abbrev pub DoesAt : Option AnyGate → Type 0 → Type 0 → Call → ℕ → Result ℕ DevError → Layer → Layer → Type 0
-DoesAt None below same call now result layer after = below × (after.gate ≡ None) × (after.faults ≡ layer.faults) × (after.lies ≡ layer.lies)
-DoesAt (Some gate) below same call now result layer after =
-    Decides (any_verdict gate (kind_of call) now) below same call now result layer after × (after.gate ≡ Some (any_after gate (kind_of call) now))
+-- Layers, the top first, and the disk beneath them.
+pub record Under : Type 0 where
+  pub layers : List Layer
+  pub disk : SectorDisk
 
--- What a call does to layers over a disk: at the top, then beneath it so many sectors further on, and so down to the disk.
-abbrev pub LayersDo : List Layer → SectorDisk → Call → ℕ → Result ℕ DevError → List Layer → SectorDisk → Type 0
-LayersDo [] disk call now result [] new = Does disk call now result new
-LayersDo [] disk call now result (after ∷ others) new = ⊥
-LayersDo (layer ∷ layers) disk call now result [] new = ⊥
-LayersDo (layer ∷ layers) disk call now result (after ∷ others) new =
-    DoesAt layer.gate (LayersDo layers disk (call_from layer.offset call) now result others new)
-    ((others ≡ layers) × (new ≡ disk)) call now result layer after
+-- how much later a call begins, in milliseconds; a discard is delayed as a write is
+abbrev pub later_of : ℕ → ℕ → ℕ → Call → ℕ
+later_of read write flush (Reads first before after) = read
+later_of read write flush (Writes first bytes fua) = write
+later_of read write flush (Discards first count) = write
+later_of read write flush Flushes = flush
+
+-- What a call comes to that began at this later moment. `below` says that what stands beneath did it, with this answer.
+pub record Begins (below : Type 0) (begun : ℕ) (result : Result ℕ DevError) (layer after : Layer) : Type 0 where
+  pub done : below
+  pub ends : (end : ℕ) → result ≡ Ok end → begun ≤ end
+  pub rule : after.rule ≡ layer.rule
+  pub faults : after.faults ≡ layer.faults
+  pub lies : after.lies ≡ layer.lies
+
+-- what what stands beneath does, so many sectors further on
+abbrev pub shifted : (Under → Call → ℕ → Result ℕ DevError → Under → Type 0) → ℕ → Under → Call → ℕ → Result ℕ DevError → Under → Type 0
+shifted does offset old call now result new = does old (call_from offset call) now result new
+
+-- What a call comes to that goes block by block, from one list of bad blocks to another.
+pub record Dusts (does : Under → Call → ℕ → Result ℕ DevError → Under → Type 0) (block : ℕ) (bad : Bad) (mode : Mode) (old : Under) (call : Call) (now : ℕ)
+    (result : Result ℕ DevError)
+    (new : Under) (layer after : Layer) : Type 0 where
+  pub list : Bad
+  pub rule : after.rule ≡ Dusting block list mode
+  pub done : IsDoneBy does mode block call now result (record { lower = old; bad = bad; faults = layer.faults }) (record { lower = new; bad = list; faults = after.faults })
+  pub lies : after.lies ≡ layer.lies
+
+-- what becomes of a call at a layer by its rule; `does` says what stands beneath does
+abbrev pub DoesAt : (Under → Call → ℕ → Result ℕ DevError → Under → Type 0) → Rule → Under → Call → ℕ → Result ℕ DevError → Under → Layer → Layer → Type 0
+DoesAt does Passing old call now result new layer after =
+    shifted does layer.offset old call now result new × (after.rule ≡ Passing) × (after.faults ≡ layer.faults) × (after.lies ≡ layer.lies)
+DoesAt does (Deciding gate) old call now result new layer after =
+    Decides (any_verdict gate (kind_of call) now) (shifted does layer.offset old call now result new) (new ≡ old) call now result layer after
+    × (after.rule ≡ Deciding (any_after gate (kind_of call) now))
+DoesAt does (Delaying read write flush) old call now result new layer after =
+    Begins (shifted does layer.offset old call (later_by now (later_of read write flush call)) result new) (later_by now (later_of read write flush call)) result layer after
+DoesAt does (Dusting block bad mode) old call now result new layer after = Dusts (shifted does layer.offset) block bad mode old call now result new layer after
+
+-- what a call does at the top of layers, one of which stands there; its range stays
+abbrev pub DoesAtTop : (Under → Call → ℕ → Result ℕ DevError → Under → Type 0) → List Layer → SectorDisk → Call → ℕ → Result ℕ DevError → List Layer
+    → SectorDisk → Type 0
+DoesAtTop does [] disk call now result after new = ⊥
+DoesAtTop does (layer ∷ layers) disk call now result [] new = ⊥
+DoesAtTop does (layer ∷ layers) disk call now result (after ∷ others) new =
+    DoesAt does layer.rule (record { layers = layers; disk = disk }) call now result (record { layers = others; disk = new }) layer after
     × (after.offset ≡ layer.offset) × (after.length ≡ layer.length)
+
+-- What a call does to so many layers over a disk: at the top, then beneath it so many sectors further on, and so down to the disk.
+abbrev pub SoManyDo : ℕ → Under → Call → ℕ → Result ℕ DevError → Under → Type 0
+SoManyDo zero old call now result new = (old.layers ≡ []) × (new.layers ≡ []) × Does old.disk call now result new.disk
+SoManyDo (suc count) old call now result new = DoesAtTop (SoManyDo count) old.layers old.disk call now result new.layers new.disk
+
+abbrev pub LayersDo : List Layer → SectorDisk → Call → ℕ → Result ℕ DevError → List Layer → SectorDisk → Type 0
+LayersDo layers disk call now result after new =
+    SoManyDo (length layers) (record { layers = layers; disk = disk }) call now result (record { layers = after; disk = new })
 
 -- What becomes of a call by a verdict about it at the top of layers over a disk. `next` is the top after it, but for its counts.
 pub record Follows (verdict : Verdict) (next : Layer) (layers : List Layer) (old : SectorDisk) (call : Call) (now : ℕ) (result : Result ℕ DevError)
@@ -172,3 +247,24 @@ pub record Follows (verdict : Verdict) (next : Layer) (layers : List Layer) (old
   pub fails : verdict ≡ Fail → (result ≡ Err Io) × (after ≡ record next { faults = one_more next.faults } ∷ layers) × (new ≡ old) × KeepsBuffer call
   -- it was dropped, and nothing beneath was called
   pub drops : verdict ≡ Drop → (result ≡ Ok now) × (after ≡ record next { lies = one_more next.lies } ∷ layers) × (new ≡ old)
+
+-- What becomes of a call at the top of layers that begins it later: the layers beneath did it from that moment on, and the top stays.
+pub record FollowsLater (begun : ℕ) (layer : Layer) (layers : List Layer) (old : SectorDisk) (call : Call) (result : Result ℕ DevError)
+    (after : List Layer) (new : SectorDisk) : Type 0 where
+  pub others : List Layer
+  pub stays : after ≡ layer ∷ others
+  pub below : LayersDo layers old (call_from layer.offset call) begun result others new
+  -- an Ok ends at that moment or later
+  pub ends : (end : ℕ) → result ≡ Ok end → begun ≤ end
+
+-- What becomes of a call at the top of layers that goes block by block: only the list and the count of faults change at the top, and what is
+-- done beneath is done so many sectors further on.
+pub record FollowsBlocks (block : ℕ) (bad : Bad) (mode : Mode) (layer : Layer) (layers : List Layer) (old : SectorDisk) (call : Call) (now : ℕ)
+    (result : Result ℕ DevError) (after : List Layer) (new : SectorDisk) : Type 0 where
+  pub others : List Layer
+  pub list : Bad
+  pub faults : ℕ
+  pub stays : after ≡ record layer { rule = Dusting block list mode; faults = faults } ∷ others
+  pub done : IsDoneBy (shifted (SoManyDo (length layers)) layer.offset) mode block call now result
+      (record { lower = record { layers = layers; disk = old }; bad = bad; faults = layer.faults })
+      (record { lower = record { layers = others; disk = new }; bad = list; faults = faults })

@@ -1,5 +1,5 @@
 -- A place for a layer keeps the law of a device, and whether a layer stands there.
-use Rattle.std.proofs.Common.{◌≡◌, ℕ, Bool, true, false, List, ◌∷◌, Result, refl, ap}
+use Rattle.std.proofs.Common.{◌≡◌, ℕ, Bool, false, List, ◌∷◌, Result, refl, ap, ◌∙◌}
 use Rattle.bio.specs.declared.outcome.DevError.{DevError}
 use Rattle.blockdev.specs.declared.device.BlockDev.{Ghosts}
 use Rattle.blockdev.specs.Calls.{Call}
@@ -12,17 +12,25 @@ use Rattle.fault_layers.specs.declared.linear.Linear.{Linear}
 use Rattle.fault_layers.specs.Cut.{cut}
 use Rattle.fault_layers.specs.CutLaws.{lawful_cut}
 use Rattle.fault_layers.specs.Decided.{kind_of, IsDecided}
+use Rattle.dust_layer.specs.declared.dust.Dust.{Dust}
+use Rattle.dust_layer.specs.CarryLaws.{done_carried}
+use Rattle.dust_layer.specs.DustRule.{held, IsDusted}
 use Rattle.layer_table.specs.declared.any_gate.AnyGate.{AnyGate}
 use Rattle.layer_table.specs.declared.slot.Slot.{Slot}
 use Rattle.layer_table.specs.declared.slot.Slot.TheVariants as slots
 use Rattle.layer_table.specs.AnyRule.{any_may_drop, any_verdict}
-use Rattle.layer_table.specs.Slots.{shape_with, slot_does, slot_shown}
+use Rattle.layer_table.specs.Slots.{device_of, has_layer, shape_with, slot_does, slot_shown, IsShifted}
 
 pub slot_lawful : {D : Type 0} {g : Ghosts D} → ((device : D) → IsLawful (g.shown device)) → (slot : Slot D g) → IsLawful (slot_shown slot)
 slot_lawful {D} {g} lawful (slots.Bare device) = lawful device
 slot_lawful {D} {g} lawful (slots.Linear range) = lawful_cut (g.shown range.lower) range.offset range.length range.fits (lawful range.lower)
 slot_lawful {D} {g} lawful (slots.Decided layer) =
     lawful_counted (cut (g.shown layer.lower.lower) layer.lower.offset layer.lower.length) layer.faults layer.lies (any_may_drop layer.gate)
+    (lawful_cut (g.shown layer.lower.lower) layer.lower.offset layer.lower.length layer.lower.fits (lawful layer.lower.lower))
+slot_lawful {D} {g} lawful (slots.Delayed layer) =
+    lawful_cut (g.shown layer.lower.lower) layer.lower.offset layer.lower.length layer.lower.fits (lawful layer.lower.lower)
+slot_lawful {D} {g} lawful (slots.Dusted layer) =
+    lawful_counted (cut (g.shown layer.lower.lower) layer.lower.offset layer.lower.length) layer.faults 0 false
     (lawful_cut (g.shown layer.lower.lower) layer.lower.offset layer.lower.length layer.lower.fits (lawful layer.lower.lower))
 
 -- each call of a device keeps what f says of it
@@ -39,21 +47,60 @@ decided_keeps f Pass below call now result layer after is passed = passed (is.pa
 decided_keeps f Fail below call now result layer after is passed = ap f (is.fails refl).3
 decided_keeps f Drop below call now result layer after is passed = ap f (is.drops refl).3
 
+-- a layer with bad blocks keeps what f says of its range, where each call of the range does
+pub dusted_keeps : {D A : Type 0} {g : Ghosts D} (f : Linear D g → A)
+    → ((range : Linear D g) (call : Call) (now : ℕ) (result : Result ℕ DevError) (after : Linear D g) → IsShifted range call now result after
+    → f after ≡ f range) → (call : Call) (now : ℕ) (result : Result ℕ DevError) (layer after : Dust (Linear D g))
+    → IsDusted IsShifted call now result layer after → f after.lower ≡ f layer.lower
+dusted_keeps {D} {A} {g} f kept call now result layer after is =
+    (done_carried IsShifted (λ (old : Unit {0}) call now result new. Unit {0}) (λ range. f range ≡ f layer.lower) (λ range. tt)
+    (λ old call now result new holds does. (tt, kept old call now result new does ∙ holds))
+    layer.mode layer.block call now result (held layer) (held after) refl is.done).1
+
+-- a call of a slot keeps what each call of the device beneath keeps, and whether a layer stands there
+pub slot_kept : {D A : Type 0} {g : Ghosts D} (f : D → A) → IsKept g f → (slot : Slot D g) (call : Call) (now : ℕ) (result : Result ℕ DevError)
+    (after : Slot D g) → slot_does slot call now result after → (f (device_of after) ≡ f (device_of slot)) × (has_layer after ≡ has_layer slot)
+slot_kept {D} {A} {g} f kept (slots.Bare device) call now result (slots.Bare after) does =
+    (kept device call now result after does, refl)
+slot_kept {D} {A} {g} f kept (slots.Bare device) call now result (slots.Linear after) does = absurd does
+slot_kept {D} {A} {g} f kept (slots.Bare device) call now result (slots.Decided after) does = absurd does
+slot_kept {D} {A} {g} f kept (slots.Bare device) call now result (slots.Delayed after) does = absurd does
+slot_kept {D} {A} {g} f kept (slots.Bare device) call now result (slots.Dusted after) does = absurd does
+slot_kept {D} {A} {g} f kept (slots.Linear range) call now result (slots.Bare after) does = absurd does
+slot_kept {D} {A} {g} f kept (slots.Linear range) call now result (slots.Linear after) does =
+    (kept range.lower _ now result after.lower does.0, refl)
+slot_kept {D} {A} {g} f kept (slots.Linear range) call now result (slots.Decided after) does = absurd does
+slot_kept {D} {A} {g} f kept (slots.Linear range) call now result (slots.Delayed after) does = absurd does
+slot_kept {D} {A} {g} f kept (slots.Linear range) call now result (slots.Dusted after) does = absurd does
+slot_kept {D} {A} {g} f kept (slots.Decided layer) call now result (slots.Bare after) does = absurd does
+slot_kept {D} {A} {g} f kept (slots.Decided layer) call now result (slots.Linear after) does = absurd does
+slot_kept {D} {A} {g} f kept (slots.Decided layer) call now result (slots.Decided after) does = (
+  decided_keeps (λ (range : Linear D g). f range.lower) (any_verdict layer.gate (kind_of call) now) _ call now result layer after does.0
+      (λ below. kept layer.lower.lower _ now result after.lower.lower below.0),
+  refl,
+)
+slot_kept {D} {A} {g} f kept (slots.Decided layer) call now result (slots.Delayed after) does = absurd does
+slot_kept {D} {A} {g} f kept (slots.Decided layer) call now result (slots.Dusted after) does = absurd does
+slot_kept {D} {A} {g} f kept (slots.Delayed layer) call now result (slots.Bare after) does = absurd does
+slot_kept {D} {A} {g} f kept (slots.Delayed layer) call now result (slots.Linear after) does = absurd does
+slot_kept {D} {A} {g} f kept (slots.Delayed layer) call now result (slots.Decided after) does = absurd does
+slot_kept {D} {A} {g} f kept (slots.Delayed layer) call now result (slots.Delayed after) does =
+    (kept layer.lower.lower _ _ result after.lower.lower does.done.0, refl)
+slot_kept {D} {A} {g} f kept (slots.Delayed layer) call now result (slots.Dusted after) does = absurd does
+slot_kept {D} {A} {g} f kept (slots.Dusted layer) call now result (slots.Bare after) does = absurd does
+slot_kept {D} {A} {g} f kept (slots.Dusted layer) call now result (slots.Linear after) does = absurd does
+slot_kept {D} {A} {g} f kept (slots.Dusted layer) call now result (slots.Decided after) does = absurd does
+slot_kept {D} {A} {g} f kept (slots.Dusted layer) call now result (slots.Delayed after) does = absurd does
+slot_kept {D} {A} {g} f kept (slots.Dusted layer) call now result (slots.Dusted after) does = (
+  dusted_keeps (λ (range : Linear D g). f range.lower) (λ range call now result next below. kept range.lower _ now result next.lower below.0)
+      call now result layer after does,
+  refl,
+)
+
 -- a slot keeps its shape
 pub shape_kept : {D : Type 0} {g : Ghosts D} (f : D → List Bool) → IsKept g f
     → (slot : Slot D g) (call : Call) (now : ℕ) (result : Result ℕ DevError)
     (after : Slot D g) → slot_does slot call now result after → shape_with f after ≡ shape_with f slot
-shape_kept {D} {g} f kept (slots.Bare device) call now result (slots.Bare after) does =
-    ap (λ (shape : List Bool). false ∷ shape) (kept device call now result after does)
-shape_kept {D} {g} f kept (slots.Bare device) call now result (slots.Linear after) does = absurd does
-shape_kept {D} {g} f kept (slots.Bare device) call now result (slots.Decided after) does = absurd does
-shape_kept {D} {g} f kept (slots.Linear range) call now result (slots.Bare after) does = absurd does
-shape_kept {D} {g} f kept (slots.Linear range) call now result (slots.Linear after) does =
-    ap (λ (shape : List Bool). true ∷ shape) (kept range.lower _ now result after.lower does.0)
-shape_kept {D} {g} f kept (slots.Linear range) call now result (slots.Decided after) does = absurd does
-shape_kept {D} {g} f kept (slots.Decided layer) call now result (slots.Bare after) does = absurd does
-shape_kept {D} {g} f kept (slots.Decided layer) call now result (slots.Linear after) does = absurd does
-shape_kept {D} {g} f kept (slots.Decided layer) call now result (slots.Decided after) does =
-    ap (λ (shape : List Bool). true ∷ shape)
-    (decided_keeps (λ (range : Linear D g). f range.lower) (any_verdict layer.gate (kind_of call) now) _ call now result layer after does.0
-    (λ below. kept layer.lower.lower _ now result after.lower.lower below.0))
+shape_kept f kept slot call now result after does =
+    let same = slot_kept f kept slot call now result after does in
+    ap (λ (has : Bool). has ∷ f (device_of after)) same.1 ∙ ap (λ (shape : List Bool). has_layer slot ∷ shape) same.0

@@ -1,90 +1,116 @@
 -- What becomes of a call at the top of layers, by the rule of the top.
-use Rattle.std.proofs.Common.{◌≡◌, ℕ, List, [], ◌∷◌, Option, Some, None, Result, refl, ap, subst, sym, ◌∙◌}
+use Rattle.std.proofs.Common.{◌≡◌, ℕ, List, [], ◌∷◌, length, Result, refl, ap, subst, sym, ◌∙◌}
+use Rattle.bio.specs.Moments.{later_by}
+use Rattle.dust_layer.specs.declared.mode.Mode.{Mode}
+use Rattle.dust_layer.specs.Bad.{Bad}
 use Rattle.bio.specs.declared.outcome.DevError.{DevError}
 use Rattle.blockdev.specs.Calls.{Call}
 use Rattle.fault_layers.specs.declared.gate.Verdict.TheVariants.{Pass}
-use Rattle.fault_layers.specs.Cut.{call_from}
 use Rattle.fault_layers.specs.Decided.{kind_of}
 use Rattle.sector_disk.specs.declared.disk.SectorDisk.{SectorDisk}
 use Rattle.layer_table.specs.declared.any_gate.AnyGate.{AnyGate}
 use Rattle.layer_table.specs.AnyRule.{any_after, any_verdict}
-use Rattle.layer_table.specs.Layers.{DoesAt, Follows, Layer, LayersDo}
+use Rattle.layer_table.specs.Layers.{later_of, Deciding, Delaying, DoesAt, Dusting, Follows, FollowsBlocks, FollowsLater, Layer, LayersDo, Passing, Rule, SoManyDo, Under}
 
 -- layers with the same in each field are one
-same_values : (o p l m : ℕ) (g h : Option AnyGate) (f e i k : ℕ) → o ≡ p → l ≡ m → g ≡ h → f ≡ e → i ≡ k
-    → ◌≡◌ {A = Layer} (record { offset = o; length = l; gate = g; faults = f; lies = i })
-    (record { offset = p; length = m; gate = h; faults = e; lies = k })
-same_values o p l m g h f e i k offset length gate faults lies = rw (offset, length, gate, faults, lies) refl
+same_values : (o p l m : ℕ) (g h : Rule) (f e i k : ℕ) → o ≡ p → l ≡ m → g ≡ h → f ≡ e → i ≡ k
+    → ◌≡◌ {A = Layer} (record { offset = o; length = l; rule = g; faults = f; lies = i })
+    (record { offset = p; length = m; rule = h; faults = e; lies = k })
+same_values o p l m g h f e i k offset length rule faults lies = rw (offset, length, rule, faults, lies) refl
 
-same_layer : (a b : Layer) → a.offset ≡ b.offset → a.length ≡ b.length → a.gate ≡ b.gate → a.faults ≡ b.faults → a.lies ≡ b.lies → a ≡ b
-same_layer a b offset length gate faults lies =
-    same_values a.offset b.offset a.length b.length a.gate b.gate a.faults b.faults a.lies b.lies offset length gate faults lies
+same_layer : (a b : Layer) → a.offset ≡ b.offset → a.length ≡ b.length → a.rule ≡ b.rule → a.faults ≡ b.faults → a.lies ≡ b.lies → a ≡ b
+same_layer a b offset length rule faults lies =
+    same_values a.offset b.offset a.length b.length a.rule b.rule a.faults b.faults a.lies b.lies offset length rule faults lies
 
 -- the same list, with this top
 same_top : (a b : Layer) (layers others : List Layer) → a ≡ b → layers ≡ others → a ∷ layers ≡ b ∷ others
 same_top a b layers others top rest = ap (λ (layer : Layer). layer ∷ layers) top ∙ ap (λ (xs : List Layer). b ∷ xs) rest
 
--- a layer without a gate
-passed_top : (layer : Layer) (layers : List Layer) (old : SectorDisk) (call : Call) (now : ℕ) (result : Result ℕ DevError) (top : Layer)
-    (others : List Layer) (new : SectorDisk)
-    (gate : Option AnyGate) → layer.gate ≡ gate → gate ≡ None
-    → DoesAt gate (LayersDo layers old (call_from layer.offset call) now result others new)
-    ((others ≡ layers) × (new ≡ old)) call now result layer top
-    → top.offset ≡ layer.offset → top.length ≡ layer.length → Follows Pass layer layers old call now result (top ∷ others) new
-passed_top layer layers old call now result top others new None is none does offset length = record {
-  passes = λ _. (others, same_top top layer others others (same_layer top layer offset length (does.1 ∙ sym is) does.2 does.3) refl, does.0);
-  fails = λ never. absurd (cc);
-  drops = λ never. absurd (cc);
-}
-passed_top layer layers old call now result top others new (Some gate) is none does offset length = absurd (cc)
+-- where the top's rule is this, this becomes of a call there
+at_top : (layer : Layer) (layers : List Layer) (old : SectorDisk) (call : Call) (now : ℕ) (result : Result ℕ DevError) (top : Layer)
+    (others : List Layer) (new : SectorDisk) (rule : Rule) → layer.rule ≡ rule → LayersDo (layer ∷ layers) old call now result (top ∷ others) new
+    → DoesAt (SoManyDo (length layers)) rule (record { layers = layers; disk = old }) call now result (record { layers = others; disk = new }) layer top
+at_top layer layers old call now result top others new rule is does =
+    subst (λ (it : Rule). DoesAt (SoManyDo (length layers)) it (record { layers = layers; disk = old }) call now result (record { layers = others; disk = new }) layer top)
+    is does.0
 
 pub linear_top : (layer : Layer) (layers : List Layer) (old : SectorDisk) (call : Call) (now : ℕ) (result : Result ℕ DevError) (after : List Layer)
     (new : SectorDisk)
-    → layer.gate ≡ None → LayersDo (layer ∷ layers) old call now result after new → Follows Pass layer layers old call now result after new
+    → layer.rule ≡ Passing → LayersDo (layer ∷ layers) old call now result after new → Follows Pass layer layers old call now result after new
 linear_top layer layers old call now result [] new is does = absurd does
 linear_top layer layers old call now result (top ∷ others) new is does =
-    passed_top layer layers old call now result top others new layer.gate refl is does.0 does.1 does.2
+    let done = at_top layer layers old call now result top others new Passing is does in
+    record {
+      passes = λ _. (others, same_top top layer others others (same_layer top layer does.1 does.2 (done.1 ∙ sym is) done.2 done.3) refl, done.0);
+      fails = λ never. absurd (cc);
+      drops = λ never. absurd (cc);
+    }
 
 -- a layer with a gate
-decided_top : (layer : Layer) (layers : List Layer) (old : SectorDisk) (call : Call) (now : ℕ) (result : Result ℕ DevError) (top : Layer)
-    (others : List Layer) (new : SectorDisk)
-    (gate : Option AnyGate) (it : AnyGate) → gate ≡ Some it
-    → DoesAt gate (LayersDo layers old (call_from layer.offset call) now result others new)
-    ((others ≡ layers) × (new ≡ old)) call now result layer top
-    → top.offset ≡ layer.offset → top.length ≡ layer.length
-    → Follows (any_verdict it (kind_of call) now) (record layer { gate = Some (any_after it (kind_of call) now) }) layers old call now result
-    (top ∷ others) new
-decided_top layer layers old call now result top others new None it is does offset length = absurd (cc)
-decided_top layer layers old call now result top others new (Some gate) it is does offset length =
-    let same : gate ≡ it = cc in
-    subst (λ (g : AnyGate). Follows (any_verdict g (kind_of call) now) (record layer { gate = Some (any_after g (kind_of call) now) }) layers old call now result (top ∷ others) new) same
-    (record {
-      passes = λ is.
-          let did = does.0.passes is in
-          (others, same_top top _ others others (same_layer top _ offset length does.1 did.1 did.2) refl, did.0);
-      fails = λ is.
-          let did = does.0.fails is in
-          (did.0, same_top top _ others layers (same_layer top _ offset length does.1 did.1 did.2) did.3.0, did.3.1, did.4);
-      drops = λ is.
-          let did = does.0.drops is in
-          (did.0, same_top top _ others layers (same_layer top _ offset length does.1 did.1 did.2) did.3.0, did.3.1);
-    })
-
 pub gate_top : (layer : Layer) (layers : List Layer) (old : SectorDisk) (call : Call) (now : ℕ) (result : Result ℕ DevError) (after : List Layer)
     (new : SectorDisk)
-    (it : AnyGate) → layer.gate ≡ Some it → LayersDo (layer ∷ layers) old call now result after new
-    → Follows (any_verdict it (kind_of call) now)
-    (record layer { gate = Some (any_after it (kind_of call) now) }) layers old call now result after new
-gate_top layer layers old call now result [] new it is does = absurd does
-gate_top layer layers old call now result (top ∷ others) new it is does =
-    decided_top layer layers old call now result top others new layer.gate it is does.0 does.1 does.2
+    (gate : AnyGate) → layer.rule ≡ Deciding gate → LayersDo (layer ∷ layers) old call now result after new
+    → Follows (any_verdict gate (kind_of call) now)
+    (record layer { rule = Deciding (any_after gate (kind_of call) now) }) layers old call now result after new
+gate_top layer layers old call now result [] new gate is does = absurd does
+gate_top layer layers old call now result (top ∷ others) new gate is does =
+    let done = at_top layer layers old call now result top others new (Deciding gate) is does in
+    record {
+      passes = λ pass.
+          let did = done.0.passes pass in
+          (others, same_top top _ others others (same_layer top _ does.1 does.2 done.1 did.1 did.2) refl, did.0);
+      fails = λ fail.
+          let did = done.0.fails fail in (
+            did.0,
+            same_top top _ others layers (same_layer top _ does.1 does.2 done.1 did.1 did.2) (ap (λ (it : Under). it.layers) did.3),
+            ap (λ (it : Under). it.disk) did.3,
+            did.4,
+          );
+      drops = λ drop.
+          let did = done.0.drops drop in (
+            did.0,
+            same_top top _ others layers (same_layer top _ does.1 does.2 done.1 did.1 did.2) (ap (λ (it : Under). it.layers) did.3),
+            ap (λ (it : Under). it.disk) did.3,
+          );
+    }
 
 -- where the gate stays, so does the layer
 pub gate_stays : (layer : Layer) (layers : List Layer) (old : SectorDisk) (call : Call) (now : ℕ) (result : Result ℕ DevError) (after : List Layer)
     (new : SectorDisk)
-    (it : AnyGate) → layer.gate ≡ Some it → any_after it (kind_of call) now ≡ it → LayersDo (layer ∷ layers) old call now result after new
-    → Follows (any_verdict it (kind_of call) now) layer layers old call now result after new
-gate_stays layer layers old call now result after new it is stays does =
-    subst (λ (next : Layer). Follows (any_verdict it (kind_of call) now) next layers old call now result after new)
-    (same_layer (record layer { gate = Some (any_after it (kind_of call) now) }) layer refl refl (ap Some stays ∙ sym is) refl refl)
-    (gate_top layer layers old call now result after new it is does)
+    (gate : AnyGate) → layer.rule ≡ Deciding gate → any_after gate (kind_of call) now ≡ gate → LayersDo (layer ∷ layers) old call now result after new
+    → Follows (any_verdict gate (kind_of call) now) layer layers old call now result after new
+gate_stays layer layers old call now result after new gate is stays does =
+    subst (λ (next : Layer). Follows (any_verdict gate (kind_of call) now) next layers old call now result after new)
+    (same_layer (record layer { rule = Deciding (any_after gate (kind_of call) now) }) layer refl refl (ap Deciding stays ∙ sym is) refl refl)
+    (gate_top layer layers old call now result after new gate is does)
+
+-- a layer whose calls begin later
+pub delay_top : (layer : Layer) (layers : List Layer) (old : SectorDisk) (call : Call) (now : ℕ) (result : Result ℕ DevError) (after : List Layer)
+    (new : SectorDisk)
+    (read write flush : ℕ) → layer.rule ≡ Delaying read write flush → LayersDo (layer ∷ layers) old call now result after new
+    → FollowsLater (later_by now (later_of read write flush call)) layer layers old call result after new
+delay_top layer layers old call now result [] new read write flush is does = absurd does
+delay_top layer layers old call now result (top ∷ others) new read write flush is does =
+    let done = at_top layer layers old call now result top others new (Delaying read write flush) is does in
+    record {
+      others = others;
+      stays = same_top top layer others others (same_layer top layer does.1 does.2 done.rule done.faults done.lies) refl;
+      below = done.done;
+      ends = done.ends;
+    }
+
+-- a layer with bad blocks
+pub dust_top : (layer : Layer) (layers : List Layer) (old : SectorDisk) (call : Call) (now : ℕ) (result : Result ℕ DevError) (after : List Layer)
+    (new : SectorDisk)
+    (block : ℕ) (bad : Bad) (mode : Mode) → layer.rule ≡ Dusting block bad mode → LayersDo (layer ∷ layers) old call now result after new
+    → FollowsBlocks block bad mode layer layers old call now result after new
+dust_top layer layers old call now result [] new block bad mode is does = absurd does
+dust_top layer layers old call now result (top ∷ others) new block bad mode is does =
+    let done = at_top layer layers old call now result top others new (Dusting block bad mode) is does in
+    record {
+      others = others;
+      list = done.list;
+      faults = top.faults;
+      stays = same_top top _ others others (same_layer top _ does.1 does.2 done.rule refl done.lies) refl;
+      done = done.done;
+    }

@@ -24,7 +24,7 @@ impl AnyGate {
         ensures { result ≡ gate_asked target load }
     {
         match target {
-            Target::Linear => None,
+            Target::Linear | Target::Dust { .. } | Target::Delay { .. } => None,
             Target::Error => Some(AnyGate::Error(ErrorGate {})),
             Target::Flakey { up, down, feature } => {
                 Some(AnyGate::Flakey(FlakeyGate::new(up, down, feature, load)))

@@ -1,7 +1,10 @@
 //! Laws of stacks, apart from the code: each function does nothing, and its clause is the law.
-ghost use Rattle.std.specs.Prelude.{◌≡◌, ◌∷◌, ℕ, List, None, Result, Some};
+ghost use Rattle.std.specs.Prelude.{◌≡◌, ◌∷◌, ℕ, List, Result};
 ghost use Rattle.bio.specs.declared.outcome.DevError.{DevError};
 ghost use Rattle.blockdev.specs.Calls.{Call};
+ghost use Rattle.bio.specs.Moments.{later_by};
+ghost use Rattle.dust_layer.specs.declared.mode.Mode.{Mode};
+ghost use Rattle.dust_layer.specs.Bad.{Bad};
 ghost use Rattle.fault_layers.specs.declared.error_dev.ErrorGate.{ErrorGate};
 ghost use Rattle.fault_layers.specs.declared.gate.Verdict.TheVariants.{Fail, Pass};
 ghost use Rattle.fault_layers.specs.Decided.{kind_of};
@@ -11,7 +14,7 @@ ghost use Rattle.sector_disk.specs.declared.disk.SectorDisk.{SectorDisk};
 ghost use Rattle.sector_disk.specs.Shown.{shown_of};
 ghost use Rattle.layer_table.specs.declared.any_gate.AnyGate.TheVariants as gates;
 ghost use Rattle.layer_table.specs.declared.stack.Stack.{Stack};
-ghost use Rattle.layer_table.specs.Layers.{disk_of, layers_of, layers_over, stack_does, stack_shown, Follows, IsPartOf, IsSeenAs, Layer, LayersDo};
+ghost use Rattle.layer_table.specs.Layers.{disk_of, layers_of, layers_over, stack_does, stack_shown, later_of, Deciding, Delaying, Dusting, Follows, FollowsBlocks, FollowsLater, IsPartOf, IsSeenAs, Layer, LayersDo, Passing};
 
 /// What is seen of a stack is what its layers make, from the lowest up, of what is seen of the disk.
 #[tactic(auto, using(crate::specs::StackLaws::seen_by_layers))]
@@ -36,28 +39,45 @@ pub fn stacks_do_what_their_layers_do()
 #[tactic(auto, using(crate::specs::TopLaws::linear_top))]
 pub fn linear_layers_pass()
     ensures { (layer : Layer) (layers : List Layer) (old : SectorDisk) (call : Call) (now : ℕ) (result : Result ℕ DevError) (after : List Layer)
-        (new : SectorDisk) → layer.gate ≡ None → LayersDo (layer ∷ layers) old call now result after new →
+        (new : SectorDisk) → layer.rule ≡ Passing → LayersDo (layer ∷ layers) old call now result after new →
         Follows Pass layer layers old call now result after new }
 {}
 
 /// An error layer at the top fails each call.
 pub fn error_layers_fail()
     ensures { (layer : Layer) (layers : List Layer) (old : SectorDisk) (call : Call) (now : ℕ) (result : Result ℕ DevError) (after : List Layer)
-        (new : SectorDisk) (gate : ErrorGate) → layer.gate ≡ Some (gates.Error gate) → LayersDo (layer ∷ layers) old call now result after new →
+        (new : SectorDisk) (gate : ErrorGate) → layer.rule ≡ Deciding (gates.Error gate) → LayersDo (layer ∷ layers) old call now result after new →
         Follows Fail layer layers old call now result after new }
 {}
 
 /// A flakey layer at the top decides by its turns and its feature, and stays as it is but for its counts.
 pub fn flakey_layers_take_turns()
     ensures { (layer : Layer) (layers : List Layer) (old : SectorDisk) (call : Call) (now : ℕ) (result : Result ℕ DevError) (after : List Layer)
-        (new : SectorDisk) (cycle : Cycle) → layer.gate ≡ Some (gates.Flakey cycle) → LayersDo (layer ∷ layers) old call now result after new →
+        (new : SectorDisk) (cycle : Cycle) → layer.rule ≡ Deciding (gates.Flakey cycle) → LayersDo (layer ∷ layers) old call now result after new →
         Follows (flakey_verdict cycle (kind_of call) now) layer layers old call now result after new }
 {}
 
 /// A fuse layer at the top decides by how many calls it passes yet, and has one less after each that it counts.
 pub fn fuse_layers_count()
     ensures { (layer : Layer) (layers : List Layer) (old : SectorDisk) (call : Call) (now : ℕ) (result : Result ℕ DevError) (after : List Layer)
-        (new : SectorDisk) (calls : ℕ) → layer.gate ≡ Some (gates.Fuse calls) → LayersDo (layer ∷ layers) old call now result after new →
-        Follows (fuse_verdict calls (kind_of call) now) (record layer { gate = Some (gates.Fuse (fuse_after calls (kind_of call) now)) })
+        (new : SectorDisk) (calls : ℕ) → layer.rule ≡ Deciding (gates.Fuse calls) → LayersDo (layer ∷ layers) old call now result after new →
+        Follows (fuse_verdict calls (kind_of call) now) (record layer { rule = Deciding (gates.Fuse (fuse_after calls (kind_of call) now)) })
         layers old call now result after new }
+{}
+
+/// A delay layer at the top begins each call so much later, and stays as it is.
+#[tactic(auto, using(crate::specs::TopLaws::delay_top))]
+pub fn delay_layers_begin_later()
+    ensures { (layer : Layer) (layers : List Layer) (old : SectorDisk) (call : Call) (now : ℕ) (result : Result ℕ DevError) (after : List Layer)
+        (new : SectorDisk) (read write flush : ℕ) → layer.rule ≡ Delaying read write flush → LayersDo (layer ∷ layers) old call now result after new →
+        FollowsLater (later_by now (later_of read write flush call)) layer layers old call result after new }
+{}
+
+/// A dust layer at the top goes block by block, by its list and its mode.
+#[tactic(auto, using(crate::specs::TopLaws::dust_top))]
+pub fn dust_layers_go_by_blocks()
+    ensures { (layer : Layer) (layers : List Layer) (old : SectorDisk) (call : Call) (now : ℕ) (result : Result ℕ DevError) (after : List Layer)
+        (new : SectorDisk) (block : ℕ) (bad : Bad) (mode : Mode) → layer.rule ≡ Dusting block bad mode →
+        LayersDo (layer ∷ layers) old call now result after new →
+        FollowsBlocks block bad mode layer layers old call now result after new }
 {}

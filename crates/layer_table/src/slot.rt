@@ -1,7 +1,8 @@
 use crate::any_gate::AnyGate;
 use bio::{DevError, Ms};
-use blockdev::BlockDev;
-use fault_layers::{Gated, Linear};
+use blockdev::{BlockDev, Message, MessageError};
+use dust_layer::Dust;
+use fault_layers::{Delay, Gated, Linear};
 
 /// A place for a layer: the device beneath alone, or one layer over a range of it.
 #[derive(Drop)]
@@ -12,6 +13,10 @@ pub enum Slot<D: BlockDev + Drop> {
     Linear(Linear<D>),
     /// A range of it, under a gate.
     Decided(Gated<Linear<D>, AnyGate>),
+    /// A range of it whose calls begin later.
+    Delayed(Delay<Linear<D>>),
+    /// A range of it that has bad blocks.
+    Dusted(Dust<Linear<D>>),
 }
 
 impl<D: BlockDev + Drop> BlockDev for Slot<D> {
@@ -27,6 +32,8 @@ impl<D: BlockDev + Drop> BlockDev for Slot<D> {
             Slot::Bare(device) => device.sectors(),
             Slot::Linear(range) => range.sectors(),
             Slot::Decided(layer) => layer.sectors(),
+            Slot::Delayed(layer) => layer.sectors(),
+            Slot::Dusted(layer) => layer.sectors(),
         }
     }
 
@@ -35,6 +42,8 @@ impl<D: BlockDev + Drop> BlockDev for Slot<D> {
             Slot::Bare(device) => device.read(now, first, buffer),
             Slot::Linear(range) => range.read(now, first, buffer),
             Slot::Decided(layer) => layer.read(now, first, buffer),
+            Slot::Delayed(layer) => layer.read(now, first, buffer),
+            Slot::Dusted(layer) => layer.read(now, first, buffer),
         }
     }
 
@@ -43,6 +52,8 @@ impl<D: BlockDev + Drop> BlockDev for Slot<D> {
             Slot::Bare(device) => device.write(now, first, bytes, fua),
             Slot::Linear(range) => range.write(now, first, bytes, fua),
             Slot::Decided(layer) => layer.write(now, first, bytes, fua),
+            Slot::Delayed(layer) => layer.write(now, first, bytes, fua),
+            Slot::Dusted(layer) => layer.write(now, first, bytes, fua),
         }
     }
 
@@ -51,6 +62,8 @@ impl<D: BlockDev + Drop> BlockDev for Slot<D> {
             Slot::Bare(device) => device.discard(now, first, count),
             Slot::Linear(range) => range.discard(now, first, count),
             Slot::Decided(layer) => layer.discard(now, first, count),
+            Slot::Delayed(layer) => layer.discard(now, first, count),
+            Slot::Dusted(layer) => layer.discard(now, first, count),
         }
     }
 
@@ -59,6 +72,8 @@ impl<D: BlockDev + Drop> BlockDev for Slot<D> {
             Slot::Bare(device) => device.flush(now),
             Slot::Linear(range) => range.flush(now),
             Slot::Decided(layer) => layer.flush(now),
+            Slot::Delayed(layer) => layer.flush(now),
+            Slot::Dusted(layer) => layer.flush(now),
         }
     }
 
@@ -67,6 +82,8 @@ impl<D: BlockDev + Drop> BlockDev for Slot<D> {
             Slot::Bare(device) => device.faults(),
             Slot::Linear(range) => range.faults(),
             Slot::Decided(layer) => layer.faults(),
+            Slot::Delayed(layer) => layer.faults(),
+            Slot::Dusted(layer) => layer.faults(),
         }
     }
 
@@ -75,6 +92,8 @@ impl<D: BlockDev + Drop> BlockDev for Slot<D> {
             Slot::Bare(device) => device.lies(),
             Slot::Linear(range) => range.lies(),
             Slot::Decided(layer) => layer.lies(),
+            Slot::Delayed(layer) => layer.lies(),
+            Slot::Dusted(layer) => layer.lies(),
         }
     }
 
@@ -83,7 +102,9 @@ impl<D: BlockDev + Drop> BlockDev for Slot<D> {
 
 impl<D: BlockDev + Drop> Slot<D> {
     ghost use Rattle.std.specs.Prelude.{◌≡◌};
-    ghost use Rattle.layer_table.specs.Slots.{device_of, has_layer};
+    ghost use Rattle.blockdev.specs.Messages.{Unchanged};
+    ghost use Rattle.layer_table.specs.SlotMessages.{AnswersItself};
+    ghost use Rattle.layer_table.specs.Slots.{device_of, has_layer, slot_shown};
 
     /// The device beneath.
     pub fn into_device(self) -> D
@@ -93,6 +114,8 @@ impl<D: BlockDev + Drop> Slot<D> {
             Slot::Bare(device) => device,
             Slot::Linear(range) => range.into_lower(),
             Slot::Decided(layer) => layer.into_lower().into_lower(),
+            Slot::Delayed(layer) => layer.into_lower().into_lower(),
+            Slot::Dusted(layer) => layer.into_lower().into_lower(),
         }
     }
 
@@ -101,5 +124,51 @@ impl<D: BlockDev + Drop> Slot<D> {
         ensures { result ≡ has_layer self.now }
     {
         !matches!(self, Slot::Bare(_))
+    }
+
+    // The answer of the layer that stands there: only one with bad blocks takes messages.
+    fn own_message(&mut self, text: &str) -> Result<(), MessageError>
+        ensures same { Unchanged (slot_shown self.old) (slot_shown self.new) }
+        ensures answers { AnswersItself self.old text.now result self.new }
+    {
+        match self {
+            Slot::Dusted(layer) => layer.message(1, text),
+            _ => Err(MessageError::BadMessage),
+        }
+    }
+}
+
+impl<D: Message + Drop> Slot<D> {
+    ghost use Rattle.blockdev.specs.Messages.{Unchanged};
+    ghost use Rattle.layer_table.specs.SlotMessages.{AnswersBelow};
+    ghost use Rattle.layer_table.specs.Slots.{slot_shown};
+
+    // The answer of the device beneath, whose layers count from 1.
+    fn message_below(&mut self, layer: u64, text: &str) -> Result<(), MessageError>
+        ensures same { Unchanged (slot_shown self.old) (slot_shown self.new) }
+        ensures answers { AnswersBelow D.answers self.old layer text.now result self.new }
+    {
+        match self {
+            Slot::Bare(device) => device.message(layer, text),
+            Slot::Linear(range) => range.message(layer, text),
+            Slot::Decided(gated) => gated.message(layer, text),
+            Slot::Delayed(delayed) => delayed.message(layer, text),
+            Slot::Dusted(dust) => dust.message_below(layer, text),
+        }
+    }
+}
+
+impl<D: Message + Drop> Message for Slot<D> {
+    ghost use Rattle.layer_table.specs.SlotMessages.{SlotAnswers};
+
+    // The slot is layer 1 of its own, and what stands beneath follows it.
+    ghost answers = { λ old layer text result new. SlotAnswers D.answers old layer text result new };
+
+    fn message(&mut self, layer: u64, text: &str) -> Result<(), MessageError> {
+        match layer {
+            0 => Err(MessageError::BadMessage),
+            1 => self.own_message(text),
+            _ => self.message_below(layer - 1, text),
+        }
     }
 }

@@ -7,6 +7,7 @@ use sector_disk::SectorDisk;
 
 mod building;
 mod device;
+mod messages;
 
 // Four places for layers.
 type Slots = Slot<Slot<Slot<Slot<SectorDisk>>>>;

@@ -3,10 +3,11 @@ ghost use Rattle.std.specs.List.{AllByRecursion};
 ghost use Rattle.table_line.specs.declared.layer_spec.Target.TheVariants.{Linear};
 ghost use Rattle.table_line.specs.Ranges.{IsLayerSpec};
 
+mod messages;
 mod plain;
 
 use super::*;
-use bio::Ms;
+use bio::{DevError, Ms};
 use blockdev::BlockDev;
 use fault_layers::Kind;
 use plain::{Plain, plain_call};
@@ -25,7 +26,8 @@ const LOWER: &str = "0 12 linear disk 2
 0 12 flakey disk 1 10 5 1 error_reads
 0 12 flakey disk 1 10 5 1 error_writes
 0 12 flakey disk 1 10 5 1 drop_writes
-0 12 fuse disk 3 9";
+0 12 fuse disk 3 9
+0 12 dust disk 2 1024";
 
 const UPPER: &str = "0 8 linear disk 4
 0 8 error
@@ -33,7 +35,9 @@ const UPPER: &str = "0 8 linear disk 4
 0 8 flakey disk 4 10 5 1 error_reads
 0 8 flakey disk 4 10 5 1 error_writes
 0 8 flakey disk 4 10 5 1 drop_writes
-0 8 fuse disk 1 6";
+0 8 fuse disk 1 6
+0 8 dust disk 2 512
+0 8 delay disk 3 0";
 
 // At both sides of each bound of the flakey layers, in milliseconds, and at the last moment.
 const MOMENTS: [u64; 12] = [
@@ -62,8 +66,8 @@ fn spec_of(rt: &impl Abort, line: &str) -> LayerSpec
 }
 
 // The stack with one more layer.
-fn put(rt: &impl Abort, stack: Stack, line: &str, load: u64) -> Stack {
-    match stack.over(spec_of(rt, line), Ms::new(load)) {
+fn put(rt: &impl Abort, alloc: Global, stack: Stack, line: &str, load: u64) -> Stack {
+    match stack.over(alloc, spec_of(rt, line), Ms::new(load)) {
         Ok(higher) => higher,
         Err(_) => panic!(rt; "{line}"),
     }
@@ -119,7 +123,7 @@ fn check(rt: &impl Abort, alloc: Global, lines: &[(&str, u64)]) -> Result<(), Fa
     let mut stack = Stack::new(SectorDisk::new(alloc, 16)?);
     let mut layers = Vec::new(alloc);
     for (line, load) in lines {
-        stack = put(rt, stack, line, *load);
+        stack = put(rt, alloc, stack, line, *load);
         layers.push(Plain::new(spec_of(rt, line), *load))?;
     }
     let mut disk = [0; 16];
@@ -183,7 +187,7 @@ fn ranges(rt: HostRuntime) -> Result<(), Fail> {
         let line = row.trim_end_matches(['+', '-']);
         let spec = spec_of(&rt, line);
         let stack = Stack::new(SectorDisk::new(alloc, 16)?);
-        match stack.over(spec, Ms::new(0)) {
+        match stack.over(alloc, spec, Ms::new(0)) {
             Ok(higher) => {
                 assert!(rt; row.ends_with('+'), "{row}");
                 assert_eq!(rt; higher.sectors(), spec.length, "{row}");
@@ -207,13 +211,13 @@ fn a_fifth_layer_is_refused(rt: HostRuntime) -> Result<(), Fail> {
         "0 13 fuse disk 1 9",
         "0 12 linear disk 1",
     ] {
-        stack = put(&rt, stack, line, 0);
+        stack = put(&rt, rt.alloc(), stack, line, 0);
     }
     assert_eq!(rt;
         call(&rt, &mut stack, Kind::Write, Ms::new(5), 2, 7),
         Some(0)
     );
-    match stack.over(spec_of(&rt, "0 8 linear disk 0"), Ms::new(0)) {
+    match stack.over(rt.alloc(), spec_of(&rt, "0 8 linear disk 0"), Ms::new(0)) {
         Ok(_) => panic!(rt; "a fifth layer"),
         Err((same, refusal)) => {
             assert_eq!(rt; refusal, Refusal::OutOfRange);
@@ -253,7 +257,7 @@ fn under(alloc: Global, layers: &[LayerSpec]) -> Result<Result<u64, Refusal>, Fa
     requires { AllByRecursion IsLayerSpec layers.now }
 {
     let disk = SectorDisk::new(alloc, 16)?;
-    Ok(match Stack::new(disk).under(layers, Ms::new(0)) {
+    Ok(match Stack::new(disk).under(alloc, layers, Ms::new(0)) {
         Ok(stack) => Ok(stack.sectors()),
         Err(back) => Err(refusal_of(back)),
     })

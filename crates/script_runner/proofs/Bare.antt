@@ -18,9 +18,8 @@ use Rattle.script_runner.specs.OnDisks.{IsUnmade}
 -- a disk under no layers refuses a write for want of memory alone
 bare_refuses : (after : List Layer) (old new : SectorDisk) (bytes : List ℕ) (error : DevError)
     → LayersDo [] old (Writes 0 bytes true) 0 (Err error) after new → error ≡ Memory
-bare_refuses [] old new bytes Io done = absurd done
-bare_refuses [] old new bytes Memory done = refl
-bare_refuses (layer ∷ after) old new bytes error done = absurd done
+bare_refuses after old new bytes Io done = absurd done.2
+bare_refuses after old new bytes Memory done = refl
 
 pub bare_log_fails : ((old : Stack) (call : Call) (now : ℕ) (result : Result ℕ DevError) (new : Stack) → stack_does old call now result new
     → LayersDo (layers_of old) (disk_of old) call now result (layers_of new) (disk_of new))

@@ -14,6 +14,7 @@ use Rattle.dmlw_script.specs.declared.command.Command.TheVariants as commands
 use Rattle.dmlw_script.specs.declared.command.Step.{Step}
 use Rattle.dmlw_script.specs.declared.command.Step.TheVariants as steps
 use Rattle.dmlw_script.specs.declared.command.Submission.{Submission}
+use Rattle.dmlw_script.specs.declared.disk_name.DiskName.TheVariants as disks
 use Rattle.dmlw_script.specs.declared.script_id.ScriptId.{ScriptId}
 use Rattle.dmlw_script.specs.Plans.{name_at}
 use Rattle.pending.specs.CoreState.{CoreState, records}
@@ -27,7 +28,7 @@ use Rattle.script_runner.specs.declared.request.Request.{Request}
 use Rattle.script_runner.specs.declared.request.Request.TheVariants as requests
 use Rattle.script_runner.specs.declared.running.Running.{Running}
 use Rattle.script_runner.specs.Followed.{IsFollowed, StandsFor, submissions_of}
-use Rattle.script_runner.specs.Lines.{Asks, EndsRequest, RunsLine, TakesStep, reply_of}
+use Rattle.script_runner.specs.Lines.{Answering, Asks, EndsRequest, RunsLine, TakesStep, reply_of}
 use Rattle.script_runner.specs.Runs.{RunsLines}
 use Rattle.script_runner.specs.Submitted.{bio_of}
 
@@ -45,13 +46,15 @@ ended_keeps (Some requests.Failed) name text old new does = does.0.kept
 ended_keeps (Some (requests.Asked bio id)) name text old new does = does.kept
 
 -- so does one that names none
-step_keeps : {D L : Type 0} {d : Ghosts D} {l : Ghosts L} (step : Step) (text : List ℕ) (old new : Running D L d l)
-    → TakesStep step text old new → new.requests.items ≡ old.requests.items
-step_keeps steps.Close text old new does = does.keeps.kept
-step_keeps (steps.Read first count) text old new does = does.kept
-step_keeps steps.Turn text old new does = does.keeps.kept
-step_keeps (steps.Mark mark) text old new does = does.kept
-step_keeps (steps.At moment) text old new does = does.keeps.kept
+step_keeps : {D L : Type 0} {d : Ghosts D} {l : Ghosts L} (m : Answering D L) (step : Step) (text : List ℕ) (old new : Running D L d l)
+    → TakesStep m step text old new → new.requests.items ≡ old.requests.items
+step_keeps m steps.Close text old new does = does.keeps.kept
+step_keeps m (steps.Read first count) text old new does = does.kept
+step_keeps m steps.Turn text old new does = does.keeps.kept
+step_keeps m (steps.Mark mark) text old new does = does.kept
+step_keeps m (steps.At moment) text old new does = does.keeps.kept
+step_keeps m (steps.Message disks.Data layer asked) text old new does = does.kept
+step_keeps m (steps.Message disks.Log layer asked) text old new does = does.keeps.kept
 
 -- the requests that the lines submit, behind those before
 abbrev Adds : {D L : Type 0} {d : Ghosts D} {l : Ghosts L} → List Submission → Running D L d l → Running D L d l → Type 0
@@ -63,24 +66,24 @@ adds_later : {D L : Type 0} {d : Ghosts D} {l : Ghosts L} (asked : List Submissi
 adds_later asked old mid new same adds = (adds.0, adds.1 ∙ ap (λ (items : List Request). items ++ adds.0) same, adds.2)
 
 -- each line that submits asks for what it says
-pub lines_ask : {D L : Type 0} {d : Ghosts D} {l : Ghosts L} (names : List ScriptId) (body : List Command) (text : List ℕ) (old new : Running D L d l)
-    → RunsLines names body text old new → Adds (submissions_of body) old new
-lines_ask {D} {L} {d} {l} names [] text old new ran =
+pub lines_ask : {D L : Type 0} {d : Ghosts D} {l : Ghosts L} (m : Answering D L) (names : List ScriptId) (body : List Command) (text : List ℕ) (old new : Running D L d l)
+    → RunsLines m names body text old new → Adds (submissions_of body) old new
+lines_ask {D} {L} {d} {l} m names [] text old new ran =
     ([], ap (λ (run : Running D L d l). run.requests.items) ran.1 ∙ sym (append-nil old.requests.items), tt)
-lines_ask {D} {L} {d} {l} names (commands.Submit submission ∷ body) text old new ran =
+lines_ask {D} {L} {d} {l} m names (commands.Submit submission ∷ body) text old new ran =
     let does = ran.4.does in
-    let rest = lines_ask {d = d} {l = l} names body ran.2 ran.0 new ran.5 in (
+    let rest = lines_ask {d = d} {l = l} m names body ran.2 ran.0 new ran.5 in (
       does.request ∷ rest.0,
       rest.1 ∙ ap (λ (items : List Request). items ++ rest.0) does.kept ∙ append_assoc old.requests.items (does.request ∷ []) rest.0,
       (asks_stands {l = l} submission does.request old.recorder ran.0.recorder does.asks, rest.2),
     )
-lines_ask {D} {L} {d} {l} names (commands.Complete request ∷ body) text old new ran =
+lines_ask {D} {L} {d} {l} m names (commands.Complete request ∷ body) text old new ran =
     adds_later {d = d} {l = l} (submissions_of body) old ran.0 new
     (ended_keeps {d = d} {l = l} (slice_get old.requests.items request) (name_at names request) ran.1 old ran.0 ran.4.does)
-    (lines_ask {d = d} {l = l} names body ran.2 ran.0 new ran.5)
-lines_ask {D} {L} {d} {l} names (commands.Step step ∷ body) text old new ran =
-    adds_later {d = d} {l = l} (submissions_of body) old ran.0 new (step_keeps {d = d} {l = l} step ran.1 old ran.0 ran.4.does)
-    (lines_ask {d = d} {l = l} names body ran.2 ran.0 new ran.5)
+    (lines_ask {d = d} {l = l} m names body ran.2 ran.0 new ran.5)
+lines_ask {D} {L} {d} {l} m names (commands.Step step ∷ body) text old new ran =
+    adds_later {d = d} {l = l} (submissions_of body) old ran.0 new (step_keeps {d = d} {l = l} m step ran.1 old ran.0 ran.4.does)
+    (lines_ask {d = d} {l = l} m names body ran.2 ran.0 new ran.5)
 
 -- events that stand stay as more are recorded
 pub stays : (old new : List CoreEvent) (id : ℕ) (event : CoreEvent) → EventsGrow old new → slice_get old id ≡ Some event → slice_get new id ≡ Some event
@@ -171,23 +174,23 @@ kept_followed old new same grows followed = λ place bio id found.
     (followed place bio id (ap (λ (items : List Request). slice_get items place) (sym same) ∙ found))
 
 -- each line keeps them followed
-line_followed : {D L : Type 0} {d : Ghosts D} {l : Ghosts L} (names : List ScriptId) (command : Command) (text : List ℕ) (old new : Running D L d l)
-    → RunsLine names command text old new → IsFollowed old → IsFollowed new
-line_followed {D} {L} {d} {l} names (commands.Submit submission) text old new line followed = λ place bio id found.
+line_followed : {D L : Type 0} {d : Ghosts D} {l : Ghosts L} (m : Answering D L) (names : List ScriptId) (command : Command) (text : List ℕ) (old new : Running D L d l)
+    → RunsLine m names command text old new → IsFollowed old → IsFollowed new
+line_followed {D} {L} {d} {l} m names (commands.Submit submission) text old new line followed = λ place bio id found.
     elim (last_case old.requests.items line.does.request (requests.Asked bio (Some id)) place
     (ap (λ (items : List Request). slice_get items place) (sym line.does.kept) ∙ found)) [
       | inl before ↦ stays old.recorder.core.events new.recorder.core.events id (core_events.Submit bio) line.goes.events (followed place bio id before)
       | inr last ↦ asked_stands {l = l} bio (bio_of submission) line.does.request id old.recorder new.recorder line.does.asks last
     ]
-line_followed {D} {L} {d} {l} names (commands.Complete request) text old new line followed =
+line_followed {D} {L} {d} {l} m names (commands.Complete request) text old new line followed =
     kept_followed {d = d} {l = l} old new (ended_keeps {d = d} {l = l} (slice_get old.requests.items request) (name_at names request) text old new line.does)
     line.goes.events followed
-line_followed {D} {L} {d} {l} names (commands.Step step) text old new line followed =
-    kept_followed {d = d} {l = l} old new (step_keeps {d = d} {l = l} step text old new line.does) line.goes.events followed
+line_followed {D} {L} {d} {l} m names (commands.Step step) text old new line followed =
+    kept_followed {d = d} {l = l} old new (step_keeps {d = d} {l = l} m step text old new line.does) line.goes.events followed
 
 -- and all lines do
-pub lines_followed : {D L : Type 0} {d : Ghosts D} {l : Ghosts L} (names : List ScriptId) (body : List Command) (text : List ℕ) (old new : Running D L d l)
-    → RunsLines names body text old new → IsFollowed old → IsFollowed new
-lines_followed {D} {L} {d} {l} names [] text old new ran followed = subst (λ (run : Running D L d l). IsFollowed run) (sym ran.1) followed
-lines_followed {D} {L} {d} {l} names (command ∷ body) text old new ran followed =
-    lines_followed {d = d} {l = l} names body ran.2 ran.0 new ran.5 (line_followed {d = d} {l = l} names command ran.1 old ran.0 ran.4 followed)
+pub lines_followed : {D L : Type 0} {d : Ghosts D} {l : Ghosts L} (m : Answering D L) (names : List ScriptId) (body : List Command) (text : List ℕ) (old new : Running D L d l)
+    → RunsLines m names body text old new → IsFollowed old → IsFollowed new
+lines_followed {D} {L} {d} {l} m names [] text old new ran followed = subst (λ (run : Running D L d l). IsFollowed run) (sym ran.1) followed
+lines_followed {D} {L} {d} {l} m names (command ∷ body) text old new ran followed =
+    lines_followed {d = d} {l = l} m names body ran.2 ran.0 new ran.5 (line_followed {d = d} {l = l} m names command ran.1 old ran.0 ran.4 followed)

@@ -19,6 +19,7 @@ use Rattle.dmlw_script.specs.declared.command.Command.{Command}
 use Rattle.dmlw_script.specs.declared.command.Command.TheVariants as commands
 use Rattle.dmlw_script.specs.declared.command.Step.{Step}
 use Rattle.dmlw_script.specs.declared.command.Step.TheVariants as steps
+use Rattle.dmlw_script.specs.declared.disk_name.DiskName.TheVariants as disks
 use Rattle.dmlw_script.specs.declared.command.Submission.{Submission}
 use Rattle.dmlw_script.specs.declared.command.Submission.TheVariants as submits
 use Rattle.dmlw_script.specs.declared.script_id.ScriptId.{ScriptId}
@@ -33,8 +34,8 @@ use Rattle.recorder.specs.Calls.{Closes, Completes, Drains, Marks, Stops, Submit
 use Rattle.script_runner.specs.declared.request.Request.{Request}
 use Rattle.script_runner.specs.declared.request.Request.TheVariants as requests
 use Rattle.script_runner.specs.declared.running.Running.{Running}
-use Rattle.script_runner.specs.Lines.{Asks, EndsRequest, HearsEnd, TakesStep, reply_of}
-use Rattle.script_runner.specs.OnDisks.{DiskRun, Starts}
+use Rattle.script_runner.specs.Lines.{Answering, Asks, EndsRequest, HearsEnd, TakesStep, reply_of}
+use Rattle.script_runner.specs.OnDisks.{stack_answering, DiskRun, Starts}
 use Rattle.script_runner.specs.Runs.{RunsLines}
 use Rattle.script_runner.specs.Submitted.{bio_of}
 
@@ -186,41 +187,45 @@ ended_within {D} {L} {d} {l} sectors (Some (requests.Asked bio id)) name text ol
     heard_within {l = l} sectors id does.ok old.recorder new.recorder does.hears within
 
 -- a line that names no request
-step_within : {D L : Type 0} {d : Ghosts D} {l : Ghosts L} (sectors : ℕ) (step : Step) (text : List ℕ) (old new : Running D L d l) → TakesStep step text old new
+step_within : {D L : Type 0} {d : Ghosts D} {l : Ghosts L} (m : Answering D L) (sectors : ℕ) (step : Step) (text : List ℕ) (old new : Running D L d l) → TakesStep m step text old new
     → AreWithin sectors old.recorder.core.events → AreWithin sectors new.recorder.core.events
-step_within {D} {L} {d} {l} sectors steps.Close text old new does within =
+step_within {D} {L} {d} {l} m sectors steps.Close text old new does within =
     drained_within {l = l} sectors does.answer does.closed new.recorder does.drains
     (closed_within {l = l} sectors replies.Closed old.recorder does.closed does.closes within)
-step_within {D} {L} {d} {l} sectors (steps.Read first count) text old new does within =
+step_within {D} {L} {d} {l} m sectors (steps.Read first count) text old new does within =
     subst (λ (r : Recorder L l). AreWithin sectors r.core.events) (sym does.log) within
-step_within {D} {L} {d} {l} sectors steps.Turn text old new does within =
+step_within {D} {L} {d} {l} m sectors steps.Turn text old new does within =
     turned_within {l = l} sectors does.turn old.recorder new.recorder does.turns within
-step_within {D} {L} {d} {l} sectors (steps.Mark mark) text old new does within =
+step_within {D} {L} {d} {l} m sectors (steps.Mark mark) text old new does within =
     marked_within {l = l} sectors mark does.reply old.recorder new.recorder does.marks within
-step_within {D} {L} {d} {l} sectors (steps.At moment) text old new does within =
+step_within {D} {L} {d} {l} m sectors (steps.At moment) text old new does within =
+    same_within sectors old.recorder.core new.recorder.core does.core within
+step_within {D} {L} {d} {l} m sectors (steps.Message disks.Data layer asked) text old new does within =
+    subst (λ (r : Recorder L l). AreWithin sectors r.core.events) (sym does.log) within
+step_within {D} {L} {d} {l} m sectors (steps.Message disks.Log layer asked) text old new does within =
     same_within sectors old.recorder.core new.recorder.core does.core within
 
 -- the lines of a script, where each request fits a device of so many sectors
-lines_within : {D L : Type 0} {d : Ghosts D} {l : Ghosts L} (sectors : ℕ) (names : List ScriptId) (before body : List Command) (text : List ℕ) (old new : Running D L d l)
-    → IsWellFormed sectors before body → RunsLines names body text old new → AreWithin sectors old.recorder.core.events → AreWithin sectors new.recorder.core.events
-lines_within {D} {L} {d} {l} sectors names before [] text old new fit ran within =
+lines_within : {D L : Type 0} {d : Ghosts D} {l : Ghosts L} (m : Answering D L) (sectors : ℕ) (names : List ScriptId) (before body : List Command) (text : List ℕ) (old new : Running D L d l)
+    → IsWellFormed sectors before body → RunsLines m names body text old new → AreWithin sectors old.recorder.core.events → AreWithin sectors new.recorder.core.events
+lines_within {D} {L} {d} {l} m sectors names before [] text old new fit ran within =
     subst (λ (run : Running D L d l). AreWithin sectors run.recorder.core.events) (sym ran.1) within
-lines_within {D} {L} {d} {l} sectors names before (commands.Submit submission ∷ body) text old new fit ran within =
+lines_within {D} {L} {d} {l} m sectors names before (commands.Submit submission ∷ body) text old new fit ran within =
     let does = ran.4.does in
-    lines_within {d = d} {l = l} sectors names (before ++ commands.Submit submission ∷ []) body ran.2 ran.0 new fit.1 ran.5
+    lines_within {d = d} {l = l} m sectors names (before ++ commands.Submit submission ∷ []) body ran.2 ran.0 new fit.1 ran.5
     (asked_within {l = l} sectors (bio_of submission) does.request old.recorder ran.0.recorder does.asks (bio_passes sectors submission fit.0.0) within)
-lines_within {D} {L} {d} {l} sectors names before (commands.Complete request ∷ body) text old new fit ran within =
-    lines_within {d = d} {l = l} sectors names (before ++ commands.Complete request ∷ []) body ran.2 ran.0 new fit.1 ran.5
+lines_within {D} {L} {d} {l} m sectors names before (commands.Complete request ∷ body) text old new fit ran within =
+    lines_within {d = d} {l = l} m sectors names (before ++ commands.Complete request ∷ []) body ran.2 ran.0 new fit.1 ran.5
     (ended_within {d = d} {l = l} sectors (slice_get old.requests.items request) (name_at names request) ran.1 old ran.0 ran.4.does within)
-lines_within {D} {L} {d} {l} sectors names before (commands.Step step ∷ body) text old new fit ran within =
-    lines_within {d = d} {l = l} sectors names (before ++ commands.Step step ∷ []) body ran.2 ran.0 new fit.1 ran.5
-    (step_within {d = d} {l = l} sectors step ran.1 old ran.0 ran.4.does within)
+lines_within {D} {L} {d} {l} m sectors names before (commands.Step step ∷ body) text old new fit ran within =
+    lines_within {d = d} {l = l} m sectors names (before ++ commands.Step step ∷ []) body ran.2 ran.0 new fit.1 ran.5
+    (step_within {d = d} {l = l} m sectors step ran.1 old ran.0 ran.4.does within)
 
 -- the events of a script's run are lawful
-pub run_lawful : (plan : Plan) (text : List ℕ) (start last : DiskRun) → IsPlan plan → Starts plan start → RunsLines plan.names plan.commands text start last
+pub run_lawful : (plan : Plan) (text : List ℕ) (start last : DiskRun) → IsPlan plan → Starts plan start → RunsLines stack_answering plan.names plan.commands text start last
     → is_well_formed last.recorder.core.events ≡ true → is_lawful (top_of plan.data_disk) last.recorder.core.events ≡ true
 run_lawful plan text start last is starts ran well_formed =
     let none : AreWithin (top_of plan.data_disk) start.recorder.core.events =
     subst (λ (c : CoreState). AreWithin (top_of plan.data_disk) c.events) (sym starts.log_disk.core) (λ place. refl) in
-    let within = lines_within (top_of plan.data_disk) plan.names [] plan.commands text start last is.well_formed ran none in
+    let within = lines_within stack_answering (top_of plan.data_disk) plan.names [] plan.commands text start last is.well_formed ran none in
     well_formed-lawful (top_of plan.data_disk) last.recorder.core.events well_formed (λ place here. within place)

@@ -5,11 +5,12 @@ use Rattle.bio.specs.declared.request.Bio.{Bio}
 use Rattle.refusals.specs.declared.refusal.Refusal.TheVariants as refusals
 use Rattle.dmlw_script.specs.declared.command.Command.TheVariants as commands
 use Rattle.dmlw_script.specs.declared.command.Step.TheVariants as steps
+use Rattle.dmlw_script.specs.declared.disk_name.DiskName.TheVariants as disks
 use Rattle.dmlw_script.specs.Plans.{name_at}
 use Rattle.recorder.specs.declared.reply.Reply.TheVariants as replies
 use Rattle.script_runner.specs.declared.request.Request.{Request}
 use Rattle.script_runner.specs.declared.request.Request.TheVariants as requests
-use Rattle.script_runner.specs.Lines.{Asks, EndsRequest, HearsEnd, RunsLine, reply_of}
+use Rattle.script_runner.specs.Lines.{Answering, Asks, EndsRequest, HearsEnd, RunsLine, reply_of}
 use Rattle.script_runner.specs.Submitted.{bio_of}
 use Rattle.script_runner.specs.Written.{IsWritten}
 use Rattle.bio.specs.Lawful.{has_no_close}
@@ -35,12 +36,12 @@ GoesTwice {L} l = (old mid new : Recorder L l) → RecorderGoes (recording_of ol
     → RecorderGoes (recording_of old) (recording_of new)
 
 -- the lines of a script go as one call
-pub lines_go : {D L : Type 0} {d : Ghosts D} {l : Ghosts L} → GoesNone l → GoesTwice l → (names : List ScriptId) (body : List Command) (text : List ℕ) (old new : Running D L d l)
-    → RunsLines names body text old new → RecorderGoes (recording_of old.recorder) (recording_of new.recorder)
-lines_go {D} {L} {d} {l} none twice names [] text old new ran =
+pub lines_go : {D L : Type 0} {d : Ghosts D} {l : Ghosts L} → GoesNone l → GoesTwice l → (m : Answering D L) (names : List ScriptId) (body : List Command) (text : List ℕ) (old new : Running D L d l)
+    → RunsLines m names body text old new → RecorderGoes (recording_of old.recorder) (recording_of new.recorder)
+lines_go {D} {L} {d} {l} none twice m names [] text old new ran =
     subst (λ (end : Running D L d l). RecorderGoes (recording_of old.recorder) (recording_of end.recorder)) (sym ran.1) (none old.recorder)
-lines_go none twice names (command ∷ body) text old new ran =
-    twice old.recorder ran.0.recorder new.recorder ran.4.goes (lines_go none twice names body ran.2 ran.0 new ran.5)
+lines_go none twice m names (command ∷ body) text old new ran =
+    twice old.recorder ran.0.recorder new.recorder ran.4.goes (lines_go none twice m names body ran.2 ran.0 new ran.5)
 
 -- a request that is asked keeps the log written
 asked_written : {L : Type 0} {l : Ghosts L} (bio : Bio) (request : Request) (old new : Recorder L l) → Asks bio request old new → IsWritten old → IsWritten new
@@ -62,7 +63,7 @@ found_written {D} {L} {d} {l} (Some requests.Failed) name text old new does writ
 found_written {D} {L} {d} {l} (Some (requests.Asked bio id)) name text old new does written =
     ended_written {l = l} id does.ok old.recorder new.recorder does.hears written
 
--- so does a moment
+-- so does what leaves the core and the log as they are
 moment_written : {L : Type 0} {l : Ghosts L} (old new : Recorder L l) → new.core ≡ old.core → new.end ≡ old.end
     → Same (recording_of old).store (recording_of new).store → IsWritten old → IsWritten new
 moment_written {L} {l} old new core end same written = λ closed on.
@@ -70,26 +71,30 @@ moment_written {L} {l} old new core end same written = λ closed on.
     same.placed ∙ placed ∙ ap (λ (c : CoreState). length (log_of c)) (sym core)
 
 -- each line does
-line_written : {D L : Type 0} {d : Ghosts D} {l : Ghosts L} (names : List ScriptId) (command : Command) (text : List ℕ) (old new : Running D L d l)
-    → RunsLine names command text old new → IsWritten old.recorder → IsWritten new.recorder
-line_written {D} {L} {d} {l} names (commands.Submit submission) text old new line written =
+line_written : {D L : Type 0} {d : Ghosts D} {l : Ghosts L} (m : Answering D L) (names : List ScriptId) (command : Command) (text : List ℕ) (old new : Running D L d l)
+    → RunsLine m names command text old new → IsWritten old.recorder → IsWritten new.recorder
+line_written {D} {L} {d} {l} m names (commands.Submit submission) text old new line written =
     asked_written {l = l} (bio_of submission) line.does.request old.recorder new.recorder line.does.asks written
-line_written {D} {L} {d} {l} names (commands.Complete request) text old new line written =
+line_written {D} {L} {d} {l} m names (commands.Complete request) text old new line written =
     found_written {d = d} {l = l} (slice_get old.requests.items request) (name_at names request) text old new line.does written
-line_written {D} {L} {d} {l} names (commands.Step steps.Close) text old new line written =
+line_written {D} {L} {d} {l} m names (commands.Step steps.Close) text old new line written =
     kept_close {l = l} line.does.answer line.does.closed new.recorder line.does.drains
-line_written {D} {L} {d} {l} names (commands.Step (steps.Read first count)) text old new line written =
+line_written {D} {L} {d} {l} m names (commands.Step (steps.Read first count)) text old new line written =
     subst (λ (r : Recorder L l). IsWritten r) (sym line.does.log) written
-line_written {D} {L} {d} {l} names (commands.Step steps.Turn) text old new line written =
+line_written {D} {L} {d} {l} m names (commands.Step steps.Turn) text old new line written =
     kept_turn {l = l} line.does.turn old.recorder new.recorder line.does.turns written
-line_written {D} {L} {d} {l} names (commands.Step (steps.Mark mark)) text old new line written =
+line_written {D} {L} {d} {l} m names (commands.Step (steps.Mark mark)) text old new line written =
     kept_mark {l = l} mark line.does.reply old.recorder new.recorder line.does.marks written
-line_written {D} {L} {d} {l} names (commands.Step (steps.At moment)) text old new line written =
+line_written {D} {L} {d} {l} m names (commands.Step (steps.At moment)) text old new line written =
+    moment_written {l = l} old.recorder new.recorder line.does.core line.does.end line.does.store written
+line_written {D} {L} {d} {l} m names (commands.Step (steps.Message disks.Data layer asked)) text old new line written =
+    subst (λ (r : Recorder L l). IsWritten r) (sym line.does.log) written
+line_written {D} {L} {d} {l} m names (commands.Step (steps.Message disks.Log layer asked)) text old new line written =
     moment_written {l = l} old.recorder new.recorder line.does.core line.does.end line.does.store written
 
 -- and all lines do
-pub lines_written : {D L : Type 0} {d : Ghosts D} {l : Ghosts L} (names : List ScriptId) (body : List Command) (text : List ℕ) (old new : Running D L d l)
-    → RunsLines names body text old new → IsWritten old.recorder → IsWritten new.recorder
-lines_written {D} {L} {d} {l} names [] text old new ran written = subst (λ (run : Running D L d l). IsWritten run.recorder) (sym ran.1) written
-lines_written {D} {L} {d} {l} names (command ∷ body) text old new ran written =
-    lines_written {d = d} {l = l} names body ran.2 ran.0 new ran.5 (line_written {d = d} {l = l} names command ran.1 old ran.0 ran.4 written)
+pub lines_written : {D L : Type 0} {d : Ghosts D} {l : Ghosts L} (m : Answering D L) (names : List ScriptId) (body : List Command) (text : List ℕ) (old new : Running D L d l)
+    → RunsLines m names body text old new → IsWritten old.recorder → IsWritten new.recorder
+lines_written {D} {L} {d} {l} m names [] text old new ran written = subst (λ (run : Running D L d l). IsWritten run.recorder) (sym ran.1) written
+lines_written {D} {L} {d} {l} m names (command ∷ body) text old new ran written =
+    lines_written {d = d} {l = l} m names body ran.2 ran.0 new ran.5 (line_written {d = d} {l = l} m names command ran.1 old ran.0 ran.4 written)

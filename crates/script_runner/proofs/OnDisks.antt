@@ -36,7 +36,7 @@ use Rattle.recorder.specs.Replayed.{ReplaysToWhatCouldBe}
 use Rattle.recorder.specs.Shown.{recording_of}
 use Rattle.script_runner.specs.declared.error.RunError.{RunError}
 use Rattle.script_runner.specs.Errors.{memory_error}
-use Rattle.script_runner.specs.OnDisks.{DiskRecorder, DiskRun, FailsOnDisks, IsCounted, IsNew, IsRecorded, IsStackOf, IsUnmade, Starts, file, left_on, on_stack, seen_on, unmade, zeroes}
+use Rattle.script_runner.specs.OnDisks.{DiskRecorder, DiskRun, FailsOnDisks, IsCounted, IsNew, IsRecorded, IsStackOf, IsUnmade, Starts, file, left_on, on_stack, seen_on, stack_answering, unmade, zeroes}
 use Rattle.dmlw_script.specs.Plans.{top_of, Disk, IsDisk, Plan}
 use Rattle.script_runner.specs.declared.recording.Lies.{Lies}
 use Rattle.script_runner.specs.Runs.{RunsLines}
@@ -143,7 +143,7 @@ new_written disk recorder new = λ closed on. absurd (let recording = ap (λ (c 
 
 -- what a script's recording leaves
 pub is_recorded : (plan : Plan) (text : List ℕ) (start last : DiskRun) (log : Stack) (hazard : Option Hazard) (status : Status) (lies : Lies) (image : List ℕ) (picks : Option (List ℕ))
-    → Starts plan start → RunsLines plan.names plan.commands text start last
+    → Starts plan start → RunsLines stack_answering plan.names plan.commands text start last
     → RecorderGoes (recording_of start.recorder) (recording_of last.recorder)
     → hazard ≡ first_hazard recorded last.recorder.core.events
     → IsCounted status last.recorder

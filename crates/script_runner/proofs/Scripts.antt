@@ -15,8 +15,9 @@ use Rattle.script_runner.specs.declared.error.RunError.TheVariants.{Refused}
 use Rattle.script_runner.specs.CallLaws.{appends_kept, appends_twice}
 use Rattle.script_runner.specs.declared.running.Running.{Running}
 use Rattle.script_runner.specs.declared.step_error.StepError.TheVariants.{AtLine, Whole}
-use Rattle.script_runner.specs.Lines.{EndsSubmitted, FitsDevice, HasScriptText, PrintsLine, RunsLine, StopsLine, count_of}
-use Rattle.script_runner.specs.Runs.{EndsRun, PrintsLines, close, file}
+use Rattle.script_runner.specs.Lines.{Answering, EndsSubmitted, FitsDevice, HasScriptText, PrintsLine, RunsLine, StopsLine, count_of}
+use Rattle.script_runner.specs.Runs.{EndsRun, PrintsLines, close, file, message}
+use Rattle.blockdev.specs.Messages.{message_refusal}
 use Rattle.script_runner.proofs.Chaining.{chain_snoc}
 
 -- each command of a script may come after those before it
@@ -98,24 +99,24 @@ one_more P items body place other same within holds =
     (take-suc body place other) within)) holds
 
 -- one line more is run
-pub lines_more : {D L : Type 0} {d : Ghosts D} {l : Ghosts L} (names : List ScriptId) (front : List Command) (command : Command) (before mid after : Option (List ℕ))
-    (start now new : Running D L d l) → PrintsLines names front before mid start now → PrintsLine names command mid after now new
-    → PrintsLines names (front ++ command ∷ []) before after start new
-lines_more names front command before mid after start now new ran line = (
+pub lines_more : {D L : Type 0} {d : Ghosts D} {l : Ghosts L} (m : Answering D L) (names : List ScriptId) (front : List Command) (command : Command) (before mid after : Option (List ℕ))
+    (start now new : Running D L d l) → PrintsLines m names front before mid start now → PrintsLine m names command mid after now new
+    → PrintsLines m names (front ++ command ∷ []) before after start new
+lines_more m names front command before mid after start now new ran line = (
   ran.0 ++ line.0,
-  chain_snoc (RunsLine names) front command ran.0 line.0 start now new ran.1 line.1,
+  chain_snoc (RunsLine m names) front command ran.0 line.0 start now new ran.1 line.1,
   appends_twice before mid after ran.0 line.0 ran.2 line.2,
 )
 
 -- the same, of ids that are the script's
-pub lines_more_of : {D L : Type 0} {d : Ghosts D} {l : Ghosts L} (plan : Plan) (items : List Command) (names : List ScriptId) (place : ℕ) (other : Command)
+pub lines_more_of : {D L : Type 0} {d : Ghosts D} {l : Ghosts L} (m : Answering D L) (plan : Plan) (items : List Command) (names : List ScriptId) (place : ℕ) (other : Command)
     (before mid after : Option (List ℕ)) (start now new : Running D L d l) → items ≡ plan.commands → place < length items → names ≡ plan.names
-    → PrintsLines plan.names (take place plan.commands) before mid start now → PrintsLine names (slice_index_or items place other) mid after now new
-    → PrintsLines plan.names (take (place + 1) plan.commands) before after start new
-lines_more_of plan items names place other before mid after start now new same within named ran line =
-    one_more (λ (body : List Command). PrintsLines plan.names body before after start new) items plan.commands place other same within
-    (lines_more plan.names (take place plan.commands) (slice_index_or items place other) before mid after start now new ran
-    (subst (λ (ids : List ScriptId). PrintsLine ids (slice_index_or items place other) mid after now new) named line))
+    → PrintsLines m plan.names (take place plan.commands) before mid start now → PrintsLine m names (slice_index_or items place other) mid after now new
+    → PrintsLines m plan.names (take (place + 1) plan.commands) before after start new
+lines_more_of m plan items names place other before mid after start now new same within named ran line =
+    one_more (λ (body : List Command). PrintsLines m plan.names body before after start new) items plan.commands place other same within
+    (lines_more m plan.names (take place plan.commands) (slice_index_or items place other) before mid after start now new ran
+    (subst (λ (ids : List ScriptId). PrintsLine m ids (slice_index_or items place other) mid after now new) named line))
 
 -- how many requests were submitted after one command more
 pub count_more : (front : List Command) (command : Command) (old new : ℕ) → old ≡ submissions front → new ≡ old + count_of command
@@ -161,24 +162,25 @@ next_line_named plan items names place requests other same is orderly within nam
     (next_named plan place (slice_index_or items place other) is next))
 
 -- a fault that names no line ends the run
-pub stops_whole : {D L : Type 0} {d : Ghosts D} {l : Ghosts L} (text : List ℕ) (plan : Plan) (command : Command) (before mid after : Option (List ℕ)) (fault : RunError)
-    (start now : Running D L d l) → StopsLine command mid after now.recorder (Whole fault)
-    → EndsRun text plan before after start fault
-stops_whole text plan command before mid after fault start now (inl is) = file fault is
-stops_whole text plan command before mid after fault start now (inr stops) = absurd (let never = stops.stops in cc)
+pub stops_whole : {D L : Type 0} {d : Ghosts D} {l : Ghosts L} (m : Answering D L) (text : List ℕ) (plan : Plan) (command : Command) (before mid after : Option (List ℕ)) (fault : RunError)
+    (start now : Running D L d l) → StopsLine m command mid after now (Whole fault)
+    → EndsRun m text plan before after start fault
+stops_whole m text plan command before mid after fault start now (inl is) = file fault is
+stops_whole m text plan command before mid after fault start now (inr (inl stops)) = absurd (let never = stops.stops in cc)
+stops_whole m text plan command before mid after fault start now (inr (inr stops)) = absurd (let never = stops.stops in cc)
 
--- a close that is refused ends the run at its line
-pub stops_at_close : {D L : Type 0} {d : Ghosts D} {l : Ghosts L} (text : List ℕ) (plan : Plan) (place : ℕ) (line : Option ℕ) (command : Command) (before mid after : Option (List ℕ))
+-- a close or a message that is refused ends the run at its line
+pub stops_at_line : {D L : Type 0} {d : Ghosts D} {l : Ghosts L} (m : Answering D L) (text : List ℕ) (plan : Plan) (place : ℕ) (line : Option ℕ) (command : Command) (before mid after : Option (List ℕ))
     (refusal : Refusal) (start now : Running D L d l) → ComesNext plan place command → place ≡ length (take place plan.commands) → line ≡ command_line text (head_count plan + place)
-    → PrintsLines plan.names (take place plan.commands) before mid start now
-    → StopsLine command mid after now.recorder (AtLine refusal)
-    → EndsRun text plan before after start (Refused (record { line = line; refusal = refusal }))
-stops_at_close text plan place line command before mid after refusal start now next here named ran (inl never) = absurd never
-stops_at_close text plan place line command before mid after refusal start now next here named ran (inr stops) =
+    → PrintsLines m plan.names (take place plan.commands) before mid start now
+    → StopsLine m command mid after now (AtLine refusal)
+    → EndsRun m text plan before after start (Refused (record { line = line; refusal = refusal }))
+stops_at_line m text plan place line command before mid after refusal start now next here named ran (inl never) = absurd never
+stops_at_line m text plan place line command before mid after refusal start now next here named ran (inr (inl stops)) =
     let told = stops.stops in
     let same : stops.refusal ≡ refusal = cc in
-    subst (λ (at : Option ℕ). EndsRun text plan before after start (Refused (record { line = at; refusal = refusal }))) (sym named)
-    (subst (λ (r : Refusal). EndsRun text plan before after start (Refused (record { line = command_line text (head_count plan + place); refusal = r }))) same
+    subst (λ (at : Option ℕ). EndsRun m text plan before after start (Refused (record { line = at; refusal = refusal }))) (sym named)
+    (subst (λ (r : Refusal). EndsRun m text plan before after start (Refused (record { line = command_line text (head_count plan + place); refusal = r }))) same
     (close place stops.refusal ran.0 (record {
       before = take place plan.commands;
       rest = next.rest;
@@ -188,6 +190,23 @@ stops_at_close text plan place line command before mid after refusal start now n
       last = stops.last;
       ran = ran.1;
       refused = stops.closes;
+    }) (appends_kept before mid after ran.0 ran.2 stops.printed)))
+stops_at_line m text plan place line command before mid after refusal start now next here named ran (inr (inr stops)) =
+    let told = stops.stops in
+    let same : message_refusal stops.error ≡ refusal = cc in
+    subst (λ (at : Option ℕ). EndsRun m text plan before after start (Refused (record { line = at; refusal = refusal }))) (sym named)
+    (subst (λ (r : Refusal). EndsRun m text plan before after start (Refused (record { line = command_line text (head_count plan + place); refusal = r }))) same
+    (message place stops.error ran.0 (record {
+      before = take place plan.commands;
+      rest = next.rest;
+      over = stops.over;
+      layer = stops.layer;
+      asked = stops.asked;
+      split = next.split ∙ ap (λ (c : Command). take place plan.commands ++ c ∷ next.rest) stops.is_message;
+      place_is = here;
+      mid = now;
+      ran = ran.1;
+      refused = stops.refused;
     }) (appends_kept before mid after ran.0 ran.2 stops.printed)))
 
 -- what is true of the item at a place is true of one that is it, and the other way round

@@ -1,7 +1,7 @@
 -- What one line does.
-use Rattle.std.proofs.Common.{◌≡◌, ◌∙◌, ◌<◌, ℕ, true, not, Some, List, [], ◌∷◌, ap, arith, length, refl, subst, sym, inl, inr}
+use Rattle.std.proofs.Common.{◌≡◌, ◌∙◌, ◌<◌, ℕ, zero, suc, ◌&&◌, true, not, Some, List, [], ◌∷◌, ap, arith, length, refl, subst, sym, inl, inr}
 use Rattle.std.proofs.lemmas.Option.{slice_get-get_or}
-use Rattle.std.specs.Prelude.{◌==◌, Err, IfErr, Ok, OnOk, Result, slice_get, slice_index_or}
+use Rattle.std.specs.Prelude.{◌==◌, Err, IfErr, Ok, OnOk, Result, nat_lt, slice_get, slice_index_or}
 use Rattle.sectors.specs.PlaceLaws.{bool_cases}
 use Rattle.bio.specs.declared.request.Bio.{Bio}
 use Rattle.refusals.specs.declared.refusal.Refusal.{Refusal}
@@ -20,7 +20,8 @@ use Rattle.bio.specs.Lawful.{is_recording, is_text}
 use Rattle.dmlw_script.specs.Lines.{is_line_byte, is_line_text}
 use Rattle.script_runner.specs.Lines.{PrintsMark}
 use Rattle.script_runner.specs.inside.Replies.{mark_outcome}
-use Rattle.std.proofs.lemmas.Bool.{and_from, and_parts}
+use Rattle.std.proofs.lemmas.Bool.{and_from, and_parts, ltb-true}
+use Rattle.std.specs.Str.{IsAscii}
 use Rattle.std.proofs.lemmas.Bool.Decides.{nat_tests}
 use Rattle.script_runner.specs.declared.request.Request.{Request}
 
@@ -68,6 +69,14 @@ mark_prints text reply old new marks plain = elim (bool_cases (is_recording old.
     heard : is_text text ≡ true
     heard = line_is_text text plain
 
+-- a text that may stand in a line is ASCII
+pub line_ascii : (text : List ℕ) → is_line_text text ≡ true → IsAscii text
+line_ascii [] plain i = omega arith
+line_ascii (byte ∷ text) plain zero =
+    let here = and_parts (is_line_byte byte) (is_line_text text) plain in
+    ltb-true byte 128 (and_parts (nat_lt 0 byte) (nat_lt byte 128) (and_parts (nat_lt 0 byte && nat_lt byte 128) (not (byte == 10)) here.0).0).1
+line_ascii (byte ∷ text) plain (suc i) = line_ascii text (and_parts (is_line_byte byte) (is_line_text text) plain).1 i
+
 -- what stands at a place
 pub stands_at : (items : List Request) (place : ℕ) (here found : Request) → place < length items → here ≡ slice_index_or items place here → here ≡ found
     → slice_get items place ≡ Some found
@@ -76,6 +85,10 @@ stands_at items place here found within is same = slice_get-get_or items place h
 -- a line whose step is a close is one
 pub is_close_step : (command : Command) (step : Step) → command ≡ commands.Step step → step ≡ steps.Close → command ≡ commands.Step steps.Close
 is_close_step command step is close = is ∙ ap (λ (s : Step). commands.Step s) close
+
+-- a line whose step is this one is it
+pub is_step : (command : Command) (step other : Step) → command ≡ commands.Step step → step ≡ other → command ≡ commands.Step other
+is_step command step other is same = is ∙ ap (λ (s : Step). commands.Step s) same
 
 -- what follows from a success, and from an error
 pub on_ok : {T E A B : Type 0} (result : Result T E) → OnOk result A → (A → B) → OnOk result B

@@ -7,6 +7,8 @@ pub use Rattle.recorder.specs.Growth
 pub use Rattle.refusals.specs.Texts as RefusalTexts
 pub use Rattle.log_format.specs.LogOf
 pub use Rattle.layer_table.specs.Layers
+pub use Rattle.layer_table.specs.StackMessages
+pub use Rattle.blockdev.specs.Messages
 pub use Rattle.table_line.specs.Standing
 pub use Rattle.pending.specs.Hazards
 pub use Rattle.recorder.specs.Acknowledged

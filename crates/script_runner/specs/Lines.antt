@@ -1,11 +1,15 @@
 -- What each line of a script does, from the run before it (old) to the run after it (new), and what it prints.
 use Rattle.recorder.specs.declared.reply.Turn.{Turn}
-use Rattle.std.specs.Prelude.{◌≡◌, ◌⊎◌, ℕ, ◌<◌, Bool, true, false, List, [], ◌∷◌, ◌++◌, Option, Some, None, Result, Ok, length, slice_get, if◌then◌else◌}
+use Rattle.std.specs.Prelude.{◌≡◌, ◌⊎◌, ℕ, ◌<◌, Bool, true, false, List, [], ◌∷◌, ◌++◌, Option, Some, None, Result, Ok, Err, length, slice_get, if◌then◌else◌}
 use Rattle.std.specs.Io.KnownBytes.{Appends, Keeps}
 use Rattle.bio.specs.declared.request.Bio.{Bio}
 use Rattle.bio.specs.declared.outcome.End.{End}
 use Rattle.bio.specs.Requests.{has_data}
 use Rattle.blockdev.specs.declared.device.BlockDev.{Ghosts}
+use Rattle.blockdev.specs.declared.message.MessageError.{MessageError}
+use Rattle.blockdev.specs.Messages.{message_refusal, Unchanged}
+use Rattle.dmlw_script.specs.declared.disk_name.DiskName.{DiskName}
+use Rattle.dmlw_script.specs.declared.disk_name.DiskName.TheVariants as disks
 use Rattle.refusals.specs.declared.refusal.Refusal.{Refusal}
 use Rattle.refusals.specs.declared.refusal.Refusal.TheVariants as refusals
 use Rattle.dmlw_script.specs.declared.command.Command.{Command}
@@ -128,30 +132,68 @@ pub record TellsMark {D L : Type 0} {d : Ghosts D} {l : Ghosts L} (mark text : L
   pub marks : Marks mark reply old.recorder new.recorder
   pub prints : PrintsMark reply text
 
+-- What the devices of a run answer to messages: whether a device, before a message to this layer and after it, can have answered this.
+pub record Answering (D L : Type 0) : Type 1 where
+  pub data_device : D → ℕ → List ℕ → Result (Unit {0}) MessageError → D → Type 0
+  pub log_device : L → ℕ → List ℕ → Result (Unit {0}) MessageError → L → Type 0
+
+abbrev pub answering : {D L : Type 0} → (D → ℕ → List ℕ → Result (Unit {0}) MessageError → D → Type 0)
+    → (L → ℕ → List ℕ → Result (Unit {0}) MessageError → L → Type 0) → Answering D L
+answering data_device log_device = record { data_device = data_device; log_device = log_device }
+
+-- A line hands a message to a layer of the data device, which takes it; nothing that contracts see of the device changes.
+pub record TellsData {D L : Type 0} {d : Ghosts D} {l : Ghosts L} (m : Answering D L) (layer : ℕ) (asked text : List ℕ) (old new : Running D L d l) : Type 0 where
+  pub log : new.recorder ≡ old.recorder
+  pub kept : new.requests.items ≡ old.requests.items
+  pub takes : m.data_device old.disk layer asked (Ok tt) new.disk
+  pub unchanged : Unchanged (d.shown old.disk) (d.shown new.disk)
+  pub prints : text ≡ []
+
+-- A line hands a message to a layer of the log's device, which takes it; nothing of the recorder and its log changes.
+pub record TellsLog {D L : Type 0} {d : Ghosts D} {l : Ghosts L} (m : Answering D L) (layer : ℕ) (asked text : List ℕ) (old new : Running D L d l) : Type 0 where
+  pub keeps : KeepsData text old new
+  pub takes : m.log_device old.recorder.store.device layer asked (Ok tt) new.recorder.store.device
+  pub unchanged : Unchanged (l.shown old.recorder.store.device) (l.shown new.recorder.store.device)
+  pub core : new.recorder.core ≡ old.recorder.core
+  pub end : new.recorder.end ≡ old.recorder.end
+  pub store : Same (recording_of old.recorder).store (recording_of new.recorder).store
+  pub log_moment : new.recorder.store.moment ≡ old.recorder.store.moment
+
+-- A line hands a message to a layer of this disk.
+abbrev pub TellsLayer : {D L : Type 0} {d : Ghosts D} {l : Ghosts L} → Answering D L → DiskName → ℕ → List ℕ → List ℕ → Running D L d l → Running D L d l → Type 0
+TellsLayer m disks.Data layer asked text old new = TellsData m layer asked text old new
+TellsLayer m disks.Log layer asked text old new = TellsLog m layer asked text old new
+
+-- A message to a layer of this disk is refused by this.
+abbrev pub RefusesMessage : {D L : Type 0} {d : Ghosts D} {l : Ghosts L} → Answering D L → DiskName → ℕ → List ℕ → MessageError → Running D L d l → Type 0
+RefusesMessage {D} m disks.Data layer asked error old = (last : D) × m.data_device old.disk layer asked (Err error) last
+RefusesMessage {L = L} m disks.Log layer asked error old = (last : L) × m.log_device old.recorder.store.device layer asked (Err error) last
+
 -- A line that names no request.
-abbrev pub TakesStep : {D L : Type 0} {d : Ghosts D} {l : Ghosts L} → Step → List ℕ → Running D L d l → Running D L d l → Type 0
-TakesStep steps.Close text old new = EndsRecording text old new
-TakesStep (steps.Read first count) text old new = ReadsData first count text old new
-TakesStep steps.Turn text old new = GivesTurn text old new
-TakesStep (steps.Mark mark) text old new = TellsMark mark text old new
-TakesStep (steps.At moment) text old new = SetsMoment moment text old new
+abbrev pub TakesStep : {D L : Type 0} {d : Ghosts D} {l : Ghosts L} → Answering D L → Step → List ℕ → Running D L d l → Running D L d l → Type 0
+TakesStep m steps.Close text old new = EndsRecording text old new
+TakesStep m (steps.Read first count) text old new = ReadsData first count text old new
+TakesStep m steps.Turn text old new = GivesTurn text old new
+TakesStep m (steps.Mark mark) text old new = TellsMark mark text old new
+TakesStep m (steps.At moment) text old new = SetsMoment moment text old new
+TakesStep m (steps.Message over layer asked) text old new = TellsLayer m over layer asked text old new
 
 -- What a line does, by its kind.
-abbrev pub Does : {D L : Type 0} {d : Ghosts D} {l : Ghosts L} → List ScriptId → Command → List ℕ → Running D L d l → Running D L d l → Type 0
-Does names (commands.Submit submission) text old new = SubmitsNext names (bio_of submission) text old new
-Does names (commands.Complete request) text old new =
+abbrev pub Does : {D L : Type 0} {d : Ghosts D} {l : Ghosts L} → Answering D L → List ScriptId → Command → List ℕ → Running D L d l → Running D L d l → Type 0
+Does m names (commands.Submit submission) text old new = SubmitsNext names (bio_of submission) text old new
+Does m names (commands.Complete request) text old new =
     EndsRequest (slice_get old.requests.items request) (name_at names request) text old new
-Does names (commands.Step step) text old new = TakesStep step text old new
+Does m names (commands.Step step) text old new = TakesStep m step text old new
 
 -- A line is run: it does what its kind does, the moment is its own or stays, and the recorder goes on as by one of its calls.
-pub record RunsLine {D L : Type 0} {d : Ghosts D} {l : Ghosts L} (names : List ScriptId) (command : Command) (text : List ℕ) (old new : Running D L d l) : Type 0 where
-  pub does : Does names command text old new
+pub record RunsLine {D L : Type 0} {d : Ghosts D} {l : Ghosts L} (m : Answering D L) (names : List ScriptId) (command : Command) (text : List ℕ) (old new : Running D L d l) : Type 0 where
+  pub does : Does m names command text old new
   pub moment : new.moment ≡ moment_at old.moment command
   pub goes : RecorderGoes (recording_of old.recorder) (recording_of new.recorder)
 
 -- A line is run, and what it prints is added to what a writer holds.
-abbrev pub PrintsLine : {D L : Type 0} {d : Ghosts D} {l : Ghosts L} → List ScriptId → Command → Option (List ℕ) → Option (List ℕ) → Running D L d l → Running D L d l → Type 0
-PrintsLine names command before after old new = (text : List ℕ) × RunsLine names command text old new × Appends before after text
+abbrev pub PrintsLine : {D L : Type 0} {d : Ghosts D} {l : Ghosts L} → Answering D L → List ScriptId → Command → Option (List ℕ) → Option (List ℕ) → Running D L d l → Running D L d l → Type 0
+PrintsLine m names command before after old new = (text : List ℕ) × RunsLine m names command text old new × Appends before after text
 
 -- how many requests a line submits
 abbrev pub count_of : Command → ℕ
@@ -183,9 +225,22 @@ pub record StopsAtClose {L : Type 0} {l : Ghosts L} (command : Command) (before 
   pub closes : Closes (replies.Refused refusal) old last
   pub printed : Keeps before after
 
+-- or since it is a message that the device refuses
+pub record StopsAtMessage {D L : Type 0} {d : Ghosts D} {l : Ghosts L} (m : Answering D L) (command : Command) (before after : Option (List ℕ)) (stop : StepError)
+    (old : Running D L d l) : Type 0 where
+  pub over : DiskName
+  pub layer : ℕ
+  pub asked : List ℕ
+  pub is_message : command ≡ commands.Step (steps.Message over layer asked)
+  pub error : MessageError
+  pub stops : stop ≡ AtLine (message_refusal error)
+  pub refused : RefusesMessage m over layer asked error old
+  pub printed : Keeps before after
+
 -- why the run of a line stops
-abbrev pub StopsLine : {L : Type 0} {l : Ghosts L} → Command → Option (List ℕ) → Option (List ℕ) → Recorder L l → StepError → Type 0
-StopsLine command before after old stop = StopsForFile stop ⊎ StopsAtClose command before after stop old
+abbrev pub StopsLine : {D L : Type 0} {d : Ghosts D} {l : Ghosts L} → Answering D L → Command → Option (List ℕ) → Option (List ℕ) → Running D L d l → StepError → Type 0
+StopsLine m command before after old stop =
+    StopsForFile stop ⊎ (StopsAtClose command before after stop old.recorder ⊎ StopsAtMessage m command before after stop old)
 
 -- the request that a line ends is one of so many
 abbrev pub EndsSubmitted : ℕ → Command → Type 0

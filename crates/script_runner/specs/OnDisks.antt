@@ -37,6 +37,8 @@ use Rattle.script_runner.specs.declared.recording.Lies.{Lies}
 use Rattle.script_runner.specs.Errors.{IsFileError}
 use Rattle.dmlw_script.specs.Plans.{Disk, top_of}
 use Rattle.script_runner.specs.declared.running.Running.{Running}
+use Rattle.layer_table.specs.StackMessages.{StackAnswers}
+use Rattle.script_runner.specs.Lines.{answering, Answering}
 use Rattle.script_runner.specs.Runs.{EndsRun, RunsLines}
 
 -- a stack of layers over a disk in memory, as a device
@@ -50,6 +52,10 @@ DiskRecorder = Recorder Stack on_stack
 -- a script's run over two disks in memory, each under its layers
 abbrev pub DiskRun : Type 0
 DiskRun = Running Stack Stack on_stack on_stack
+
+-- what stacks answer to messages
+abbrev pub stack_answering : Answering Stack Stack
+stack_answering = answering StackAnswers StackAnswers
 
 -- a disk's sectors, each of them zeroes
 abbrev pub zeroes : Content
@@ -112,7 +118,7 @@ pub record IsRecorded (plan : Plan) (text : List ℕ) (hazard : Option Hazard) (
   pub start : DiskRun
   pub starts : Starts plan start
   pub last : DiskRun
-  pub ran : RunsLines plan.names plan.commands text start last
+  pub ran : RunsLines stack_answering plan.names plan.commands text start last
   pub first : hazard ≡ first_hazard recorded last.recorder.core.events
   pub counted : IsCounted status last.recorder
   pub lied : lies ≡ record { data_disk = (stack_shown last.disk).lies; log_disk = (stack_shown last.recorder.store.device).lies }
@@ -136,4 +142,4 @@ pub record IsRecorded (plan : Plan) (text : List ℕ) (hazard : Option Hazard) (
 pub data FailsOnDisks (text : List ℕ) (plan : Plan) (before after : Option (List ℕ)) : RunError → Type 0 where
   file : (fault : RunError) → IsFileError fault → FailsOnDisks text plan before after fault
   unmade : (fault : RunError) → IsUnmade plan.log_disk fault → Keeps before after → FailsOnDisks text plan before after fault
-  run : (start : DiskRun) (fault : RunError) → Starts plan start → EndsRun text plan before after start fault → FailsOnDisks text plan before after fault
+  run : (start : DiskRun) (fault : RunError) → Starts plan start → EndsRun stack_answering text plan before after start fault → FailsOnDisks text plan before after fault

@@ -3,7 +3,7 @@ use Rattle.std.specs.Prelude.{◌≡◌, ℕ, List, None}
 use Rattle.bio.specs.declared.event.CoreEvent.{CoreEvent}
 use Rattle.dmlw_script.specs.Plans.{Plan}
 use Rattle.script_runner.specs.declared.error.RunError.{RunError}
-use Rattle.script_runner.specs.OnDisks.{DiskRun, FailsOnDisks, Starts}
+use Rattle.script_runner.specs.OnDisks.{stack_answering, DiskRun, FailsOnDisks, Starts}
 use Rattle.script_runner.specs.Runs.{RunsLines}
 
 -- A script was rehearsed: its lines ran, whatever they print, and these are the recorder's events.
@@ -12,7 +12,7 @@ pub record IsRehearsed (plan : Plan) (events : List CoreEvent) : Type 0 where
   pub starts : Starts plan start
   pub text : List ℕ
   pub last : DiskRun
-  pub ran : RunsLines plan.names plan.commands text start last
+  pub ran : RunsLines stack_answering plan.names plan.commands text start last
   pub recorded : events ≡ last.recorder.core.events
 
 -- rehearsing a script, which was read from a text, fails as recording it does, with a writer of which nothing is known

@@ -2,6 +2,9 @@
 use Rattle.std.specs.Prelude.{◌≡◌, ◌+◌, ℕ, List, [], ◌∷◌, ◌++◌, Option, length}
 use Rattle.std.specs.Io.KnownBytes.{Appends}
 use Rattle.blockdev.specs.declared.device.BlockDev.{Ghosts}
+use Rattle.blockdev.specs.declared.message.MessageError.{MessageError}
+use Rattle.blockdev.specs.Messages.{message_refusal}
+use Rattle.dmlw_script.specs.declared.disk_name.DiskName.{DiskName}
 use Rattle.refusals.specs.declared.refusal.Refusal.{Refusal}
 use Rattle.dmlw_script.specs.declared.command.Command.{Command}
 use Rattle.dmlw_script.specs.declared.command.Command.TheVariants as commands
@@ -16,7 +19,7 @@ use Rattle.script_runner.specs.declared.error.RunError.{RunError}
 use Rattle.script_runner.specs.declared.error.RunError.TheVariants.{Refused}
 use Rattle.script_runner.specs.declared.running.Running.{Running}
 use Rattle.script_runner.specs.Errors.{IsFileError}
-use Rattle.script_runner.specs.Lines.{RunsLine}
+use Rattle.script_runner.specs.Lines.{Answering, RefusesMessage, RunsLine}
 
 -- steps one after another, from one state to another; what they print stands one after another
 abbrev pub Chain : {C S : Type 0} → (C → List ℕ → S → S → Type 0) → List C → List ℕ → S → S → Type 0
@@ -25,27 +28,43 @@ Chain {S = S} Step (c ∷ cs) text old new =
     (mid : S) × (first : List ℕ) × (rest : List ℕ) × (text ≡ first ++ rest) × Step c first old mid × Chain Step cs rest mid new
 
 -- the lines of a script are run
-abbrev pub RunsLines : {D L : Type 0} {d : Ghosts D} {l : Ghosts L} → List ScriptId → List Command → List ℕ → Running D L d l → Running D L d l → Type 0
-RunsLines names body text old new = Chain (RunsLine names) body text old new
+abbrev pub RunsLines : {D L : Type 0} {d : Ghosts D} {l : Ghosts L} → Answering D L → List ScriptId → List Command → List ℕ → Running D L d l → Running D L d l → Type 0
+RunsLines m names body text old new = Chain (RunsLine m names) body text old new
 
 -- the same, and what they print is added to what a writer holds
-abbrev pub PrintsLines : {D L : Type 0} {d : Ghosts D} {l : Ghosts L} → List ScriptId → List Command → Option (List ℕ) → Option (List ℕ) → Running D L d l → Running D L d l → Type 0
-PrintsLines names body before after old new = (text : List ℕ) × RunsLines names body text old new × Appends before after text
+abbrev pub PrintsLines : {D L : Type 0} {d : Ghosts D} {l : Ghosts L} → Answering D L → List ScriptId → List Command → Option (List ℕ) → Option (List ℕ) → Running D L d l → Running D L d l → Type 0
+PrintsLines m names body before after old new = (text : List ℕ) × RunsLines m names body text old new × Appends before after text
 
 -- A close is refused: after the lines before it, at its own line.
-pub record RefusesClose {D L : Type 0} {d : Ghosts D} {l : Ghosts L} (plan : Plan) (place : ℕ) (refusal : Refusal) (text : List ℕ) (old : Running D L d l) : Type 0 where
+pub record RefusesClose {D L : Type 0} {d : Ghosts D} {l : Ghosts L} (m : Answering D L) (plan : Plan) (place : ℕ) (refusal : Refusal) (text : List ℕ) (old : Running D L d l) : Type 0 where
   pub before : List Command
   pub rest : List Command
   pub split : plan.commands ≡ before ++ commands.Step steps.Close ∷ rest
   pub place_is : place ≡ length before
   pub mid : Running D L d l
   pub last : Recorder L l
-  pub ran : RunsLines plan.names before text old mid
+  pub ran : RunsLines m plan.names before text old mid
   pub refused : Closes (replies.Refused refusal) mid.recorder last
 
--- Why the run of a script, which was read from a text, ends before its last line: a close is refused, and what was printed is what the lines
--- before it print; or the output can't be written, or there is no memory.
-pub data EndsRun {D L : Type 0} {d : Ghosts D} {l : Ghosts L} (text : List ℕ) (plan : Plan) (before after : Option (List ℕ)) (old : Running D L d l) : RunError → Type 0 where
-  close : (place : ℕ) (refusal : Refusal) (printed : List ℕ) → RefusesClose plan place refusal printed old → Appends before after printed
-      → EndsRun text plan before after old (Refused (record { line = command_line text (head_count plan + place); refusal = refusal }))
-  file : (fault : RunError) → IsFileError fault → EndsRun text plan before after old fault
+-- A message is refused: after the lines before it, at its own line.
+pub record RefusesLine {D L : Type 0} {d : Ghosts D} {l : Ghosts L} (m : Answering D L) (plan : Plan) (place : ℕ) (error : MessageError) (text : List ℕ)
+    (old : Running D L d l) : Type 0 where
+  pub before : List Command
+  pub rest : List Command
+  pub over : DiskName
+  pub layer : ℕ
+  pub asked : List ℕ
+  pub split : plan.commands ≡ before ++ commands.Step (steps.Message over layer asked) ∷ rest
+  pub place_is : place ≡ length before
+  pub mid : Running D L d l
+  pub ran : RunsLines m plan.names before text old mid
+  pub refused : RefusesMessage m over layer asked error mid
+
+-- Why the run of a script, which was read from a text, ends before its last line: a close or a message is refused, and what was printed is what
+-- the lines before it print; or the output can't be written, or there is no memory.
+pub data EndsRun {D L : Type 0} {d : Ghosts D} {l : Ghosts L} (m : Answering D L) (text : List ℕ) (plan : Plan) (before after : Option (List ℕ)) (old : Running D L d l) : RunError → Type 0 where
+  close : (place : ℕ) (refusal : Refusal) (printed : List ℕ) → RefusesClose m plan place refusal printed old → Appends before after printed
+      → EndsRun m text plan before after old (Refused (record { line = command_line text (head_count plan + place); refusal = refusal }))
+  message : (place : ℕ) (error : MessageError) (printed : List ℕ) → RefusesLine m plan place error printed old → Appends before after printed
+      → EndsRun m text plan before after old (Refused (record { line = command_line text (head_count plan + place); refusal = message_refusal error }))
+  file : (fault : RunError) → IsFileError fault → EndsRun m text plan before after old fault

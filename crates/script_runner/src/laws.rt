@@ -20,12 +20,12 @@ ghost use Rattle.sectors.specs.Content.{Content};
 ghost use Rattle.std.specs.List.{AllZip};
 ghost use Rattle.script_runner.specs.declared.request.Request.{Request};
 ghost use Rattle.script_runner.specs.Followed.{IsFollowed, StandsFor, submissions_of};
-ghost use Rattle.script_runner.specs.Lines.{TellsMark};
+ghost use Rattle.script_runner.specs.Lines.{answering, TellsMark};
 ghost use Rattle.script_runner.specs.Runs.{RunsLines};
 ghost use Rattle.script_runner.specs.Written.{IsWritten};
 
 use crate::Running;
-use blockdev::BlockDev;
+use blockdev::Message;
 use layer_table::Stack;
 
 /// After any list of submissions, completions, marks and writer's turns, whatever calls the layers fail, and a crash at any moment,
@@ -55,27 +55,27 @@ pub fn bare_logs_fail_by_memory_alone()
 }
 
 /// To the recorder the lines of a script are as one call: its events only grow, and what is placed and settled stays so.
-pub fn lines_go_as_one_call<D: BlockDev + Drop, L: BlockDev + Drop>()
+pub fn lines_go_as_one_call<D: Message + Drop, L: Message + Drop>()
     ensures { (names : List ScriptId) (body : List Command) (text : List ℕ) (old new : Running D L D.BlockDev L.BlockDev) →
-        RunsLines names body text old new → RecorderGoes (recording_of old.recorder) (recording_of new.recorder) }
+        RunsLines (answering D.answers L.answers) names body text old new → RecorderGoes (recording_of old.recorder) (recording_of new.recorder) }
 {
     recorder::laws::several_calls_go_as_one::<L>();
 }
 
 /// Each line that submits asks the recorder of the request that it says, in the order of the lines, unless there is no memory for it. And each
 /// request that the recorder follows stands in its events, at its id, as it was asked.
-pub fn requests_stand_in_the_events<D: BlockDev + Drop, L: BlockDev + Drop>()
+pub fn requests_stand_in_the_events<D: Message + Drop, L: Message + Drop>()
     ensures asked { (names : List ScriptId) (body : List Command) (text : List ℕ) (old new : Running D L D.BlockDev L.BlockDev) →
-        RunsLines names body text old new → (more : List Request) × (new.requests.items ≡ old.requests.items ++ more)
+        RunsLines (answering D.answers L.answers) names body text old new → (more : List Request) × (new.requests.items ≡ old.requests.items ++ more)
         × AllZip StandsFor (submissions_of body) more }
     ensures recorded { (names : List ScriptId) (body : List Command) (text : List ℕ) (old new : Running D L D.BlockDev L.BlockDev) →
-        RunsLines names body text old new → IsFollowed old → IsFollowed new }
+        RunsLines (answering D.answers L.answers) names body text old new → IsFollowed old → IsFollowed new }
 {}
 
 /// A mark that a line has queued stands in the recorder's events, at its place and with its text, whatever lines run after it.
-pub fn marks_stand_in_the_events<D: BlockDev + Drop, L: BlockDev + Drop>()
+pub fn marks_stand_in_the_events<D: Message + Drop, L: Message + Drop>()
     ensures { (names : List ScriptId) (body : List Command) (mark text more : List ℕ) (id : ℕ) (old mid new : Running D L D.BlockDev L.BlockDev) →
-        (line : TellsMark mark text old mid) → line.reply ≡ Queued id → RunsLines names body more mid new →
+        (line : TellsMark mark text old mid) → line.reply ≡ Queued id → RunsLines (answering D.answers L.answers) names body more mid new →
         slice_get new.recorder.core.events id ≡ Some (Mark mark) }
 {
     lines_go_as_one_call::<D, L>();
@@ -83,9 +83,9 @@ pub fn marks_stand_in_the_events<D: BlockDev + Drop, L: BlockDev + Drop>()
 
 /// Where the log's device told no lie: whatever a crash at any moment of a script's run may have left has a log, and that is a beginning of
 /// the completion list of the recorder's events, with all that was settled when the run began.
-pub fn crashes_of_a_run_leave_beginnings<D: BlockDev + Drop, L: BlockDev + Drop>()
+pub fn crashes_of_a_run_leave_beginnings<D: Message + Drop, L: Message + Drop>()
     ensures { (names : List ScriptId) (body : List Command) (text : List ℕ) (old new : Running D L D.BlockDev L.BlockDev) (left : Content) →
-        RunsLines names body text old new → (recording_of new.recorder).store.device.lies ≡ 0 →
+        RunsLines (answering D.answers L.answers) names body text old new → (recording_of new.recorder).store.device.lies ≡ 0 →
         (recording_of new.recorder).store.device.since (recording_of old.recorder).store.device.moment left →
         (count : ℕ) × (old.recorder.store.settled ≤ count) × (count ≤ length (log_of new.recorder.core))
         × IsLogOf (recording_of new.recorder).store.device.size left 512 (take count (log_of new.recorder.core)) }
@@ -96,11 +96,11 @@ pub fn crashes_of_a_run_leave_beginnings<D: BlockDev + Drop, L: BlockDev + Drop>
 
 /// Where a script's run ends with recording closed and logging going on, also with lines after the Close, all of the completion list of
 /// the recorder's events is placed; and where the log's device told no lie, the log of its content is whole, and so is that of whatever a crash leaves.
-pub fn closed_runs_leave_whole_logs<D: BlockDev + Drop, L: BlockDev + Drop>()
+pub fn closed_runs_leave_whole_logs<D: Message + Drop, L: Message + Drop>()
     ensures placed { (names : List ScriptId) (body : List Command) (text : List ℕ) (old new : Running D L D.BlockDev L.BlockDev) →
-        RunsLines names body text old new → IsWritten old.recorder → IsWritten new.recorder }
+        RunsLines (answering D.answers L.answers) names body text old new → IsWritten old.recorder → IsWritten new.recorder }
     ensures whole { (names : List ScriptId) (body : List Command) (text : List ℕ) (old new : Running D L D.BlockDev L.BlockDev) →
-        RunsLines names body text old new → IsWritten old.recorder → IsSound new.recorder.core → new.recorder.end ≡ None →
+        RunsLines (answering D.answers L.answers) names body text old new → IsWritten old.recorder → IsSound new.recorder.core → new.recorder.end ≡ None →
         has_no_close new.recorder.core.events ≡ false → (recording_of new.recorder).store.device.lies ≡ 0 →
         HasWholeLog (recording_of new.recorder) }
 {

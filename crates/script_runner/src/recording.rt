@@ -48,8 +48,8 @@ pub struct Recorded {
 
 /// Records a script, which was read from `text`, on two disks in memory of the sizes that it names, each under its layers. What its lines
 /// print is written to `out`. Where the script ends by a crash, the log's disk loses power then, with its picks. The log is handed over also
-/// where logging ended before the script did. Where no log can be made, the run ends by the cause of that. A close that is refused fails at its
-/// line; so do want of memory and an output that can't be written, for which no line is named.
+/// where logging ended before the script did. Where no log can be made, the run ends by the cause of that. A close or a message that is refused fails at
+/// its line; so do want of memory and an output that can't be written, for which no line is named.
 pub fn record<O: Write>(
     alloc: Global,
     text: &[u8],
@@ -127,7 +127,7 @@ fn new_stack(alloc: Global, disk: &DiskSpec) -> Result<Stack, RunError>
     ensures faults { IfErr result (λ fault. fault ≡ memory_error) }
 {
     let bare = SectorDisk::new(alloc, disk.sectors())?;
-    match Stack::new(bare).under(disk.layers(), Ms::new(0)) {
+    match Stack::new(bare).under(alloc, disk.layers(), Ms::new(0)) {
         Ok(stack) => Ok(stack),
         Err(back) => Err(RunError::from(refusal_of(back))),
     }

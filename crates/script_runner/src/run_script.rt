@@ -1,19 +1,20 @@
 ghost use Rattle.dmlw_script.specs.Plans.{top_of};
 ghost use Rattle.std.specs.Prelude.{◌≡◌, IfErr, OnOk, []};
+ghost use Rattle.script_runner.specs.Lines.{answering};
 ghost use Rattle.script_runner.specs.Runs.{EndsRun, PrintsLines};
 
 use crate::error::RunError;
 use crate::running::Running;
 use crate::step_error::StepError;
-use blockdev::BlockDev;
+use blockdev::Message;
 use dmlw_script::{Script, laws, line_of};
 use refusals::Fault;
 use std::io::Write;
 
 /// Runs a script, which was read from `text`, on a data device of the size of its data disk's top, from before its first line on. What its lines print is
-/// written to `out`. A close that is refused ends the run at its line; so does an output that can't be written, and want of memory for what the
+/// written to `out`. A close or a message that is refused ends the run at its line; so does an output that can't be written, and want of memory for what the
 /// run itself keeps.
-pub fn run<D: BlockDev + Drop, L: BlockDev + Drop, O: Write>(
+pub fn run<D: Message + Drop, L: Message + Drop, O: Write>(
     text: &[u8],
     script: &Script,
     running: &mut Running<D, L>,
@@ -21,9 +22,9 @@ pub fn run<D: BlockDev + Drop, L: BlockDev + Drop, O: Write>(
 ) -> Result<(), RunError>
     requires size { (D.shown running.old.disk).size ≡ top_of script.now.data_disk }
     requires first { running.old.requests.items ≡ [] }
-    ensures runs { OnOk result (PrintsLines script.now.names script.now.commands (O.contents out.old) (O.contents out.new) running.old running.new) }
+    ensures runs { OnOk result (PrintsLines (answering D.answers L.answers) script.now.names script.now.commands (O.contents out.old) (O.contents out.new) running.old running.new) }
     ensures size { (D.shown running.new.disk).size ≡ (D.shown running.old.disk).size }
-    ensures faults { IfErr result (EndsRun text.now script.now (O.contents out.old) (O.contents out.new) running.old) }
+    ensures faults { IfErr result (EndsRun (answering D.answers L.answers) text.now script.now (O.contents out.old) (O.contents out.new) running.old) }
 {
     laws::requests_end_once();
     for (place, command) in script.commands().iter().enumerate() {

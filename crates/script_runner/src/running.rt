@@ -8,12 +8,13 @@ use crate::print::{name_of, print_mark, print_outcome, print_read, print_submiss
 use crate::request::Request;
 use crate::step_error::StepError;
 use bio::{Bytes, Event, Ms};
-use blockdev::BlockDev;
-use dmlw_script::{Command, ScriptId, Step, Submission};
+use blockdev::{BlockDev, Message};
+use dmlw_script::{Command, DiskName, ScriptId, Step, Submission};
 use recorder::{Recorder, Reply, laws};
 use refusals::Refusal;
 use std::alloc::{AllocError, Global};
 use std::io::Write;
+use words::ascii_text;
 
 /// A script's run so far: a recorder over the log's device, the data device, and the requests that were submitted, by their numbers.
 #[derive(Drop)]
@@ -28,18 +29,7 @@ pub struct Running<D: BlockDev + Drop, L: BlockDev + Drop> {
 }
 
 impl<D: BlockDev + Drop, L: BlockDev + Drop> Running<D, L> {
-    ghost use Rattle.std.specs.Prelude.{◌≡◌, ◌+◌, ◌<◌, IfErr, IfOk, List, Ok, OnOk, [], length, true, ℕ};
-    ghost use Rattle.std.specs.List.{AllByRecursion};
-    ghost use Rattle.std.specs.Io.KnownBytes.{Appends, Keeps};
-    ghost use Rattle.bio.specs.Check.{range_answer};
-    ghost use Rattle.dmlw_script.specs.Lines.{is_line_text};
-    ghost use Rattle.dmlw_script.specs.Plans.{HasName, IsName, submission_answer};
-    ghost use Rattle.recorder.specs.declared.reply.Reply.TheVariants as replies;
-    ghost use Rattle.recorder.specs.Calls.{Closes};
-    ghost use Rattle.recorder.specs.Growth.{RecorderGoes};
-    ghost use Rattle.recorder.specs.Shown.{recording_of};
-    ghost use Rattle.script_runner.specs.declared.step_error.StepError.TheVariants.{AtLine};
-    ghost use Rattle.script_runner.specs.Lines.{EndsRecording, EndsSubmitted, FitsDevice, GivesTurn, HasScriptText, PrintsLine, ReadsData, SetsMoment, StopsForFile, StopsLine, TellsMark, count_of};
+    ghost use Rattle.std.specs.Prelude.{◌≡◌, IfOk, []};
 
     /// The run of a script before its first line, at moment 0, with room for so many requests.
     pub fn new(
@@ -74,6 +64,23 @@ impl<D: BlockDev + Drop, L: BlockDev + Drop> Running<D, L> {
         let Running { recorder, disk, .. } = self;
         (recorder, disk)
     }
+}
+
+impl<D: Message + Drop, L: Message + Drop> Running<D, L> {
+    ghost use Rattle.std.specs.Prelude.{◌≡◌, ◌⊎◌, ◌+◌, ◌<◌, IfErr, List, Ok, OnOk, [], length, true, ℕ};
+    ghost use Rattle.std.specs.List.{AllByRecursion};
+    ghost use Rattle.std.specs.Io.KnownBytes.{Appends, Keeps};
+    ghost use Rattle.bio.specs.Check.{range_answer};
+    ghost use Rattle.blockdev.specs.declared.message.MessageError.{MessageError};
+    ghost use Rattle.blockdev.specs.Messages.{message_refusal};
+    ghost use Rattle.dmlw_script.specs.Lines.{is_line_text};
+    ghost use Rattle.dmlw_script.specs.Plans.{HasName, IsName, submission_answer};
+    ghost use Rattle.recorder.specs.declared.reply.Reply.TheVariants as replies;
+    ghost use Rattle.recorder.specs.Calls.{Closes};
+    ghost use Rattle.recorder.specs.Growth.{RecorderGoes};
+    ghost use Rattle.recorder.specs.Shown.{recording_of};
+    ghost use Rattle.script_runner.specs.declared.step_error.StepError.TheVariants.{AtLine};
+    ghost use Rattle.script_runner.specs.Lines.{EndsRecording, EndsSubmitted, FitsDevice, GivesTurn, HasScriptText, PrintsLine, ReadsData, RefusesMessage, SetsMoment, StopsForFile, StopsLine, TellsLayer, TellsMark, answering, count_of};
 
     // Submits the next request.
     fn submit<O: Write>(
@@ -85,7 +92,7 @@ impl<D: BlockDev + Drop, L: BlockDev + Drop> Running<D, L> {
         requires fits { submission_answer (D.shown self.old.disk).size submission ≡ Ok tt }
         requires named { length self.old.requests.items < length names.now }
         requires ids { AllByRecursion IsName names.now }
-        ensures runs { OnOk result (PrintsLine names.now (Command.Submit submission) (O.contents out.old) (O.contents out.new) self.old self.new) }
+        ensures runs { OnOk result (PrintsLine (answering D.answers L.answers) names.now (Command.Submit submission) (O.contents out.old) (O.contents out.new) self.old self.new) }
         ensures faults { IfErr result StopsForFile }
         ensures size { (D.shown self.new.disk).size ≡ (D.shown self.old.disk).size }
         ensures count { OnOk result (length self.new.requests.items ≡ length self.old.requests.items + 1) }
@@ -107,7 +114,7 @@ impl<D: BlockDev + Drop, L: BlockDev + Drop> Running<D, L> {
         requires submitted { request < length self.old.requests.items }
         requires named { request < length names.now }
         requires ids { AllByRecursion IsName names.now }
-        ensures runs { OnOk result (PrintsLine names.now (Command.Complete request) (O.contents out.old) (O.contents out.new) self.old self.new) }
+        ensures runs { OnOk result (PrintsLine (answering D.answers L.answers) names.now (Command.Complete request) (O.contents out.old) (O.contents out.new) self.old self.new) }
         ensures faults { IfErr result StopsForFile }
         ensures size { (D.shown self.new.disk).size ≡ (D.shown self.old.disk).size }
         ensures count { OnOk result (length self.new.requests.items ≡ length self.old.requests.items) }
@@ -195,6 +202,30 @@ impl<D: BlockDev + Drop, L: BlockDev + Drop> Running<D, L> {
         Ok(())
     }
 
+    // Hands a message to a layer of a disk.
+    #[tactic(auto, using(crate::proofs::Stepping::line_ascii))]
+    fn message(&mut self, over: DiskName, layer: u64, text: &Bytes) -> Result<(), StepError>
+        requires { is_line_text text.now ≡ true }
+        ensures moment { self.new.moment ≡ self.old.moment }
+        ensures tells { OnOk result (TellsLayer (answering D.answers L.answers) over layer text.now [] self.old self.new) }
+        ensures refused { IfErr result (λ stop. (error : MessageError) × (stop ≡ AtLine (message_refusal error))
+            × RefusesMessage (answering D.answers L.answers) over layer text.now error self.old) }
+        ensures goes { RecorderGoes (recording_of self.old.recorder) (recording_of self.new.recorder) }
+        ensures size { (D.shown self.new.disk).size ≡ (D.shown self.old.disk).size }
+        ensures count { length self.new.requests.items ≡ length self.old.requests.items }
+    {
+        laws::several_calls_go_as_one::<L>();
+        let text = ascii_text(text.as_slice());
+        let answer = match over {
+            DiskName::Data => self.disk.message(layer, text),
+            DiskName::Log => self.recorder.message(layer, text),
+        };
+        match answer {
+            Ok(()) => Ok(()),
+            Err(error) => Err(StepError::AtLine(Refusal::from(error))),
+        }
+    }
+
     /// Runs a line: it does what its kind does, and what it prints is written to `out`.
     pub fn run_line<O: Write>(
         &mut self,
@@ -207,8 +238,8 @@ impl<D: BlockDev + Drop, L: BlockDev + Drop> Running<D, L> {
         requires named { HasName (length names.now) (length self.old.requests.items) command.now }
         requires submitted { EndsSubmitted (length self.old.requests.items) command.now }
         requires ids { AllByRecursion IsName names.now }
-        ensures runs { OnOk result (PrintsLine names.now command.now (O.contents out.old) (O.contents out.new) self.old self.new) }
-        ensures faults { IfErr result (StopsLine command.now (O.contents out.old) (O.contents out.new) self.old.recorder) }
+        ensures runs { OnOk result (PrintsLine (answering D.answers L.answers) names.now command.now (O.contents out.old) (O.contents out.new) self.old self.new) }
+        ensures faults { IfErr result (StopsLine (answering D.answers L.answers) command.now (O.contents out.old) (O.contents out.new) self.old) }
         ensures size { (D.shown self.new.disk).size ≡ (D.shown self.old.disk).size }
         ensures count { OnOk result (length self.new.requests.items ≡ length self.old.requests.items + count_of command.now) }
     {
@@ -219,6 +250,7 @@ impl<D: BlockDev + Drop, L: BlockDev + Drop> Running<D, L> {
                 Step::Close => self.close(),
                 Step::Read { first, count } => self.read(*first, *count, out),
                 Step::Mark { text } => self.mark(text, out),
+                Step::Message { over, layer, text } => self.message(*over, *layer, text),
                 Step::Turn => {
                     self.turn();
                     Ok(())

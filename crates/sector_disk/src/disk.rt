@@ -6,6 +6,7 @@ use std::alloc::Global;
 
 mod device;
 mod image;
+mod messages;
 mod power;
 
 /// A disk in memory, of 1 to 1,048,576 sectors of 512 bytes, with a cache that `crash` loses.

@@ -1,16 +1,16 @@
 -- The definitions on lines: those that ask for a layer, and each first test that fails.
-use Rattle.std.proofs.Common.{◌≡◌, List, ℕ, [], ◌∷◌, ◌++◌, Some, None, Option, refl, arith}
+use Rattle.std.proofs.Common.{◌≡◌, List, ℕ, [], ◌∷◌, ◌++◌, Some, None, Option, refl, sym, true≢false, arith}
 use Rattle.std.specs.Prelude.{codes, decimal}
 use Rattle.words.specs.Words.{words_of}
 use Rattle.table_line.specs.declared.feature.Feature.TheVariants as features
 use Rattle.table_line.specs.declared.layer_spec.Target.TheVariants as targets
 use Rattle.table_line.specs.declared.table_error.TableError.{TableError}
 use Rattle.table_line.specs.declared.table_error.TableError.TheVariants.{BadFeature, BadNumber, OutOfRange, UnknownTarget, WrongCount}
-use Rattle.table_line.specs.Ranges.{IsCycle}
+use Rattle.table_line.specs.Ranges.{IsBlockSize, IsCycle}
 use Rattle.table_line.specs.Standing.{top_origin, top_sectors, CanStand}
 use Rattle.table_line.specs.declared.layer_spec.LayerSpec.{LayerSpec}
 use Rattle.table_line.specs.Refusals.{refusal_of}
-use Rattle.table_line.specs.TableLines.{IsTableLine}
+use Rattle.table_line.specs.TableLines.{AreFor, IsTableLine}
 use Rattle.table_line.specs.Texts.{line_text}
 
 -- the first test that a line fails
@@ -30,6 +30,33 @@ linear = record {
   asks = record { device_word = codes "disk"; offset_word = codes "8"; number = (refl, refl); spelled = refl };
   spelled = refl;
 }
+
+-- two sets of words: reads begin 1 millisecond later, and writes and flushes 2; the sector may be spelled in two ways
+delays : IsTableLine (words_of (codes "0 16 delay a 08 1 a 8 2")) (record { length = 16; offset = 8; target = targets.Delay 1 2 2 })
+delays = record {
+  start_word = codes "0";
+  length_word = codes "16";
+  target_words = codes "a" ∷ codes "08" ∷ codes "1" ∷ codes "a" ∷ codes "8" ∷ codes "2" ∷ [];
+  start = (refl, refl);
+  sectors = (refl, refl);
+  range = record { some = omega arith; few = omega arith };
+  asks = record {
+    device_word = codes "a";
+    delays = 1 ∷ 2 ∷ [];
+    sets = (
+      codes "a" ∷ codes "8" ∷ codes "2" ∷ [],
+      record { offset_word = codes "08"; delay_word = codes "1"; number = (refl, refl); delays = (refl, refl); spelled = refl },
+      ([], record { offset_word = codes "8"; delay_word = codes "2"; number = (refl, refl); delays = (refl, refl); spelled = refl }, refl),
+    );
+    kinds = (refl, refl, refl);
+    range = record { reads = omega arith; writes = omega arith; flushes = omega arith };
+  };
+  spelled = refl;
+}
+
+-- two delays aren't for three kinds
+not-three : AreFor (1 ∷ 2 ∷ []) 1 2 3 → ⊥
+not-three kinds = let last = kinds.2 in absurd (omega arith)
 
 -- one space between two words, and no count of features where there is none
 plain_text : line_text (record { length = 16; offset = 0; target = targets.Flakey 10 5 features.None })
@@ -97,6 +124,39 @@ last_length = refl
 
 past_length : refused (codes "0 1048577 error") ≡ Some OutOfRange
 past_length = refl
+
+one_place : refused (codes "0 16 delay a 0 1 a 0 2 a 0 3") ≡ None
+one_place = refl
+
+two_devices : refused (codes "0 16 delay a 0 1 b 0 2") ≡ Some OutOfRange
+two_devices = refl
+
+two_sectors : refused (codes "0 16 delay a 0 1 a 0 2 a 1 3") ≡ Some OutOfRange
+two_sectors = refl
+
+half_a_set : refused (codes "0 16 delay a 0 1 a 0") ≡ Some WrongCount
+half_a_set = refl
+
+-- blocks of 512 bytes, but not of 256 or of 1,536
+least_block : refused (codes "0 16 dust disk 0 512") ≡ None
+unfolding lib.Count.ones
+least_block = refl
+
+small_block : refused (codes "0 16 dust disk 0 256") ≡ Some OutOfRange
+unfolding lib.Count.ones
+small_block = refl
+
+odd_block : refused (codes "0 16 dust disk 0 1536") ≡ Some OutOfRange
+unfolding lib.Count.ones
+odd_block = refl
+
+a-block : IsBlockSize 1024
+unfolding lib.Count.ones
+a-block = record { power = refl; some = omega arith; few = omega arith }
+
+no-block : IsBlockSize 1536 → ⊥
+unfolding lib.Count.ones
+no-block size = true≢false (sym size.power)
 
 -- no seconds at all are no cycle
 no-cycle : IsCycle 0 0 → ⊥

@@ -1,6 +1,7 @@
 -- Laws of the lines of a table.
-use Rattle.std.proofs.Common.{◌≡◌, ℕ, ◌^◌, ◌<◌, true, List, [], ◌∷◌, ◌++◌, Some, None, Result, Ok, Err, ◌⊎◌, inl, inr, refl, ap, sym, ◌∙◌, append_assoc, arith}
-use Rattle.std.specs.Prelude.{codes, decimal, IfOk}
+use Rattle.std.proofs.Common.{◌≡◌, ℕ, ◌^◌, ◌<◌, ◌≤◌, Bool, true, false, cond, ◌&&◌, List, [], ◌∷◌, ◌++◌, Some, None, Result, Ok, Err, ◌⊎◌, inl, inr, refl, ap, sym, ◌∙◌, append_assoc, arith}
+use Rattle.std.specs.Prelude.{codes, decimal, nat_eq, IfOk}
+use Rattle.std.proofs.lemmas.Bool.{eqb-true}
 use Rattle.std.specs.List.{join_with_byte, AllByRecursion}
 use Rattle.std.proofs.lemmas.List.{append-nil}
 use Rattle.words.specs.Words.{is_word, words_of}
@@ -12,10 +13,10 @@ use Rattle.table_line.specs.declared.layer_spec.LayerSpec.{LayerSpec}
 use Rattle.table_line.specs.declared.layer_spec.Target.{Target}
 use Rattle.table_line.specs.declared.layer_spec.Target.TheVariants as targets
 use Rattle.table_line.specs.declared.table_error.TableError.{TableError}
-use Rattle.table_line.specs.Ranges.{IsLayerSpec, IsTargetInRange}
+use Rattle.table_line.specs.Ranges.{AreDelays, IsLayerSpec, IsTargetInRange}
 use Rattle.table_line.specs.Refusals.{refusal_of}
-use Rattle.table_line.specs.TableLines.{name_of, IsFeature, IsTableLine, IsTarget}
-use Rattle.table_line.specs.Texts.{behind_spaces, feature_words, line_text, line_words, target_words}
+use Rattle.table_line.specs.TableLines.{name_of, AreFor, AreSets, IsDelay, IsFeature, IsSet, IsTableLine, IsTarget}
+use Rattle.table_line.specs.Texts.{behind_spaces, feature_words, later_sets, line_text, line_words, set_words, target_words}
 use Rattle.table_line.specs.inside.Readings.{read_words}
 use Rattle.table_line.specs.inside.ReadingLaws.{error_of, errors_read, said_again, said_read}
 
@@ -37,6 +38,12 @@ asks_or_fails words = at (read_words words) refl
 pub asks_fails_none : (words : List (List ℕ)) (spec : LayerSpec) → IsTableLine words spec → refusal_of words ≡ None
 asks_fails_none words spec is = sym (errors_read words) ∙ ap error_of (said_again words spec is)
 
+-- the sector of some sets
+sets_low : (words : List (List ℕ)) (device : List ℕ) (offset : ℕ) (delays : List ℕ) (read write flush : ℕ) → AreSets words device offset delays
+    → AreFor delays read write flush → offset < 2 ^ 64
+sets_low words device offset [] read write flush sets kinds = absurd kinds
+sets_low words device offset (delay ∷ delays) read write flush sets kinds = let set = sets.1 in number_low set.offset_word offset set.number
+
 -- what is asked for is in its range
 target_ranged : (words : List (List ℕ)) (offset : ℕ) (target : Target) → IsTarget words offset target
     → (offset < 2 ^ 64) × IsTargetInRange offset target
@@ -46,6 +53,10 @@ target_ranged words offset (targets.Flakey up down feature) is =
     let place = is.place in (number_low place.offset_word offset place.number, is.cycle)
 target_ranged words offset (targets.Fuse calls) is =
     let place = is.place in (number_low place.offset_word offset place.number, number_low is.calls_word calls is.number)
+target_ranged words offset (targets.Dust bytes) is =
+    let place = is.place in (number_low place.offset_word offset place.number, is.size)
+target_ranged words offset (targets.Delay read write flush) is =
+    (sets_low words is.device_word offset is.delays read write flush is.sets is.kinds, is.range)
 
 pub asks_in_range : (words : List (List ℕ)) (spec : LayerSpec) → IsTableLine words spec → IsLayerSpec spec
 asks_in_range words spec is =
@@ -86,6 +97,70 @@ feature_are features.None = (tt, inl refl)
 feature_are features.ErrorReads = ((refl, (refl, tt)), refl)
 feature_are features.ErrorWrites = ((refl, (refl, tt)), refl)
 feature_are features.DropWrites = ((refl, (refl, tt)), refl)
+
+-- the words of a set say it, before any words
+set_are : (offset delay : ℕ) (more : List (List ℕ)) → offset < 2 ^ 64 → delay ≤ 4294967295 → AreWords more
+    → AreWords (set_words offset delay ++ more) × IsSet (set_words offset delay ++ more) (codes "disk") offset delay more
+set_are offset delay more low few are =
+    let delay_low : delay < 2 ^ 64 = omega arith in (
+      (refl, (decimal_word offset low, (decimal_word delay delay_low, are))),
+      record {
+        offset_word = decimal offset;
+        delay_word = decimal delay;
+        number = decimal_number offset low;
+        delays = decimal_number delay delay_low;
+        spelled = refl;
+      },
+    )
+
+-- three sets of words are words, and say their delays
+three_printed : (offset read write flush : ℕ) → offset < 2 ^ 64 → AreDelays read write flush
+    → AreWords (set_words offset read ++ (set_words offset write ++ set_words offset flush))
+    × IsDelay (set_words offset read ++ (set_words offset write ++ set_words offset flush)) offset read write flush
+three_printed offset read write flush low are =
+    let last = set_are offset flush [] low are.flushes tt in
+    let later = set_are offset write (set_words offset flush) low are.writes last.0 in
+    let first = set_are offset read (set_words offset write ++ set_words offset flush) low are.reads later.0 in (
+      first.0,
+      record {
+        device_word = codes "disk";
+        delays = read ∷ write ∷ flush ∷ [];
+        sets = (_, first.1, (_, later.1, (_, last.1, refl)));
+        kinds = (refl, refl, refl);
+        range = are;
+      },
+    )
+
+-- the words of a delay device are words, and say its delays
+delays_printed : (offset read write flush : ℕ) (t u : Bool) → offset < 2 ^ 64 → AreDelays read write flush → (t ≡ true → read ≡ write)
+    → (u ≡ true → write ≡ flush)
+    → AreWords (set_words offset read ++ cond (t && u) [] (set_words offset write ++ cond u [] (set_words offset flush)))
+    × IsDelay (set_words offset read ++ cond (t && u) [] (set_words offset write ++ cond u [] (set_words offset flush))) offset read write flush
+delays_printed offset read write flush true true low are one two =
+    let first = set_are offset read [] low are.reads tt in (
+      first.0,
+      record {
+        device_word = codes "disk";
+        delays = read ∷ [];
+        sets = ([], first.1, refl);
+        kinds = (refl, sym (one refl), sym (one refl ∙ two refl));
+        range = are;
+      },
+    )
+delays_printed offset read write flush false true low are one two =
+    let later = set_are offset write [] low are.writes tt in
+    let first = set_are offset read (set_words offset write ++ []) low are.reads later.0 in (
+      first.0,
+      record {
+        device_word = codes "disk";
+        delays = read ∷ write ∷ [];
+        sets = (_, first.1, (_, later.1, refl));
+        kinds = (refl, refl, sym (two refl));
+        range = are;
+      },
+    )
+delays_printed offset read write flush true false low are one two = three_printed offset read write flush low are
+delays_printed offset read write flush false false low are one two = three_printed offset read write flush low are
 
 -- what a target is printed as: its name and words that say it
 record IsPrinted (offset : ℕ) (target : Target) : Type 0 where
@@ -130,6 +205,22 @@ target_printed offset (targets.Fuse calls) low has = record {
   };
   spelled = refl;
 }
+target_printed offset (targets.Dust bytes) low has =
+    let bytes_low : bytes < 2 ^ 64 = (let few = has.few in omega arith) in
+    record {
+      behind = codes "disk" ∷ decimal offset ∷ decimal bytes ∷ [];
+      are = (refl, (refl, (decimal_word offset low, (decimal_word bytes bytes_low, tt))));
+      asks = record {
+        bytes_word = decimal bytes;
+        place = record { device_word = codes "disk"; offset_word = decimal offset; number = decimal_number offset low; spelled = refl };
+        number = decimal_number bytes bytes_low;
+        size = has;
+      };
+      spelled = refl;
+    }
+target_printed offset (targets.Delay read write flush) low has =
+    let printed = delays_printed offset read write flush (nat_eq read write) (nat_eq write flush) low has (eqb-true _ _) (eqb-true _ _) in
+    record { behind = set_words offset read ++ later_sets offset read write flush; are = (refl, printed.0); asks = printed.1; spelled = refl }
 
 -- what is printed of a layer asks for it
 pub printed_again : (spec : LayerSpec) → IsLayerSpec spec → IsTableLine (words_of (line_text spec)) spec

@@ -1,5 +1,6 @@
 -- The ranges of a layer's values.
 use Rattle.std.specs.Prelude.{ℕ, ◌+◌, ◌<◌, ◌≤◌, ◌^◌, ◌≡◌, Bool, true, ◌&&◌, nat_le}
+use Rattle.std.specs.Int.{is_power_of_two}
 use Rattle.table_line.specs.declared.layer_spec.LayerSpec.{LayerSpec}
 use Rattle.table_line.specs.declared.layer_spec.Target.{Target}
 use Rattle.table_line.specs.declared.layer_spec.Target.TheVariants as targets
@@ -8,6 +9,18 @@ use Rattle.table_line.specs.declared.layer_spec.Target.TheVariants as targets
 pub record IsCycle (up down : ℕ) : Type 0 where
   pub some : 1 ≤ up + down
   pub few : up + down ≤ 4294967295
+
+-- the bytes of a dust device's block: a power of two, from 512 to 1,073,741,824
+pub record IsBlockSize (bytes : ℕ) : Type 0 where
+  pub power : is_power_of_two bytes ≡ true
+  pub some : 512 ≤ bytes
+  pub few : bytes ≤ 1073741824
+
+-- how much later a delay device's calls begin, in milliseconds: not more than 32 bits hold
+pub record AreDelays (read write flush : ℕ) : Type 0 where
+  pub reads : read ≤ 4294967295
+  pub writes : write ≤ 4294967295
+  pub flushes : flush ≤ 4294967295
 
 -- a layer's number of sectors
 pub record IsLength (length : ℕ) : Type 0 where
@@ -20,6 +33,8 @@ IsTargetInRange offset targets.Linear = Unit {0}
 IsTargetInRange offset targets.Error = offset ≡ 0
 IsTargetInRange offset (targets.Flakey up down feature) = IsCycle up down
 IsTargetInRange offset (targets.Fuse calls) = calls < 2 ^ 64
+IsTargetInRange offset (targets.Dust bytes) = IsBlockSize bytes
+IsTargetInRange offset (targets.Delay read write flush) = AreDelays read write flush
 
 -- a layer that a line may ask for
 pub record IsLayerSpec (spec : LayerSpec) : Type 0 where
@@ -31,11 +46,19 @@ pub record IsLayerSpec (spec : LayerSpec) : Type 0 where
 abbrev pub is_cycle : ℕ → ℕ → Bool
 is_cycle up down = nat_le 1 (up + down) && nat_le (up + down) 4294967295
 
+abbrev pub is_block_size : ℕ → Bool
+is_block_size bytes = is_power_of_two bytes && (nat_le 512 bytes && nat_le bytes 1073741824)
+
+abbrev pub are_delays : ℕ → ℕ → ℕ → Bool
+are_delays read write flush = nat_le read 4294967295 && (nat_le write 4294967295 && nat_le flush 4294967295)
+
 abbrev pub is_target : Target → Bool
 is_target targets.Linear = true
 is_target targets.Error = true
 is_target (targets.Flakey up down feature) = is_cycle up down
 is_target (targets.Fuse calls) = true
+is_target (targets.Dust bytes) = is_block_size bytes
+is_target (targets.Delay read write flush) = are_delays read write flush
 
 abbrev pub is_length : ℕ → Bool
 is_length length = nat_le 1 length && nat_le length 1048576

@@ -1,15 +1,15 @@
 -- Why a line asks for no layer: the first test of its words that fails.
-use Rattle.std.specs.Prelude.{ℕ, Bool, true, false, ◌&&◌, ◌||◌, not, List, [], ◌∷◌, Option, Some, None, codes, drop, is_none, length, nat_eq, nat_le, nat_lt, slice_get, unwrap_or, if◌then◌else◌}
+use Rattle.std.specs.Prelude.{ℕ, ◌+◌, ◌++◌, Bool, true, false, ◌&&◌, ◌||◌, not, List, [], ◌∷◌, Option, Some, None, codes, drop, is_none, length, nat_eq, nat_le, nat_lt, slice_get, unwrap_or, if◌then◌else◌}
 use Rattle.std.specs.List.{list_all}
 use Rattle.std.specs.Str.{bytes_eq}
 use Rattle.refusals.specs.declared.refusal.Refusal.{Refusal}
 use Rattle.refusals.specs.declared.refusal.Refusal.TheVariants as refusals
-use Rattle.words.specs.Words.{is_number, number_value}
+use Rattle.words.specs.Words.{is_number, number_of, number_value}
 use Rattle.table_line.specs.declared.name.Name.{Name}
-use Rattle.table_line.specs.declared.name.Name.TheVariants.{Linear, Error, Flakey, Fuse}
+use Rattle.table_line.specs.declared.name.Name.TheVariants.{Linear, Error, Flakey, Fuse, Dust, Delay}
 use Rattle.table_line.specs.declared.table_error.TableError.{TableError}
 use Rattle.table_line.specs.declared.table_error.TableError.TheVariants as errors
-use Rattle.table_line.specs.Ranges.{is_cycle, is_length}
+use Rattle.table_line.specs.Ranges.{are_delays, is_block_size, is_cycle, is_length}
 
 -- the word at a place, counted from 0, or an empty one
 abbrev pub word_in : List (List ℕ) → ℕ → List ℕ
@@ -22,6 +22,8 @@ named word =
     else if bytes_eq word (codes "error") then Some Error
     else if bytes_eq word (codes "flakey") then Some Flakey
     else if bytes_eq word (codes "fuse") then Some Fuse
+    else if bytes_eq word (codes "dust") then Some Dust
+    else if bytes_eq word (codes "delay") then Some Delay
     else None
 
 -- the target of a line: its third word names it
@@ -34,15 +36,21 @@ may_have (Some Linear) count = nat_eq count 5
 may_have (Some Error) count = nat_eq count 3
 may_have (Some Flakey) count = nat_le 7 count && nat_le count 9
 may_have (Some Fuse) count = nat_eq count 6
+may_have (Some Dust) count = nat_eq count 6
+may_have (Some Delay) count = nat_eq count 6 || (nat_eq count 9 || nat_eq count 12)
 may_have None count = false
 
--- at which places it has numbers: start, length, offset, and the target's own
-abbrev pub number_places : Option Name → List ℕ
-number_places (Some Linear) = 0 ∷ 1 ∷ 4 ∷ []
-number_places (Some Error) = 0 ∷ 1 ∷ []
-number_places (Some Flakey) = 0 ∷ 1 ∷ 4 ∷ 5 ∷ 6 ∷ []
-number_places (Some Fuse) = 0 ∷ 1 ∷ 4 ∷ 5 ∷ []
-number_places None = []
+-- at which places a line of so many words has numbers: start, length, offset, and the target's own; a delay line has a sector and a delay
+-- in each set of words
+abbrev pub number_places : Option Name → ℕ → List ℕ
+number_places (Some Linear) count = 0 ∷ 1 ∷ 4 ∷ []
+number_places (Some Error) count = 0 ∷ 1 ∷ []
+number_places (Some Flakey) count = 0 ∷ 1 ∷ 4 ∷ 5 ∷ 6 ∷ []
+number_places (Some Fuse) count = 0 ∷ 1 ∷ 4 ∷ 5 ∷ []
+number_places (Some Dust) count = 0 ∷ 1 ∷ 4 ∷ 5 ∷ []
+number_places (Some Delay) count =
+    0 ∷ 1 ∷ 4 ∷ 5 ∷ ((if nat_lt 6 count then 7 ∷ 8 ∷ [] else []) ++ (if nat_lt 9 count then 10 ∷ 11 ∷ [] else []))
+number_places None count = []
 
 -- the name of a feature
 abbrev pub is_feature_name : List ℕ → Bool
@@ -60,9 +68,41 @@ abbrev pub has_feature : Option Name → List (List ℕ) → Bool
 has_feature (Some Flakey) words = is_feature (drop 7 words)
 has_feature name words = true
 
-abbrev pub has_cycle : Option Name → List (List ℕ) → Bool
-has_cycle (Some Flakey) words = is_cycle (number_value (word_in words 5)) (number_value (word_in words 6))
-has_cycle name words = true
+-- the delay of the set of words from this place on, or, where there is none, that of the set before
+abbrev pub delay_at : List (List ℕ) → ℕ → ℕ → ℕ
+delay_at words place before = if is_none (slice_get words place) then before else number_value (word_in words (place + 2))
+
+abbrev pub read_delay : List (List ℕ) → ℕ
+read_delay words = number_value (word_in words 5)
+
+abbrev pub write_delay : List (List ℕ) → ℕ
+write_delay words = delay_at words 6 (read_delay words)
+
+abbrev pub flush_delay : List (List ℕ) → ℕ
+flush_delay words = delay_at words 9 (write_delay words)
+
+-- what the target has is in its range: seconds, bytes of a block, delays
+abbrev pub has_values : Option Name → List (List ℕ) → Bool
+has_values (Some Flakey) words = is_cycle (number_value (word_in words 5)) (number_value (word_in words 6))
+has_values (Some Dust) words = is_block_size (number_value (word_in words 5))
+has_values (Some Delay) words = are_delays (read_delay words) (write_delay words) (flush_delay words)
+has_values name words = true
+
+-- both are there, and one number
+abbrev pub are_same : Option ℕ → Option ℕ → Bool
+are_same (Some one) (Some two) = nat_eq one two
+are_same one two = false
+
+-- the set of words from this place on, where there is one, names the first set's device and its sector
+abbrev pub is_same_place : List (List ℕ) → ℕ → Bool
+is_same_place words place =
+    is_none (slice_get words place)
+    || (bytes_eq (word_in words 3) (word_in words place) && are_same (number_of (word_in words 4)) (number_of (word_in words (place + 1))))
+
+-- all sets of a delay line name one device and one sector there
+abbrev pub has_one_place : Option Name → List (List ℕ) → Bool
+has_one_place (Some Delay) words = is_same_place words 6 && is_same_place words 9
+has_one_place name words = true
 
 -- ---- the tests
 
@@ -80,16 +120,18 @@ has_wrong_count words = not (may_have (target_of words) (length words))
 
 -- a word in a number's place is none
 abbrev pub has_bad_number : List (List ℕ) → Bool
-has_bad_number words = not (list_all (λ place. is_number (word_in words place)) (number_places (target_of words)))
+has_bad_number words = not (list_all (λ place. is_number (word_in words place)) (number_places (target_of words) (length words)))
 
 -- the words of its feature aren't in the table
 abbrev pub has_bad_feature : List (List ℕ) → Bool
 has_bad_feature words = not (has_feature (target_of words) words)
 
--- a value is out of its range: the start isn't 0, the length isn't 1 to 1,048,576, the seconds aren't 1 to 4294967295
+-- a value is out of its range: the start isn't 0, the length isn't 1 to 1,048,576, what the target has isn't in its range, or the sets of a
+-- delay line name more than one place
 abbrev pub is_out_of_range : List (List ℕ) → Bool
 is_out_of_range words =
-    not (nat_eq (number_value (word_in words 0)) 0 && (is_length (number_value (word_in words 1)) && has_cycle (target_of words) words))
+    not (nat_eq (number_value (word_in words 0)) 0
+    && ((is_length (number_value (word_in words 1)) && has_values (target_of words) words) && has_one_place (target_of words) words))
 
 -- the first test that fails
 abbrev pub refusal_of : List (List ℕ) → Option TableError

@@ -36,6 +36,8 @@ drops_writes targets.Linear = false
 drops_writes targets.Error = false
 drops_writes (targets.Flakey up down feature) = is_drop_writes feature
 drops_writes (targets.Fuse calls) = false
+drops_writes (targets.Dust bytes) = false
+drops_writes (targets.Delay read write flush) = false
 
 -- one of the layers may
 abbrev pub some_drops : List LayerSpec → Bool

@@ -9,7 +9,7 @@ ghost use Rattle.table_line.specs.TableLines.{IsTableLine};
 ghost use Rattle.table_line.specs.Texts.{line_text};
 
 /// Words ask for one layer, and then fail no test, or they fail a test.
-#[tactic(auto, using(crate::specs::LineLaws::one_layer, crate::specs::LineLaws::asks_fails_none))]
+#[tactic(auto, using(crate::specs::LineLaws::one_layer))]
 pub fn words_ask_for_one_layer()
     ensures one { (words : List (List ℕ)) (spec other : LayerSpec) → IsTableLine words spec → IsTableLine words other → spec ≡ other }
     ensures each { (words : List (List ℕ)) →

@@ -1,11 +1,19 @@
 ghost use Rattle.std.specs.Prelude.{◌≡◌};
-ghost use Rattle.table_line.specs.Ranges.{is_cycle, is_in_range as is_within, is_target};
+ghost use Rattle.table_line.specs.Ranges.{are_delays, is_block_size, is_cycle, is_in_range as is_within, is_target};
 
 use crate::feature::Feature;
 use sectors::MAX_DEVICE_SECTORS;
 
 /// The most seconds of a flakey device's turn, up and down together.
 const MAX_CYCLE_SECONDS: u64 = 4_294_967_295;
+
+/// The longest delay, in milliseconds.
+const MAX_DELAY: u64 = 4_294_967_295;
+
+/// The fewest and the most bytes of a dust device's block.
+const MIN_BLOCK_BYTES: u64 = 512;
+
+const MAX_BLOCK_BYTES: u64 = 1_073_741_824;
 
 /// A layer that a line asks for.
 #[derive(Clone, Copy, Debug, PartialEq, Eq)]
@@ -35,6 +43,16 @@ pub enum Target {
     Fuse {
         calls: u64,
     },
+    /// It has bad blocks of `block_bytes` bytes each, a power of two from 512 to 1,073,741,824.
+    Dust {
+        block_bytes: u64,
+    },
+    /// Its reads begin `read` milliseconds later, its writes and discards `write`, and its flushes `flush`, each at most 4294967295.
+    Delay {
+        read: u64,
+        write: u64,
+        flush: u64,
+    },
 }
 
 // Whether a line may ask for these values.
@@ -46,6 +64,8 @@ pub(crate) fn is_in_range(spec: LayerSpec) -> bool
     }
     match spec.target {
         Target::Flakey { up, down, .. } => is_cycle(up, down),
+        Target::Dust { block_bytes } => is_block_size(block_bytes),
+        Target::Delay { read, write, flush } => are_delays(read, write, flush),
         Target::Linear | Target::Error | Target::Fuse { .. } => true,
     }
 }
@@ -56,4 +76,18 @@ fn is_cycle(up: u64, down: u64) -> bool
 {
     let seconds = up.saturating_add(down);
     seconds > 0 && seconds <= MAX_CYCLE_SECONDS
+}
+
+// Whether a dust device's blocks may have so many bytes.
+fn is_block_size(bytes: u64) -> bool
+    ensures { result ≡ is_block_size bytes }
+{
+    bytes.is_power_of_two() && (MIN_BLOCK_BYTES..=MAX_BLOCK_BYTES).contains(&bytes)
+}
+
+// Whether calls may begin so much later.
+fn are_delays(read: u64, write: u64, flush: u64) -> bool
+    ensures { result ≡ are_delays read write flush }
+{
+    read <= MAX_DELAY && write <= MAX_DELAY && flush <= MAX_DELAY
 }

@@ -8,6 +8,8 @@ pub(crate) enum Name {
     Error,
     Flakey,
     Fuse,
+    Dust,
+    Delay,
 }
 
 impl Name {
@@ -23,6 +25,10 @@ impl Name {
             Some(Name::Flakey)
         } else if word == b"fuse".as_slice() {
             Some(Name::Fuse)
+        } else if word == b"dust".as_slice() {
+            Some(Name::Dust)
+        } else if word == b"delay".as_slice() {
+            Some(Name::Delay)
         } else {
             None
         }
@@ -36,7 +42,8 @@ impl Name {
             Name::Linear => count == 5,
             Name::Error => count == 3,
             Name::Flakey => (7..=9).contains(&count),
-            Name::Fuse => count == 6,
+            Name::Fuse | Name::Dust => count == 6,
+            Name::Delay => count == 6 || count == 9 || count == 12,
         }
     }
 }

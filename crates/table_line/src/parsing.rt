@@ -1,11 +1,11 @@
-ghost use Rattle.std.specs.Prelude.{◌≡◌, ◌↔◌, Err, IfOk, Ok};
-ghost use Rattle.words.specs.Words.{words_of};
+ghost use Rattle.std.specs.Prelude.{◌≡◌, ◌↔◌, ◌<◌, ◌^◌, Err, IfOk, Ok, Some};
+ghost use Rattle.words.specs.Words.{number_of, words_of};
 ghost use Rattle.table_line.specs.declared.layer_spec.LayerSpec.{LayerSpec};
 ghost use Rattle.table_line.specs.declared.table_error.TableError.{TableError};
 ghost use Rattle.table_line.specs.Ranges.{IsLayerSpec};
-ghost use Rattle.table_line.specs.Refusals.{refusal_of};
+ghost use Rattle.table_line.specs.Refusals.{are_same, has_one_place, is_same_place, refusal_of, word_in};
 ghost use Rattle.table_line.specs.TableLines.{IsTableLine};
-ghost use Rattle.table_line.specs.inside.Readings.{feature_in, feature_named, name_in, number_in, offset_in, read_words, spec_in, target_in};
+ghost use Rattle.table_line.specs.inside.Readings.{delay_in, feature_in, feature_named, later_delay, name_in, number_in, offset_in, read_words, spec_in, target_in};
 
 use crate::feature::Feature;
 use crate::layer_spec::{LayerSpec, Target, is_in_range};
@@ -34,7 +34,7 @@ fn read_words(line: &[u8]) -> Result<LayerSpec, TableError>
     }
     let start = number_in(line, 0)?;
     let spec = spec_in(line, name)?;
-    if start != 0 || !is_in_range(spec) {
+    if start != 0 || !is_in_range(spec) || !has_one_place(line, name) {
         return Err(TableError::OutOfRange);
     }
     Ok(spec)
@@ -78,7 +78,7 @@ fn offset_in(line: &[u8], name: Name) -> Result<u64, TableError>
 {
     match name {
         Name::Error => Ok(0),
-        Name::Linear | Name::Flakey | Name::Fuse => number_in(line, 4),
+        Name::Linear | Name::Flakey | Name::Fuse | Name::Dust | Name::Delay => number_in(line, 4),
     }
 }
 
@@ -97,6 +97,61 @@ fn target_in(line: &[u8], name: Name) -> Result<Target, TableError>
         Name::Fuse => Ok(Target::Fuse {
             calls: number_in(line, 5)?,
         }),
+        Name::Dust => Ok(Target::Dust {
+            block_bytes: number_in(line, 5)?,
+        }),
+        Name::Delay => delay_in(line),
+    }
+}
+
+// The delays of a delay line: of all calls, or of reads and the others, or of each kind.
+fn delay_in(line: &[u8]) -> Result<Target, TableError>
+    ensures { result ≡ delay_in (words_of line.now) }
+{
+    let read = number_in(line, 5)?;
+    let write = later_delay(line, 6, read)?;
+    let flush = later_delay(line, 9, write)?;
+    Ok(Target::Delay { read, write, flush })
+}
+
+// The delay of the set of words from this place on: a device, a sector there, and the delay. Where there is no such set, it is that of the set before.
+fn later_delay(line: &[u8], place: usize, before: u64) -> Result<u64, TableError>
+    requires { place < 2 ^ 32 }
+    ensures { result ≡ later_delay (words_of line.now) place before }
+{
+    if word_at(line, place).is_none() {
+        return Ok(before);
+    }
+    number_in(line, place + 1)?;
+    number_in(line, place + 2)
+}
+
+// Whether the sets of a delay line name one device and one sector there.
+fn has_one_place(line: &[u8], name: Name) -> bool
+    ensures { result ≡ has_one_place (Some name) (words_of line.now) }
+{
+    name != Name::Delay || (is_same_place(line, 6) && is_same_place(line, 9))
+}
+
+// Whether the set of words from this place on, if there is one, names the first set's device and its sector.
+fn is_same_place(line: &[u8], place: usize) -> bool
+    requires { place < 2 ^ 32 }
+    ensures { result ≡ is_same_place (words_of line.now) place }
+{
+    let first = word_at(line, 3).unwrap_or_default();
+    match word_at(line, place) {
+        Some(device) => first == device && is_same_number(line, 4, place + 1),
+        None => true,
+    }
+}
+
+// Whether the words at these places are numbers, and one number.
+fn is_same_number(line: &[u8], place: usize, other: usize) -> bool
+    ensures { result ≡ are_same (number_of (word_in (words_of line.now) place)) (number_of (word_in (words_of line.now) other)) }
+{
+    match (number_in(line, place), number_in(line, other)) {
+        (Ok(one), Ok(two)) => one == two,
+        _ => false,
     }
 }
 

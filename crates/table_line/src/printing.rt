@@ -1,5 +1,5 @@
 ghost use Rattle.std.specs.Prelude.{◌≡◌, ◌++◌, ◌∷◌, [], decimal, OnOk};
-ghost use Rattle.table_line.specs.Texts.{behind_spaces, feature_words, line_text, target_words};
+ghost use Rattle.table_line.specs.Texts.{behind_spaces, feature_words, later_sets, line_text, set_words, target_words};
 
 use crate::feature::Feature;
 use crate::layer_spec::{LayerSpec, Target};
@@ -32,7 +32,44 @@ fn push_target(out: &mut Vec<u8>, offset: u64, target: Target) -> Result<(), All
             push_place(out, b" fuse disk", offset)?;
             push_value(out, calls)
         }
+        Target::Dust { block_bytes } => {
+            push_place(out, b" dust disk", offset)?;
+            push_value(out, block_bytes)
+        }
+        Target::Delay { read, write, flush } => {
+            push_place(out, b" delay disk", offset)?;
+            push_value(out, read)?;
+            push_delays(out, offset, read, write, flush)
+        }
     }
+}
+
+// The sets of a delay device behind the first: as few as say its delays.
+fn push_delays(
+    out: &mut Vec<u8>,
+    offset: u64,
+    read: u64,
+    write: u64,
+    flush: u64,
+) -> Result<(), AllocError>
+    ensures { OnOk result (out.new.items ≡ out.old.items ++ behind_spaces (later_sets offset read write flush)) }
+{
+    if read == write && write == flush {
+        return Ok(());
+    }
+    push_set(out, offset, write)?;
+    if write == flush {
+        return Ok(());
+    }
+    push_set(out, offset, flush)
+}
+
+// A set of words of a delay device.
+fn push_set(out: &mut Vec<u8>, offset: u64, delay: u64) -> Result<(), AllocError>
+    ensures { OnOk result (out.new.items ≡ out.old.items ++ behind_spaces (set_words offset delay)) }
+{
+    push_place(out, b" disk", offset)?;
+    push_value(out, delay)
 }
 
 // What a flakey device has beside its place.

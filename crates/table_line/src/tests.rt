@@ -35,6 +35,19 @@ const ROWS: &str = "0 16 linear disk 8|=
 0 16 flakey disk 0 4294967294 1|=
 0 16 fuse disk 0 0|=
 0 16 fuse disk 18446744073709551615 18446744073709551615|=
+0 16 dust disk 0 512|=
+0 16 dust disk 8 1024|=
+0 16 dust disk 0 1073741824|=
+0 16 delay disk 3 0|=
+0 16 delay disk 0 4294967295|=
+0 16 delay disk 0 0 disk 0 1|=
+0 16 delay disk 0 1 disk 0 1|0 16 delay disk 0 1
+0 16 delay disk 0 1 disk 0 2 disk 0 3|=
+0 16 delay disk 0 1 disk 0 1 disk 0 2|=
+0 16 delay disk 0 1 disk 0 2 disk 0 1|=
+0 16 delay disk 0 1 disk 0 2 disk 0 2|0 16 delay disk 0 1 disk 0 2
+0 16 delay disk 0 2 disk 0 2 disk 0 2|0 16 delay disk 0 2
+0 16 delay a 08 1 a 8 2|0 16 delay disk 8 1 disk 8 2
   00   016  linear   any-word   08  |0 16 linear disk 8
 0 00000000000000000016 error|0 16 error
 |10 WrongCount
@@ -45,8 +58,8 @@ x y|10 WrongCount
 x y zero a b c d e f g|9 UnknownTarget
 0 16 LINEAR disk 0|9 UnknownTarget
 0 16 linear2 disk 0|9 UnknownTarget
-0 16 delay disk 0 1|9 UnknownTarget
-0 16 dust disk 0 512|9 UnknownTarget
+0 16 dusty disk 0 512|9 UnknownTarget
+0 16 delayed disk 0 1|9 UnknownTarget
 0\t16\tlinear\tdisk\t0|10 WrongCount
 0 16 linear|10 WrongCount
 0 16 linear disk|10 WrongCount
@@ -58,6 +71,14 @@ x 16 linear disk|10 WrongCount
 0 16 flakey disk 0 10 5 2 drop_writes error_reads|10 WrongCount
 0 16 fuse disk 0|10 WrongCount
 0 16 fuse disk 0 1 2|10 WrongCount
+0 16 dust disk 0|10 WrongCount
+0 16 dust disk 0 512 quiet|10 WrongCount
+0 16 delay disk 0|10 WrongCount
+0 16 delay disk 0 1 disk|10 WrongCount
+0 16 delay disk 0 1 disk 0|10 WrongCount
+0 16 delay disk 0 1 disk 0 2 disk|10 WrongCount
+0 16 delay disk 0 1 disk 0 2 disk 0|10 WrongCount
+0 16 delay disk 0 1 disk 0 2 disk 0 3 disk|10 WrongCount
 0 16 linear disk x|11 BadNumber
 x 16 error|11 BadNumber
 0 x error|11 BadNumber
@@ -73,6 +94,15 @@ x 16 error|11 BadNumber
 1 16 flakey disk 0 10 x 1 corrupt_bio_byte|11 BadNumber
 0 16 fuse disk 0 x|11 BadNumber
 0 16 fuse disk x 0|11 BadNumber
+0 16 dust disk x 512|11 BadNumber
+0 16 dust disk 0 x|11 BadNumber
+0 16 delay disk x 1|11 BadNumber
+0 16 delay disk 0 x|11 BadNumber
+0 16 delay disk 0 1 disk x 2|11 BadNumber
+0 16 delay disk 0 1 disk 0 x|11 BadNumber
+0 16 delay disk 0 1 disk 0 2 disk x 3|11 BadNumber
+0 16 delay disk 0 1 disk 0 2 disk 0 x|11 BadNumber
+x 0 delay a 0 1 b 1 2|11 BadNumber
 0 16 flakey disk 0 10 5 1 corrupt_bio_byte|29 BadFeature
 0 16 flakey disk 0 10 5 2|29 BadFeature
 0 16 flakey disk 0 10 5 x|29 BadFeature
@@ -91,7 +121,22 @@ x 16 error|11 BadNumber
 0 16 flakey disk 0 4294967295 1|12 OutOfRange
 0 16 flakey disk 0 4294967296 0|12 OutOfRange
 0 16 flakey disk 0 18446744073709551615 1|12 OutOfRange
-1 16 flakey disk 0 10 5 1 drop_writes|12 OutOfRange";
+1 16 flakey disk 0 10 5 1 drop_writes|12 OutOfRange
+0 16 dust disk 0 0|12 OutOfRange
+0 16 dust disk 0 256|12 OutOfRange
+0 16 dust disk 0 513|12 OutOfRange
+0 16 dust disk 0 1536|12 OutOfRange
+0 16 dust disk 0 2147483648|12 OutOfRange
+1 16 dust disk 0 512|12 OutOfRange
+0 16 delay disk 0 4294967296|12 OutOfRange
+0 16 delay a 0 1 a 0 4294967296|12 OutOfRange
+0 16 delay a 0 1 a 0 2 a 0 4294967296|12 OutOfRange
+0 16 delay a 0 1 b 0 2|12 OutOfRange
+0 16 delay a 0 1 a 1 2|12 OutOfRange
+0 16 delay a 0 1 a 0 2 b 0 3|12 OutOfRange
+0 16 delay a 0 1 a 0 2 a 1 3|12 OutOfRange
+0 16 delay a 0 1 b 0 2 a 0 3|12 OutOfRange
+0 0 delay a 0 1|12 OutOfRange";
 
 #[test]
 fn lines(rt: HostRuntime) -> Result<(), Fail> {
@@ -110,6 +155,11 @@ fn values(rt: HostRuntime) -> Result<(), Fail> {
         down: 5,
         feature: Feature::DropWrites,
     };
+    let delay = Target::Delay {
+        read: 10,
+        write: 20,
+        flush: 30,
+    };
     for (line, spec) in [
         (b"0 16 linear a 8".as_slice(), (16, 8, Target::Linear)),
         (b"0 7 error".as_slice(), (7, 0, Target::Error)),
@@ -121,6 +171,11 @@ fn values(rt: HostRuntime) -> Result<(), Fail> {
             b"0 9 flakey b 2 10 5 1 drop_writes".as_slice(),
             (9, 2, flakey),
         ),
+        (
+            b"0 9 dust b 2 1024".as_slice(),
+            (9, 2, Target::Dust { block_bytes: 1_024 }),
+        ),
+        (b"0 9 delay b 2 10 b 2 20 b 2 30".as_slice(), (9, 2, delay)),
     ] {
         let (length, offset, target) = spec;
         let wanted = LayerSpec {

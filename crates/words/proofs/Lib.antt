@@ -1,2 +1,3 @@
 mod WordLemmas
 mod Examples
+mod Utf8

@@ -8,6 +8,7 @@ pub use cutting::cut;
 pub use numbers::number_of;
 pub use printing::push_number;
 pub use splitting::{count_words, word_at};
+pub use text::ascii_text;
 
 mod cutting;
 pub mod laws;
@@ -16,3 +17,4 @@ mod printing;
 mod splitting;
 #[cfg(test)]
 mod tests;
+mod text;

@@ -10,7 +10,7 @@ pub(crate) fn advice(refusal: Refusal) -> &'static str {
         Refusal::TooLong => "a request has at most 2048 sectors",
         Refusal::NotWhole => "a request has at least one sector",
         Refusal::UnknownTarget =>
-            "a layer's target is one of linear, error, flakey and fuse, its third word",
+            "a layer's target is one of linear, error, flakey, dust, delay and fuse, its third word",
         Refusal::WrongCount =>
             "a layer's line is `0 <length> <target> ..`: `dmlw help formats` has the words of each target",
         Refusal::BadNumber => "a word of the layer's line that has to be a number isn't one",

@@ -2,7 +2,7 @@ use std::fmt;
 use std::fmt::Write;
 
 // The lines that a script can have; what stands in angle brackets is a word of that kind, and in square ones a word that may be left out.
-const FORMS: [&str; 14] = [
+const FORMS: [&str; 15] = [
     "data <sectors>",
     "log <sectors>",
     "data-layer 0 <length> <target> ..",
@@ -15,6 +15,7 @@ const FORMS: [&str; 14] = [
     "r <first> <count>",
     "turn",
     "mark <text>",
+    "message <disk> <layer> <text>",
     "close",
     "crash <pick> ..",
 ];
@@ -105,9 +106,10 @@ fn cause_of(line: &[u8]) -> Option<&'static str> {
     None
 }
 
-// A mark's text is taken as it stands, and the words of a layer's table line are its own.
+// The text of a mark or a message is taken as it stands, and the words of a layer's table line are its own.
 fn has_own_words(line: &[u8]) -> bool {
     line.starts_with(b"mark ".as_slice())
+        || line.starts_with(b"message ".as_slice())
         || line.starts_with(b"data-layer ".as_slice())
         || line.starts_with(b"log-layer ".as_slice())
 }
@@ -172,6 +174,7 @@ fn fits(wanted: &[u8], word: &[u8]) -> bool {
     match wanted {
         b"<id>" => is_id(word),
         b"<byte>" => word.len() == 2 && word.iter().all(is_digit_of_byte),
+        b"<disk>" => matches!(word, b"data" | b"log"),
         [b'<', ..] => word.len() <= 20 && is_number(word),
         [b'[', option @ .., b']'] => word == option,
         _ => word == wanted,
@@ -183,6 +186,7 @@ fn meaning_of(wanted: &[u8]) -> &'static str {
     match wanted {
         b"<id>" => "1 to 16 of the characters a to z and 0 to 9",
         b"<byte>" => "two hexadecimal digits of 0 to 9 and a to f",
+        b"<disk>" => "data or log",
         _ => "a decimal number",
     }
 }

@@ -37,6 +37,9 @@ w a 5 1 fua|the word `fua` isn't <byte>
 d a 5|the word <count> is missing
 d a 5 1 41|the word `41` is one too many
 mark|the word <text> is missing
+message data 1|the word <text> is missing
+message disk 1 enable|the word `disk` isn't <disk>: data or log
+message log x enable|the word `x` isn't <layer>: a decimal number
 markx|no line begins with the word `markx`
 mark café|it has a byte that isn't ASCII text
 w a-b 5 1 41|the word `a-b` isn't <id>: 1 to 16 of
@@ -50,7 +53,7 @@ w a 5 3000 41|at most 2048 sectors
 w a 5 0 41|at least one sector
 at x|the word `x` isn't <ms>: a decimal number
 at|the word <ms> is missing
-data-layer 0 16 zero|linear, error, flakey and fuse
+data-layer 0 16 zero|linear, error, flakey, dust, delay and fuse
 log-layer 0 16|has the words of each target
 log-layer 0 1x error|has to be a number
 log-layer 0 32 linear disk 1|past what stands beneath it

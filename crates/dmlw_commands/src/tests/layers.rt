@@ -2,6 +2,7 @@
 use super::lines::{script_of, with_commas};
 use super::{recorded, run};
 use std::alloc::Global;
+use std::process::Abort;
 use std::test::Fail;
 
 // Lines of scripts behind `data 16`, between commas; the status, what is printed and the fault; and the log as it is listed, with its fault, or `none`.
@@ -26,12 +27,42 @@ log 32,log-layer 0 16 linear disk x,close;1;;dmlw: line 3: 11 BadNumber,;none;
 log 32,log-layer 0 16 flakey disk 0 10 5 1 corrupt_bio_byte,close;1;;dmlw: line 3: 29 BadFeature,;none;
 log 32,log-layer 0 32 linear disk 8,close;1;;dmlw: line 3: 12 OutOfRange,;none;
 log 32,close,log-layer 0 32 error;1;;dmlw: line 4: 30 BadLine,;none;
-log 32,at 2,at 1;1;;dmlw: line 4: 30 BadLine,;none;";
+log 32,at 2,at 1;1;;dmlw: line 4: 30 BadLine,;none;
+log 32,log-layer 0 16 dust disk 0 100,close;1;;dmlw: line 3: 12 OutOfRange,;none;
+log 32,log-layer 0 16 delay a 0 1 b 0 1,close;1;;dmlw: line 3: 12 OutOfRange,;none;
+log 32,data-layer 0 16 flakey disk 0 10 5,data-layer 0 16 delay disk 0 0 disk 0 1,at 9999,r 0 1,w a 0 1 11,c a,close;0;read 0+1 ok 00,a failed,2 3,;;super version 1 entries 2 sectorsize 512,0 @1 write 0+1,1 @3 mark dm-log-writes-end,;";
+
+// Messages to layers with bad blocks, in the same form: a bad block of the data disk fails one write and is mended by the next; nothing is bad before
+// `enable`; four layers with dust twice, and a message to each; a bad block under the log; each refusal, at its line.
+const MESSAGES: &str =
+    "log 32,data-layer 0 16 dust disk 0 512,message data 1 addbadblock 6 1,message data 1 enable,w a 6 1 11,c a,w b 6 1 22,c b,r 6 1,f g,c g,close;0;a failed,b ok,read 6+1 ok 22,g ok,4 6,;;super version 1 entries 4 sectorsize 512,0 @1 write 6+1,1 @3 write 6+1,2 @5 flush,3 @6 mark dm-log-writes-end,;
+log 32,data-layer 0 16 dust disk 0 512,message data 1 addbadblock 6 1,w a 6 1 11,c a,w b 6 1 22,c b,close;0;a ok,b ok,3 5,;;super version 1 entries 3 sectorsize 512,0 @1 write 6+1,1 @3 write 6+1,2 @5 mark dm-log-writes-end,;
+log 32,data-layer 0 16 dust disk 0 512,data-layer 0 14 linear disk 2,data-layer 0 12 dust disk 2 1024,data-layer 0 12 delay disk 0 10 disk 0 20,message data 1 addbadblock 6 1,message data 3 addbadblock 0,message data 3 enable,message data 1 enable,r 0 1,w a 0 2 11,c a,r 0 2,w b 2 1 22,c b,w d 2 1 33,c d,r 2 1,message data 3 disable,close;0;read 0+1 failed,a ok,read 0+2 ok 1111,b failed,d ok,read 2+1 ok 33,4 8,;;super version 1 entries 4 sectorsize 512,0 @1 write 0+2,1 @4 write 2+1,2 @6 write 2+1,3 @8 mark dm-log-writes-end,;
+log 32,log-layer 0 32 dust disk 0 512,message log 1 addbadblock 1 1,message log 1 enable,w a 5 1 41 fua,c a,turn,close;3;a ok,0 0 logging_disabled,;;super version 1 entries 0 sectorsize 512,;
+log 32,log-layer 0 32 dust disk 0 512,message log 1 addbadblock 0 1,message log 1 enable,message log 1 removebadblock 0,close;0;1 1,;;super version 1 entries 1 sectorsize 512,0 @1 mark dm-log-writes-end,;
+log 32,data-layer 0 16 dust disk 0 512,message data 1 addbadblock 16,close;1;;dmlw: line 4: 6 BadMessage,;none;
+log 32,data-layer 0 16 dust disk 0 512,message data 1 addbadblock 15,message data 1 addbadblock 15,close;1;;dmlw: line 5: 7 AlreadyBad,;none;
+log 32,data-layer 0 16 dust disk 0 512,message data 1 removebadblock 3,close;1;;dmlw: line 4: 8 NotBad,;none;
+log 32,data-layer 0 16 dust disk 0 512,w a 1 1 11,c a,message data 1 queryblock 3,close;1;a ok,;dmlw: line 6: 6 BadMessage,;none;
+log 32,data-layer 0 16 dust disk 0 512,message data 2 enable;1;;dmlw: line 4: 6 BadMessage,;none;
+log 32,data-layer 0 16 dust disk 0 512,message data 0 enable;1;;dmlw: line 4: 6 BadMessage,;none;
+log 32,data-layer 0 16 dust disk 0 512,message log 1 enable;1;;dmlw: line 4: 6 BadMessage,;none;
+log 32,data-layer 0 16 linear disk 0,message data 1 enable;1;;dmlw: line 4: 6 BadMessage,;none;
+log 32,message data 1;1;;dmlw: line 3: 30 BadLine,;none;";
 
 #[test]
 fn answers_layers(rt: HostRuntime) -> Result<(), Fail> {
-    let alloc = rt.alloc();
-    for row in LAYERS.lines() {
+    answers(&rt, rt.alloc(), LAYERS)
+}
+
+#[test]
+fn answers_messages(rt: HostRuntime) -> Result<(), Fail> {
+    answers(&rt, rt.alloc(), MESSAGES)
+}
+
+// Records the script of each row, and looks at what comes of it.
+fn answers(rt: &impl Abort, alloc: Global, rows: &str) -> Result<(), Fail> {
+    for row in rows.lines() {
         let mut fields = row.split(';');
         let script = script_of(alloc, fields.next().unwrap_or_default())?;
         let ran = recorded(alloc, script.as_bytes());

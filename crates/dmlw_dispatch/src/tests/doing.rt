@@ -79,10 +79,33 @@ impl Files for Folder {
     }
 }
 
+// Four layers with dust twice, and messages to both of these; the last one is refused.
+const DUST: &str = "data 16
+log 32
+data-layer 0 16 dust disk 0 512
+data-layer 0 14 linear disk 2
+data-layer 0 12 dust disk 2 1024
+data-layer 0 12 delay disk 0 10 disk 0 20
+message data 1 addbadblock 6 1
+message data 3 addbadblock 0
+message data 3 enable
+message data 1 enable
+w a 0 2 11
+c a
+w b 2 1 22
+c b
+w d 2 1 33
+c d
+r 0 3
+message data 1 addbadblock 16
+close
+";
+
 // A script, and an image of zeroes.
 fn files_of(alloc: Global) -> Result<Folder, AllocError> {
     let mut folder = Folder::new(alloc);
     folder.put(alloc, "script", FIRST.as_bytes())?;
+    folder.put(alloc, "dust", DUST.as_bytes())?;
     folder.put(alloc, "zeroes", &vec![in alloc; 0; 8192]?)?;
     Ok(folder)
 }
@@ -145,7 +168,8 @@ replay log absent other flush|1||dmlw: 32 File;
 replay log zeroes fixed flush|1|replayed 2;|dmlw: 32 File;
 replay zeroes zeroes other flush|1||dmlw: 13 BadMagic;
 replay -- log zeroes -x flush|0|replayed 2;|
-judge -- script 4 -x|0|yes;|";
+judge -- script 4 -x|0|yes;|
+record dust dustlog|1|a ok;b failed;d ok;read 0+3 ok 111133;|dmlw: line 18: 6 BadMessage;";
 
 // Each command by its words, on what the ones before it have written.
 #[test]
@@ -217,6 +241,6 @@ fn reads_no_file_of_a_flawed_line(rt: HostRuntime) -> Result<(), Fail> {
             "{line}"
         );
     }
-    assert!(rt; folder.reads == 0 && folder.files.len() == 2);
+    assert!(rt; folder.reads == 0 && folder.files.len() == 3);
     Ok(())
 }

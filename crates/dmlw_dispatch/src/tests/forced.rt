@@ -6,12 +6,13 @@ use std::process::Abort;
 use std::test::Fail;
 
 // The heads of scripts: their disks, and layers that fail calls and tell no lie.
-const HEADS: [&str; 6] = [
+const HEADS: [&str; 7] = [
     "data 6\nlog 40\n",
     "data 6\nlog 40\nlog-layer 0 40 fuse disk 0 9\n",
     "data 6\nlog 40\ndata-layer 0 6 fuse disk 0 2\nlog-layer 0 38 linear disk 0\n",
     "data 8\nlog 40\ndata-layer 0 6 linear disk 1\nlog-layer 0 40 flakey disk 0 2 1 1 error_writes\n",
     "data 6\nlog 40\ndata-layer 0 6 flakey disk 0 1 1 1 drop_writes\n",
+    "data 6\nlog 40\ndata-layer 0 6 dust disk 0 512\nlog-layer 0 40 dust disk 0 1024\nlog-layer 0 39 delay disk 0 5\nmessage data 1 addbadblock 2 1\nmessage data 1 enable\nmessage log 1 addbadblock 9 1\nmessage log 1 enable\n",
     "data 6\nlog 12\nlog-layer 0 12 fuse disk 0 30\nlog-layer 0 11 linear disk 0\n",
 ];
 

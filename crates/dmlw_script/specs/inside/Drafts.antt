@@ -66,6 +66,7 @@ step_test sectors moment (steps.Read first count) = as_refusal (step_answer sect
 step_test sectors moment steps.Turn = Ok tt
 step_test sectors moment (steps.Mark text) = Ok tt
 step_test sectors moment (steps.At later) = if nat_lt later moment then Err BadLine else Ok tt
+step_test sectors moment (steps.Message over layer text) = Ok tt
 
 -- an end, whose request must be open
 abbrev pub ended_next : Option ℕ → Body → Result Body Refusal

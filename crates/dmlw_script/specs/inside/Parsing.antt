@@ -154,7 +154,29 @@ abbrev pub mark_of : Option (List ℕ) → Option Said
 mark_of None = None
 mark_of (Some text) = if is_line_text text then Some (step (steps.Mark text)) else None
 
--- what a line of this first word says that is neither a crash nor a mark, whose other words are these, if it has any
+-- the disk that a word names
+abbrev pub disk_of_word : List ℕ → Option DiskName
+disk_of_word word =
+    if bytes_eq word (codes "data") then Some disks.Data
+    else if bytes_eq word (codes "log") then Some disks.Log
+    else None
+
+-- the message to a layer of this disk that these words say: the layer's number, and behind one space the text
+abbrev pub message_to : DiskName → List ℕ → Option Said
+message_to over words = do
+  layer ← number_of (before_byte 32 words)
+  text ← after_byte 32 words
+  if is_line_text text then Some (step (steps.Message over layer text)) else None
+
+-- the message that these words say, if there are any: its disk, and the others
+abbrev pub message_of : Option (List ℕ) → Option Said
+message_of None = None
+message_of (Some words) = do
+  over ← disk_of_word (before_byte 32 words)
+  from_layer ← after_byte 32 words
+  message_to over from_layer
+
+-- what a line of this first word says that is no crash, no mark and no message, whose other words are these, if it has any
 abbrev pub plain_parts : List ℕ → Option (List ℕ) → Option Said
 plain_parts verb (Some words) = parse_words verb words
 plain_parts verb None = lone_word verb
@@ -164,6 +186,7 @@ abbrev pub parse_parts : List ℕ → Option (List ℕ) → Option Said
 parse_parts verb words =
     if bytes_eq verb (codes "crash") then option_map (λ picks. parsed_lines.Crash picks) (picks_of words)
     else if bytes_eq verb (codes "mark") then mark_of words
+    else if bytes_eq verb (codes "message") then message_of words
     else plain_parts verb words
 
 -- what a line says, if it is of the grammar

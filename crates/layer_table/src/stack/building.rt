@@ -13,10 +13,12 @@ use crate::slot::Slot;
 use crate::stack::{Slots, Stack};
 use bio::Ms;
 use blockdev::BlockDev;
-use fault_layers::{Gated, Linear};
+use dust_layer::Dust;
+use fault_layers::{Delay, Gated, Linear};
 use refusals::Refusal;
 use sector_disk::SectorDisk;
-use table_line::LayerSpec;
+use std::alloc::Global;
+use table_line::{LayerSpec, Target};
 
 impl Stack {
     /// The disk under no layer.
@@ -30,9 +32,10 @@ impl Stack {
         }
     }
 
-    /// Puts a layer over what stands, loaded at the moment `load`, in milliseconds. It is refused with OutOfRange exactly
+    /// Puts a layer over what stands, loaded at the moment `load`, in milliseconds; what it lists later takes its memory from `alloc`. It is refused with OutOfRange exactly
     /// where its last sector is past the end of what stands, or where four layers stand; then the stack is handed back as it was.
-    pub fn over(self, spec: LayerSpec, load: Ms) -> Result<Stack, (Stack, Refusal)>
+    #[tactic(auto, using(crate::specs::StackLaws::full_stack, crate::specs::StackLaws::free_stack))]
+    pub fn over(self, alloc: Global, spec: LayerSpec, load: Ms) -> Result<Stack, (Stack, Refusal)>
         requires { IsLayerSpec spec }
         ensures layers { IfOk result (λ stack. layers_of stack ≡ layer_asked spec load ∷ layers_of self) }
         ensures disk { IfOk result (λ stack. disk_of stack ≡ disk_of self) }
@@ -46,13 +49,18 @@ impl Stack {
             return Err((self, Refusal::OutOfRange));
         }
         Ok(Stack {
-            top: put(self.top, spec, load),
+            top: put(alloc, self.top, spec, load),
         })
     }
 
     /// Puts layers over what stands, the first of them lowest, each loaded at the moment `load`, in milliseconds. They are refused with OutOfRange
     /// where `over` refuses one of them; then the stack is handed back with those beneath it.
-    pub fn under(self, specs: &[LayerSpec], load: Ms) -> Result<Stack, (Stack, Refusal)>
+    pub fn under(
+        self,
+        alloc: Global,
+        specs: &[LayerSpec],
+        load: Ms,
+    ) -> Result<Stack, (Stack, Refusal)>
         requires { AllByRecursion IsLayerSpec specs.now }
         ensures layers { IfOk result (λ stack. layers_of stack ≡ layers_under specs.now load (layers_of self)) }
         ensures disk { IfOk result (λ stack. disk_of stack ≡ disk_of self) }
@@ -63,7 +71,7 @@ impl Stack {
         let mut stack = self;
         let mut rest = specs;
         while let Some((spec, above)) = rest.split_first() {
-            stack = stack.over(*spec, load)?;
+            stack = stack.over(alloc, *spec, load)?;
             rest = above;
         }
         Ok(stack)
@@ -82,7 +90,7 @@ impl Stack {
 }
 
 // The layer over the device, in a slot.
-fn layer<D: BlockDev + Drop>(lower: D, spec: LayerSpec, load: Ms) -> Slot<D>
+fn layer<D: BlockDev + Drop>(alloc: Global, lower: D, spec: LayerSpec, load: Ms) -> Slot<D>
     requires spec { IsLayerSpec spec }
     requires fits { IsRange (D.shown lower).size spec.offset spec.length }
     ensures has_layer { has_layer result ≡ true }
@@ -91,14 +99,20 @@ fn layer<D: BlockDev + Drop>(lower: D, spec: LayerSpec, load: Ms) -> Slot<D>
     ensures shown { IsPut spec (D.shown lower) (slot_shown result) }
 {
     let range = Linear::new(lower, spec.offset, spec.length);
-    match AnyGate::of(spec.offset, spec.target, load) {
-        Some(gate) => Slot::Decided(Gated::under(range, gate)),
-        None => Slot::Linear(range),
+    match spec.target {
+        Target::Dust { block_bytes } => Slot::Dusted(Dust::new(alloc, range, block_bytes)),
+        Target::Delay { read, write, flush } => {
+            Slot::Delayed(Delay::new(range, Ms::new(read), Ms::new(write), Ms::new(flush)))
+        }
+        _ => match AnyGate::of(spec.offset, spec.target, load) {
+            Some(gate) => Slot::Decided(Gated::under(range, gate)),
+            None => Slot::Linear(range),
+        },
     }
 }
 
 // The layer in the lowest free slot.
-fn put(top: Slots, spec: LayerSpec, load: Ms) -> Slots
+fn put(alloc: Global, top: Slots, spec: LayerSpec, load: Ms) -> Slots
     requires spec { IsLayerSpec spec }
     requires fits { IsRange (slot_shown top).size spec.offset spec.length }
     requires free { has_layer top ≡ false }
@@ -110,11 +124,13 @@ fn put(top: Slots, spec: LayerSpec, load: Ms) -> Slots
 {
     match top {
         Slot::Bare(Slot::Bare(Slot::Bare(Slot::Bare(disk)))) => {
-            Slot::Bare(Slot::Bare(Slot::Bare(layer(disk, spec, load))))
+            Slot::Bare(Slot::Bare(Slot::Bare(layer(alloc, disk, spec, load))))
         }
-        Slot::Bare(Slot::Bare(Slot::Bare(one))) => Slot::Bare(Slot::Bare(layer(one, spec, load))),
-        Slot::Bare(Slot::Bare(two)) => Slot::Bare(layer(two, spec, load)),
-        Slot::Bare(three) => layer(three, spec, load),
+        Slot::Bare(Slot::Bare(Slot::Bare(one))) => Slot::Bare(Slot::Bare(layer(
+            alloc, one, spec, load,
+        ))),
+        Slot::Bare(Slot::Bare(two)) => Slot::Bare(layer(alloc, two, spec, load)),
+        Slot::Bare(three) => layer(alloc, three, spec, load),
         full => full,
     }
 }

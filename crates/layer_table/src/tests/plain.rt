@@ -33,7 +33,8 @@ fn is_down(up: u64, down: u64, since: u64) -> bool {
 fn verdict(layer: &Plain, kind: Kind, now: u64) -> Verdict {
     let is_read = kind == Kind::Read;
     match layer.spec.target {
-        Target::Linear => Verdict::Pass,
+        // A dust layer passes each call before messages enable it.
+        Target::Linear | Target::Dust { .. } | Target::Delay { .. } => Verdict::Pass,
         Target::Error => Verdict::Fail,
         Target::Fuse { calls } if is_read || layer.passed < calls => Verdict::Pass,
         Target::Fuse { .. } => Verdict::Fail,

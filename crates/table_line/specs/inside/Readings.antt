@@ -1,6 +1,6 @@
 -- What a line asks for, as the reader finds it, step by step. `TableLines` and `Refusals` say it in the words of the table; they agree
 -- by proof.
-use Rattle.std.specs.Prelude.{ℕ, ◌&&◌, List, Option, Some, None, Result, Ok, Err, codes, length, nat_eq, slice_get, if◌then◌else◌}
+use Rattle.std.specs.Prelude.{ℕ, ◌+◌, ◌&&◌, Bool, List, Option, Some, None, Result, Ok, Err, codes, is_none, length, nat_eq, slice_get, if◌then◌else◌}
 use Rattle.std.specs.Str.{bytes_eq}
 use Rattle.words.specs.Words.{number_of}
 use Rattle.table_line.specs.declared.feature.Feature.{Feature}
@@ -13,7 +13,7 @@ use Rattle.table_line.specs.declared.name.Name.TheVariants as names
 use Rattle.table_line.specs.declared.table_error.TableError.{TableError}
 use Rattle.table_line.specs.declared.table_error.TableError.TheVariants as errors
 use Rattle.table_line.specs.Ranges.{is_in_range}
-use Rattle.table_line.specs.Refusals.{may_have, named, word_in}
+use Rattle.table_line.specs.Refusals.{has_one_place, may_have, named, word_in}
 
 -- goes on with a value that is read
 infixl 10 ◌>>=◌
@@ -44,6 +44,8 @@ offset_in names.Linear words = number_in words 4
 offset_in names.Error words = Ok 0
 offset_in names.Flakey words = number_in words 4
 offset_in names.Fuse words = number_in words 4
+offset_in names.Dust words = number_in words 4
+offset_in names.Delay words = number_in words 4
 
 -- the feature of this name
 abbrev pub feature_named : List ℕ → Option Feature
@@ -62,6 +64,18 @@ feature_by (Some count) (Some name) = if bytes_eq count (codes "1") then or_erro
 abbrev pub feature_in : List (List ℕ) → Result Feature TableError
 feature_in words = feature_by (slice_get words 7) (slice_get words 8)
 
+-- the delay of the set of words from this place on, or, where there is none, that of the set before
+abbrev pub later_delay : List (List ℕ) → ℕ → ℕ → Result ℕ TableError
+later_delay words place before =
+    if is_none (slice_get words place) then Ok before else (number_in words (place + 1) >>= λ offset. number_in words (place + 2))
+
+abbrev pub delay_in : List (List ℕ) → Result Target TableError
+delay_in words = do
+  read ← number_in words 5
+  write ← later_delay words 6 read
+  flush ← later_delay words 9 write
+  Ok (targets.Delay read write flush)
+
 -- what the layer does
 abbrev pub target_in : Name → List (List ℕ) → Result Target TableError
 target_in names.Linear words = Ok targets.Linear
@@ -74,6 +88,10 @@ target_in names.Flakey words = do
 target_in names.Fuse words = do
   calls ← number_in words 5
   Ok (targets.Fuse calls)
+target_in names.Dust words = do
+  bytes ← number_in words 5
+  Ok (targets.Dust bytes)
+target_in names.Delay words = delay_in words
 
 -- what a line of this target asks for, apart from ranges
 abbrev pub spec_in : Name → List (List ℕ) → Result LayerSpec TableError
@@ -83,16 +101,16 @@ spec_in name words = do
   target ← target_in name words
   Ok (record { length = sectors; offset = offset; target = target })
 
--- the layer, where its values are in their ranges
-abbrev pub in_range : ℕ → LayerSpec → Result LayerSpec TableError
-in_range start spec = if nat_eq start 0 && is_in_range spec then Ok spec else Err errors.OutOfRange
+-- the layer, where its values are in their ranges, and its line names one place
+abbrev pub in_range : Bool → ℕ → LayerSpec → Result LayerSpec TableError
+in_range one start spec = if nat_eq start 0 && (is_in_range spec && one) then Ok spec else Err errors.OutOfRange
 
 -- what a line of this target asks for
 abbrev pub read_named : Name → List (List ℕ) → Result LayerSpec TableError
 read_named name words = do
   start ← number_in words 0
   spec ← spec_in name words
-  in_range start spec
+  in_range (has_one_place (Some name) words) start spec
 
 -- where it has a number of words that the target has
 abbrev pub read_counted : Name → List (List ℕ) → Result LayerSpec TableError

@@ -5,9 +5,9 @@ use Rattle.dmlw_script.specs.Plans.{HasName}
 use Rattle.refusals.specs.declared.refusal.Refusal.{Refusal}
 use Rattle.script_runner.specs.declared.error.RunError.TheVariants.{Refused}
 use Rattle.script_runner.specs.declared.step_error.StepError.TheVariants.{AtLine}
-use Rattle.script_runner.specs.Lines.{EndsSubmitted, FitsDevice, HasScriptText, PrintsLine, StopsLine, count_of}
+use Rattle.script_runner.specs.Lines.{answering, EndsSubmitted, FitsDevice, HasScriptText, PrintsLine, StopsLine, count_of}
 use Rattle.script_runner.specs.Runs.{EndsRun}
-use Rattle.script_runner.proofs.Scripts.{command_next, count_more_of, lines_more_of, lines_run, next_line_fits, next_line_named, next_line_submitted, next_line_text, of_item, of_place, stops_at_close, stops_whole}
+use Rattle.script_runner.proofs.Scripts.{command_next, count_more_of, lines_more_of, lines_run, next_line_fits, next_line_named, next_line_submitted, next_line_text, of_item, of_place, stops_at_line, stops_whole}
 use Rattle.script_runner.proofs.run_script.run.Goals as goal
 
 pub run_line-requires-clause-fits : goal.run_line-requires-clause-fits
@@ -39,10 +39,10 @@ run_line-requires-clause-submitted g c =
 
 pub returns-in-Err-Whole-clause-faults : goal.returns-in-Err-Whole-clause-faults
 returns-in-Err-Whole-clause-faults g c =
-    subst (EndsRun c.args.text.now c.args.script.now (g.O.Write.contents c.args.out.now) (g.O.Write.contents c.run_line.new.out) c.args.running.now)
+    subst (EndsRun (answering g.D.Message.answers g.L.Message.answers) c.args.text.now c.args.script.now (g.O.Write.contents c.args.out.now) (g.O.Write.contents c.run_line.new.out) c.args.running.now)
     (sym c.in-Err-Whole.fault-is)
-    (stops_whole c.args.text.now c.args.script.now _ _ (g.O.Write.contents c.loop-place.out) (g.O.Write.contents c.run_line.new.out) _ c.args.running.now c.loop-place.running
-    (subst (StopsLine _ (g.O.Write.contents c.loop-place.out) (g.O.Write.contents c.run_line.new.out) c.loop-place.running.recorder) c.in-Err-Whole.field-0-is
+    (stops_whole (answering g.D.Message.answers g.L.Message.answers) c.args.text.now c.args.script.now _ _ (g.O.Write.contents c.loop-place.out) (g.O.Write.contents c.run_line.new.out) _ c.args.running.now c.loop-place.running
+    (subst (StopsLine (answering g.D.Message.answers g.L.Message.answers) _ (g.O.Write.contents c.loop-place.out) (g.O.Write.contents c.run_line.new.out) c.loop-place.running) c.in-Err-Whole.field-0-is
     c.in-Err-Whole.ensures.faults))
 
 pub returns-in-Err-AtLine-clause-faults : goal.returns-in-Err-AtLine-clause-faults
@@ -52,14 +52,14 @@ returns-in-Err-AtLine-clause-faults g c =
     let next = command_next script items c.loop-place.place _ c.commands-command-items.ensures.commands
     (λ before command rest split. c.requests_end_once.ensures.can_follow script before command rest c.commands-command-items.ensures.script split)
     (omega arith) in
-    subst (λ (refusal : Refusal). EndsRun c.args.text.now script (g.O.Write.contents c.args.out.now) (g.O.Write.contents c.run_line.new.out) c.args.running.now
+    subst (λ (refusal : Refusal). EndsRun (answering g.D.Message.answers g.L.Message.answers) c.args.text.now script (g.O.Write.contents c.args.out.now) (g.O.Write.contents c.run_line.new.out) c.args.running.now
     (Refused (record { line = c.line_of-line.result; refusal = refusal }))) (sym c.in-Err-AtLine.refusal-is)
-    (stops_at_close c.args.text.now script c.loop-place.place c.line_of-line.result _ _ (g.O.Write.contents c.loop-place.out) (g.O.Write.contents c.run_line.new.out) _
+    (stops_at_line (answering g.D.Message.answers g.L.Message.answers) c.args.text.now script c.loop-place.place c.line_of-line.result _ _ (g.O.Write.contents c.loop-place.out) (g.O.Write.contents c.run_line.new.out) _
     c.args.running.now c.loop-place.running next (lines_run items script.commands c.loop-place.place c.commands-command-items.ensures.commands (omega arith))
     (c.line_of-line.ensures ∙ ap (λ (n : ℕ). command_line c.args.text.now (n + c.loop-place.place)) c.head_lines.ensures.lines) c.loop-place.invariant.1
-    (of_place (λ (command : Command). StopsLine command (g.O.Write.contents c.loop-place.out) (g.O.Write.contents c.run_line.new.out) c.loop-place.running.recorder
+    (of_place (λ (command : Command). StopsLine (answering g.D.Message.answers g.L.Message.answers) command (g.O.Write.contents c.loop-place.out) (g.O.Write.contents c.run_line.new.out) c.loop-place.running
     (AtLine c.in-Err-AtLine.refusal)) items c.loop-place.place c.command-item.result c.command-item.is
-    (subst (StopsLine _ (g.O.Write.contents c.loop-place.out) (g.O.Write.contents c.run_line.new.out) c.loop-place.running.recorder) c.in-Err-AtLine.field-0-is
+    (subst (StopsLine (answering g.D.Message.answers g.L.Message.answers) _ (g.O.Write.contents c.loop-place.out) (g.O.Write.contents c.run_line.new.out) c.loop-place.running) c.in-Err-AtLine.field-0-is
     c.in-Err-AtLine.ensures.faults)))
 
 pub loop-place-preserved : goal.loop-place-preserved
@@ -67,9 +67,9 @@ loop-place-preserved g c =
     let script = c.args.script.now in
     let items = c.commands-command-items.result.now in (
       c.loop-place.invariant.0,
-      lines_more_of script items c.names.result.now c.loop-place.place _ _ _ _ c.args.running.now c.loop-place.running c.run_line.new.self
+      lines_more_of (answering g.D.Message.answers g.L.Message.answers) script items c.names.result.now c.loop-place.place _ _ _ _ c.args.running.now c.loop-place.running c.run_line.new.self
           c.commands-command-items.ensures.commands (omega arith) c.names.ensures.names c.loop-place.invariant.1
-          (of_place (λ (command : Command). PrintsLine c.names.result.now command (g.O.Write.contents c.loop-place.out) (g.O.Write.contents c.run_line.new.out)
+          (of_place (λ (command : Command). PrintsLine (answering g.D.Message.answers g.L.Message.answers) c.names.result.now command (g.O.Write.contents c.loop-place.out) (g.O.Write.contents c.run_line.new.out)
           c.loop-place.running c.run_line.new.self) items c.loop-place.place c.command-item.result c.command-item.is c.in-Ok.ensures.runs),
       count_more_of script items c.loop-place.place _ _ _ c.commands-command-items.ensures.commands (omega arith) c.loop-place.invariant.2
           (of_place (λ (command : Command). length c.run_line.new.self.requests.items ≡ length c.loop-place.running.requests.items + count_of command) items c.loop-place.place

@@ -1,0 +1,111 @@
+-- What becomes of a message to a layer of a stack.
+use Rattle.std.proofs.Common.{◌≡◌, ℕ, zero, suc, ◌-◌, ◌<◌, ◌≤◌, Bool, true, List, [], ◌∷◌, Result, Err, refl, ap, ◌∙◌, arith}
+use Rattle.std.specs.Prelude.{◌⊎◌}
+use Rattle.blockdev.specs.declared.device.BlockDev.{Ghosts}
+use Rattle.blockdev.specs.declared.message.MessageError.{MessageError}
+use Rattle.blockdev.specs.declared.message.MessageError.TheVariants.{BadMessage}
+use Rattle.fault_layers.specs.declared.linear.Linear.{Linear}
+use Rattle.sector_disk.specs.declared.disk.SectorDisk.{SectorDisk}
+use Rattle.layer_table.specs.declared.slot.Slot.{Slot}
+use Rattle.layer_table.specs.declared.slot.Slot.TheVariants as slots
+use Rattle.layer_table.specs.declared.stack.Stack.{Stack}
+use Rattle.layer_table.specs.SlotMessages.{AnswersBelow, AnswersItself, IsNoMessage, SlotAnswers}
+use Rattle.layer_table.specs.Slots.{device_of, has_layer, has_no_gap, shape_of, shape_with}
+
+-- a disk takes no message
+abbrev pub DiskAnswers : SectorDisk → ℕ → List ℕ → Result (Unit {0}) MessageError → SectorDisk → Type 0
+DiskAnswers old layer text result new = (result ≡ Err BadMessage) × (new ≡ old)
+
+-- Layers count from 1, the lowest: the fourth is the top slot, and the first the slot over the disk. No other number is a layer's.
+pub record StackAnswers (old : Stack) (layer : ℕ) (text : List ℕ) (result : Result (Unit {0}) MessageError) (new : Stack) : Type 0 where
+  pub within : 1 ≤ layer → layer ≤ 4 → SlotAnswers (SlotAnswers (SlotAnswers (SlotAnswers DiskAnswers))) old.top (5 - layer) text result new.top
+  pub outside : (layer ≡ 0) ⊎ (4 < layer) → IsNoMessage result old new
+
+-- ---- a message keeps the slots that have a layer
+
+-- each message to a device keeps what f says of it
+abbrev pub KeepsByMessage : {D A : Type 0} → (D → ℕ → List ℕ → Result (Unit {0}) MessageError → D → Type 0) → (D → A) → Type 0
+KeepsByMessage {D} {A} answers f =
+    (device : D) (layer : ℕ) (text : List ℕ) (result : Result (Unit {0}) MessageError) (after : D) → answers device layer text result after → f after ≡ f device
+
+-- a slot keeps what f says of the device beneath, and whether it has a layer
+abbrev IsSlotKept : {D A : Type 0} {g : Ghosts D} → (D → A) → Slot D g → Slot D g → Type 0
+IsSlotKept f slot after = (f (device_of after) ≡ f (device_of slot)) × (has_layer after ≡ has_layer slot)
+
+nothing_kept : {D A : Type 0} {g : Ghosts D} (f : D → A) (slot after : Slot D g) (result : Result (Unit {0}) MessageError)
+    → IsNoMessage result slot after → IsSlotKept f slot after
+nothing_kept f slot after result is = (ap (λ s. f (device_of s)) is.stays, ap has_layer is.stays)
+
+own_kept : {D A : Type 0} {g : Ghosts D} (f : D → A) (slot : Slot D g) (text : List ℕ) (result : Result (Unit {0}) MessageError) (after : Slot D g)
+    → AnswersItself slot text result after → IsSlotKept f slot after
+own_kept {D} {A} {g} f (slots.Bare device) text result after is = nothing_kept f (slots.Bare device) after result is
+own_kept {D} {A} {g} f (slots.Linear range) text result after is = nothing_kept f (slots.Linear range) after result is
+own_kept {D} {A} {g} f (slots.Decided it) text result after is = nothing_kept f (slots.Decided it) after result is
+own_kept {D} {A} {g} f (slots.Delayed it) text result after is = nothing_kept f (slots.Delayed it) after result is
+own_kept {D} {A} {g} f (slots.Dusted it) text result (slots.Bare after) is = nothing_kept f (slots.Dusted it) (slots.Bare after) result is
+own_kept {D} {A} {g} f (slots.Dusted it) text result (slots.Linear after) is = nothing_kept f (slots.Dusted it) (slots.Linear after) result is
+own_kept {D} {A} {g} f (slots.Dusted it) text result (slots.Decided after) is = nothing_kept f (slots.Dusted it) (slots.Decided after) result is
+own_kept {D} {A} {g} f (slots.Dusted it) text result (slots.Delayed after) is = nothing_kept f (slots.Dusted it) (slots.Delayed after) result is
+own_kept {D} {A} {g} f (slots.Dusted it) text result (slots.Dusted after) is = (ap (λ (range : Linear D g). f range.lower) is.lower, refl)
+
+below_kept : {D A : Type 0} {g : Ghosts D} (f : D → A) (below : D → ℕ → List ℕ → Result (Unit {0}) MessageError → D → Type 0) → KeepsByMessage below f
+    → (slot : Slot D g) (layer : ℕ) (text : List ℕ) (result : Result (Unit {0}) MessageError) (after : Slot D g)
+    → AnswersBelow below slot layer text result after → IsSlotKept f slot after
+below_kept {D} {A} {g} f below kept (slots.Bare device) layer text result (slots.Bare after) is =
+    (kept device layer text result after is, refl)
+below_kept {D} {A} {g} f below kept (slots.Bare device) layer text result (slots.Linear after) is = absurd is
+below_kept {D} {A} {g} f below kept (slots.Bare device) layer text result (slots.Decided after) is = absurd is
+below_kept {D} {A} {g} f below kept (slots.Bare device) layer text result (slots.Delayed after) is = absurd is
+below_kept {D} {A} {g} f below kept (slots.Bare device) layer text result (slots.Dusted after) is = absurd is
+below_kept {D} {A} {g} f below kept (slots.Linear range) layer text result (slots.Bare after) is = absurd is
+below_kept {D} {A} {g} f below kept (slots.Linear range) layer text result (slots.Linear after) is =
+    (kept range.lower layer text result after.lower is.0, refl)
+below_kept {D} {A} {g} f below kept (slots.Linear range) layer text result (slots.Decided after) is = absurd is
+below_kept {D} {A} {g} f below kept (slots.Linear range) layer text result (slots.Delayed after) is = absurd is
+below_kept {D} {A} {g} f below kept (slots.Linear range) layer text result (slots.Dusted after) is = absurd is
+below_kept {D} {A} {g} f below kept (slots.Decided it) layer text result (slots.Bare after) is = absurd is
+below_kept {D} {A} {g} f below kept (slots.Decided it) layer text result (slots.Linear after) is = absurd is
+below_kept {D} {A} {g} f below kept (slots.Decided it) layer text result (slots.Decided after) is =
+    (kept it.lower.lower layer text result after.lower.lower is.0.0, refl)
+below_kept {D} {A} {g} f below kept (slots.Decided it) layer text result (slots.Delayed after) is = absurd is
+below_kept {D} {A} {g} f below kept (slots.Decided it) layer text result (slots.Dusted after) is = absurd is
+below_kept {D} {A} {g} f below kept (slots.Delayed it) layer text result (slots.Bare after) is = absurd is
+below_kept {D} {A} {g} f below kept (slots.Delayed it) layer text result (slots.Linear after) is = absurd is
+below_kept {D} {A} {g} f below kept (slots.Delayed it) layer text result (slots.Decided after) is = absurd is
+below_kept {D} {A} {g} f below kept (slots.Delayed it) layer text result (slots.Delayed after) is =
+    (kept it.lower.lower layer text result after.lower.lower is.0.0, refl)
+below_kept {D} {A} {g} f below kept (slots.Delayed it) layer text result (slots.Dusted after) is = absurd is
+below_kept {D} {A} {g} f below kept (slots.Dusted it) layer text result (slots.Bare after) is = absurd is
+below_kept {D} {A} {g} f below kept (slots.Dusted it) layer text result (slots.Linear after) is = absurd is
+below_kept {D} {A} {g} f below kept (slots.Dusted it) layer text result (slots.Decided after) is = absurd is
+below_kept {D} {A} {g} f below kept (slots.Dusted it) layer text result (slots.Delayed after) is = absurd is
+below_kept {D} {A} {g} f below kept (slots.Dusted it) layer text result (slots.Dusted after) is =
+    (kept it.lower.lower layer text result after.lower.lower is.0.0, refl)
+
+-- so does any message
+message_kept : {D A : Type 0} {g : Ghosts D} (f : D → A) (below : D → ℕ → List ℕ → Result (Unit {0}) MessageError → D → Type 0) → KeepsByMessage below f
+    → (slot : Slot D g) (layer : ℕ) (text : List ℕ) (result : Result (Unit {0}) MessageError) (after : Slot D g)
+    → SlotAnswers below slot layer text result after → IsSlotKept f slot after
+message_kept f below kept slot zero text result after is = nothing_kept f slot after result (is.none refl)
+message_kept f below kept slot (suc zero) text result after is = own_kept f slot text result after (is.own refl)
+message_kept f below kept slot (suc (suc layer)) text result after is =
+    below_kept f below kept slot (suc (suc layer) - 1) text result after (is.others (omega arith))
+
+shape_answered : {D : Type 0} {g : Ghosts D} (f : D → List Bool) (below : D → ℕ → List ℕ → Result (Unit {0}) MessageError → D → Type 0)
+    → KeepsByMessage below f
+    → KeepsByMessage (SlotAnswers {D = D} {g = g} below) (shape_with f)
+shape_answered f below kept slot layer text result after is =
+    let same = message_kept f below kept slot layer text result after is in
+    ap (λ (has : Bool). has ∷ f (device_of after)) same.1 ∙ ap (λ (shape : List Bool). has_layer slot ∷ shape) same.0
+
+-- a message leaves no gap
+pub no_gap_answered : (old : Stack) (layer : ℕ) (text : List ℕ) (result : Result (Unit {0}) MessageError) (top : _)
+    → SlotAnswers (SlotAnswers (SlotAnswers (SlotAnswers DiskAnswers))) old.top layer text result top → has_no_gap (shape_of top) ≡ true
+no_gap_answered old layer text result top is =
+    ap has_no_gap
+    (shape_answered (shape_with (shape_with (shape_with (λ disk. [])))) _
+    (shape_answered (shape_with (shape_with (λ disk. []))) _
+    (shape_answered (shape_with (λ disk. [])) _
+    (shape_answered (λ disk. []) DiskAnswers (λ disk layer text result after is. refl))))
+    old.top layer text result top is)
+    ∙ old.filled

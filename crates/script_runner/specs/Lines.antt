@@ -137,6 +137,7 @@ pub record Answering (D L : Type 0) : Type 1 where
   pub data_device : D → ℕ → List ℕ → Result (Unit {0}) MessageError → D → Type 0
   pub log_device : L → ℕ → List ℕ → Result (Unit {0}) MessageError → L → Type 0
 
+-- the same, of what each of the two answers
 abbrev pub answering : {D L : Type 0} → (D → ℕ → List ℕ → Result (Unit {0}) MessageError → D → Type 0)
     → (L → ℕ → List ℕ → Result (Unit {0}) MessageError → L → Type 0) → Answering D L
 answering data_device log_device = record { data_device = data_device; log_device = log_device }

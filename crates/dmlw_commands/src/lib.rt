@@ -25,5 +25,3 @@ pub mod list;
 mod output;
 pub mod record;
 pub mod status;
-#[cfg(test)]
-mod tests;

@@ -31,6 +31,4 @@ mod printer;
 mod reader;
 mod script;
 mod script_id;
-#[cfg(test)]
-mod tests;
 mod values;

@@ -24,5 +24,3 @@ mod request;
 mod run_script;
 mod running;
 mod step_error;
-#[cfg(test)]
-mod tests;

@@ -1,7 +1,7 @@
 // What `--explain` adds.
 use super::{FIRST, recorded, run};
-use crate::HostFiles;
-use crate::record::record;
+use dmlw_commands::HostFiles;
+use dmlw_commands::record::record;
 use std::alloc::{AllocError, Global};
 use std::test::Fail;
 

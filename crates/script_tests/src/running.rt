@@ -1,5 +1,5 @@
-use super::*;
 use dmlw_script::{Kind, read_script};
+use script_runner::*;
 use std::alloc::{AllocError, Global};
 use std::process::Abort;
 use std::test::Fail;

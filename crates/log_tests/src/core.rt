@@ -1,4 +1,4 @@
-use super::*;
+use pending::*;
 use bio::{Bio, Bytes, End, Id};
 use std::alloc::{AllocError, Global};
 use std::test::Fail;

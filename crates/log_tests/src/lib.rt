@@ -1,0 +1,8 @@
+//! Tests of `pending` and `log_reader`, through what these make public. They stand apart from the crates that they test, so that these aren't proved a second
+//! time with their tests.
+#![tactic(auto)]
+
+#[cfg(test)]
+mod core;
+#[cfg(test)]
+mod images;

@@ -1,0 +1,8 @@
+//! Tests of `dmlw_script` and `script_runner`, through what these make public. They stand apart from the crates that they test, so that these aren't proved a
+//! second time with their tests.
+#![tactic(auto)]
+
+#[cfg(test)]
+mod reading;
+#[cfg(test)]
+mod running;

@@ -1,7 +1,10 @@
 -- Worked crashes, by computation.
-use Rattle.std.proofs.Common.{◌≡◌, ℕ, false, true, List, [], ◌∷◌, replicate, refl}
+use Rattle.std.proofs.Common.{◌≡◌, ℕ, suc, zero, ◌<◌, false, true, List, [], ◌∷◌, replicate, refl, ap, sym, ◌∙◌, inl, inr, arith}
+use Rattle.std.specs.Prelude.{◌⊎◌, slice_index_or}
 use Rattle.sectors.specs.Content.{Content, discards, over, writes}
-use Rattle.sector_disk.specs.Candidates.{Flushes, Puts, Step, cache_after, left_by}
+use Rattle.sector_disk.specs.Candidates.{Cache, Flushes, MayLeave, Puts, Step, cache_after, left_by}
+use Rattle.sector_disk.specs.CandidateLaws.{is_current, one_contains}
+use Rattle.sector_disk.specs.PickLaws.{picks_leave_one}
 
 -- a disk of zeroes
 zeroes : Content
@@ -71,3 +74,49 @@ discarded-one = refl
 discarded-other : left discarded (1 ∷ 0 ∷ 1 ∷ []) ≡ replicate 512 1
 unfolding left discarded put zeroes over
 discarded-other = refl
+
+-- of the two writes a crash may leave the old value, the first one and the second one
+abbrev after_two : Cache
+after_two = cache_after zeroes two
+
+may-old : MayLeave after_two (left_by after_two [])
+may-old = picks_leave_one after_two [] (is_current zeroes two)
+
+may-first : MayLeave after_two (left_by after_two (1 ∷ []))
+may-first = picks_leave_one after_two (1 ∷ []) (is_current zeroes two)
+
+may-second : MayLeave after_two (left_by after_two (2 ∷ []))
+may-second = picks_leave_one after_two (2 ∷ []) (is_current zeroes two)
+
+-- and nothing else there, nor in the sectors beside it
+may-these : (content : Content) → MayLeave after_two content
+    → (content 3 ≡ replicate 512 0) ⊎ (content 3 ≡ replicate 512 1) ⊎ (content 3 ≡ replicate 512 2)
+unfolding two put zeroes over
+may-these content may = at (may 3).0 (may 3).1 (may 3).2
+  where
+    at : (k : ℕ) → k < 3 → slice_index_or (replicate 512 0 ∷ replicate 512 1 ∷ replicate 512 2 ∷ []) k (content 3) ≡ content 3
+        → (content 3 ≡ replicate 512 0) ⊎ (content 3 ≡ replicate 512 1) ⊎ (content 3 ≡ replicate 512 2)
+    at zero h same = inl (sym same)
+    at (suc zero) h same = inr (inl (sym same))
+    at (suc (suc zero)) h same = inr (inr (sym same))
+    at (suc (suc (suc k))) h same = absurd (omega arith)
+
+may-third : (content : Content) → MayLeave after_two content → content 3 ≡ replicate 512 3 → ⊥
+may-third content may third = elim (may-these content may) [
+  | inl old ↦ let same = one_value 3 0 (sym third ∙ old) in omega arith
+  | inr new ↦ elim new [
+    | inl first ↦ let same = one_value 3 1 (sym third ∙ first) in omega arith
+    | inr second ↦ let same = one_value 3 2 (sym third ∙ second) in omega arith
+  ]
+]
+  where
+    one_value : (a b : ℕ) → replicate 512 a ≡ replicate 512 b → a ≡ b
+    one_value a b same = ap (λ (xs : List ℕ). slice_index_or xs 0 0) same
+
+may-below : (content : Content) → MayLeave after_two content → content 2 ≡ replicate 512 0
+unfolding two put zeroes over
+may-below content may = one_contains (replicate 512 0) (content 2) (may 2)
+
+may-above : (content : Content) → MayLeave after_two content → content 4 ≡ replicate 512 0
+unfolding two put zeroes over
+may-above content may = one_contains (replicate 512 0) (content 4) (may 4)

@@ -1,9 +1,11 @@
--- For each clause of the law, views that break it and nothing else, and are refused by it.
+-- For each clause of the law, and of what a message changes, views that break it and nothing else, and are refused by it.
 use Rattle.std.proofs.Common.{◌≡◌, ℕ, zero, suc, true, false, List, [], Some, None, Ok, Err, replicate, refl, ap, ◌∙◌, inl, inr, arith}
 use Rattle.std.specs.Prelude.{◌^◌, slice_index_or}
 use Rattle.bio.specs.declared.outcome.DevError.TheVariants.{Io}
 use Rattle.sectors.specs.Content.{Content, Patch, put}
 use Rattle.blockdev.specs.View.{IsLawful, Place, View, last_count}
+use Rattle.blockdev.specs.Calls.{IsByteRange, IsRange}
+use Rattle.blockdev.specs.Messages.{Unchanged}
 use Rattle.blockdev.specs.Law.{Goes, HasCause, Lands, NoLie, Stays, Syncs}
 
 -- content of one value in each sector
@@ -191,3 +193,72 @@ past_faults lawful = let h = lawful.faults in omega arith
 past_lies : IsLawful (record still { lies = 2 ^ 64 }) → ⊥
 unfolding still
 past_lies lawful = let h = lawful.lies in omega arith
+
+-- of 8 sectors the last one is a range, one more isn't, nor is none
+last : IsRange 8 7 1
+last = record { some = omega arith; within = omega arith }
+
+past_last : IsRange 8 7 2 → ⊥
+past_last range = let h = range.within in omega arith
+
+empty : IsRange 8 7 0 → ⊥
+empty range = let h = range.some in omega arith
+
+last_bytes : IsByteRange 8 7 512
+last_bytes = record { whole = refl; some = omega arith; within = omega arith }
+
+past_bytes : IsByteRange 8 7 1024 → ⊥
+past_bytes range = let h = range.within in omega arith
+
+half_bytes : IsByteRange 8 0 768 → ⊥
+half_bytes range = let h = range.whole in omega arith
+
+no_bytes : IsByteRange 8 7 0 → ⊥
+no_bytes range = let h = range.some in omega arith
+
+-- a message that changes the size, the place or the content
+message_size : Unchanged still (record still { size = 2 }) → ⊥
+unfolding still
+message_size same = let is = same.size in omega arith
+
+message_place : Unchanged still (record still { place = record { origin = 1; disk = 1 } }) → ⊥
+unfolding still
+message_place same = let is = ap (λ (p : Place). p.origin) same.place in omega arith
+
+message_content : Unchanged still (record still { content = all 2 }) → ⊥
+unfolding still all
+message_content same = let is = one_value 2 0 (ap (λ (c : Content). c 0) same.content) in omega arith
+
+-- one after which a crash leaves less, and one after which it leaves more
+message_crash : Unchanged still (record still { crash = λ left. ⊥ }) → ⊥
+unfolding still Only
+message_crash same = same.crash (all 0) (λ sector. refl)
+
+message_crash_more : Unchanged still (record still { crash = λ left. Unit {0} }) → ⊥
+unfolding still all Only
+message_crash_more same = let is = one_value 2 0 (same.crash_before (all 2) tt 0) in omega arith
+
+message_since : Unchanged still (record still { since = λ moment left. ⊥ }) → ⊥
+unfolding still Only
+message_since same = same.since 0 (all 0) (λ sector. refl)
+
+message_since_more : Unchanged still (record still { since = λ moment left. Unit {0} }) → ⊥
+unfolding still all Only
+message_since_more same = let is = one_value 2 0 (same.since_before 0 (all 2) tt 0) in omega arith
+
+-- one that lets time pass, fails, lies, or teaches to lie
+message_moment : Unchanged still (record still { moment = 1 }) → ⊥
+unfolding still
+message_moment same = let is = same.moment in omega arith
+
+message_faults : Unchanged still (record still { faults = 1 }) → ⊥
+unfolding still
+message_faults same = let is = same.faults in omega arith
+
+message_lies : Unchanged still (record still { lies = 1 }) → ⊥
+unfolding still
+message_lies same = let is = same.lies in omega arith
+
+message_can_lie : Unchanged still (record still { can_lie = true }) → ⊥
+unfolding still
+message_can_lie same = let is = same.can_lie in cc

@@ -9,7 +9,7 @@ use Rattle.sectors.specs.Content.{Content}
 use Rattle.sector_disk.specs.declared.disk.SectorDisk.{SectorDisk}
 use Rattle.sector_disk.specs.Candidates.{Flushes, Step, view_of}
 use Rattle.sector_disk.specs.CandidateLaws.{syncs_start}
-use Rattle.sector_disk.specs.Shown.{Does, HasPast, start_of, steps_of}
+use Rattle.sector_disk.specs.Shown.{Does, HasPast, flushed_after, start_of, steps_of}
 use Rattle.sector_disk.specs.Sizes.{Begins}
 
 -- content of one value in each sector
@@ -81,3 +81,28 @@ refuses_flush old new now done = let same = done.0 in cc
 reads_one : (old new : SectorDisk) (first now : ℕ) (before a b : List ℕ) (result : Result ℕ DevError)
     → Does old (Reads first before a) now result new → Does old (Reads first before b) now result new → a ≡ b
 reads_one old new first now before a b result one other = one.2 ∙ sym other.2
+
+-- a call that is refused for want of memory and that something came of, and one that ends well and that nothing came of
+refused_write : (old new : SectorDisk) (first now : ℕ) (bytes : List ℕ) (fua : Bool) → Does old (Writes first bytes fua) now (Err Memory) new
+    → steps_of new ≡ Flushes ∷ steps_of old → ⊥
+refused_write old new first now bytes fua done more = let lengths = ap (λ (steps : List Step). length steps) (sym more ∙ done.past) in omega arith
+
+refused_discard : (old new : SectorDisk) (first count now : ℕ) → Does old (Discards first count) now (Err Memory) new → steps_of new ≡ Flushes ∷ steps_of old → ⊥
+refused_discard old new first count now done more = let lengths = ap (λ (steps : List Step). length steps) (sym more ∙ done.past) in omega arith
+
+lost_write : (old new : SectorDisk) (first now : ℕ) (bytes : List ℕ) (fua : Bool) → Does old (Writes first bytes fua) now (Ok now) new
+    → steps_of new ≡ steps_of old → ⊥
+lost_write old new first now bytes fua done same = let lengths = ap (λ (steps : List Step). length steps) (sym same ∙ done.1.past) in omega arith
+
+lost_discard : (old new : SectorDisk) (first count now : ℕ) → Does old (Discards first count) now (Ok now) new → steps_of new ≡ steps_of old → ⊥
+lost_discard old new first count now done same = let lengths = ap (λ (steps : List Step). length steps) (sym same ∙ done.1.past) in omega arith
+
+-- a read that is a step, and a first flush that is none
+read_step : (old new : SectorDisk) (first now : ℕ) (before after : List ℕ) → Does old (Reads first before after) now (Ok now) new
+    → steps_of new ≡ Flushes ∷ steps_of old → ⊥
+read_step old new first now before after done more = let lengths = ap (λ (steps : List Step). length steps) (sym more ∙ done.1.past) in omega arith
+
+lost_flush : (old new : SectorDisk) (now : ℕ) → Does old flush now (Ok now) new → steps_of old ≡ [] → steps_of new ≡ [] → ⊥
+lost_flush old new now done none still =
+    let past : [] ≡ flushed_after [] = sym still ∙ done.1.past ∙ ap flushed_after none in
+    cc

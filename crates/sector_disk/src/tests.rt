@@ -202,6 +202,41 @@ fn disks_of_each_size_are_kept(rt: HostRuntime) -> Result<(), Fail> {
     Ok(())
 }
 
+// What a round of calls puts in a sector of 64: zeroes by a discard, or its number by a write.
+fn put_in_round(round: u64, sector: u64) -> u8 {
+    if (round % 16 + sector) % 16 == 0 {
+        (round % 200) as u8
+    } else {
+        0
+    }
+}
+
+// 256,000 calls are kept, each of them as fast as the first: a disk that walks over its calls at each call takes far more than a test may.
+#[test]
+fn thousands_of_calls_are_kept(rt: HostRuntime) -> Result<(), Fail> {
+    let mut disk = SectorDisk::new(rt.alloc(), 64)?;
+    for round in 0..4000 {
+        for sector in 0..64 {
+            assert_eq!(rt; disk.sectors(), 64);
+            match put_in_round(round, sector) {
+                0 => disk.discard(Ms::new(0), sector, 1)?,
+                value => disk.write(Ms::new(0), sector, &[value; 512], false)?,
+            };
+        }
+    }
+    for (crashes, round) in [(false, 3999), (true, 2345)] {
+        if crashes {
+            // Candidate 0 is the durable value.
+            disk.crash(&[2346; 64]);
+        }
+        for sector in 0..64 {
+            let want = put_in_round(round, sector).saturating_add(48);
+            check_sector(&rt, &mut disk, sector, want, "many calls");
+        }
+    }
+    Ok(())
+}
+
 // The laws of all devices are laws of the disk.
 #[test]
 fn the_device_laws_hold() {

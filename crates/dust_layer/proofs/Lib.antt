@@ -2,3 +2,4 @@ mod Passing
 mod OrderLaws
 mod Dusting
 mod OnlyGood
+mod ListLaws

@@ -87,7 +87,7 @@ part-values first count from to changes.Discard size low order high =
 
 -- ---- the list
 
-without-in : (from to : ℕ) (bad : Bad) (block : ℕ) → from ≤ block → block < to → without from to bad block ≡ None
+pub without-in : (from to : ℕ) (bad : Bad) (block : ℕ) → from ≤ block → block < to → without from to bad block ≡ None
 without-in from to bad block low high =
     ap (λ b. if b && nat_lt block to then None else bad block) (le-leb from block low)
     ∙ ap (λ b. if b then None else bad block) (lt-ltb block to high)

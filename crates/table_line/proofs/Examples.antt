@@ -1,13 +1,13 @@
 -- The definitions on lines: those that ask for a layer, and each first test that fails.
-use Rattle.std.proofs.Common.{◌≡◌, List, ℕ, [], ◌∷◌, ◌++◌, Some, None, Option, refl, sym, true≢false, arith}
+use Rattle.std.proofs.Common.{◌≡◌, ◌||◌, List, ℕ, true, false, [], ◌∷◌, ◌++◌, Some, None, Option, refl, sym, true≢false, arith}
 use Rattle.std.specs.Prelude.{codes, decimal}
 use Rattle.words.specs.Words.{words_of}
 use Rattle.table_line.specs.declared.feature.Feature.TheVariants as features
 use Rattle.table_line.specs.declared.layer_spec.Target.TheVariants as targets
 use Rattle.table_line.specs.declared.table_error.TableError.{TableError}
 use Rattle.table_line.specs.declared.table_error.TableError.TheVariants.{BadFeature, BadNumber, OutOfRange, UnknownTarget, WrongCount}
-use Rattle.table_line.specs.Ranges.{IsBlockSize, IsCycle}
-use Rattle.table_line.specs.Standing.{top_origin, top_sectors, CanStand}
+use Rattle.table_line.specs.Ranges.{IsBlockSize, IsCycle, IsLayerSpec}
+use Rattle.table_line.specs.Standing.{drops_writes, top_origin, top_sectors, CanStand}
 use Rattle.table_line.specs.declared.layer_spec.LayerSpec.{LayerSpec}
 use Rattle.table_line.specs.Refusals.{refusal_of}
 use Rattle.table_line.specs.TableLines.{AreFor, IsTableLine}
@@ -197,3 +197,18 @@ not-on-eleven stand = let within = stand.1 in omega arith
 
 not-on-three : CanStand 16 (three ∷ eight ∷ []) → ⊥
 not-on-three stand = let within = stand.2.1 in omega arith
+
+-- each is one that a line may ask for
+each-is-asked : (sectors : ℕ) (layer : LayerSpec) (layers : List LayerSpec) → CanStand sectors (layer ∷ layers) → IsLayerSpec layer
+each-is-asked sectors layer layers stand = stand.0
+
+-- ---- which layers may drop writes: a flakey one with that feature, and no other
+
+flakey-drops : drops_writes (targets.Flakey 0 1 features.DropWrites) ≡ true
+flakey-drops = refl
+
+flakey-errs : drops_writes (targets.Flakey 0 1 features.ErrorWrites) || (drops_writes (targets.Flakey 0 1 features.ErrorReads) || drops_writes (targets.Flakey 0 1 features.None)) ≡ false
+flakey-errs = refl
+
+others-pass : drops_writes targets.Linear || (drops_writes targets.Error || (drops_writes (targets.Fuse 0) || (drops_writes (targets.Dust 512) || drops_writes (targets.Delay 1 2 3)))) ≡ false
+others-pass = refl

@@ -1,2 +1,4 @@
 pub mod Readings
+pub mod ReadingSteps
+pub mod DelayLaws
 pub mod ReadingLaws

@@ -14,8 +14,8 @@ use Rattle.log_reader.specs.Finding.{IsFlush}
 use Rattle.log_reader.specs.Reader.{Reader}
 use Rattle.replay.specs.declared.fault.ReplayError.TheVariants as replays
 use Rattle.replay.specs.declared.upto.Upto.{Upto}
-use Rattle.replay.specs.declared.upto.Upto.TheVariants.{Count, Flush}
-use Rattle.replay.specs.Replays.{AsksTooMany, HasReplayCause, IsApplied, IsAppliedInPart, IsUpto, KeepsTarget, LacksFlush, LeavesBy, ReachesPast}
+use Rattle.replay.specs.declared.upto.Upto.TheVariants.{Count, Flush, Mark}
+use Rattle.replay.specs.Replays.{AsksTooMany, HasReplayCause, IsApplied, IsAppliedInPart, IsUpto, KeepsTarget, LacksFlush, LacksMark, LeavesBy, ReachesPast}
 
 -- content of one value in each sector
 all : ℕ → Content
@@ -31,6 +31,15 @@ write = record { sector = 5; nr_sectors = 1; flags = no_flags; body = replicate 
 
 flush : Entry
 flush = record { sector = 0; nr_sectors = 0; flags = record no_flags { flush = true }; body = [] }
+
+-- a mark of no text
+mark : Entry
+mark = record { sector = 0; nr_sectors = 0; flags = record no_flags { mark = true }; body = [] }
+
+-- the end of a replay that is named is a mark of this text
+abbrev asks_mark : Upto → List ℕ → Type 0
+asks_mark (Mark text) bytes = text.now ≡ bytes
+asks_mark other bytes = ⊥
 
 -- a device of 8 sectors of zeroes
 still : View
@@ -86,6 +95,13 @@ upto_second : IsUpto Flush (write ∷ flush ∷ flush ∷ []) 0 3 → ⊥
 unfolding flush
 upto_second (last, sum, first) = first.least 1 flush (omega arith) (omega arith) refl (record { flush = refl; no_mark = refl })
 
+-- nor up to the second mark of a text
+upto_mark : (upto : Upto) → asks_mark upto [] → IsUpto upto (write ∷ mark ∷ mark ∷ []) 0 3 → ⊥
+unfolding mark
+upto_mark (Count n) asks told = absurd asks
+upto_mark (Mark text) asks (last, sum, first) = first.least 1 mark (omega arith) (omega arith) refl (record { mark = refl; body = sym asks })
+upto_mark Flush asks told = absurd asks
+
 -- more entries are asked for than there are; just as many aren't
 asks_more : AsksTooMany (Count 3) 2 0
 asks_more = omega arith
@@ -103,6 +119,13 @@ asks_flush told = told
 lacks : LacksFlush Flush (write ∷ flush ∷ []) 0 → ⊥
 unfolding flush
 lacks none = none 1 flush (omega arith) refl (record { flush = refl; no_mark = refl })
+
+-- so is a mark
+lacks_mark : (upto : Upto) → asks_mark upto [] → LacksMark upto (write ∷ mark ∷ []) 0 → ⊥
+unfolding mark
+lacks_mark (Count n) asks none = absurd asks
+lacks_mark (Mark text) asks none = none 1 mark (omega arith) refl (record { mark = refl; body = sym asks })
+lacks_mark Flush asks none = absurd asks
 
 -- the write reaches past a target of 5 sectors, and not past one of 6
 reaches : ReachesPast 512 (write ∷ []) 0 5
@@ -130,10 +153,16 @@ keeps_lies : KeepsTarget still (record still { lies = 0 }) → ⊥
 unfolding still
 keeps_lies kept = let grows = kept.lies in omega arith
 
--- causes that aren't: too few entries after one that was applied, or in a search; a flush that is lacking where the log has a fault; a fault that it
+-- causes that aren't: too few entries, no flush or no mark after one that was applied, or too few in a search; a flush that is lacking where the log has a fault; a fault that it
 -- hasn't; a reader that refuses for the first time by an earlier refusal; a target that didn't fail
 cause_applied : (old new : Reader) → HasReplayCause [] None (Count 1) old new still still 1 replays.PastEntries → ⊥
 cause_applied old new cause = let none = cause.0 in omega arith
+
+cause_flush_later : (old new : Reader) → HasReplayCause [] None Flush old new still still 1 replays.NoFlush → ⊥
+cause_flush_later old new cause = let none = cause.0 in omega arith
+
+cause_mark_later : (old new : Reader) (upto : Upto) → HasReplayCause [] None upto old new still still 1 replays.NoSuchMark → ⊥
+cause_mark_later old new upto cause = let none = cause.0 in omega arith
 
 cause_search : (old new : Reader) → HasReplayCause [] None Flush old new still still 0 replays.PastEntries → ⊥
 cause_search old new cause = cause.1

@@ -60,7 +60,8 @@ fn step<L: BlockDev + Drop>(
     Ok(text)
 }
 
-// What is shown of the replay of a log in an image of so many bytes on a target of so many sectors, which passes so many calls.
+// What is shown of the replay of a log in an image of so many bytes on a target of so many sectors, which passes so many calls: also whether a call of
+// the log's device was late.
 fn shown(
     rt: &impl Abort,
     alloc: Global,
@@ -72,7 +73,11 @@ fn shown(
 ) -> Result<String, Fail> {
     let mut log = log_on(rt, alloc, text, length, u64::MAX)?;
     let mut target = target_of(alloc, sectors, passes)?;
-    Ok(step(alloc, &mut log, &mut target, upto)?)
+    let mut text = step(alloc, &mut log, &mut target, upto)?;
+    if log.into_device().seen.as_str().contains("late") {
+        text.push_str("late log")?;
+    }
+    Ok(text)
 }
 
 // Writes with no flag, with FUA, with FLUSH and FUA, and of no sectors; a flush; discards of three sectors and of none; a mark; a write with META.
@@ -87,11 +92,14 @@ const LONG: &str = "8 1 1 512 0 512 3 8192 0 0";
 
 const WIDE: &str = "8 1 1 512 0 512 1 131072 4 0";
 
+// A flush at sector 17.
+const OUTSIDE: &str = "8 1 1 512 0 512 17 0 1 0";
+
 // Each entry with sectors is one call, without FUA, and the others are none.
 #[test]
 fn each_entry_is_one_call(rt: HostRuntime) -> Result<(), Fail> {
     let alloc = rt.alloc();
-    let rows: [(&str, usize, u64, u64, &str); 8] = [
+    let rows: [(&str, usize, u64, u64, &str); 10] = [
         (CALLS, 7_680, 16, 9, "9:w5+1 w6+2 w8+1 d9+3 w1+1 "),
         (CALLS, 7_680, 16, 5, "5:w5+1 w6+2 w8+1 "),
         (CALLS, 7_680, 11, 9, "27 PastTarget after 5:w5+1 w6+2 w8+1 "),
@@ -100,12 +108,32 @@ fn each_entry_is_one_call(rt: HostRuntime) -> Result<(), Fail> {
         (LONG, 4_195_328, 8_195, 1, "1:w3+8192 "),
         (WIDE, 1_024, 131_073, 1, "1:d1+131072 "),
         (WIDE, 1_024, 131_072, 1, "27 PastTarget after 0:"),
+        (OUTSIDE, 1_024, 17, 1, "1:"),
+        (OUTSIDE, 1_024, 16, 1, "27 PastTarget after 0:"),
     ];
     for (text, length, sectors, count, wanted) in rows {
         let upto = Upto::Count(count);
         let found = shown(&rt, alloc, text, length, sectors, u64::MAX, &upto)?;
         assert_eq!(rt; found.as_str(), wanted);
     }
+    Ok(())
+}
+
+// Each of thousands of discards is one call, in their order; where the time of each grew with its place, the test would not end in time.
+#[test]
+fn thousands_of_entries_are_replayed(rt: HostRuntime) -> Result<(), Fail> {
+    let alloc = rt.alloc();
+    let mut text = String::from_str(alloc, "8 1 30001 512 0")?;
+    let mut wanted = String::from_str(alloc, "30001:")?;
+    for number in 0..30_000_u64 {
+        let (at, sector) = (number * 512 + 512, number % 16);
+        text.push_str(format!(in alloc; " {at} {sector} 1 4 0")?.as_str())?;
+        wanted.push_str(format!(in alloc; "d{sector}+1 ")?.as_str())?;
+    }
+    text.push_str(" 15360512 0 0 1 0")?;
+    let text = text.as_str();
+    let found = shown(&rt, alloc, text, 15_361_024, 16, u64::MAX, &Upto::Flush)?;
+    assert!(rt; found.as_str() == wanted.as_str());
     Ok(())
 }
 

@@ -204,7 +204,7 @@ fn disks_of_each_size_are_kept(rt: HostRuntime) -> Result<(), Fail> {
 
 // What a round of calls puts in a sector of 64: zeroes by a discard, or its number by a write.
 fn put_in_round(round: u64, sector: u64) -> u8 {
-    if (round % 16 + sector) % 16 == 0 {
+    if (round % 16 + sector % 16) % 16 == 0 {
         (round % 200) as u8
     } else {
         0

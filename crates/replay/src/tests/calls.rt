@@ -92,14 +92,11 @@ const LONG: &str = "8 1 1 512 0 512 3 8192 0 0";
 
 const WIDE: &str = "8 1 1 512 0 512 1 131072 4 0";
 
-// A flush at sector 17.
-const OUTSIDE: &str = "8 1 1 512 0 512 17 0 1 0";
-
 // Each entry with sectors is one call, without FUA, and the others are none.
 #[test]
 fn each_entry_is_one_call(rt: HostRuntime) -> Result<(), Fail> {
     let alloc = rt.alloc();
-    let rows: [(&str, usize, u64, u64, &str); 10] = [
+    let rows: [(&str, usize, u64, u64, &str); 8] = [
         (CALLS, 7_680, 16, 9, "9:w5+1 w6+2 w8+1 d9+3 w1+1 "),
         (CALLS, 7_680, 16, 5, "5:w5+1 w6+2 w8+1 "),
         (CALLS, 7_680, 11, 9, "27 PastTarget after 5:w5+1 w6+2 w8+1 "),
@@ -108,8 +105,6 @@ fn each_entry_is_one_call(rt: HostRuntime) -> Result<(), Fail> {
         (LONG, 4_195_328, 8_195, 1, "1:w3+8192 "),
         (WIDE, 1_024, 131_073, 1, "1:d1+131072 "),
         (WIDE, 1_024, 131_072, 1, "27 PastTarget after 0:"),
-        (OUTSIDE, 1_024, 17, 1, "1:"),
-        (OUTSIDE, 1_024, 16, 1, "27 PastTarget after 0:"),
     ];
     for (text, length, sectors, count, wanted) in rows {
         let upto = Upto::Count(count);

@@ -1,19 +1,19 @@
 -- The command that words enter, and the task that it asks for.
-use Rattle.std.proofs.Common.{IfSome, ◌≡◌, ◌∙◌, ℕ, List, [], ◌∷◌, Option, Some, None, ap, drop, map, option_map, refl, subst, sym, true}
+use Rattle.std.proofs.Common.{◌≡◌, ◌∙◌, ℕ, List, [], ◌∷◌, ap, drop, map, refl, subst, sym, true}
 use Rattle.std.specs.List.{list_any}
 use Rattle.clap.proofs.OnLiterals.{clap_on_literals}
 use Rattle.clap.proofs.WalkLemmas.{list_any-map}
-use Rattle.clap.specs.Words.{IsAmong, Kinds, Row, Text, fault_of, is_simple, is_simple_and_free, kind_of}
+use Rattle.clap.specs.Words.{IsAmong, Kinds, Row, Text, is_simple, is_simple_and_free, kind_of}
 use Rattle.clap.specs.declared.error.Error.{Error}
 use Rattle.clap.specs.declared.error.kind.ErrorKind.TheVariants.{OutOfMemory}
 use Rattle.dmlw_dispatch.specs.CommandLine.{Entered, Enters, has_explain, is_explain, program_app}
-use Rattle.dmlw_dispatch.specs.Names.{HasWords, name_of, name_text}
-use Rattle.dmlw_dispatch.specs.Tasks.{Asks, AsksBy, IsAskedBy, IsComplete, IsReadByClap, fault, memory, missing}
+use Rattle.dmlw_dispatch.specs.Names.{name_text}
+use Rattle.dmlw_dispatch.specs.Tasks.{Asks, AsksBy, IsComplete, IsReadByClap, fault, memory, missing}
 use Rattle.dmlw_dispatch.specs.declared.name.Name.{Name}
 use Rattle.dmlw_dispatch.specs.declared.name.Name.TheVariants as names
 use Rattle.dmlw_dispatch.specs.declared.task.Task.{Task}
 use Rattle.dmlw_dispatch.specs.declared.task.Task.TheVariants as tasks
-use Rattle.dmlw_dispatch.proofs.Naming.{named, named_again, one_name, same_some}
+use Rattle.dmlw_dispatch.proofs.Naming.{one_name, same_some}
 
 -- where there was no memory, a command asks to show so
 shown_for_memory : (name : Name) (rows : List Row) (error : Error) → kind_of error ≡ OutOfMemory → AsksBy name rows (tasks.Show error)

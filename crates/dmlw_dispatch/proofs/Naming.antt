@@ -1,5 +1,5 @@
 -- The names of commands are told apart.
-use Rattle.std.proofs.Common.{◌≡◌, ◌∙◌, ℕ, Bool, true, false, List, Option, Some, None, ap, cond, refl, subst, sym}
+use Rattle.std.proofs.Common.{◌≡◌, ◌∙◌, ℕ, Bool, true, false, List, Option, Some, ap, cond, refl, subst, sym}
 use Rattle.std.specs.Cmp.Lexicographic.{same_text}
 use Rattle.dmlw_dispatch.specs.Names.{is_same, name_of, name_text}
 use Rattle.dmlw_dispatch.specs.declared.name.Name.{Name}

@@ -5,7 +5,7 @@ use Rattle.std.proofs.lemmas.Bool.{and_parts}
 use Rattle.std.proofs.lemmas.List.{append_assoc, append-nil}
 use Rattle.clap.specs.Kinds.{Kinds, or_else}
 use Rattle.clap.specs.Simple.{Shape}
-use Rattle.clap.specs.Walk.{Held, Names, Rule, Text, Walk, arg_by_index, finished, idle, is_multiple, next_position, nothing_held, positional_held, settled, to_positional, value, walk, walk_from, walked}
+use Rattle.clap.specs.Walk.{Held, Names, Rule, Text, Walk, arg_by_index, finished, idle, is_multiple, next_position, nothing_held, positional_held, settled, to_positional, value, walk, walked}
 use Rattle.clap.specs.Faults.{check_fault, defaults_fault, level_fault, settle_fault, step_fault, turn_fault, walk_fault}
 use Rattle.dmlw_dispatch.specs.CommandLine.{is_positional}
 

@@ -1,5 +1,5 @@
 -- What calls and messages leave of the list, the mode and the counts, by what is said that they do.
-use Rattle.std.proofs.Common.{◌≡◌, ℕ, suc, ◌+◌, ◌-◌, ◌/◌, ◌*◌, ◌<◌, ◌≤◌, Bool, true, false, Ok, Err, List, length, Option, Some, None, refl, subst, inl, inr, ◌∙◌, arith}
+use Rattle.std.proofs.Common.{◌≡◌, ℕ, ◌+◌, ◌-◌, ◌/◌, ◌*◌, ◌<◌, ◌≤◌, Bool, true, false, Ok, Err, List, length, Some, None, refl, subst, inl, inr, ◌∙◌, arith}
 use Rattle.std.specs.Prelude.{Result, is_some, nat_lt}
 use Rattle.bio.specs.declared.outcome.DevError.{DevError}
 use Rattle.blockdev.specs.Calls.{Call, Reads, Writes}
@@ -7,7 +7,7 @@ use Rattle.blockdev.specs.declared.message.MessageError.{MessageError}
 use Rattle.blockdev.specs.declared.message.MessageError.TheVariants as errors
 use Rattle.dust_layer.specs.declared.dust.Dust.{Dust}
 use Rattle.dust_layer.specs.declared.mode.Mode.{Mode}
-use Rattle.dust_layer.specs.declared.mode.Mode.TheVariants.{Bypass, FailReadOnBadBlock}
+use Rattle.dust_layer.specs.declared.mode.Mode.TheVariants.{Bypass}
 use Rattle.dust_layer.specs.declared.order.Order.{Order}
 use Rattle.dust_layer.specs.declared.order.Order.TheVariants as orders
 use Rattle.dust_layer.specs.declared.parts.Stop.TheVariants.{Below, Struck}

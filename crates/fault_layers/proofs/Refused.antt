@@ -2,7 +2,7 @@
 -- refused by it.
 use Rattle.std.proofs.Common.{◌≡◌, ℕ, ◌+◌, List, [], ◌∷◌, Ok, Err, slice_index_or, refl, ap, ◌∙◌, arith}
 use Rattle.bio.specs.declared.outcome.DevError.TheVariants.{Io}
-use Rattle.blockdev.specs.Calls.{Call, Discards, Flushes, Reads, Writes}
+use Rattle.blockdev.specs.Calls.{Discards, Flushes, Reads}
 use Rattle.sectors.specs.Content.{Content}
 use Rattle.fault_layers.specs.declared.delay.Delay.{Delay}
 use Rattle.fault_layers.specs.declared.gate.Verdict.TheVariants.{Drop, Fail, Pass}

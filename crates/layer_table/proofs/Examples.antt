@@ -1,5 +1,5 @@
 -- The definitions on examples: what holds, and what doesn't.
-use Rattle.std.proofs.Common.{◌≡◌, true, false, [], ◌∷◌, Some, None, refl}
+use Rattle.std.proofs.Common.{◌≡◌, true, false, [], ◌∷◌, None, refl}
 use Rattle.blockdev.specs.Calls.{Discards, Flushes}
 use Rattle.blockdev.specs.View.{View}
 use Rattle.fault_layers.specs.declared.gate.Kind.TheVariants as kinds

@@ -1,7 +1,6 @@
 -- What messages leave of a stack's layers, and what a layer that was put shows, by what is said of them.
-use Rattle.std.proofs.Common.{◌≡◌, ℕ, ◌+◌, ◌<◌, ◌≤◌, List, [], Ok, refl, inl, inr, arith}
+use Rattle.std.proofs.Common.{◌≡◌, ℕ, ◌+◌, ◌≤◌, List, [], Ok, refl, inl, inr, arith}
 use Rattle.std.specs.Prelude.{◌↔◌, Result}
-use Rattle.bio.specs.declared.outcome.DevError.{DevError}
 use Rattle.blockdev.specs.Calls.{Call}
 use Rattle.blockdev.specs.View.{View}
 use Rattle.blockdev.specs.declared.device.BlockDev.{Ghosts}

@@ -3,6 +3,6 @@
 #![tactic(auto)]
 
 #[cfg(test)]
-mod core;
-#[cfg(test)]
 mod images;
+#[cfg(test)]
+mod recording;

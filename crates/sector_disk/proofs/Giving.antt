@@ -1,5 +1,5 @@
 -- An image that is given back with what was put over it.
-use Rattle.std.proofs.Common.{◌≡◌, ℕ, suc, zero, ◌+◌, ◌-◌, ◌*◌, ◌/◌, ◌<◌, ◌≤◌, ◌&&◌, Bool, false, true, get_or, Some, List, [], ◌∷◌, ◌++◌, Vec, Global, length, take, drop, replicate, ap, refl, sym, ◌∙◌, arith}
+use Rattle.std.proofs.Common.{◌≡◌, ℕ, suc, zero, ◌+◌, ◌-◌, ◌*◌, ◌/◌, ◌<◌, ◌≤◌, ◌&&◌, Bool, false, true, get_or, List, [], ◌∷◌, ◌++◌, Vec, Global, length, take, drop, replicate, ap, refl, sym, ◌∙◌, arith}
 use Rattle.std.specs.Prelude.{◌==◌, Option, slice_get, unwrap_or}
 use borrow.Rule.Slice.PartMut.{put_mid}
 use Rattle.std.proofs.Math.Seq.{take-add}

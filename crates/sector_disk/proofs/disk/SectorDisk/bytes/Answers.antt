@@ -1,6 +1,4 @@
-use Rattle.std.proofs.Common.{◌∙◌, ap, length}
-use Rattle.sectors.specs.Content.{gather}
-use Rattle.sector_disk.specs.inside.Storage.{content_at}
+use Rattle.std.proofs.Common.{length}
 use Rattle.sector_disk.proofs.Moved.{given_of}
 use Rattle.sector_disk.proofs.disk.SectorDisk.bytes.Goals as goal
 

@@ -1,4 +1,4 @@
-use Rattle.std.proofs.Common.{List, refl, ℕ}
+use Rattle.std.proofs.Common.{refl}
 use Rattle.std.proofs.lemmas.Result.{IfOk-weaker}
 use Rattle.sector_disk.specs.declared.disk.SectorDisk.{SectorDisk}
 use Rattle.sector_disk.proofs.Moved.{given_of}

@@ -1,5 +1,5 @@
-use pending::*;
 use bio::{Bio, Bytes, End, Id};
+use pending::*;
 use std::alloc::{AllocError, Global};
 use std::test::Fail;
 

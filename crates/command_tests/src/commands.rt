@@ -3,7 +3,7 @@ ghost use Rattle.std.specs.Prelude.{None};
 use dmlw_commands::list::list;
 use dmlw_commands::record::record;
 use dmlw_commands::status::status;
-use dmlw_commands::{FileError, Files, Output, Trouble};
+use dmlw_files::{FileError, Files, Output, Trouble};
 use std::alloc::{AllocError, Global};
 use std::io;
 use std::io::Write;

@@ -8,8 +8,8 @@
 //! what they hold.
 #![tactic(auto)]
 
-use dmlw_commands::{HostFiles, Output};
 use dmlw_dispatch::{execute, refuse};
+use dmlw_files::{HostFiles, Output};
 use std::io::{BufWriter, Write};
 use std::process::ExitCode;
 use std::rt::{Env, Files};

@@ -7,7 +7,7 @@ use Rattle.script_runner.specs.Runs.{EndsRun, close, file as by_file, message}
 use Rattle.bio.specs.declared.outcome.Status.{Status}
 use Rattle.dmlw_commands.specs.Endings.{EndsRecording, EndsShowing, Telling, Tells, TellsLine}
 use Rattle.dmlw_commands.specs.Exits.{exit_after, told_line}
-use Rattle.dmlw_commands.specs.Files.{AsksFor, KeepsFiles, Write}
+use Rattle.dmlw_files.specs.Files.{AsksFor, KeepsFiles, Write}
 use Rattle.dmlw_commands.specs.Lists.{Shows, ShowsFile}
 use Rattle.dmlw_commands.specs.Records.{FailsRecording, Records, PrintsLog, WritesLog, file, run as ran, text as unread}
 use Rattle.dmlw_script.specs.Plans.{Plan}

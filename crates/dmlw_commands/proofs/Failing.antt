@@ -17,10 +17,10 @@ use Rattle.script_runner.specs.declared.recording.Lies.{Lies}
 use Rattle.script_runner.specs.declared.recording.Recorded.{Recorded}
 use Rattle.script_runner.specs.Errors.{IsFileError, io_refusal, refused_by}
 use Rattle.script_runner.specs.OnDisks.{FailsOnDisks, IsRecorded}
-use Rattle.dmlw_commands.specs.declared.files.FileError.{FileError}
-use Rattle.dmlw_commands.specs.declared.files.FileError.TheVariants as errors
-use Rattle.dmlw_commands.specs.FileErrors.{file_refusal}
-use Rattle.dmlw_commands.specs.Files.{IsTooLong, MatchesContents, Write, one_more}
+use Rattle.dmlw_files.specs.declared.files.FileError.{FileError}
+use Rattle.dmlw_files.specs.declared.files.FileError.TheVariants as errors
+use Rattle.dmlw_files.specs.FileErrors.{file_refusal}
+use Rattle.dmlw_files.specs.Files.{IsTooLong, MatchesContents, Write, one_more}
 use Rattle.dmlw_commands.specs.Records.{FailsRecording, IsPrintedLog, WritesLog, end_lines, file, run as run_fails, text as unread}
 
 -- a file's error is printed as such

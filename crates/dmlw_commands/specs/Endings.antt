@@ -6,7 +6,7 @@ use Rattle.dmlw_commands.specs.declared.ending.Ended.{Ended}
 use Rattle.bio.specs.declared.outcome.Status.{Status}
 use Rattle.dmlw_commands.specs.declared.exit.Exit.{Exit}
 use Rattle.dmlw_commands.specs.Exits.{exit_after, exit_by, told_line}
-use Rattle.dmlw_commands.specs.Files.{Write}
+use Rattle.dmlw_files.specs.Files.{Write}
 use Rattle.dmlw_commands.specs.Lists.{Shows, ShowsFile}
 use Rattle.dmlw_commands.specs.Records.{Records}
 

@@ -1,6 +1,5 @@
+pub use Rattle.dmlw_files.specs.Files
 pub mod Exits
-pub mod Files
-pub mod FileErrors
 pub mod Lists
 pub mod Records
 pub mod Endings

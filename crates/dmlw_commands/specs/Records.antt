@@ -15,7 +15,7 @@ use Rattle.script_runner.specs.declared.recording.Lies.{Lies}
 use Rattle.script_runner.specs.declared.error.RunError.TheVariants.{Refused}
 use Rattle.script_runner.specs.Errors.{IsFileError}
 use Rattle.script_runner.specs.OnDisks.{FailsOnDisks, IsRecorded}
-use Rattle.dmlw_commands.specs.Files.{MatchesContents, Write, one_more}
+use Rattle.dmlw_files.specs.Files.{MatchesContents, Write, one_more}
 
 -- the line that says how far a log has come
 abbrev pub status_line : Status → List ℕ

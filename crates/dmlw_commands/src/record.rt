@@ -6,22 +6,19 @@ ghost use Rattle.dmlw_commands.specs.Endings.{EndsRecording, telling};
 ghost use Rattle.dmlw_commands.specs.declared.exit.Exit.{Exit};
 ghost use Rattle.dmlw_commands.specs.Exits.{IsRefusal, exit_after, exit_of};
 ghost use Rattle.std.specs.Result.{IsErrAnd};
-ghost use Rattle.dmlw_commands.specs.Files.{AsksFor, IsTooLong, IsWithin, KeepsFiles, MatchesContents};
+ghost use Rattle.dmlw_files.specs.Files.{AsksFor, IsTooLong, IsWithin, KeepsFiles, MatchesContents};
 ghost use Rattle.dmlw_commands.specs.Records.{FailsRecording, IsPrintedLog, WritesLog, end_lines, lies_line, log_lines};
 
 use crate::ending::{Ended, end_recording};
-use crate::explain::explain_recording;
-use crate::files::{FileError, Files};
 use bio::Status;
+use dmlw_explain::explain_recording;
+use dmlw_files::{Files, read_text};
 use dmlw_script::{Kind, Script, read_script};
 use pending::Hazard;
 use refusals::Refusal;
 use script_runner::{Lies, Recorded, RunError};
 use std::alloc::Global;
 use std::io::Write;
-
-/// The most bytes of a script.
-pub const MAX_SCRIPT_BYTES: u64 = 4_194_304;
 
 /// Does `record SCRIPT LOG`: records the requests of a script in a new log, and answers how it ended.
 /// `script` and `log` are names of files. What there is to print goes to `out` before the log is
@@ -93,17 +90,6 @@ fn run_file<F: Files, O: Write>(
 {
     let text = read_text(alloc, script, files)?;
     run_text(alloc, &text, out)
-}
-
-/// The text in a script's file: at most 4,194,304 bytes. Any other file is refused, as is one that can't be read.
-pub fn read_text<F: Files>(alloc: Global, script: &str, files: &mut F) -> Result<Vec<u8>, FileError>
-    ensures contents { IfOk result (λ text. MatchesContents (F.contents files.old script.now) text.items) }
-    ensures within { IfOk result (λ text. length text.items ≤ 4194304) }
-    ensures readable { IsWithin 4194304 (F.contents files.old script.now) → IfErr result (λ error. error ≡ FileError.Memory) }
-    ensures kept { KeepsFiles (F.contents files.old) (F.contents files.new) }
-    ensures unwritten { F.writes files.new ≡ F.writes files.old }
-{
-    files.read(alloc, script, MAX_SCRIPT_BYTES)
 }
 
 // Runs the script that a text spells, and prints what happens and how far its log has come.

@@ -10,7 +10,7 @@ use Rattle.dmlw_commands.specs.declared.exit.Exit.TheVariants.{Done, LoggingEnde
 use Rattle.dmlw_commands.specs.Exits.{exit_after, exit_at, exit_of, fault_line, status_of, told_line}
 use Rattle.dmlw_commands.specs.declared.ending.Ended.{Ended}
 use Rattle.dmlw_commands.specs.Endings.{Telling, Tells, TellsLine}
-use Rattle.dmlw_commands.specs.Files.{AsksFor, Write}
+use Rattle.dmlw_files.specs.Files.{AsksFor, Write}
 use Rattle.dmlw_commands.specs.Records.{Records, WritesLog}
 use Rattle.dmlw_judge.specs.Judgements.{exit_judged}
 use Rattle.dmlw_replay.specs.Replays.{PrintsReplay, Replays, replay_exit, replay_line}

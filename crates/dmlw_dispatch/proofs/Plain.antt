@@ -10,7 +10,7 @@ use Rattle.clap.specs.Words.{Row, Text, kind_of}
 use Rattle.script_runner.specs.Errors.{memory_error}
 use Rattle.dmlw_commands.specs.declared.ending.Ended.{Ended}
 use Rattle.dmlw_commands.specs.Endings.{EndsRecording, EndsShowing, Telling, telling}
-use Rattle.dmlw_commands.specs.Files.{Write}
+use Rattle.dmlw_files.specs.Files.{Write}
 use Rattle.dmlw_commands.specs.Lists.{ListsImage, Shows, ShowsStatus}
 use Rattle.dmlw_commands.specs.Records.{file}
 use Rattle.dmlw_judge.specs.Judgements.{EndsJudging, Question, file as unjudged}

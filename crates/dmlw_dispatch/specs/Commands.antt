@@ -18,7 +18,7 @@ use Rattle.dmlw_commands.specs.declared.exit.Exit.TheVariants.{Done, LoggingEnde
 use Rattle.dmlw_commands.specs.declared.ending.Ended.{Ended}
 use Rattle.dmlw_commands.specs.Endings.{EndsRecording, EndsShowing, Telling, Tells, telling}
 use Rattle.dmlw_commands.specs.Exits.{exit_of, fault_line, stopped_line}
-use Rattle.dmlw_commands.specs.Files.{AsksFor, Write}
+use Rattle.dmlw_files.specs.Files.{AsksFor, Write}
 use Rattle.dmlw_commands.specs.Lists.{ListsImage, ShowsStatus}
 use Rattle.dmlw_judge.specs.Judgements.{EndsJudging}
 use Rattle.dmlw_replay.specs.Replays.{EndsReplaying}

@@ -6,7 +6,7 @@ ghost use Rattle.dmlw_dispatch.specs.declared.name.Name.TheVariants as names;
 
 use crate::task::{Flaw, Task};
 use clap::ArgMatches;
-use dmlw_commands::ReplayNames;
+use dmlw_explain::ReplayNames;
 use dmlw_replay::upto_of;
 use words::number_of;
 

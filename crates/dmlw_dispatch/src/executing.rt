@@ -6,7 +6,7 @@ ghost use Rattle.dmlw_dispatch.specs.CommandLine.{has_explain};
 ghost use Rattle.dmlw_dispatch.specs.Commands.{AsksForOne, DoesWords, EndsCommand, EndsTask, EndsUntasked, TellsBy, TellsPage, TellsUntasked, flaw_text, is_asked_for, unread_exit};
 ghost use Rattle.dmlw_commands.specs.Endings.{telling};
 ghost use Rattle.script_runner.specs.Errors.{IsFileError};
-ghost use Rattle.dmlw_commands.specs.Files.{KeepsFiles};
+ghost use Rattle.dmlw_files.specs.Files.{KeepsFiles};
 ghost use Rattle.dmlw_commands.specs.declared.exit.Exit.TheVariants.{LoggingEnded, Usage};
 ghost use Rattle.dmlw_commands.specs.Exits.{IsRefusal, status_of};
 
@@ -17,7 +17,8 @@ use clap::error::ErrorKind;
 use dmlw_commands::list::list;
 use dmlw_commands::record::record;
 use dmlw_commands::status::status;
-use dmlw_commands::{Ended, Exit, Files, end, report};
+use dmlw_commands::{Ended, Exit, end, report};
+use dmlw_files::Files;
 use dmlw_judge::judge;
 use dmlw_replay::replay;
 use refusals::Refusal;

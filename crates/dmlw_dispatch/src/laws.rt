@@ -6,7 +6,7 @@ ghost use Rattle.dmlw_dispatch.specs.declared.name.Name.{Name};
 ghost use Rattle.dmlw_dispatch.specs.declared.name.Name.TheVariants as names;
 ghost use Rattle.dmlw_commands.specs.declared.ending.Ended.{Ended};
 ghost use Rattle.dmlw_commands.specs.Endings.{EndsRecording, EndsShowing, telling};
-ghost use Rattle.dmlw_commands.specs.Files.{Write};
+ghost use Rattle.dmlw_files.specs.Files.{Write};
 ghost use Rattle.dmlw_commands.specs.Lists.{ListsImage, ShowsStatus};
 ghost use Rattle.dmlw_judge.specs.Judgements.{EndsJudging};
 ghost use Rattle.dmlw_replay.specs.Whats.{IsWhat};

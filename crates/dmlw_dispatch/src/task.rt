@@ -2,7 +2,7 @@ ghost use Rattle.std.specs.Prelude.{◌≡◌};
 ghost use Rattle.dmlw_dispatch.specs.Commands.{flaw_text};
 
 use clap::Error;
-use dmlw_commands::ReplayNames;
+use dmlw_explain::ReplayNames;
 use replay::Upto;
 
 /// What a command line asks for. `script`, `log` and `image` are names of files.

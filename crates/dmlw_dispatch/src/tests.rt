@@ -2,7 +2,7 @@ ghost use Rattle.std.specs.Prelude.{None};
 
 use crate::executing::{execute, refuse};
 use crate::formats::FORMATS;
-use dmlw_commands::{FileError, Files, Trouble};
+use dmlw_files::{FileError, Files, Trouble};
 use std::alloc::Global;
 use std::io;
 use std::test::Fail;

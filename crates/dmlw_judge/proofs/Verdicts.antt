@@ -19,13 +19,13 @@ use Rattle.script_runner.specs.CallLaws.{keeps_same, keeps_twice, appends_kept}
 use Rattle.script_runner.specs.Errors.{IsFileError, memory_error, refused_by}
 use Rattle.script_runner.specs.Rehearsals.{FailsRehearsal, IsRehearsed}
 use Rattle.dmlw_commands.specs.declared.ending.Ended.{Ended}
-use Rattle.dmlw_commands.specs.declared.files.FileError.{FileError}
-use Rattle.dmlw_commands.specs.declared.files.FileError.TheVariants as errors
+use Rattle.dmlw_files.specs.declared.files.FileError.{FileError}
+use Rattle.dmlw_files.specs.declared.files.FileError.TheVariants as errors
 use Rattle.dmlw_commands.specs.Endings.{Telling, TellsLine}
 use Rattle.dmlw_commands.specs.Exits.{told_line}
-use Rattle.dmlw_commands.specs.FileErrors.{file_refusal}
-use Rattle.dmlw_commands.specs.Files.{MatchesContents, Write}
-use Rattle.dmlw_commands.specs.Lists.{IsImage}
+use Rattle.dmlw_files.specs.FileErrors.{file_refusal}
+use Rattle.dmlw_files.specs.Files.{MatchesContents, Write}
+use Rattle.dmlw_files.specs.Images.{IsImage}
 use Rattle.dmlw_judge.specs.Judgements.{CanJudge, CannotJudge, EndsJudging, HasNoVerdict, HasVerdict, Judges, Question, blank, exit_judged, file, moment as no_moment, question, run as no_run, text as unread, verdict_line}
 
 -- a verdict after these events is one of the script's run

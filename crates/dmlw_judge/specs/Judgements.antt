@@ -24,8 +24,8 @@ use Rattle.dmlw_commands.specs.declared.exit.Exit.{Exit}
 use Rattle.dmlw_commands.specs.declared.exit.Exit.TheVariants as exits
 use Rattle.dmlw_commands.specs.Endings.{Telling, TellsLine}
 use Rattle.dmlw_commands.specs.Exits.{exit_of, told_line}
-use Rattle.dmlw_commands.specs.Files.{MatchesContents, Write}
-use Rattle.dmlw_commands.specs.Lists.{IsImage}
+use Rattle.dmlw_files.specs.Files.{MatchesContents, Write}
+use Rattle.dmlw_files.specs.Images.{IsImage}
 use Rattle.dmlw_commands.specs.Records.{IsNoScript}
 
 -- an image of so many bytes that are zero

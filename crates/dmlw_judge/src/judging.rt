@@ -8,13 +8,15 @@ ghost use Rattle.judge.specs.Verdicts.{IsVerdict};
 ghost use Rattle.script_runner.specs.Errors.{IsFileError, memory_error, refused_by};
 ghost use Rattle.dmlw_commands.specs.Endings.{telling};
 ghost use Rattle.dmlw_commands.specs.Exits.{told_line};
-ghost use Rattle.dmlw_commands.specs.Files.{KeepsFiles};
-ghost use Rattle.dmlw_commands.specs.Lists.{IsImage};
+ghost use Rattle.dmlw_files.specs.Files.{KeepsFiles};
+ghost use Rattle.dmlw_files.specs.Images.{IsImage};
 ghost use Rattle.dmlw_judge.specs.Judgements.{CanJudge, CannotJudge, EndsJudging, HasNoVerdict, HasVerdict, Judges, blank, exit_judged, question, verdict_line};
 
 use crate::moments::last_moment;
 use bio::CoreEvent;
-use dmlw_commands::{Ended, Exit, Files, end, end_well, explain_judging, read_image, read_text};
+use dmlw_commands::{Ended, Exit, end, end_well};
+use dmlw_explain::explain_judging;
+use dmlw_files::{Files, read_image, read_text};
 use dmlw_script::{Kind, Script, read_script};
 use judge::{Verdict, could_hold};
 use refusals::Refusal;

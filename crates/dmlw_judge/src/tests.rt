@@ -1,7 +1,7 @@
 ghost use Rattle.std.specs.Prelude.{None};
 
 use crate::judge;
-use dmlw_commands::{FileError, Files, Trouble};
+use dmlw_files::{FileError, Files, Trouble};
 use std::alloc::{AllocError, Global};
 use std::test::Fail;
 

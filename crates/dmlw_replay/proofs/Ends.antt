@@ -11,7 +11,7 @@ use Rattle.dmlw_commands.specs.declared.exit.Exit.{Exit}
 use Rattle.dmlw_commands.specs.declared.exit.Exit.TheVariants.{Done, Refused}
 use Rattle.dmlw_commands.specs.Endings.{Telling, TellsLine}
 use Rattle.dmlw_commands.specs.Exits.{IsRefusal, exit_of}
-use Rattle.dmlw_commands.specs.Files.{KeepsFiles, Write, one_more}
+use Rattle.dmlw_files.specs.Files.{KeepsFiles, Write, one_more}
 use Rattle.dmlw_replay.specs.declared.stop.Stop.{Stop}
 use Rattle.dmlw_replay.specs.declared.stop.Stop.TheVariants as stops
 use Rattle.dmlw_replay.specs.Replays.{EndsReplaying, FailsOnImages, FailsReplay, IsFileStop, IsReplayedFrom, PrintsReplay, Replays, file, images, memory, replay_exit, replay_line, replayed_line, stopped, unopened}

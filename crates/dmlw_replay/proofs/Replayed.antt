@@ -28,8 +28,9 @@ use Rattle.replay.specs.declared.upto.Upto.{Upto}
 use Rattle.replay.specs.Replays.{AsksTooMany, HasReplayCause, IsApplied, IsUpto, LacksFlush, LacksMark, Leaves, ReachesPast, entries_from}
 use Rattle.script_runner.specs.declared.error.RunError.{RunError}
 use Rattle.script_runner.specs.Errors.{memory_error, refused_by}
-use Rattle.dmlw_commands.specs.Lists.{IsImage, RefusesImage}
-use Rattle.dmlw_commands.specs.Files.{MatchesContents}
+use Rattle.dmlw_files.specs.Images.{IsImage}
+use Rattle.dmlw_commands.specs.Lists.{RefusesImage}
+use Rattle.dmlw_files.specs.Files.{MatchesContents}
 use Rattle.dmlw_replay.specs.declared.images.Replayed.{Replayed}
 use Rattle.dmlw_replay.specs.declared.stop.Stop.{Stop}
 use Rattle.dmlw_replay.specs.declared.stop.Stop.TheVariants as stops

@@ -23,8 +23,9 @@ use Rattle.dmlw_commands.specs.declared.exit.Exit.{Exit}
 use Rattle.dmlw_commands.specs.declared.exit.Exit.TheVariants.{Done, Refused}
 use Rattle.dmlw_commands.specs.Endings.{Telling, TellsLine}
 use Rattle.dmlw_commands.specs.Exits.{exit_of, fault_line, stopped_line}
-use Rattle.dmlw_commands.specs.Files.{MatchesContents, Write, one_more}
-use Rattle.dmlw_commands.specs.Lists.{IsImage, RefusesImage}
+use Rattle.dmlw_files.specs.Files.{MatchesContents, Write, one_more}
+use Rattle.dmlw_files.specs.Images.{IsImage}
+use Rattle.dmlw_commands.specs.Lists.{RefusesImage}
 use Rattle.dmlw_replay.specs.declared.stop.Stop.{Stop}
 use Rattle.dmlw_replay.specs.declared.stop.Stop.TheVariants as stops
 

@@ -4,7 +4,8 @@ ghost use Rattle.sector_disk.specs.Sizes.{Begins};
 ghost use Rattle.sectors.specs.Content.{sector_of};
 ghost use Rattle.log_reader.specs.Shown.{reader_of};
 ghost use Rattle.script_runner.specs.Errors.{memory_error};
-ghost use Rattle.dmlw_commands.specs.Lists.{IsImage, RefusesImage};
+ghost use Rattle.dmlw_files.specs.Images.{IsImage};
+ghost use Rattle.dmlw_commands.specs.Lists.{RefusesImage};
 ghost use Rattle.dmlw_replay.specs.Opened.{IsOpened, IsReplayedOn};
 ghost use Rattle.dmlw_replay.specs.Replays.{FailsOnImages, IsReplayed};
 

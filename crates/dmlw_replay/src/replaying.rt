@@ -4,13 +4,15 @@ ghost use Rattle.script_runner.specs.Errors.{IsFileError};
 ghost use Rattle.dmlw_commands.specs.declared.exit.Exit.{Exit};
 ghost use Rattle.dmlw_commands.specs.Endings.{telling};
 ghost use Rattle.dmlw_commands.specs.Exits.{IsRefusal};
-ghost use Rattle.dmlw_commands.specs.Files.{KeepsFiles, one_more};
+ghost use Rattle.dmlw_files.specs.Files.{KeepsFiles, one_more};
 ghost use Rattle.dmlw_replay.specs.Replays.{EndsReplaying, FailsReplay, IsReplayedFrom, Replays, replayed_line};
 
 use crate::ending::{end_replaying, refusal_of};
 use crate::images::{Replayed, replay_images};
 use crate::stop::Stop;
-use dmlw_commands::{Ended, Exit, Files, ReplayNames, explain_replaying, read_image};
+use dmlw_commands::{Ended, Exit};
+use dmlw_explain::{ReplayNames, explain_replaying};
+use dmlw_files::{Files, read_image};
 use refusals::Refusal;
 use replay::Upto;
 use script_runner::RunError;

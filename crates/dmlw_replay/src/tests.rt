@@ -2,7 +2,8 @@ ghost use Rattle.std.specs.Prelude.{None};
 
 use crate::replay;
 use dmlw_commands::record::record;
-use dmlw_commands::{FileError, Files, ReplayNames, Trouble};
+use dmlw_explain::ReplayNames;
+use dmlw_files::{FileError, Files, Trouble};
 use replay::Upto;
 use std::alloc::Global;
 use std::test::Fail;

@@ -1,7 +1,7 @@
 // What `--explain` adds.
 use super::{FIRST, recorded, run};
-use dmlw_commands::HostFiles;
 use dmlw_commands::record::record;
+use dmlw_files::HostFiles;
 use std::alloc::{AllocError, Global};
 use std::test::Fail;
 

@@ -1,5 +1,5 @@
 // The system's files.
-use dmlw_commands::{FileError, Files, HostFiles};
+use dmlw_files::{FileError, Files, HostFiles};
 use std::alloc::Global;
 use std::fs;
 use std::os::unix::fs::{PermissionsExt, symlink};

@@ -2,7 +2,7 @@ ghost use Rattle.std.specs.Prelude.{None};
 
 use super::FIRST;
 use crate::executing::execute;
-use dmlw_commands::{FileError, Files, Trouble};
+use dmlw_files::{FileError, Files, Trouble};
 use std::alloc::{AllocError, Global};
 use std::test::Fail;
 

@@ -1,16 +1,11 @@
 ghost use Rattle.std.specs.Prelude.{◌≡◌, [], false};
 ghost use Rattle.std.specs.String.{string_bytes};
-ghost use Rattle.dmlw_commands.specs.Files.{KeepsFiles};
+ghost use Rattle.dmlw_files.specs.Files.{KeepsFiles};
 
-mod advice;
-mod line;
-
-use crate::files::{Files, Trouble};
-use crate::image::read_image;
-use crate::record::MAX_SCRIPT_BYTES;
-use advice::advice;
+use crate::advice::advice;
+use crate::line::{Shown, explain_line, write_forms};
 use bio::Status;
-use line::{Shown, explain_line, write_forms};
+use dmlw_files::{Files, MAX_SCRIPT_BYTES, Trouble, read_image};
 use refusals::{Fault, Refusal};
 use script_runner::RunError;
 use std::alloc::Global;
@@ -19,7 +14,7 @@ use std::fmt::Write;
 
 /// What `--explain` adds to how a recording ended: lines that each begin with two spaces. Empty where it
 /// isn't asked for, where there is nothing to add, or where there is no memory for it.
-pub(crate) fn explain_recording<F: Files>(
+pub fn explain_recording<F: Files>(
     alloc: Global,
     explains: bool,
     done: Result<Status, RunError>,
@@ -42,7 +37,7 @@ pub(crate) fn explain_recording<F: Files>(
 }
 
 /// What `--explain` adds to how a command on a log ended, likewise.
-pub(crate) fn explain_reading<F: Files>(
+pub fn explain_reading<F: Files>(
     alloc: Global,
     explains: bool,
     done: Result<(), RunError>,

@@ -2,8 +2,8 @@ use Rattle.std.specs.declared.io.ErrorKind.{ErrorKind}
 use Rattle.std.specs.declared.io.ErrorKind.TheVariants as kinds
 use Rattle.refusals.specs.declared.refusal.Refusal.{Refusal}
 use Rattle.refusals.specs.declared.refusal.Refusal.TheVariants as refusals
-use Rattle.dmlw_commands.specs.declared.files.FileError.{FileError}
-use Rattle.dmlw_commands.specs.declared.files.FileError.TheVariants.{Unusable, Memory}
+use Rattle.dmlw_files.specs.declared.files.FileError.{FileError}
+use Rattle.dmlw_files.specs.declared.files.FileError.TheVariants.{Unusable, Memory}
 
 -- the error of a call on a file that failed for this kind of reason
 abbrev pub file_error : ErrorKind → FileError

@@ -1,7 +1,7 @@
 ghost use Rattle.std.specs.Prelude.{◌≡◌, IfErr, IfOk};
 ghost use Rattle.script_runner.specs.Errors.{IsFileError};
-ghost use Rattle.dmlw_commands.specs.Files.{KeepsFiles, MatchesContents};
-ghost use Rattle.dmlw_commands.specs.Lists.{IsImage};
+ghost use Rattle.dmlw_files.specs.Files.{KeepsFiles, MatchesContents};
+ghost use Rattle.dmlw_files.specs.Images.{IsImage};
 
 use crate::files::Files;
 use refusals::Refusal;

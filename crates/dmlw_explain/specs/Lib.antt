@@ -1,0 +1,1 @@
+pub use Rattle.dmlw_files.specs.Files

@@ -1,0 +1,11 @@
+//! What `--explain` adds behind a fault's line: which line of a script is at fault and the word that doesn't fit, which file can't be used and why,
+//! and what helps against a refusal. Nothing where it isn't asked for; no file is changed for it. The texts are shown by tests.
+#![tactic(auto)]
+
+pub use explaining::{
+    ReplayNames, explain_judging, explain_reading, explain_recording, explain_replaying,
+};
+
+mod advice;
+mod explaining;
+mod line;

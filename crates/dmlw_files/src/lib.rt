@@ -1,0 +1,17 @@
+//! The files and streams of the commands.
+//!
+//! `Files` is what a command asks of a file system (`specs/Files`); `HostFiles` is the system's, of which no clause knows what it holds.
+//! A script's text and an image are read by the rules for their sizes (`specs/Images`). `Output` is a writer whose reader may go away.
+#![tactic(auto)]
+
+pub use files::{FileError, Files, Trouble};
+pub use host_files::HostFiles;
+pub use image::{MAX_IMAGE_BYTES, read_image};
+pub use output::Output;
+pub use text::{MAX_SCRIPT_BYTES, read_text};
+
+mod files;
+mod host_files;
+mod image;
+mod output;
+mod text;

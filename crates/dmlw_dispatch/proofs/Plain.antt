@@ -88,7 +88,7 @@ plain_asks name program words rows task plain enters has read =
     (read_asks (command_words program name words) task (name_text name, rows) (names_help name program words task plainly) enters
     (name, refl, has))
 
--- ---- want of memory
+-- ---- out of memory
 
 -- a text that is shown since there was no memory ends refused, with nothing printed
 memory_ends : (kind : ErrorKind) (before after : Option (List Write)) (old new : Option (List ℕ)) (t : Telling) (ended : Ended) → kind ≡ OutOfMemory

@@ -61,7 +61,7 @@ pub record EndsCommand (old new : Option (List Write)) (status : ℕ) : Type 0 w
   pub once : (new ≡ old) ⊎ AsksForOne old new
   pub unwritten : status ≡ 2 → new ≡ old
 
--- What is told on the error stream of a text that is shown, as one of this kind: of a want of memory its line, of help and the
+-- What is told on the error stream of a text that is shown, as one of this kind: of memory that ran out its line, of help and the
 -- version the line of the file's error where they can't be printed; the others are told themselves.
 abbrev pub TellsUntasked : ErrorKind → Telling → Ended → Type 0
 TellsUntasked OutOfMemory t ended = Tells t (Err memory_error) ended

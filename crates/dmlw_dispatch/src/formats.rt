@@ -112,7 +112,7 @@ A fault is one line on standard error: `dmlw: <number> <name>`, or `dmlw: line <
 | 12, 29 | OutOfRange, BadFeature | a table line's number, or a layer past the end of what stands beneath it; a flakey layer's feature |
 | 13, 14, 15 | BadMagic, BadVersion, BadSectorSize | the image isn't a log, or is of another version, or has log sectors that aren't 512, 1024, 2048 or 4096 bytes |
 | 16, 17 | BadMark, TooLarge | an entry that no log can have |
-| 19, 20 | Device, Memory | no log could be made, since its device failed, or for want of memory (status 3) |
+| 19, 20 | Device, Memory | no log could be made, since its device failed, or memory ran out (status 3) |
 | 21 | CutShort | the log is shorter than it says |
 | 24 | Busy | a `close` where a request is open |
 | 25, 26 | NoSuchMark, NoFlush | a replay up to a mark, or a flush, that the log doesn't have |

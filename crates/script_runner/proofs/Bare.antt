@@ -15,7 +15,7 @@ use Rattle.script_runner.specs.declared.error.RunError.{RunError}
 use Rattle.script_runner.specs.declared.error.RunError.TheVariants.{LoggingEnded}
 use Rattle.script_runner.specs.OnDisks.{IsUnmade}
 
--- a disk under no layers refuses a write for want of memory alone
+-- a disk under no layers refuses a write as out of memory alone
 bare_refuses : (after : List Layer) (old new : SectorDisk) (bytes : List ℕ) (error : DevError)
     → LayersDo [] old (Writes 0 bytes true) 0 (Err error) after new → error ≡ Memory
 bare_refuses after old new bytes Io done = absurd done.2

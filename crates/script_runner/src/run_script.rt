@@ -12,7 +12,7 @@ use refusals::Fault;
 use std::io::Write;
 
 /// Runs a script, which was read from `text`, on a data device of the size of its data disk's top, from before its first line on. What its lines print is
-/// written to `out`. A close or a message that is refused ends the run at its line; so does an output that can't be written, and want of memory for what the
+/// written to `out`. A close or a message that is refused ends the run at its line; so does an output that can't be written, and memory that runs out for what the
 /// run itself keeps.
 pub fn run<D: Message + Drop, L: Message + Drop, O: Write>(
     text: &[u8],

@@ -82,7 +82,7 @@ reads_one : (old new : SectorDisk) (first now : ℕ) (before a b : List ℕ) (re
     → Does old (Reads first before a) now result new → Does old (Reads first before b) now result new → a ≡ b
 reads_one old new first now before a b result one other = one.2 ∙ sym other.2
 
--- a call that is refused for want of memory and that something came of, and one that ends well and that nothing came of
+-- a call that is refused as out of memory and that something came of, and one that ends well and that nothing came of
 refused_write : (old new : SectorDisk) (first now : ℕ) (bytes : List ℕ) (fua : Bool) → Does old (Writes first bytes fua) now (Err Memory) new
     → steps_of new ≡ Flushes ∷ steps_of old → ⊥
 refused_write old new first now bytes fua done more = let lengths = ap (λ (steps : List Step). length steps) (sym more ∙ done.past) in omega arith

@@ -92,7 +92,7 @@ impl SectorDisk {
     }
 
     /// The image of the disk, which goes. A disk that was made of an image gives that one back, with what was put since, and takes no
-    /// memory; else want of memory is an error.
+    /// memory; else it may be refused as out of memory.
     pub fn into_bytes(self) -> Result<Vec<u8>, AllocError>
         ensures content { IfOk result (λ image.
             image.items ≡ gather (shown_of self).content 0 (shown_of self).size) }

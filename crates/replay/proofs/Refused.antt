@@ -171,7 +171,21 @@ cause_flush : (old new : Reader) → HasReplayCause [] (Some CutShort) Flush old
 cause_flush old new cause = let none = cause.2 in cc
 
 cause_fault : (old new : Reader) (upto : Upto) → HasReplayCause [] None upto old new still still 0 (replays.Log (reads.Log CutShort)) → ⊥
-cause_fault old new upto cause = let some = cause in cc
+cause_fault old new upto cause = let some = cause.0 in cc
+
+-- nor a fault behind what is asked for, told before it or after it; nor one after entries that were applied in a search
+cause_fault_early : (old new : Reader) → old.next ≡ 0 → HasReplayCause (write ∷ []) (Some CutShort) (Count 2) old new still still 0 (replays.Log (reads.Log CutShort)) → ⊥
+cause_fault_early old new first cause = let all = cause.1.0 in omega arith
+
+cause_fault_behind : (old new : Reader) → HasReplayCause (write ∷ []) (Some CutShort) (Count 1) old new still still 1 (replays.Log (reads.Log CutShort)) → ⊥
+cause_fault_behind old new cause = let fewer = cause.1.1 in omega arith
+
+cause_fault_found : (old new : Reader) → old.next ≡ 0 → HasReplayCause (flush ∷ []) (Some CutShort) Flush old new still still 0 (replays.Log (reads.Log CutShort)) → ⊥
+unfolding flush
+cause_fault_found old new first cause = cause.1.1 0 flush (omega arith) refl (record { flush = refl; no_mark = refl })
+
+cause_fault_later : (old new : Reader) → HasReplayCause [] (Some CutShort) Flush old new still still 1 (replays.Log (reads.Log CutShort)) → ⊥
+cause_fault_later old new cause = let none = cause.1.0 in omega arith
 
 cause_failed : (old new : Reader) (upto : Upto) → old.failed ≡ false → HasReplayCause [] None upto old new still still 0 (replays.Log reads.Failed) → ⊥
 cause_failed old new upto fresh cause = let same : false ≡ true = sym fresh ∙ cause in cc

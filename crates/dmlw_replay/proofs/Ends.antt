@@ -1,9 +1,10 @@
 -- How the replay of the log in a file ends.
-use Rattle.std.proofs.Common.{◌≡◌, ◌∙◌, ◌⊎◌, ℕ, List, Option, Result, Ok, Err, OnErr, ap, inl, inr, refl, subst, sym}
+use Rattle.std.proofs.Common.{◌≡◌, ◌∙◌, ◌⊎◌, ℕ, List, Option, Result, Ok, Err, OnErr, OnOk, ap, inl, inr, refl, subst, sym}
 use Rattle.std.specs.Io.KnownBytes.{Appends, Keeps}
 use Rattle.std.specs.Result.{IsErrAnd}
 use Rattle.script_runner.specs.CallLaws.{appends_kept, keeps_same, keeps_twice}
 use Rattle.script_runner.specs.declared.error.RunError.{RunError}
+use Rattle.script_runner.specs.declared.error.RunError.TheVariants as faults
 use Rattle.script_runner.specs.Errors.{IsFileError}
 use Rattle.replay.specs.declared.upto.Upto.{Upto}
 use Rattle.dmlw_commands.specs.declared.ending.Ended.{Ended}
@@ -11,10 +12,10 @@ use Rattle.dmlw_commands.specs.declared.exit.Exit.{Exit}
 use Rattle.dmlw_commands.specs.declared.exit.Exit.TheVariants.{Done, Refused}
 use Rattle.dmlw_commands.specs.Endings.{Telling, TellsLine}
 use Rattle.dmlw_commands.specs.Exits.{IsRefusal, exit_of}
-use Rattle.dmlw_files.specs.Files.{KeepsFiles, Write, one_more}
+use Rattle.dmlw_files.specs.Files.{KeepsFiles, MatchesContents, Write, one_more}
 use Rattle.dmlw_replay.specs.declared.stop.Stop.{Stop}
 use Rattle.dmlw_replay.specs.declared.stop.Stop.TheVariants as stops
-use Rattle.dmlw_replay.specs.Replays.{EndsReplaying, FailsOnImages, FailsReplay, IsFileStop, IsReplayedFrom, PrintsReplay, Replays, file, images, memory, replay_exit, replay_line, replayed_line, stopped, unopened}
+use Rattle.dmlw_replay.specs.Replays.{EndsReplaying, FailsOnImages, FailsReplay, HoldsReplayed, IsFileStop, IsReplayedFrom, PrintsReplay, Replays, file, images, memory, replay_exit, replay_line, replayed_line, stopped, unopened}
 
 -- a file's error is a refusal
 file_refused : (fault : RunError) → IsFileError fault → exit_of fault ≡ Refused
@@ -125,3 +126,17 @@ pub not_replayed : (log_file first_file : Option (List ℕ)) (name : List ℕ) (
 not_replayed log_file first_file name upto writes_old writes_new old stop (Ok count) fails same is = absurd is
 not_replayed log_file first_file name upto writes_old writes_new old stop (Err e) fails same is =
     inl (subst (FailsReplay log_file first_file upto) (sym is) fails, keeps_same old, same)
+
+-- what came of a replay is held where it is written
+pub holds_replayed : (log_file first_file written : Option (List ℕ)) (upto : Upto) (count : ℕ) (image : List ℕ) → IsReplayedFrom log_file first_file upto count image
+    → MatchesContents written image → HoldsReplayed log_file first_file upto written
+holds_replayed log_file first_file written upto count image replayed held = record { count = count; image = image; replayed = replayed; held = held }
+
+-- and after a replay that is done it is held still, where each file was kept since
+pub done_holds : (log_file first_file : Option (List ℕ)) (upto : Upto) (middle new : List ℕ → Option (List ℕ)) (name : List ℕ) (done : Result ℕ Stop) (exit : Exit)
+    → OnOk done (HoldsReplayed log_file first_file upto (middle name)) → KeepsFiles middle new → exit ≡ replay_exit done → exit ≡ Done
+    → HoldsReplayed log_file first_file upto (new name)
+done_holds log_file first_file upto middle new name (Ok count) exit held kept same is = subst (HoldsReplayed log_file first_file upto) (sym (kept name)) held
+done_holds log_file first_file upto middle new name (Err (stops.Fault (faults.Refused fault))) exit held kept same is = absurd (cc (same, is))
+done_holds log_file first_file upto middle new name (Err (stops.Fault (faults.LoggingEnded end))) exit held kept same is = absurd (cc (same, is))
+done_holds log_file first_file upto middle new name (Err (stops.Replay fault)) exit held kept same is = absurd (cc (same, is))

@@ -1,2 +1,3 @@
 mod Replayed
 mod Ends
+mod Refused

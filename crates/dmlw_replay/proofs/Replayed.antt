@@ -1,5 +1,6 @@
 -- What replaying the log of an image on a disk comes to.
 use Rattle.std.proofs.Common.{◌≡◌, ◌∙◌, ◌⊎◌, ℕ, ◌+◌, ◌*◌, ◌/◌, ◌<◌, ◌≤◌, false, List, Option, Result, Ok, Err, IfErr, IfOk, ap, arith, inl, inr, length, refl, subst, sym}
+use Rattle.std.proofs.lemmas.Option.{slice_get_within}
 use Rattle.sectors.specs.Content.{AgreeBelow, Content, HasWholeSectors, sector_of}
 use Rattle.blockdev.specs.View.{View}
 use Rattle.blockdev.specs.Law.{NoLie}
@@ -25,7 +26,7 @@ use Rattle.replay.specs.declared.fault.ReplayError.{ReplayError}
 use Rattle.replay.specs.declared.fault.ReplayError.TheVariants as replays
 use Rattle.replay.specs.declared.fault.ReplayFault.{ReplayFault}
 use Rattle.replay.specs.declared.upto.Upto.{Upto}
-use Rattle.replay.specs.Replays.{AsksTooMany, HasReplayCause, IsApplied, IsUpto, LacksFlush, LacksMark, Leaves, ReachesPast, entries_from}
+use Rattle.replay.specs.Replays.{AsksTooMany, EndsShort, HasReplayCause, IsApplied, IsUpto, LacksFlush, LacksMark, Leaves, LeavesBy, ReachesPast, entries_from}
 use Rattle.script_runner.specs.declared.error.RunError.{RunError}
 use Rattle.script_runner.specs.Errors.{memory_error, refused_by}
 use Rattle.dmlw_files.specs.Images.{IsImage}
@@ -172,26 +173,42 @@ cause_on es fault upto old new v w disk applied replays.PastTarget place fresh s
     let here : old.next + applied ≡ applied = omega arith in
     subst (λ (n : ℕ). ReachesPast old.head.sectorsize es applied n) size
     (subst (λ (p : ℕ). ReachesPast old.head.sectorsize es p v.size) here reaches)
-cause_on es fault upto old new v w disk applied (replays.Log (reads.Log found)) place fresh size reader target is = is
+cause_on es fault upto old new v w disk applied (replays.Log (reads.Log found)) place fresh size reader target is =
+    (is.0, subst (λ (p : ℕ). EndsShort upto es p applied) place is.1)
 cause_on es fault upto old new v w disk applied (replays.Log reads.Device) place fresh size reader target failed = absurd (reader failed)
 cause_on es fault upto old new v w disk applied (replays.Log reads.Memory) place fresh size reader target is = tt
 cause_on es fault upto old new v w disk applied (replays.Log reads.Failed) place fresh size reader target refused = cc (fresh, refused)
 cause_on es fault upto old new v w disk applied (replays.Target devices.Io) place fresh size reader target failed = absurd (target (failed refl))
 cause_on es fault upto old new v w disk applied (replays.Target devices.Memory) place fresh size reader target is = tt
 
+-- as many entries as were applied when a replay stopped, there are
+applied_within : (size : ℕ) (es : List Entry) (place : ℕ) (old new : Content) (applied : ℕ) (cause : ReplayError) → place ≡ 0 → LeavesBy size es place old new applied cause
+    → 0 < applied → applied ≤ length es
+applied_within size es place old new applied replays.PastEntries first leaves more = let all = leaves.some more in omega arith
+applied_within size es place old new applied replays.NoSuchMark first leaves more = let all = leaves.some more in omega arith
+applied_within size es place old new applied replays.NoFlush first leaves more = let all = leaves.some more in omega arith
+applied_within size es place old new applied replays.PastTarget first leaves more = let all = leaves.some more in omega arith
+applied_within size es place old new applied (replays.Log error) first leaves more = let all = leaves.some more in omega arith
+applied_within size es place old new applied (replays.Target error) first leaves more =
+    let there = slice_get_within es (place + applied) leaves.next leaves.there in omega arith
+
 -- a replay that stopped
 pub stopped_on : (log first : List ℕ) (upto : Upto) (stop : ReplayFault) (old new : Reader) (v w : View) → IsImage log → IsOpened log old
-    → Begins (length first / 512) (sector_of first) v → (HasFaulted old.device new.device → ⊥) → (HasFaulted v w → ⊥)
+    → Begins (length first / 512) (sector_of first) v → (HasFaulted old.device new.device → ⊥) → (HasFaulted v w → ⊥) → NoLie v w
+    → ((es : List Entry) (fault : Option LogFault) → Reads old.device.size old.device.content old.head es fault → NoLie v w
+    → Leaves old.head.sectorsize es old.next v.content w.content (Err stop))
     → ((es : List Entry) (fault : Option LogFault) → Reads old.device.size old.device.content old.head es fault
     → HasReplayCause es fault upto old new v w stop.applied stop.cause)
     → StopsReplay log first upto stop
-stopped_on log first upto stop old new v w image opened begins reader target causes =
+stopped_on log first upto stop old new v w image opened begins reader target honest leaves causes =
     let known = reading_of log old opened in
     record {
       head = old.head;
       entries = known.entries;
       fault = known.fault;
       reading = reading_on log old known.entries known.fault image opened known.reads;
+      within = applied_within old.head.sectorsize known.entries old.next v.content w.content stop.applied stop.cause opened.place
+          (leaves known.entries known.fault known.reads honest);
       cause = cause_on known.entries known.fault upto old new v w (length first / 512) stop.applied stop.cause opened.place opened.fresh begins.size reader target
           (causes known.entries known.fault known.reads);
     }

@@ -15,7 +15,7 @@ use Rattle.replay.specs.declared.fault.ReplayError.TheVariants as replays
 use Rattle.replay.specs.declared.fault.ReplayFault.{ReplayFault}
 use Rattle.replay.specs.declared.upto.Upto.{Upto}
 use Rattle.replay.specs.Refusals.{replay_refusal}
-use Rattle.replay.specs.Replays.{AsksTooMany, IsUpto, LacksFlush, LacksMark, ReachesPast, entries_from}
+use Rattle.replay.specs.Replays.{AsksTooMany, EndsShort, IsUpto, LacksFlush, LacksMark, ReachesPast, entries_from}
 use Rattle.script_runner.specs.declared.error.RunError.{RunError}
 use Rattle.script_runner.specs.Errors.{IsFileError, memory_error}
 use Rattle.dmlw_commands.specs.declared.ending.Ended.{Ended}
@@ -58,7 +58,7 @@ HasStopCause upto head es fault disk applied replays.PastEntries = (applied ≡ 
 HasStopCause upto head es fault disk applied replays.NoSuchMark = (applied ≡ 0) × LacksMark upto es 0 × (fault ≡ None)
 HasStopCause upto head es fault disk applied replays.NoFlush = (applied ≡ 0) × LacksFlush upto es 0 × (fault ≡ None)
 HasStopCause upto head es fault disk applied replays.PastTarget = ReachesPast head.sectorsize es applied disk
-HasStopCause upto head es fault disk applied (replays.Log (reads.Log found)) = fault ≡ Some found
+HasStopCause upto head es fault disk applied (replays.Log (reads.Log found)) = (fault ≡ Some found) × EndsShort upto es 0 applied
 HasStopCause upto head es fault disk applied (replays.Log reads.Memory) = Unit {0}
 HasStopCause upto head es fault disk applied (replays.Target devices.Memory) = Unit {0}
 HasStopCause upto head es fault disk applied other = ⊥
@@ -69,6 +69,7 @@ pub record StopsReplay (log first : List ℕ) (upto : Upto) (stop : ReplayFault)
   pub entries : List Entry
   pub fault : Option LogFault
   pub reading : IsReading log head entries fault
+  pub within : 0 < stop.applied → stop.applied ≤ length entries
   pub cause : HasStopCause upto head entries fault (length first / 512) stop.applied stop.cause
 
 -- Why a log isn't replayed on a first image: there is no memory, the image isn't opened as a log, or the replay stops.
@@ -89,6 +90,13 @@ pub record IsReplayedFrom (log_file first_file : Option (List ℕ)) (upto : Upto
   pub first : List ℕ
   pub files : AreImages log_file first_file log first
   pub replayed : IsReplayed log first upto count image
+
+-- the log in a file was replayed, and what came of it is what another file holds, where that is known
+pub record HoldsReplayed (log_file first_file : Option (List ℕ)) (upto : Upto) (written : Option (List ℕ)) : Type 0 where
+  pub count : ℕ
+  pub image : List ℕ
+  pub replayed : IsReplayedFrom log_file first_file upto count image
+  pub held : MatchesContents written image
 
 -- the log in a file was replayed, how many entries was printed, and one more write was asked for, of the file of this name with the image that came of it
 pub record PrintsReplay (log_file first_file : Option (List ℕ)) (name : List ℕ) (upto : Upto) (writes_old writes_new : Option (List Write))

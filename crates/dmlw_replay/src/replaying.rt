@@ -4,8 +4,8 @@ ghost use Rattle.script_runner.specs.Errors.{IsFileError};
 ghost use Rattle.dmlw_commands.specs.declared.exit.Exit.{Exit};
 ghost use Rattle.dmlw_commands.specs.Endings.{telling};
 ghost use Rattle.dmlw_commands.specs.Exits.{IsRefusal};
-ghost use Rattle.dmlw_files.specs.Files.{KeepsFiles, one_more};
-ghost use Rattle.dmlw_replay.specs.Replays.{EndsReplaying, FailsReplay, IsReplayedFrom, Replays, replayed_line};
+ghost use Rattle.dmlw_files.specs.Files.{KeepsFiles, MatchesContents, one_more};
+ghost use Rattle.dmlw_replay.specs.Replays.{EndsReplaying, FailsReplay, HoldsReplayed, IsReplayedFrom, Replays, replayed_line};
 
 use crate::ending::{end_replaying, refusal_of};
 use crate::images::{Replayed, replay_images};
@@ -36,6 +36,9 @@ pub fn replay<F: Files, O: Write, E: Write>(
     ensures ends { EndsReplaying (F.contents files.old names.entry.log.now) (F.contents files.old names.entry.first.now) names.entry.out.now upto.now
         (F.writes files.old) (F.writes files.new) (O.contents out.old) (O.contents out.new)
         (telling explains (E.contents err.old) (E.contents err.new)) result }
+    // Where it is done, OUT holds the image that came of it.
+    ensures written { result.exit ≡ Exit.Done → HoldsReplayed (F.contents files.old names.entry.log.now) (F.contents files.old names.entry.first.now) upto.now
+        (F.contents files.new names.entry.out.now) }
     // It is done or refused; where it is refused each file holds what it held, and a log isn't written over.
     ensures exits { (result.exit ≡ Exit.Done) ⊎ (result.exit ≡ Exit.Refused) }
     ensures kept { IsRefusal result.exit → KeepsFiles (F.contents files.old) (F.contents files.new) }
@@ -56,6 +59,8 @@ fn replay_files<F: Files, O: Write>(
 ) -> Result<u64, Stop>
     ensures replays { Replays (F.contents files.old names.entry.log.now) (F.contents files.old names.entry.first.now) names.entry.out.now upto.now
         (F.writes files.old) (F.writes files.new) (O.contents out.old) (O.contents out.new) result }
+    ensures held { OnOk result (HoldsReplayed (F.contents files.old names.entry.log.now) (F.contents files.old names.entry.first.now) upto.now
+        (F.contents files.new names.entry.out.now)) }
     ensures kept { OnErr result (KeepsFiles (F.contents files.old) (F.contents files.new)) }
     ensures apart { names.entry.log.now ≡ names.entry.out.now → F.writes files.new ≡ F.writes files.old }
 {
@@ -99,6 +104,7 @@ fn hand_over<F: Files, O: Write>(
 ) -> Result<(), RunError>
     ensures done { OnOk result (Appends (O.contents out.old) (O.contents out.new) (replayed_line count)
         × (F.writes files.new ≡ one_more (F.writes files.old) name.now image.now)) }
+    ensures held { OnOk result (MatchesContents (F.contents files.new name.now) image.now) }
     ensures fails { IfErr result IsFileError }
     ensures asked { OnErr result ((F.writes files.new ≡ F.writes files.old)
         ⊎ (Appends (O.contents out.old) (O.contents out.new) (replayed_line count)

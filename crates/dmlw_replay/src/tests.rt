@@ -8,6 +8,8 @@ use replay::Upto;
 use std::alloc::Global;
 use std::test::Fail;
 
+mod telling;
+
 // A file of a test.
 #[derive(Debug, Drop)]
 struct Named<'a> {
@@ -95,7 +97,7 @@ fn large(alloc: Global) -> Result<Vec<u8>, Fail> {
     Ok(image)
 }
 
-// What a replay did: its exit status, what it told, and of the image that was written its size and the first byte of each sector that isn't 0.
+// What a replay did: its exit status, a `?` where not all was told, what it told, and of the image that was written its size and the first byte of each sector that isn't 0.
 fn shown(
     alloc: Global,
     log: &[u8],
@@ -119,6 +121,9 @@ fn shown(
     let mut err = Vec::new(alloc);
     let ended = replay(alloc, false, names, upto, &mut files, &mut out, &mut err);
     let mut text = format!(in alloc; "{}:", ended.exit.status())?;
+    if !ended.is_told {
+        text.push_str("?")?;
+    }
     text.push_str(str::from_utf8(&out).unwrap_or_default())?;
     text.push_str(str::from_utf8(&err).unwrap_or_default())?;
     if let Some(image) = &files.written {

@@ -31,4 +31,4 @@ returns-clause-fails c =
     let new = reader_of c.replay.new.log in
     stopped c.in-Err.fault (stopped_on c.args.log.items c.args.first.items c.args.upto.now c.in-Err.fault old new v w c.requires.log
     c.in_ok-reader.ensures.opened c.in_ok-target.ensures.begins (never_failed old.device new.device refl refl) (never_failed v w refl refl)
-    c.in-Err.ensures.refused)
+    (honest v w refl refl) c.in-Err.ensures.leaves c.in-Err.ensures.refused)

@@ -1,3 +1,4 @@
 mod Stopping
 mod Verdicts
 mod Replaying
+mod Refused

@@ -3,6 +3,8 @@ ghost use Rattle.std.specs.Prelude.{None};
 use crate::judge;
 use dmlw_files::{FileError, Files, Trouble};
 use std::alloc::{AllocError, Global};
+use std::io;
+use std::io::Write;
 use std::test::Fail;
 
 mod headline;
@@ -44,7 +46,8 @@ impl Files for TwoFiles<'_> {
     }
 }
 
-// What the command tells of files of these names: on its output, then on the error stream, then its status. A line feed is shown as `;`.
+// What the command tells of files of these names: on its output, then on the error stream, then its status, behind a `?` where not
+// all was told. A line feed is shown as `;`.
 fn told(
     alloc: Global,
     names: &[&str],
@@ -66,6 +69,9 @@ fn told(
         } else {
             char::from(*byte)
         })?;
+    }
+    if !ended.is_told {
+        told.push_str("?")?;
     }
     told.push_str(ended.exit.status().to_string(alloc)?.as_str())?;
     Ok(told)
@@ -224,6 +230,50 @@ fn faults_are_explained(rt: HostRuntime) -> Result<(), Fail> {
         part.as_str(),
         "dmlw: 32 File;  image isn't 512 to 536870912 bytes long, in whole sectors of 512 bytes;1"
     );
+    Ok(())
+}
+
+// A writer that fails, at a write or at a flush.
+#[derive(Drop)]
+struct Broken {
+    takes: bool,
+    kind: io::ErrorKind,
+}
+
+impl Write for Broken {
+    fn write(&mut self, buf: &[u8]) -> io::Result<usize> {
+        if self.takes {
+            return Ok(buf.len());
+        }
+        Err(io::Error::from(self.kind))
+    }
+
+    fn flush(&mut self) -> io::Result<()> {
+        Err(io::Error::from(self.kind))
+    }
+}
+
+#[test]
+fn outputs_may_fail(rt: HostRuntime) -> Result<(), Fail> {
+    let alloc = rt.alloc();
+    let mut files = TwoFiles {
+        script: b"data 1\nlog 32\n",
+        image: &[0; 512],
+    };
+    for takes in [false, true] {
+        for (kind, wanted) in [
+            (io::ErrorKind::StorageFull, "dmlw: 32 File\n"),
+            (io::ErrorKind::OutOfMemory, "dmlw: 2 Memory\n"),
+        ] {
+            let mut out = Broken { takes, kind };
+            let mut err = Vec::new(alloc);
+            let ended = judge(
+                alloc, false, "script", 0, "image", &mut files, &mut out, &mut err,
+            );
+            assert!(rt; ended.exit.status() == 1);
+            assert!(rt; err.as_slice() == wanted.as_bytes(), "{wanted}");
+        }
+    }
     Ok(())
 }
 

@@ -20,7 +20,7 @@ use Rattle.script_runner.specs.Runs.{RunsLines}
 use Rattle.dmlw_commands.specs.declared.ending.Ended.{Ended}
 use Rattle.dmlw_commands.specs.declared.exit.Exit.TheVariants as exits
 use Rattle.dmlw_commands.specs.Endings.{Telling}
-use Rattle.dmlw_commands.specs.Files.{Write}
+use Rattle.dmlw_files.specs.Files.{Write}
 use Rattle.dmlw_judge.specs.Beginnings.{BeginsLog, IsReplayedTo}
 use Rattle.dmlw_judge.specs.Judgements.{AreRead, CanJudge, CannotJudge, EndsJudging, HasNoVerdict, IsJudged, Judges, Question, exit_judged, file, moment, question, run, text, verdict_line}
 

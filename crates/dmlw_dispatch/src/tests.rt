@@ -5,6 +5,7 @@ use crate::formats::FORMATS;
 use dmlw_files::{FileError, Files, Trouble};
 use std::alloc::Global;
 use std::io;
+use std::io::Write;
 use std::test::Fail;
 
 mod doing;
@@ -57,6 +58,20 @@ impl Files for FakeFiles<'_> {
 
     fn is_same(&self, first: &str, second: &str) -> bool {
         first == second
+    }
+}
+
+// A writer that takes what it is given, and can't be flushed.
+#[derive(Drop)]
+struct Unflushed;
+
+impl Write for Unflushed {
+    fn write(&mut self, buf: &[u8]) -> io::Result<usize> {
+        Ok(buf.len())
+    }
+
+    fn flush(&mut self) -> io::Result<()> {
+        Err(io::Error::from(io::ErrorKind::Other))
     }
 }
 
@@ -125,12 +140,24 @@ help|0|status  Tells how far a log has come
 list --help|0|Usage: dmlw list <LOG>
 help status|0|Usage: dmlw status <LOG>
 --version|0|dmlw 0.1 (log format version 1)
---help|0|Exit status: 0 done
---help|0|With --explain
+--help|0|Records block requests in a log, and reads logs back
+--help|0|Exit status: 0 done, 1 refused or ruled out, 2 usage, 3 logging ended before its time.
+--help|0|A status such as 3 4 says: 3 entries, of which the last uses sector 4.
+--help|0|With --explain, in any place: what helps stands behind a fault's line.
+--help|0|dmlw help formats: the grammar of scripts, the faults and the limits.
+help record|0|<SCRIPT>  The script to read
+help record|0|<LOG>     The log to write
+help list|0|<LOG>  The log to read
+help replay|0|<LOG>    The log to read
+help replay|0|<FIRST>  The image to begin with
+help replay|0|<OUT>    The image to write
+help judge|0|<SCRIPT>  The script to read
+help judge|0|<IMAGE>   The image to judge
 frob|2|unrecognized subcommand 'frob'
 help frob|2|unrecognized subcommand 'frob'
 record a|2|<LOG>
 record a b c|2|unexpected argument 'c'
+record a b c d e f g h i j k l m n o p|2|unexpected argument 'c'
 record -x b|2|unexpected argument '-x'
 --explain frob|2|unrecognized subcommand 'frob'
 list|2|<LOG>
@@ -230,6 +257,39 @@ fn takes_names_after_two_hyphens(rt: HostRuntime) {
     }
 }
 
+// Where a stream can't be flushed, it hasn't taken what is shown: of the output a fault is told, of the error stream how the command ended.
+#[test]
+fn sees_what_it_shows_flushed(rt: HostRuntime) {
+    let alloc = rt.alloc();
+    for words in [
+        ["dmlw", "help"].as_slice(),
+        ["dmlw", "--version"].as_slice(),
+        ["dmlw", "help", "formats"].as_slice(),
+    ] {
+        let mut files = FakeFiles::new(b"");
+        let mut err = Vec::new(alloc);
+        let ended = execute(alloc, words, &mut files, &mut Unflushed, &mut err);
+        assert!(rt; ended.exit.status() == 1 && ended.is_told, "{words:?}");
+        assert!(rt;
+            err.as_slice() == b"dmlw: 32 File\n".as_slice(),
+            "fault of {words:?}"
+        );
+    }
+    for words in [
+        ["dmlw", "frob"].as_slice(),
+        ["dmlw", "judge", "script", "x", "image"].as_slice(),
+    ] {
+        let mut files = FakeFiles::new(b"");
+        let mut out = Vec::new(alloc);
+        let ended = execute(alloc, words, &mut files, &mut out, &mut Unflushed);
+        assert!(rt; ended.exit.status() == 2 && !ended.is_told, "{words:?}");
+        let mut err = Vec::new(alloc);
+        let ended = execute(alloc, words, &mut files, &mut out, &mut err);
+        assert!(rt; ended.is_told && !err.is_empty(), "fault of {words:?}");
+        assert!(rt; out.is_empty(), "output of {words:?}");
+    }
+}
+
 #[test]
 fn refuses_unreadable_words(rt: HostRuntime) {
     let mut err = Vec::new(rt.alloc());
@@ -237,6 +297,9 @@ fn refuses_unreadable_words(rt: HostRuntime) {
     assert_eq!(rt; refuse(rt.alloc(), error, &mut err), 2);
     let error = io::Error::from(io::ErrorKind::OutOfMemory);
     assert_eq!(rt; refuse(rt.alloc(), error, &mut err), 1);
-    let shown = "error: a word of the command line isn't UTF-8 text\ndmlw: 2 Memory\n";
+    let error = io::Error::from(io::ErrorKind::Other);
+    assert_eq!(rt; refuse(rt.alloc(), error, &mut err), 1);
+    let shown =
+        "error: a word of the command line isn't UTF-8 text\ndmlw: 2 Memory\ndmlw: 32 File\n";
     assert!(rt; err.as_slice() == shown.as_bytes());
 }

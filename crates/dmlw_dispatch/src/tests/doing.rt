@@ -203,11 +203,32 @@ fn explains_each_command(rt: HostRuntime) -> Result<(), Fail> {
         "judge script 9 zeroes --explain|1||dmlw: 34 BadMoment;  ",
         "judge script --explain 0 absent|1||dmlw: 32 File;  ",
         "judge --explain script 0 zeroes|0|yes;|",
+        "--explain list zeroes|1||dmlw: 13 BadMagic;  ",
+        "list absent --explain|1||dmlw: 32 File;  ",
+        "status --explain zeroes|1||dmlw: 13 BadMagic;  ",
+        "status absent --explain|1||dmlw: 32 File;  ",
     ] {
         let (line, want) = row.split_once('|').unwrap_or_default();
         let told = told(alloc, line, &mut folder)?;
         assert!(rt; told.starts_with(want), "{line}: {told}");
     }
+    Ok(())
+}
+
+// A command line is read whatever its length.
+#[test]
+fn does_long_lines(rt: HostRuntime) -> Result<(), Fail> {
+    let alloc = rt.alloc();
+    let mut folder = files_of(alloc)?;
+    let mut line = String::from_str(alloc, "record script ")?;
+    for _ in 0..3000 {
+        line.push('n')?;
+    }
+    for _ in 0..60 {
+        line.push_str(" --explain")?;
+    }
+    let told = told(alloc, &line, &mut folder)?;
+    assert!(rt; told.as_str() == "0|a ok;b ok;3 4;|", "{told}");
     Ok(())
 }
 

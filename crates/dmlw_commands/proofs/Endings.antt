@@ -1,15 +1,19 @@
-use Rattle.std.proofs.Common.{◌≡◌, ◌∙◌, ◌⊎◌, ℕ, List, Option, Result, Ok, Err, IfErr, OnErr, inl, inr, subst, sym}
+use Rattle.std.proofs.Common.{◌≡◌, ◌∙◌, ◌⊎◌, ℕ, List, Option, None, Some, Result, Ok, Err, IfErr, IfOk, OnErr, inl, inr, refl, subst, sym}
 use Rattle.std.specs.Io.KnownBytes.{Keeps}
 use Rattle.dmlw_commands.specs.declared.ending.Ended.{Ended}
+use Rattle.dmlw_commands.specs.declared.exit.Exit.{Exit}
+use Rattle.dmlw_commands.specs.declared.exit.Exit.TheVariants as exits
 use Rattle.script_runner.specs.declared.error.RunError.{RunError}
+use Rattle.script_runner.specs.declared.error.RunError.TheVariants as faults
 use Rattle.script_runner.specs.OnDisks.{stack_answering, DiskRun, FailsOnDisks, file as no_file, run as no_run, unmade}
 use Rattle.script_runner.specs.Runs.{EndsRun, close, file as by_file, message}
+use Rattle.bio.specs.declared.outcome.End.{End}
 use Rattle.bio.specs.declared.outcome.Status.{Status}
 use Rattle.dmlw_commands.specs.Endings.{EndsRecording, EndsShowing, Telling, Tells, TellsLine}
-use Rattle.dmlw_commands.specs.Exits.{exit_after, told_line}
-use Rattle.dmlw_files.specs.Files.{AsksFor, KeepsFiles, Write}
+use Rattle.dmlw_commands.specs.Exits.{IsRefusal, exit_after, exit_at, told_line}
+use Rattle.dmlw_files.specs.Files.{AsksFor, KeepsFiles, MatchesContents, Write}
 use Rattle.dmlw_commands.specs.Lists.{Shows, ShowsFile}
-use Rattle.dmlw_commands.specs.Records.{FailsRecording, Records, PrintsLog, WritesLog, file, run as ran, text as unread}
+use Rattle.dmlw_commands.specs.Records.{FailsRecording, HoldsLog, IsPrintedLog, Records, PrintsLog, WritesLog, file, run as ran, text as unread}
 use Rattle.dmlw_script.specs.Plans.{Plan}
 use Rattle.dmlw_commands.proofs.Listing.{IsKept, shows_kept}
 use Rattle.script_runner.specs.CallLaws.{appends_kept, keeps_twice}
@@ -106,3 +110,69 @@ pub keeps_or_asks : (contents : Option (List ℕ)) (log : List ℕ) (writes_old 
     → OnErr done (KeepsFiles old mid) → KeepsFiles mid new → writes_new ≡ writes_mid → KeepsFiles old new ⊎ AsksFor log writes_old writes_new
 keeps_or_asks contents log writes_old writes_mid writes_new before after old mid new (Ok status) asked kept same unwritten = inr (asked.0, unwritten ∙ asked.2)
 keeps_or_asks contents log writes_old writes_mid writes_new before after old mid new (Err fault) asked kept same unwritten = inl (λ name. same name ∙ kept name)
+
+-- a log that was written is held where its file is
+pub holds_log : (contents : Option (List ℕ)) (status : Status) (bytes wrote : List ℕ) (before after written : Option (List ℕ)) → IsPrintedLog contents status bytes before after
+    → wrote ≡ bytes → MatchesContents written wrote → HoldsLog contents (exit_at status.end) before after written
+holds_log contents status bytes wrote before after written printed same held = record {
+  status = status;
+  ends = refl;
+  bytes = bytes;
+  printed = printed;
+  held = subst (λ (bs : List ℕ). MatchesContents written bs) same held;
+}
+
+-- it is held still, where each file was kept since and nothing more was printed
+log_kept : (contents : Option (List ℕ)) (exit exit_new : Exit) (before middle after : Option (List ℕ)) (mid new : List ℕ → Option (List ℕ)) (name : List ℕ)
+    → HoldsLog contents exit before middle (mid name) → Keeps middle after → KeepsFiles mid new → exit_new ≡ exit → HoldsLog contents exit_new before after (new name)
+log_kept contents exit exit_new before middle after mid new name log quiet kept same = record {
+  status = log.status;
+  ends = same ∙ log.ends;
+  bytes = log.bytes;
+  printed = record {
+    text = log.printed.text;
+    script = log.printed.script;
+    lines = log.printed.lines;
+    hazard = log.printed.hazard;
+    lies = log.printed.lies;
+    read = log.printed.read;
+    spelled = log.printed.spelled;
+    recorded = log.printed.recorded;
+    output = appends_kept before middle after _ log.printed.output quiet;
+  };
+  held = subst (λ (file_new : Option (List ℕ)). MatchesContents file_new log.bytes) (sym (kept name)) log.held;
+}
+
+-- a recording that is done leaves its log in the file
+pub done_holds : (contents : Option (List ℕ)) (before middle after : Option (List ℕ)) (mid new : List ℕ → Option (List ℕ)) (name : List ℕ)
+    (done : Result Status RunError) (exit : Exit)
+    → IfOk done (λ status. HoldsLog contents (exit_at status.end) before middle (mid name)) → Keeps middle after → KeepsFiles mid new
+    → exit ≡ exit_after done → exit ≡ exits.Done → HoldsLog contents exits.Done before after (new name)
+done_holds contents before middle after mid new name (Ok status) exit log quiet kept same is =
+    log_kept contents (exit_at status.end) exits.Done before middle after mid new name log quiet kept (sym is ∙ same)
+done_holds contents before middle after mid new name (Err (faults.Refused fault)) exit log quiet kept same is = absurd (cc (same, is))
+done_holds contents before middle after mid new name (Err (faults.LoggingEnded end)) exit log quiet kept same is = absurd (cc (same, is))
+
+-- one in which logging ended leaves it there too, or each file as it was
+pub ended_holds : (contents : Option (List ℕ)) (before middle after : Option (List ℕ)) (old mid new : List ℕ → Option (List ℕ)) (name : List ℕ)
+    (done : Result Status RunError) (exit : Exit)
+    → IfOk done (λ status. HoldsLog contents (exit_at status.end) before middle (mid name)) → OnErr done (KeepsFiles old mid) → Keeps middle after → KeepsFiles mid new
+    → exit ≡ exit_after done → exit ≡ exits.LoggingEnded → KeepsFiles old new ⊎ HoldsLog contents exits.LoggingEnded before after (new name)
+ended_holds contents before middle after old mid new name (Ok status) exit log none quiet kept same is =
+    inr (log_kept contents (exit_at status.end) exits.LoggingEnded before middle after mid new name log quiet kept (sym is ∙ same))
+ended_holds contents before middle after old mid new name (Err fault) exit log none quiet kept same is = inl (λ file. kept file ∙ none file)
+
+-- a recording that came so far isn't refused
+not_refused : (end : Option End) → IsRefusal (exit_at end) → ⊥
+not_refused None (inl is) = let no : exits.Done ≡ exits.Refused = is in cc
+not_refused None (inr (inl is)) = let no : exits.Done ≡ exits.Usage = is in cc
+not_refused None (inr (inr is)) = let no : exits.Done ≡ exits.RuledOut = is in cc
+not_refused (Some cause) (inl is) = let no : exits.LoggingEnded ≡ exits.Refused = is in cc
+not_refused (Some cause) (inr (inl is)) = let no : exits.LoggingEnded ≡ exits.Usage = is in cc
+not_refused (Some cause) (inr (inr is)) = let no : exits.LoggingEnded ≡ exits.RuledOut = is in cc
+
+-- a recording that is refused leaves each file as it was
+pub refused_keeps : (done : Result Status RunError) (exit : Exit) (old mid new : List ℕ → Option (List ℕ)) → OnErr done (KeepsFiles old mid) → KeepsFiles mid new
+    → exit ≡ exit_after done → IsRefusal exit → KeepsFiles old new
+refused_keeps (Ok status) exit old mid new none kept same refused = absurd (not_refused status.end (subst (λ (e : Exit). IsRefusal e) same refused))
+refused_keeps (Err fault) exit old mid new none kept same refused = λ file. kept file ∙ none file

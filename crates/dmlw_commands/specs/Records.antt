@@ -15,6 +15,8 @@ use Rattle.script_runner.specs.declared.recording.Lies.{Lies}
 use Rattle.script_runner.specs.declared.error.RunError.TheVariants.{Refused}
 use Rattle.script_runner.specs.Errors.{IsFileError}
 use Rattle.script_runner.specs.OnDisks.{FailsOnDisks, IsRecorded}
+use Rattle.dmlw_commands.specs.declared.exit.Exit.{Exit}
+use Rattle.dmlw_commands.specs.Exits.{exit_at}
 use Rattle.dmlw_files.specs.Files.{MatchesContents, Write, one_more}
 
 -- the line that says how far a log has come
@@ -56,6 +58,14 @@ pub record IsPrintedLog (contents : Option (List ℕ)) (status : Status) (bytes 
 abbrev pub PrintsLog : Option (List ℕ) → List ℕ → Option (List Write) → Option (List Write) → Option (List ℕ) → Option (List ℕ) → Status → Type 0
 PrintsLog contents name old new before after status =
     (bytes : List ℕ) × IsPrintedLog contents status bytes before after × (new ≡ one_more old name bytes)
+
+-- The script that a file's bytes spell was recorded, which ends so, and what that prints was printed; its log is what another file holds, where that is known.
+pub record HoldsLog (contents : Option (List ℕ)) (exit : Exit) (before after written : Option (List ℕ)) : Type 0 where
+  pub status : Status
+  pub ends : exit ≡ exit_at status.end
+  pub bytes : List ℕ
+  pub printed : IsPrintedLog contents status bytes before after
+  pub held : MatchesContents written bytes
 
 -- Where recording a script succeeds it has printed what happened, and asked for its log to be written, and for no other
 -- file. Where it fails it has asked for no file; or for the log, which couldn't be written, after all that was printed.

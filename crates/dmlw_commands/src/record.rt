@@ -4,10 +4,10 @@ ghost use Rattle.script_runner.specs.Errors.{IsFileError};
 ghost use Rattle.dmlw_script.specs.Grammar.{IsTextOf};
 ghost use Rattle.dmlw_commands.specs.Endings.{EndsRecording, telling};
 ghost use Rattle.dmlw_commands.specs.declared.exit.Exit.{Exit};
-ghost use Rattle.dmlw_commands.specs.Exits.{IsRefusal, exit_after, exit_of};
+ghost use Rattle.dmlw_commands.specs.Exits.{IsRefusal, exit_after, exit_at, exit_of};
 ghost use Rattle.std.specs.Result.{IsErrAnd};
-ghost use Rattle.dmlw_files.specs.Files.{AsksFor, IsTooLong, IsWithin, KeepsFiles, MatchesContents};
-ghost use Rattle.dmlw_commands.specs.Records.{FailsRecording, IsPrintedLog, WritesLog, end_lines, lies_line, log_lines};
+ghost use Rattle.dmlw_files.specs.Files.{AsksFor, IsTooLong, KeepsFiles};
+ghost use Rattle.dmlw_commands.specs.Records.{FailsRecording, HoldsLog, IsPrintedLog, WritesLog, end_lines, lies_line, log_lines};
 
 use crate::ending::{Ended, end_recording};
 use bio::Status;
@@ -40,6 +40,11 @@ pub fn record<F: Files, O: Write, E: Write>(
     ensures kept { IsRefusal result.exit → KeepsFiles (F.contents files.old) (F.contents files.new) }
     ensures unmade { result.exit ≡ Exit.LoggingEnded →
         KeepsFiles (F.contents files.old) (F.contents files.new) ⊎ AsksFor log.now (F.writes files.old) (F.writes files.new) }
+    // Where it is done LOG holds the log; so it does where logging ended, unless each file holds what it held.
+    ensures written { result.exit ≡ Exit.Done →
+        HoldsLog (F.contents files.old script.now) Exit.Done (O.contents out.old) (O.contents out.new) (F.contents files.new log.now) }
+    ensures left { result.exit ≡ Exit.LoggingEnded → KeepsFiles (F.contents files.old) (F.contents files.new)
+        ⊎ HoldsLog (F.contents files.old script.now) Exit.LoggingEnded (O.contents out.old) (O.contents out.new) (F.contents files.new log.now) }
     ensures apart { script.now ≡ log.now → F.writes files.new ≡ F.writes files.old }
     // A script whose bytes are known, and too many, is refused as a file, and nothing is printed.
     ensures within { IsTooLong 4194304 (F.contents files.old script.now) → result.exit ≡ Exit.Refused }
@@ -59,6 +64,8 @@ fn record_script<F: Files, O: Write>(
 ) -> Result<Status, RunError>
     ensures log { WritesLog (F.contents files.old script.now) log.now (F.writes files.old) (F.writes files.new)
         (O.contents out.old) (O.contents out.new) result }
+    ensures held { IfOk result (λ status. HoldsLog (F.contents files.old script.now) (exit_at status.end) (O.contents out.old) (O.contents out.new)
+        (F.contents files.new log.now)) }
     ensures faults { IfErr result
         (FailsRecording (F.contents files.old script.now) (O.contents out.old) (O.contents out.new)) }
     ensures kept { OnErr result (KeepsFiles (F.contents files.old) (F.contents files.new)) }

@@ -1,6 +1,6 @@
 use Rattle.std.proofs.Common.{◌∙◌}
 use Rattle.dmlw_commands.specs.EndingLaws.{ends_told}
-use Rattle.dmlw_commands.proofs.Endings.{keeps_or_asks, recording_ends, records_all}
+use Rattle.dmlw_commands.proofs.Endings.{done_holds, ended_holds, keeps_or_asks, recording_ends, records_all, refused_keeps}
 use Rattle.dmlw_commands.proofs.record.record.Goals as goal
 
 pub returns-clause-ends : goal.returns-clause-ends
@@ -16,3 +16,18 @@ returns-clause-unmade g c ended =
     let recorded = c.record_script-recorded.ensures in
     let more = c.explain_recording-more.ensures in
     keeps_or_asks _ _ _ _ _ _ _ _ _ _ _ recorded.log recorded.kept more.kept more.unwritten
+
+pub returns-clause-written : goal.returns-clause-written
+returns-clause-written g c done =
+    done_holds _ _ _ _ _ _ _ c.record_script-recorded.result c.end_recording.result.exit c.record_script-recorded.ensures.held c.end_recording.ensures.kept
+    c.explain_recording-more.ensures.kept c.end_recording.ensures.exit done
+
+pub returns-clause-left : goal.returns-clause-left
+returns-clause-left g c ended =
+    ended_holds _ _ _ _ _ _ _ _ c.record_script-recorded.result c.end_recording.result.exit c.record_script-recorded.ensures.held c.record_script-recorded.ensures.kept
+    c.end_recording.ensures.kept c.explain_recording-more.ensures.kept c.end_recording.ensures.exit ended
+
+pub returns-clause-kept : goal.returns-clause-kept
+returns-clause-kept g c refused =
+    refused_keeps c.record_script-recorded.result c.end_recording.result.exit _ _ _ c.record_script-recorded.ensures.kept c.explain_recording-more.ensures.kept
+    c.end_recording.ensures.exit refused

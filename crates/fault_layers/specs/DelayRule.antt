@@ -1,27 +1,27 @@
 -- The rule of the device whose calls begin later.
-use Rattle.std.specs.Prelude.{◌≡◌, ◌≤◌, ℕ, Ok, Result}
-use Rattle.bio.specs.declared.outcome.DevError.{DevError}
+use Rattle.std.proofs.Common.{◌≡◌, ℕ, Ok, refl}
 use Rattle.blockdev.specs.Calls.{Call, Discards, Flushes, Reads, Writes}
+use Rattle.bio.specs.Moments.{later_by}
 use Rattle.sector_disk.specs.Shown.{Does}
 use Rattle.sector_disk.specs.declared.disk.SectorDisk.{SectorDisk}
-use Rattle.fault_layers.specs.declared.delay.Delay.{Delay}
+use Rattle.fault_layers.specs.declared.delay.DelayGate.{DelayGate}
+use Rattle.fault_layers.specs.declared.gate.Kind.{Kind}
+use Rattle.fault_layers.specs.declared.gate.Kind.TheVariants.{Discard, Flush, Read, Write}
+use Rattle.fault_layers.specs.declared.gate.Verdict.{Verdict}
+use Rattle.fault_layers.specs.declared.gate.Verdict.TheVariants.{Delay}
+use Rattle.fault_layers.specs.declared.gated.Gated.{Gated}
+use Rattle.fault_layers.specs.Decided.{kind_of, IsDecided}
 
--- how much later a call begins, in milliseconds; a discard is delayed as a write is
-abbrev pub delay_of : {D : Type 0} → Delay D → Call → ℕ
-delay_of device (Reads first before after) = device.read
-delay_of device (Writes first bytes fua) = device.write
-delay_of device (Discards first count) = device.write
-delay_of device Flushes = device.flush
+-- how much later a call of this kind begins, in milliseconds; a discard is delayed as a write is
+abbrev pub delay_of : DelayGate → Kind → ℕ
+delay_of delays Read = delays.read
+delay_of delays Write = delays.write
+delay_of delays Discard = delays.write
+delay_of delays Flush = delays.flush
 
--- What a call comes to that began at this later moment. `below` says that the device beneath did it, with this answer.
-pub record IsDelayed {D : Type 0} (below : Type 0) (begun : ℕ) (result : Result ℕ DevError) (old new : Delay D) : Type 0 where
-  pub done : below
-  -- an Ok ends at that moment or later
-  pub ends : (end : ℕ) → result ≡ Ok end → begun ≤ end
-  -- the delays stay
-  pub read : new.read ≡ old.read
-  pub write : new.write ≡ old.write
-  pub flush : new.flush ≡ old.flush
+-- every call passes, so much later
+abbrev pub delay_verdict : DelayGate → Kind → ℕ → Verdict
+delay_verdict delays kind now = Delay (delay_of delays kind)
 
 -- a call of a disk in memory that ends well ends at once
 pub ends_at_once : (old new : SectorDisk) (call : Call) (now end : ℕ) → Does old call now (Ok end) new → end ≡ now
@@ -29,3 +29,10 @@ ends_at_once old new (Reads first before after) now end (same, past, read) = cc
 ends_at_once old new (Writes first bytes fua) now end (same, past) = same
 ends_at_once old new (Discards first count) now end (same, past) = same
 ends_at_once old new Flushes now end (same, past) = cc
+
+-- so one that begins so much later ends so much later
+pub ends_later : (old new : Gated SectorDisk DelayGate) (call : Call) (now end : ℕ)
+    → IsDecided (delay_verdict old.gate (kind_of call) now) (λ begun. Does old.lower call begun (Ok end) new.lower) call now (Ok end) old new
+    → end ≡ later_by now (delay_of old.gate (kind_of call))
+ends_later old new call now end is =
+    ends_at_once old.lower new.lower call _ end (is.delays (delay_of old.gate (kind_of call)) refl).0

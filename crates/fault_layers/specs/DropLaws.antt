@@ -3,10 +3,12 @@ use Rattle.std.proofs.Common.{◌≡◌, ℕ, Bool, zero, suc, true, false, refl
 use Rattle.table_line.specs.declared.feature.Feature.{Feature}
 use Rattle.table_line.specs.declared.feature.Feature.TheVariants as features
 use Rattle.table_line.specs.Standing.{is_drop_writes}
+use Rattle.fault_layers.specs.declared.delay.DelayGate.{DelayGate}
 use Rattle.fault_layers.specs.declared.error_dev.ErrorGate.{ErrorGate}
 use Rattle.fault_layers.specs.declared.gate.Kind.{Kind}
 use Rattle.fault_layers.specs.declared.gate.Kind.TheVariants.{Discard, Flush, Read, Write}
 use Rattle.fault_layers.specs.declared.gate.Verdict.TheVariants.{Drop}
+use Rattle.fault_layers.specs.DelayRule.{delay_verdict}
 use Rattle.fault_layers.specs.ErrorRule.{error_verdict}
 use Rattle.fault_layers.specs.FlakeyRule.{Cycle, down_verdict, flakey_verdict, is_up, verdict_if}
 use Rattle.fault_layers.specs.FuseRule.{fuse_verdict, while_left}
@@ -16,6 +18,12 @@ error_honest kind now none is = cc
 
 pub error_stays : (gate : ErrorGate) (kind : Kind) (now : ℕ) → false ≡ false
 error_stays gate kind now = refl
+
+pub delay_honest : (delays : DelayGate) (kind : Kind) (now : ℕ) → false ≡ false → delay_verdict delays kind now ≡ Drop → ⊥
+delay_honest delays kind now none is = cc
+
+pub delay_stays : (delays : DelayGate) (kind : Kind) (now : ℕ) → false ≡ false
+delay_stays delays kind now = refl
 
 while_honest : (calls : ℕ) → while_left calls ≡ Drop → ⊥
 while_honest zero is = cc

@@ -4,12 +4,17 @@ use Rattle.table_line.specs.declared.feature.Feature.{Feature}
 use Rattle.table_line.specs.declared.feature.Feature.TheVariants as features
 use Rattle.fault_layers.specs.declared.gate.Kind.TheVariants.{Read}
 use Rattle.fault_layers.specs.declared.gate.Verdict.TheVariants.{Drop}
+use Rattle.fault_layers.specs.declared.delay.DelayGate.{DelayGate}
+use Rattle.fault_layers.specs.DelayRule.{delay_verdict}
 use Rattle.fault_layers.specs.ErrorRule.{error_verdict}
 use Rattle.fault_layers.specs.FlakeyRule.{Cycle, flakey_verdict, is_up, verdict_if}
 use Rattle.fault_layers.specs.FuseRule.{fuse_verdict}
 
 pub error_keeps_reads : (now : ℕ) → error_verdict Read now ≡ Drop → ⊥
 error_keeps_reads now is = cc
+
+pub delay_keeps_reads : (delays : DelayGate) (now : ℕ) → delay_verdict delays Read now ≡ Drop → ⊥
+delay_keeps_reads delays now is = cc
 
 pub fuse_keeps_reads : (calls now : ℕ) → fuse_verdict calls Read now ≡ Drop → ⊥
 fuse_keeps_reads calls now is = cc

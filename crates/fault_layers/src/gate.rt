@@ -20,13 +20,15 @@ pub enum Kind {
 pub enum Verdict {
     /// The device beneath does it, and its answer is the call's.
     Pass,
+    /// So does it, but begins it so many milliseconds later.
+    Delay(Ms),
     /// It answers Io, and the device beneath isn't called.
     Fail,
     /// It answers that it ended well at once, and the device beneath isn't called: a lie.
     Drop,
 }
 
-/// What decides which calls reach the device beneath.
+/// What decides which calls reach the device beneath, and when.
 pub trait Gate {
     /// What becomes of a call of this kind at this moment.
     ghost verdict: { Self → Kind → ℕ → Verdict };

@@ -2,7 +2,7 @@ use crate::gate::{Gate, Kind, Verdict};
 use bio::{DevError, Ms};
 use blockdev::{BlockDev, Message, MessageError};
 
-/// A device of which a gate decides, call by call, whether the one beneath does it.
+/// A device of which a gate decides, call by call, whether the one beneath does it, and when.
 #[derive(Drop)]
 pub struct Gated<D: BlockDev + Drop, G: Gate + Drop> {
     lower: D,
@@ -73,7 +73,7 @@ impl<D: BlockDev + Drop, G: Gate + Drop> BlockDev for Gated<D, G> {
 
     // What the gate decides about the call, and the gate after it.
     ghost does = { λ old call now result new.
-        IsDecided (G.verdict old.gate (kind_of call) now) (D.does old.lower call now result new.lower) call now result old new
+        IsDecided (G.verdict old.gate (kind_of call) now) (λ begun. D.does old.lower call begun result new.lower) call now result old new
         × (new.gate ≡ G.after old.gate (kind_of call) now) };
 
     fn sectors(&self) -> u64 {
@@ -83,6 +83,7 @@ impl<D: BlockDev + Drop, G: Gate + Drop> BlockDev for Gated<D, G> {
     fn read(&mut self, now: Ms, first: u64, buffer: &mut [u8]) -> Result<Ms, DevError> {
         match self.gate.decide(Kind::Read, now) {
             Verdict::Pass => self.lower.read(now, first, buffer),
+            Verdict::Delay(by) => self.lower.read(now.later_by(by), first, buffer),
             Verdict::Fail | Verdict::Drop => self.fail(),
         }
     }
@@ -90,6 +91,7 @@ impl<D: BlockDev + Drop, G: Gate + Drop> BlockDev for Gated<D, G> {
     fn write(&mut self, now: Ms, first: u64, bytes: &[u8], fua: bool) -> Result<Ms, DevError> {
         match self.gate.decide(Kind::Write, now) {
             Verdict::Pass => self.lower.write(now, first, bytes, fua),
+            Verdict::Delay(by) => self.lower.write(now.later_by(by), first, bytes, fua),
             Verdict::Fail => self.fail(),
             Verdict::Drop => self.lose(now),
         }
@@ -98,6 +100,7 @@ impl<D: BlockDev + Drop, G: Gate + Drop> BlockDev for Gated<D, G> {
     fn discard(&mut self, now: Ms, first: u64, count: u64) -> Result<Ms, DevError> {
         match self.gate.decide(Kind::Discard, now) {
             Verdict::Pass => self.lower.discard(now, first, count),
+            Verdict::Delay(by) => self.lower.discard(now.later_by(by), first, count),
             Verdict::Fail => self.fail(),
             Verdict::Drop => self.lose(now),
         }
@@ -106,6 +109,7 @@ impl<D: BlockDev + Drop, G: Gate + Drop> BlockDev for Gated<D, G> {
     fn flush(&mut self, now: Ms) -> Result<Ms, DevError> {
         match self.gate.decide(Kind::Flush, now) {
             Verdict::Pass => self.lower.flush(now),
+            Verdict::Delay(by) => self.lower.flush(now.later_by(by)),
             Verdict::Fail => self.fail(),
             Verdict::Drop => self.lose(now),
         }

@@ -1,10 +1,10 @@
 //! Devices over another one, which map its sectors, make its calls later or make it fail.
 //!
-//! `Linear` is a part of the device beneath it, and `Delay` calls it later. Every other layer only decides: its gate (`Gate`) says for each
-//! call whether the device beneath does it, and `Gated` is the one device over them all.
+//! `Linear` is a part of the device beneath it. Every other layer only decides: its gate (`Gate`) says for each call whether the device
+//! beneath does it, and when, and `Gated` is the one device over them all.
 #![tactic(auto)]
 
-pub use delay::Delay;
+pub use delay::{Delay, DelayGate};
 pub use error_dev::{ErrorDev, ErrorGate};
 pub use flakey::{Flakey, FlakeyGate};
 pub use fuse::{Fuse, FuseGate};

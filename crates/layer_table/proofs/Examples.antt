@@ -1,8 +1,8 @@
 -- The definitions on examples: what holds, and what doesn't.
-use Rattle.std.proofs.Common.{◌≡◌, true, false, [], ◌∷◌, None, refl}
-use Rattle.blockdev.specs.Calls.{Discards, Flushes}
+use Rattle.std.proofs.Common.{◌≡◌, true, false, [], ◌∷◌, refl}
 use Rattle.blockdev.specs.View.{View}
 use Rattle.fault_layers.specs.declared.gate.Kind.TheVariants as kinds
+use Rattle.fault_layers.specs.declared.gate.Verdict.TheVariants as verdicts
 use Rattle.fault_layers.specs.declared.gate.Verdict.TheVariants.{Drop, Fail, Pass}
 use Rattle.table_line.specs.declared.feature.Feature.TheVariants as features
 use Rattle.table_line.specs.declared.layer_spec.Target.TheVariants as targets
@@ -10,9 +10,9 @@ use Rattle.table_line.specs.declared.layer_spec.LayerSpec.{LayerSpec}
 use Rattle.table_line.specs.declared.layer_spec.Target.{Target}
 use Rattle.table_line.specs.Standing.{some_drops}
 use Rattle.layer_table.specs.declared.any_gate.AnyGate.{AnyGate}
-use Rattle.layer_table.specs.declared.any_gate.AnyGate.TheVariants.{Error, Flakey, Fuse}
+use Rattle.layer_table.specs.declared.any_gate.AnyGate.TheVariants.{Delay, Error, Flakey, Fuse, Open}
 use Rattle.layer_table.specs.AnyRule.{any_after, any_may_drop, any_verdict}
-use Rattle.layer_table.specs.Layers.{gate_asked, layer_asked, layers_over, later_of, Deciding, Delaying, Layer, Passing}
+use Rattle.layer_table.specs.Layers.{gate_asked, layer_asked, layers_over, Deciding, Layer}
 use Rattle.layer_table.specs.Slots.{has_no_gap}
 
 -- ---- gates
@@ -51,18 +51,27 @@ fails = refl
 asked : layer_asked (record { length = 8; offset = 4; target = targets.Fuse 3 }) 7 ≡ record { offset = 4; length = 8; rule = Deciding (Fuse 3); faults = 0; lies = 0 }
 asked = refl
 
-no-gate : gate_asked targets.Linear 7 ≡ None
-no-gate = refl
+open-asked : gate_asked targets.Linear 7 ≡ Open
+open-asked = refl
 
-asked-later : layer_asked (record { length = 8; offset = 4; target = targets.Delay 1 2 3 }) 7 ≡ record { offset = 4; length = 8; rule = Delaying 1 2 3; faults = 0; lies = 0 }
+asked-later : layer_asked (record { length = 8; offset = 4; target = targets.Delay 1 2 3 }) 7 ≡ record { offset = 4; length = 8; rule = Deciding (Delay (record { read = 1; write = 2; flush = 3 })); faults = 0; lies = 0 }
 asked-later = refl
 
--- a discard is delayed as a write is
-discarded-later : later_of 1 2 3 (Discards 0 8) ≡ 2
+-- a discard is delayed as a write is, and a gate that passes all or passes all later stays
+discarded-later : any_verdict (Delay (record { read = 1; write = 2; flush = 3 })) kinds.Discard 7 ≡ verdicts.Delay 2
 discarded-later = refl
 
-flushed-later : later_of 1 2 3 Flushes ≡ 3
+flushed-later : any_verdict (Delay (record { read = 1; write = 2; flush = 3 })) kinds.Flush 7 ≡ verdicts.Delay 3
 flushed-later = refl
+
+delays-stay : any_after (Delay (record { read = 1; write = 2; flush = 3 })) kinds.Flush 7 ≡ Delay (record { read = 1; write = 2; flush = 3 })
+delays-stay = refl
+
+all-passes : any_verdict Open kinds.Write 7 ≡ Pass
+all-passes = refl
+
+open-stays : any_after Open kinds.Write 7 ≡ Open
+open-stays = refl
 
 -- ---- which layers may drop writes
 
@@ -95,7 +104,7 @@ gap-beneath = refl
 -- ---- what layers show
 
 abbrev four-on : Layer
-four-on = record { offset = 4; length = 8; rule = Passing; faults = 0; lies = 0 }
+four-on = record { offset = 4; length = 8; rule = Deciding Open; faults = 0; lies = 0 }
 
 abbrev two-on : Layer
 two-on = record { offset = 2; length = 3; rule = Deciding (Fuse 3); faults = 5; lies = 0 }

@@ -41,29 +41,13 @@ alone slot = layers_with (λ device. []) slot
 layer-stays : {D : Type 0} {g : Ghosts D} (below : D → ℕ → List ℕ → Result (Unit {0}) MessageError → D → Type 0) (slot : Slot D g) (layer : ℕ) (text : List ℕ)
     (result : Result (Unit {0}) MessageError) (after : Slot D g) → AnswersBelow below slot layer text result after → alone after ≡ alone slot
 layer-stays below (slots.Bare it) layer text result (slots.Bare after) is = refl
-layer-stays below (slots.Bare it) layer text result (slots.Linear after) is = absurd is
 layer-stays below (slots.Bare it) layer text result (slots.Decided after) is = absurd is
-layer-stays below (slots.Bare it) layer text result (slots.Delayed after) is = absurd is
 layer-stays below (slots.Bare it) layer text result (slots.Dusted after) is = absurd is
-layer-stays below (slots.Linear it) layer text result (slots.Bare after) is = absurd is
-layer-stays below (slots.Linear it) layer text result (slots.Linear after) is = rw (is.1, is.2) refl
-layer-stays below (slots.Linear it) layer text result (slots.Decided after) is = absurd is
-layer-stays below (slots.Linear it) layer text result (slots.Delayed after) is = absurd is
-layer-stays below (slots.Linear it) layer text result (slots.Dusted after) is = absurd is
 layer-stays below (slots.Decided it) layer text result (slots.Bare after) is = absurd is
-layer-stays below (slots.Decided it) layer text result (slots.Linear after) is = absurd is
 layer-stays below (slots.Decided it) layer text result (slots.Decided after) is = rw (is.0.1, is.0.2, is.1, is.2, is.3) refl
-layer-stays below (slots.Decided it) layer text result (slots.Delayed after) is = absurd is
 layer-stays below (slots.Decided it) layer text result (slots.Dusted after) is = absurd is
-layer-stays below (slots.Delayed it) layer text result (slots.Bare after) is = absurd is
-layer-stays below (slots.Delayed it) layer text result (slots.Linear after) is = absurd is
-layer-stays below (slots.Delayed it) layer text result (slots.Decided after) is = absurd is
-layer-stays below (slots.Delayed it) layer text result (slots.Delayed after) is = rw (is.0.1, is.0.2, is.1, is.2, is.3) refl
-layer-stays below (slots.Delayed it) layer text result (slots.Dusted after) is = absurd is
 layer-stays below (slots.Dusted it) layer text result (slots.Bare after) is = absurd is
-layer-stays below (slots.Dusted it) layer text result (slots.Linear after) is = absurd is
 layer-stays below (slots.Dusted it) layer text result (slots.Decided after) is = absurd is
-layer-stays below (slots.Dusted it) layer text result (slots.Delayed after) is = absurd is
 layer-stays below (slots.Dusted it) layer text result (slots.Dusted after) is = rw (is.0.1, is.0.2, is.1, is.2, is.3, is.4) refl
 
 -- ---- layers

@@ -1,25 +1,23 @@
 -- What a slot shows and does, by the layers.
-use Rattle.std.proofs.Common.{◌≡◌, ℕ, suc, ◌≤◌, Bool, true, false, List, [], length, Result, Ok, refl, ap, subst, sym, ◌∙◌}
+use Rattle.std.proofs.Common.{◌≡◌, ℕ, suc, Bool, true, false, List, [], length, Result, refl, ap, subst, sym, ◌∙◌}
 use Rattle.bio.specs.declared.outcome.DevError.{DevError}
 use Rattle.blockdev.specs.declared.device.BlockDev.{Ghosts}
 use Rattle.bio.specs.Moments.{later_by}
-use Rattle.blockdev.specs.Calls.{Call, Discards, Flushes, Reads, Writes}
+use Rattle.blockdev.specs.Calls.{Call}
 use Rattle.blockdev.specs.Counted.{counted}
 use Rattle.blockdev.specs.View.{View}
 use Rattle.dust_layer.specs.declared.dust.Dust.{Dust}
 use Rattle.dust_layer.specs.Bad.{listed}
 use Rattle.dust_layer.specs.CarryLaws.{done_carried}
 use Rattle.dust_layer.specs.DustRule.{held}
-use Rattle.fault_layers.specs.declared.delay.Delay.{Delay}
 use Rattle.fault_layers.specs.declared.linear.Linear.{Linear}
 use Rattle.fault_layers.specs.Cut.{call_from, cut}
 use Rattle.fault_layers.specs.Decided.{kind_of}
-use Rattle.fault_layers.specs.DelayRule.{delay_of}
 use Rattle.sector_disk.specs.declared.disk.SectorDisk.{SectorDisk}
 use Rattle.layer_table.specs.declared.slot.Slot.{Slot}
 use Rattle.layer_table.specs.declared.slot.Slot.TheVariants as slots
 use Rattle.layer_table.specs.AnyRule.{any_may_drop, any_verdict}
-use Rattle.layer_table.specs.Layers.{later_of, layers_over, layers_with, shifted, Deciding, Delaying, Dusting, Layer, LayersDo, SoManyDo, Under}
+use Rattle.layer_table.specs.Layers.{layers_over, layers_with, shifted, Deciding, Dusting, Layer, LayersDo, SoManyDo, Under}
 use Rattle.layer_table.specs.Slots.{device_of, has_layer, slot_does, slot_shown, IsShifted}
 use Rattle.layer_table.specs.SlotLaws.{decided_keeps, dusted_keeps, slot_kept, IsKept}
 
@@ -30,11 +28,8 @@ pub shown_with : {D : Type 0} {g : Ghosts D} (layers : D → List Layer) (base :
     → ((device : D) → g.shown device ≡ layers_over (layers device) (base device))
     → (slot : Slot D g) → slot_shown slot ≡ layers_over (layers_with layers slot) (base (device_of slot))
 shown_with {D} {g} layers base same (slots.Bare device) = same device
-shown_with {D} {g} layers base same (slots.Linear range) = ap (λ (v : View). cut v range.offset range.length) (same range.lower)
 shown_with {D} {g} layers base same (slots.Decided layer) =
     ap (λ (v : View). counted (cut v layer.lower.offset layer.lower.length) layer.faults layer.lies (any_may_drop layer.gate)) (same layer.lower.lower)
-shown_with {D} {g} layers base same (slots.Delayed layer) =
-    ap (λ (v : View). cut v layer.lower.offset layer.lower.length) (same layer.lower.lower)
 shown_with {D} {g} layers base same (slots.Dusted layer) =
     ap (λ (v : View). counted (cut v layer.lower.offset layer.lower.length) layer.faults 0 false) (same layer.lower.lower)
 
@@ -44,18 +39,7 @@ shown_with {D} {g} layers base same (slots.Dusted layer) =
 abbrev pub under_of : {D : Type 0} → (D → List Layer) → (D → SectorDisk) → D → Under
 under_of layers disk device = record { layers = layers device; disk = disk device }
 
--- a delay says how much later a call begins
-later_same : {D : Type 0} (layer : Delay D) (call : Call) → delay_of layer call ≡ later_of layer.read layer.write layer.flush call
-later_same layer (Reads first before after) = refl
-later_same layer (Writes first bytes fua) = refl
-later_same layer (Discards first count) = refl
-later_same layer Flushes = refl
-
 -- rules that say the same are one
-same_delays : {D : Type 0} (layer after : Delay D) → after.read ≡ layer.read → after.write ≡ layer.write → after.flush ≡ layer.flush
-    → Delaying after.read after.write after.flush ≡ Delaying layer.read layer.write layer.flush
-same_delays layer after read write flush = rw (read, write, flush) refl
-
 same_dust : {D : Type 0} (layer after : Dust D) → after.block ≡ layer.block → after.mode ≡ layer.mode
     → Dusting after.block (listed after.bad) after.mode ≡ Dusting layer.block (listed after.bad) layer.mode
 same_dust layer after block mode = rw (block, mode) refl
@@ -69,18 +53,9 @@ pub does_with : {D : Type 0} {g : Ghosts D} (layers : D → List Layer) (disk : 
     → LayersDo (layers_with layers slot) (disk (device_of slot)) call now result (layers_with layers after) (disk (device_of after))
 does_with {D} {g} layers disk kept below (slots.Bare device) call now result (slots.Bare after) does =
     below device call now result after does
-does_with {D} {g} layers disk kept below (slots.Bare device) call now result (slots.Linear after) does = absurd does
 does_with {D} {g} layers disk kept below (slots.Bare device) call now result (slots.Decided after) does = absurd does
-does_with {D} {g} layers disk kept below (slots.Bare device) call now result (slots.Delayed after) does = absurd does
 does_with {D} {g} layers disk kept below (slots.Bare device) call now result (slots.Dusted after) does = absurd does
-does_with {D} {g} layers disk kept below (slots.Linear range) call now result (slots.Bare after) does = absurd does
-does_with {D} {g} layers disk kept below (slots.Linear range) call now result (slots.Linear after) does =
-    ((below range.lower (call_from range.offset call) now result after.lower does.0, refl, refl, refl), does.1, does.2)
-does_with {D} {g} layers disk kept below (slots.Linear range) call now result (slots.Decided after) does = absurd does
-does_with {D} {g} layers disk kept below (slots.Linear range) call now result (slots.Delayed after) does = absurd does
-does_with {D} {g} layers disk kept below (slots.Linear range) call now result (slots.Dusted after) does = absurd does
 does_with {D} {g} layers disk kept below (slots.Decided layer) call now result (slots.Bare after) does = absurd does
-does_with {D} {g} layers disk kept below (slots.Decided layer) call now result (slots.Linear after) does = absurd does
 does_with {D} {g} layers disk kept below (slots.Decided layer) call now result (slots.Decided after) does =
     let verdict = any_verdict layer.gate (kind_of call) now in (
       (
@@ -88,6 +63,9 @@ does_with {D} {g} layers disk kept below (slots.Decided layer) call now result (
           passes = λ is.
               let done = does.0.passes is in
               (below layer.lower.lower (call_from layer.lower.offset call) now result after.lower.lower done.0.0, done.1, done.2);
+          delays = λ by is.
+              let done = does.0.delays by is in
+              (below layer.lower.lower (call_from layer.lower.offset call) (later_by now by) result after.lower.lower done.0.0, done.1, done.2, done.3);
           fails = λ is.
               let done = does.0.fails is in
               (done.0, done.1, done.2, ap (λ (range : Linear D g). under_of layers disk range.lower) done.3, done.4);
@@ -97,32 +75,12 @@ does_with {D} {g} layers disk kept below (slots.Decided layer) call now result (
         },
         ap Deciding does.1,
       ),
-      decided_keeps (λ (range : Linear D g). range.offset) verdict _ call now result layer after does.0 (λ did. did.1),
-      decided_keeps (λ (range : Linear D g). range.length) verdict _ call now result layer after does.0 (λ did. did.2),
+      decided_keeps (λ (range : Linear D g). range.offset) verdict _ call now result layer after does.0 (λ begun did. did.1),
+      decided_keeps (λ (range : Linear D g). range.length) verdict _ call now result layer after does.0 (λ begun did. did.2),
     )
-does_with {D} {g} layers disk kept below (slots.Decided layer) call now result (slots.Delayed after) does = absurd does
 does_with {D} {g} layers disk kept below (slots.Decided layer) call now result (slots.Dusted after) does = absurd does
-does_with {D} {g} layers disk kept below (slots.Delayed layer) call now result (slots.Bare after) does = absurd does
-does_with {D} {g} layers disk kept below (slots.Delayed layer) call now result (slots.Linear after) does = absurd does
-does_with {D} {g} layers disk kept below (slots.Delayed layer) call now result (slots.Decided after) does = absurd does
-does_with {D} {g} layers disk kept below (slots.Delayed layer) call now result (slots.Delayed after) does =
-    let same = later_same layer call in (
-      record {
-        done = subst (λ (later : ℕ). LayersDo (layers layer.lower.lower) (disk layer.lower.lower) (call_from layer.lower.offset call) (later_by now later) result (layers after.lower.lower) (disk after.lower.lower)) same
-            (below layer.lower.lower (call_from layer.lower.offset call) _ result after.lower.lower does.done.0);
-        ends = subst (λ (later : ℕ). (end : ℕ) → result ≡ Ok end → later_by now later ≤ end) same does.ends;
-        rule = same_delays layer after does.read does.write does.flush;
-        faults = refl;
-        lies = refl;
-      },
-      does.done.1,
-      does.done.2,
-    )
-does_with {D} {g} layers disk kept below (slots.Delayed layer) call now result (slots.Dusted after) does = absurd does
 does_with {D} {g} layers disk kept below (slots.Dusted layer) call now result (slots.Bare after) does = absurd does
-does_with {D} {g} layers disk kept below (slots.Dusted layer) call now result (slots.Linear after) does = absurd does
 does_with {D} {g} layers disk kept below (slots.Dusted layer) call now result (slots.Decided after) does = absurd does
-does_with {D} {g} layers disk kept below (slots.Dusted layer) call now result (slots.Delayed after) does = absurd does
 does_with {D} {g} layers disk kept below (slots.Dusted layer) call now result (slots.Dusted after) does = (
   record {
     list = listed after.bad;
@@ -151,9 +109,7 @@ count_with false count = count
 pub counted_with : {D : Type 0} {g : Ghosts D} (layers : D → List Layer) (slot : Slot D g)
     → length (layers_with layers slot) ≡ count_with (has_layer slot) (length (layers (device_of slot)))
 counted_with {D} {g} layers (slots.Bare device) = refl
-counted_with {D} {g} layers (slots.Linear range) = refl
 counted_with {D} {g} layers (slots.Decided layer) = refl
-counted_with {D} {g} layers (slots.Delayed layer) = refl
 counted_with {D} {g} layers (slots.Dusted layer) = refl
 
 -- a device under no layers keeps that there are none

@@ -1,10 +1,10 @@
 -- The layers of a stack, and the disk beneath them.
-use Rattle.std.specs.Prelude.{◌≡◌, ◌↔◌, ℕ, zero, suc, length, ◌+◌, ◌/◌, ◌≤◌, ◌||◌, false, List, [], ◌∷◌, Option, Some, None, Result, Err, Ok}
+use Rattle.std.specs.Prelude.{◌≡◌, ◌↔◌, ℕ, zero, suc, length, ◌+◌, ◌/◌, ◌≤◌, ◌||◌, false, List, [], ◌∷◌, None, Result, Err, Ok}
 use Rattle.bio.specs.declared.outcome.DevError.{DevError}
 use Rattle.bio.specs.declared.outcome.DevError.TheVariants.{Io}
 use Rattle.bio.specs.Moments.{later_by}
 use Rattle.blockdev.specs.declared.device.BlockDev.{Ghosts}
-use Rattle.blockdev.specs.Calls.{Call, Discards, Flushes, Reads, Writes}
+use Rattle.blockdev.specs.Calls.{Call}
 use Rattle.blockdev.specs.Counted.{counted, one_more}
 use Rattle.blockdev.specs.View.{View}
 use Rattle.dust_layer.specs.declared.mode.Mode.{Mode}
@@ -12,7 +12,7 @@ use Rattle.dust_layer.specs.declared.mode.Mode.TheVariants.{Bypass}
 use Rattle.dust_layer.specs.Bad.{Bad, listed}
 use Rattle.dust_layer.specs.DustRule.{IsDoneBy}
 use Rattle.fault_layers.specs.declared.gate.Verdict.{Verdict}
-use Rattle.fault_layers.specs.declared.gate.Verdict.TheVariants.{Drop, Fail, Pass}
+use Rattle.fault_layers.specs.declared.gate.Verdict.TheVariants.{Delay, Drop, Fail, Pass}
 use Rattle.sectors.specs.Content.{Content}
 use Rattle.fault_layers.specs.Cut.{call_from, cut, SeenFrom}
 use Rattle.fault_layers.specs.Decided.{kind_of, KeepsBuffer}
@@ -30,12 +30,9 @@ use Rattle.layer_table.specs.declared.stack.Stack.{Stack}
 use Rattle.layer_table.specs.AnyRule.{any_after, any_may_drop, any_verdict}
 use Rattle.layer_table.specs.Slots.{device_of, slot_does, slot_shown}
 
--- What a layer does with its calls: it passes each, a gate decides about them, they begin so many milliseconds later, or they go block by block
--- over a list of bad blocks, of so many sectors each.
+-- What a layer does with its calls: a gate decides about them, or they go block by block over a list of bad blocks, of so many sectors each.
 pub data Rule : Type 0 where
-  Passing : Rule
   Deciding : (gate : AnyGate) → Rule
-  Delaying : (read write flush : ℕ) → Rule
   Dusting : (block : ℕ) (bad : Bad) (mode : Mode) → Rule
 
 -- A layer: the range that it is of what stands beneath, its rule, and how often it failed a call, and dropped one, itself.
@@ -49,12 +46,8 @@ pub record Layer : Type 0 where
 -- the layer that stands in a slot, before those that stand beneath it
 abbrev pub layers_with : {D : Type 0} {g : Ghosts D} → (D → List Layer) → Slot D g → List Layer
 layers_with {D} {g} beneath (slots.Bare device) = beneath device
-layers_with {D} {g} beneath (slots.Linear range) =
-    record { offset = range.offset; length = range.length; rule = Passing; faults = 0; lies = 0 } ∷ beneath range.lower
 layers_with {D} {g} beneath (slots.Decided layer) =
     record { offset = layer.lower.offset; length = layer.lower.length; rule = Deciding layer.gate; faults = layer.faults; lies = layer.lies } ∷ beneath layer.lower.lower
-layers_with {D} {g} beneath (slots.Delayed layer) =
-    record { offset = layer.lower.offset; length = layer.lower.length; rule = Delaying layer.read layer.write layer.flush; faults = 0; lies = 0 } ∷ beneath layer.lower.lower
 layers_with {D} {g} beneath (slots.Dusted layer) =
     record { offset = layer.lower.offset; length = layer.lower.length; rule = Dusting layer.block (listed layer.bad) layer.mode; faults = layer.faults; lies = 0 } ∷ beneath layer.lower.lower
 
@@ -76,23 +69,20 @@ layers_of stack = layers_in stack.top
 abbrev pub disk_of : Stack → SectorDisk
 disk_of stack = device_in stack.top
 
--- the gate of a target, where it has one: a flakey device's moments count from its load
-abbrev pub gate_asked : Target → ℕ → Option AnyGate
-gate_asked targets.Linear load = None
-gate_asked targets.Error load = Some (gates.Error (record {}))
-gate_asked (targets.Flakey up down feature) load = Some (gates.Flakey (record { up = up; down = down; feature = feature; load = load }))
-gate_asked (targets.Fuse calls) load = Some (gates.Fuse calls)
-gate_asked (targets.Dust bytes) load = None
-gate_asked (targets.Delay read write flush) load = None
+-- the gate of a target: that of a linear one is open, and so is that of one with bad blocks, which goes block by block; a flakey device's
+-- moments count from its load
+abbrev pub gate_asked : Target → ℕ → AnyGate
+gate_asked targets.Linear load = gates.Open
+gate_asked targets.Error load = gates.Error (record {})
+gate_asked (targets.Flakey up down feature) load = gates.Flakey (record { up = up; down = down; feature = feature; load = load })
+gate_asked (targets.Fuse calls) load = gates.Fuse calls
+gate_asked (targets.Dust bytes) load = gates.Open
+gate_asked (targets.Delay read write flush) load = gates.Delay (record { read = read; write = write; flush = flush })
 
 -- the rule of a target; blocks are sectors of 512 bytes, none is bad at first, and calls pass
 abbrev pub rule_asked : Target → ℕ → Rule
-rule_asked targets.Linear load = Passing
-rule_asked targets.Error load = Deciding (gates.Error (record {}))
-rule_asked (targets.Flakey up down feature) load = Deciding (gates.Flakey (record { up = up; down = down; feature = feature; load = load }))
-rule_asked (targets.Fuse calls) load = Deciding (gates.Fuse calls)
 rule_asked (targets.Dust bytes) load = Dusting (bytes / 512) (λ block. None) Bypass
-rule_asked (targets.Delay read write flush) load = Delaying read write flush
+rule_asked target load = Deciding (gate_asked target load)
 
 -- the layer that a line asks for
 abbrev pub layer_asked : LayerSpec → ℕ → Layer
@@ -109,10 +99,8 @@ layers_under (spec ∷ specs) load layers = layers_under specs load (layer_asked
 abbrev pub stack_shown : Stack → View
 stack_shown stack = slot_shown stack.top
 
--- a layer over what shows this: the range, with a gate its own faults and lies, and with bad blocks its own faults
+-- a layer over what shows this: the range, with a gate's own faults and lies, or with bad blocks' own faults
 abbrev pub layer_over : Rule → Layer → View → View
-layer_over Passing layer v = cut v layer.offset layer.length
-layer_over (Delaying read write flush) layer v = cut v layer.offset layer.length
 layer_over (Dusting block bad mode) layer v = counted (cut v layer.offset layer.length) layer.faults 0 false
 layer_over (Deciding gate) layer v = counted (cut v layer.offset layer.length) layer.faults layer.lies (any_may_drop gate)
 
@@ -169,10 +157,12 @@ pub record IsPartOf (v w : View) : Type 0 where
 abbrev pub stack_does : Stack → Call → ℕ → Result ℕ DevError → Stack → Type 0
 stack_does old call now result new = slot_does old.top call now result new.top
 
--- What becomes of a call at a layer by its gate's verdict. `below` says that what stands beneath did it, with this answer, and
--- `same` that it was left as it was.
-pub record Decides (verdict : Verdict) (below same : Type 0) (call : Call) (now : ℕ) (result : Result ℕ DevError) (layer after : Layer) : Type 0 where
-  pub passes : verdict ≡ Pass → below × (after.faults ≡ layer.faults) × (after.lies ≡ layer.lies)
+-- What becomes of a call at a layer by its gate's verdict. `below` says of a moment that what stands beneath did it from then on, with this
+-- answer, and `same` that it was left as it was.
+pub record Decides (verdict : Verdict) (below : ℕ → Type 0) (same : Type 0) (call : Call) (now : ℕ) (result : Result ℕ DevError) (layer after : Layer) : Type 0 where
+  pub passes : verdict ≡ Pass → below now × (after.faults ≡ layer.faults) × (after.lies ≡ layer.lies)
+  pub delays : (by : ℕ) → verdict ≡ Delay by
+      → below (later_by now by) × (after.faults ≡ layer.faults) × (after.lies ≡ layer.lies) × ((end : ℕ) → result ≡ Ok end → later_by now by ≤ end)
   pub fails : verdict ≡ Fail → (result ≡ Err Io) × (after.faults ≡ one_more layer.faults) × (after.lies ≡ layer.lies) × same × KeepsBuffer call
   pub drops : verdict ≡ Drop → (result ≡ Ok now) × (after.faults ≡ layer.faults) × (after.lies ≡ one_more layer.lies) × same
 
@@ -180,21 +170,6 @@ pub record Decides (verdict : Verdict) (below same : Type 0) (call : Call) (now 
 pub record Under : Type 0 where
   pub layers : List Layer
   pub disk : SectorDisk
-
--- how much later a call begins, in milliseconds; a discard is delayed as a write is
-abbrev pub later_of : ℕ → ℕ → ℕ → Call → ℕ
-later_of read write flush (Reads first before after) = read
-later_of read write flush (Writes first bytes fua) = write
-later_of read write flush (Discards first count) = write
-later_of read write flush Flushes = flush
-
--- What a call comes to that began at this later moment. `below` says that what stands beneath did it, with this answer.
-pub record Begins (below : Type 0) (begun : ℕ) (result : Result ℕ DevError) (layer after : Layer) : Type 0 where
-  pub done : below
-  pub ends : (end : ℕ) → result ≡ Ok end → begun ≤ end
-  pub rule : after.rule ≡ layer.rule
-  pub faults : after.faults ≡ layer.faults
-  pub lies : after.lies ≡ layer.lies
 
 -- what what stands beneath does, so many sectors further on
 abbrev pub shifted : (Under → Call → ℕ → Result ℕ DevError → Under → Type 0) → ℕ → Under → Call → ℕ → Result ℕ DevError → Under → Type 0
@@ -211,13 +186,9 @@ pub record Dusts (does : Under → Call → ℕ → Result ℕ DevError → Unde
 
 -- what becomes of a call at a layer by its rule; `does` says what stands beneath does
 abbrev pub DoesAt : (Under → Call → ℕ → Result ℕ DevError → Under → Type 0) → Rule → Under → Call → ℕ → Result ℕ DevError → Under → Layer → Layer → Type 0
-DoesAt does Passing old call now result new layer after =
-    shifted does layer.offset old call now result new × (after.rule ≡ Passing) × (after.faults ≡ layer.faults) × (after.lies ≡ layer.lies)
 DoesAt does (Deciding gate) old call now result new layer after =
-    Decides (any_verdict gate (kind_of call) now) (shifted does layer.offset old call now result new) (new ≡ old) call now result layer after
+    Decides (any_verdict gate (kind_of call) now) (λ begun. shifted does layer.offset old call begun result new) (new ≡ old) call now result layer after
     × (after.rule ≡ Deciding (any_after gate (kind_of call) now))
-DoesAt does (Delaying read write flush) old call now result new layer after =
-    Begins (shifted does layer.offset old call (later_by now (later_of read write flush call)) result new) (later_by now (later_of read write flush call)) result layer after
 DoesAt does (Dusting block bad mode) old call now result new layer after = Dusts (shifted does layer.offset) block bad mode old call now result new layer after
 
 -- what a call does at the top of layers, one of which stands there; its range stays
@@ -243,6 +214,9 @@ pub record Follows (verdict : Verdict) (next : Layer) (layers : List Layer) (old
     (after : List Layer) (new : SectorDisk) : Type 0 where
   -- the layers beneath did it, so many sectors further on
   pub passes : verdict ≡ Pass → (others : List Layer) × (after ≡ next ∷ others) × LayersDo layers old (call_from next.offset call) now result others new
+  -- so they did, from the later moment on, and an Ok ends at that moment or later
+  pub delays : (by : ℕ) → verdict ≡ Delay by → (others : List Layer) × (after ≡ next ∷ others)
+      × LayersDo layers old (call_from next.offset call) (later_by now by) result others new × ((end : ℕ) → result ≡ Ok end → later_by now by ≤ end)
   -- it failed, and nothing beneath was called
   pub fails : verdict ≡ Fail → (result ≡ Err Io) × (after ≡ record next { faults = one_more next.faults } ∷ layers) × (new ≡ old) × KeepsBuffer call
   -- it was dropped, and nothing beneath was called

@@ -36,10 +36,6 @@ cut_part v w offset length fits is = record {
 pub part_with : {D : Type 0} {g : Ghosts D} (disk : D → View) → ((device : D) → IsPartOf (disk device) (g.shown device))
     → (slot : Slot D g) → IsPartOf (disk (device_of slot)) (slot_shown slot)
 part_with {D} {g} disk below (slots.Bare device) = below device
-part_with {D} {g} disk below (slots.Linear range) =
-    cut_part (disk range.lower) (g.shown range.lower) range.offset range.length range.fits (below range.lower)
-part_with {D} {g} disk below (slots.Delayed layer) =
-    cut_part (disk layer.lower.lower) (g.shown layer.lower.lower) layer.lower.offset layer.lower.length layer.lower.fits (below layer.lower.lower)
 part_with {D} {g} disk below (slots.Dusted layer) =
     let is = cut_part (disk layer.lower.lower) (g.shown layer.lower.lower) layer.lower.offset layer.lower.length layer.lower.fits (below layer.lower.lower) in
     record { disk = is.disk; within = is.within; content = is.content; crash = is.crash }

@@ -1,12 +1,13 @@
 -- A place for a layer keeps the law of a device, and whether a layer stands there.
 use Rattle.std.proofs.Common.{◌≡◌, ℕ, Bool, false, List, ◌∷◌, Result, refl, ap, ◌∙◌}
 use Rattle.bio.specs.declared.outcome.DevError.{DevError}
+use Rattle.bio.specs.Moments.{later_by}
 use Rattle.blockdev.specs.declared.device.BlockDev.{Ghosts}
 use Rattle.blockdev.specs.Calls.{Call}
 use Rattle.blockdev.specs.Counted.{lawful_counted}
 use Rattle.blockdev.specs.View.{IsLawful}
 use Rattle.fault_layers.specs.declared.gate.Verdict.{Verdict}
-use Rattle.fault_layers.specs.declared.gate.Verdict.TheVariants.{Drop, Fail, Pass}
+use Rattle.fault_layers.specs.declared.gate.Verdict.TheVariants.{Delay, Drop, Fail, Pass}
 use Rattle.fault_layers.specs.declared.gated.Gated.{Gated}
 use Rattle.fault_layers.specs.declared.linear.Linear.{Linear}
 use Rattle.fault_layers.specs.Cut.{cut}
@@ -23,12 +24,9 @@ use Rattle.layer_table.specs.Slots.{device_of, has_layer, shape_with, slot_does,
 
 pub slot_lawful : {D : Type 0} {g : Ghosts D} → ((device : D) → IsLawful (g.shown device)) → (slot : Slot D g) → IsLawful (slot_shown slot)
 slot_lawful {D} {g} lawful (slots.Bare device) = lawful device
-slot_lawful {D} {g} lawful (slots.Linear range) = lawful_cut (g.shown range.lower) range.offset range.length range.fits (lawful range.lower)
 slot_lawful {D} {g} lawful (slots.Decided layer) =
     lawful_counted (cut (g.shown layer.lower.lower) layer.lower.offset layer.lower.length) layer.faults layer.lies (any_may_drop layer.gate)
     (lawful_cut (g.shown layer.lower.lower) layer.lower.offset layer.lower.length layer.lower.fits (lawful layer.lower.lower))
-slot_lawful {D} {g} lawful (slots.Delayed layer) =
-    lawful_cut (g.shown layer.lower.lower) layer.lower.offset layer.lower.length layer.lower.fits (lawful layer.lower.lower)
 slot_lawful {D} {g} lawful (slots.Dusted layer) =
     lawful_counted (cut (g.shown layer.lower.lower) layer.lower.offset layer.lower.length) layer.faults 0 false
     (lawful_cut (g.shown layer.lower.lower) layer.lower.offset layer.lower.length layer.lower.fits (lawful layer.lower.lower))
@@ -39,11 +37,12 @@ IsKept {D} {A} g f =
     (device : D) (call : Call) (now : ℕ) (result : Result ℕ DevError) (after : D) → g.does device call now result after → f after ≡ f device
 
 -- a layer that decides keeps what f says of its range
-pub decided_keeps : {D A : Type 0} {g : Ghosts D} (f : Linear D g → A) (verdict : Verdict) (below : Type 0) (call : Call) (now : ℕ)
+pub decided_keeps : {D A : Type 0} {g : Ghosts D} (f : Linear D g → A) (verdict : Verdict) (below : ℕ → Type 0) (call : Call) (now : ℕ)
     (result : Result ℕ DevError)
-    (layer after : Gated (Linear D g) AnyGate) → IsDecided verdict below call now result layer after → (below → f after.lower ≡ f layer.lower)
-    → f after.lower ≡ f layer.lower
-decided_keeps f Pass below call now result layer after is passed = passed (is.passes refl).0
+    (layer after : Gated (Linear D g) AnyGate) → IsDecided verdict below call now result layer after
+    → ((begun : ℕ) → below begun → f after.lower ≡ f layer.lower) → f after.lower ≡ f layer.lower
+decided_keeps f Pass below call now result layer after is passed = passed now (is.passes refl).0
+decided_keeps f (Delay by) below call now result layer after is passed = passed (later_by now by) (is.delays by refl).0
 decided_keeps f Fail below call now result layer after is passed = ap f (is.fails refl).3
 decided_keeps f Drop below call now result layer after is passed = ap f (is.drops refl).3
 
@@ -62,35 +61,17 @@ pub slot_kept : {D A : Type 0} {g : Ghosts D} (f : D → A) → IsKept g f → (
     (after : Slot D g) → slot_does slot call now result after → (f (device_of after) ≡ f (device_of slot)) × (has_layer after ≡ has_layer slot)
 slot_kept {D} {A} {g} f kept (slots.Bare device) call now result (slots.Bare after) does =
     (kept device call now result after does, refl)
-slot_kept {D} {A} {g} f kept (slots.Bare device) call now result (slots.Linear after) does = absurd does
 slot_kept {D} {A} {g} f kept (slots.Bare device) call now result (slots.Decided after) does = absurd does
-slot_kept {D} {A} {g} f kept (slots.Bare device) call now result (slots.Delayed after) does = absurd does
 slot_kept {D} {A} {g} f kept (slots.Bare device) call now result (slots.Dusted after) does = absurd does
-slot_kept {D} {A} {g} f kept (slots.Linear range) call now result (slots.Bare after) does = absurd does
-slot_kept {D} {A} {g} f kept (slots.Linear range) call now result (slots.Linear after) does =
-    (kept range.lower _ now result after.lower does.0, refl)
-slot_kept {D} {A} {g} f kept (slots.Linear range) call now result (slots.Decided after) does = absurd does
-slot_kept {D} {A} {g} f kept (slots.Linear range) call now result (slots.Delayed after) does = absurd does
-slot_kept {D} {A} {g} f kept (slots.Linear range) call now result (slots.Dusted after) does = absurd does
 slot_kept {D} {A} {g} f kept (slots.Decided layer) call now result (slots.Bare after) does = absurd does
-slot_kept {D} {A} {g} f kept (slots.Decided layer) call now result (slots.Linear after) does = absurd does
 slot_kept {D} {A} {g} f kept (slots.Decided layer) call now result (slots.Decided after) does = (
   decided_keeps (λ (range : Linear D g). f range.lower) (any_verdict layer.gate (kind_of call) now) _ call now result layer after does.0
-      (λ below. kept layer.lower.lower _ now result after.lower.lower below.0),
+      (λ begun below. kept layer.lower.lower _ begun result after.lower.lower below.0),
   refl,
 )
-slot_kept {D} {A} {g} f kept (slots.Decided layer) call now result (slots.Delayed after) does = absurd does
 slot_kept {D} {A} {g} f kept (slots.Decided layer) call now result (slots.Dusted after) does = absurd does
-slot_kept {D} {A} {g} f kept (slots.Delayed layer) call now result (slots.Bare after) does = absurd does
-slot_kept {D} {A} {g} f kept (slots.Delayed layer) call now result (slots.Linear after) does = absurd does
-slot_kept {D} {A} {g} f kept (slots.Delayed layer) call now result (slots.Decided after) does = absurd does
-slot_kept {D} {A} {g} f kept (slots.Delayed layer) call now result (slots.Delayed after) does =
-    (kept layer.lower.lower _ _ result after.lower.lower does.done.0, refl)
-slot_kept {D} {A} {g} f kept (slots.Delayed layer) call now result (slots.Dusted after) does = absurd does
 slot_kept {D} {A} {g} f kept (slots.Dusted layer) call now result (slots.Bare after) does = absurd does
-slot_kept {D} {A} {g} f kept (slots.Dusted layer) call now result (slots.Linear after) does = absurd does
 slot_kept {D} {A} {g} f kept (slots.Dusted layer) call now result (slots.Decided after) does = absurd does
-slot_kept {D} {A} {g} f kept (slots.Dusted layer) call now result (slots.Delayed after) does = absurd does
 slot_kept {D} {A} {g} f kept (slots.Dusted layer) call now result (slots.Dusted after) does = (
   dusted_keeps (λ (range : Linear D g). f range.lower) (λ range call now result next below. kept range.lower _ now result next.lower below.0)
       call now result layer after does,

@@ -28,11 +28,8 @@ RangeAnswers below range layer text result after =
 abbrev pub AnswersBelow : {D : Type 0} {g : Ghosts D} → (D → ℕ → List ℕ → Result (Unit {0}) MessageError → D → Type 0) → Slot D g → ℕ → List ℕ
     → Result (Unit {0}) MessageError → Slot D g → Type 0
 AnswersBelow {D} {g} below (slots.Bare device) layer text result (slots.Bare after) = below device layer text result after
-AnswersBelow {D} {g} below (slots.Linear range) layer text result (slots.Linear after) = RangeAnswers below range layer text result after
 AnswersBelow {D} {g} below (slots.Decided gated) layer text result (slots.Decided after) =
     RangeAnswers below gated.lower layer text result after.lower × (after.gate ≡ gated.gate) × (after.faults ≡ gated.faults) × (after.lies ≡ gated.lies)
-AnswersBelow {D} {g} below (slots.Delayed delay) layer text result (slots.Delayed after) =
-    RangeAnswers below delay.lower layer text result after.lower × (after.read ≡ delay.read) × (after.write ≡ delay.write) × (after.flush ≡ delay.flush)
 AnswersBelow {D} {g} below (slots.Dusted dust) layer text result (slots.Dusted after) =
     RangeAnswers below dust.lower layer text result after.lower × (after.block ≡ dust.block) × (after.bad ≡ dust.bad) × (after.mode ≡ dust.mode)
     × (after.faults ≡ dust.faults)

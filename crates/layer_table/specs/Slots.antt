@@ -9,19 +9,15 @@ use Rattle.blockdev.specs.View.{View}
 use Rattle.fault_layers.specs.declared.linear.Linear.{Linear}
 use Rattle.fault_layers.specs.Cut.{call_from, cut}
 use Rattle.fault_layers.specs.Decided.{IsDecided, kind_of}
-use Rattle.fault_layers.specs.DelayRule.{IsDelayed, delay_of}
 use Rattle.dust_layer.specs.DustRule.{IsDusted}
-use Rattle.bio.specs.Moments.{later_by}
 use Rattle.layer_table.specs.declared.slot.Slot.{Slot}
 use Rattle.layer_table.specs.declared.slot.Slot.TheVariants as slots
 use Rattle.layer_table.specs.AnyRule.{any_after, any_may_drop, any_verdict}
 
--- a range is seen as the device beneath from its offset on, a layer with a gate as that with faults and lies of its own, and one with
--- bad blocks as that with faults of its own
+-- a layer is seen as the device beneath from its offset on, one with a gate with faults and lies of its own, and one with bad blocks with
+-- faults of its own
 abbrev pub slot_shown : {D : Type 0} {g : Ghosts D} → Slot D g → View
 slot_shown {D} {g} (slots.Bare device) = g.shown device
-slot_shown {D} {g} (slots.Linear range) = cut (g.shown range.lower) range.offset range.length
-slot_shown {D} {g} (slots.Delayed layer) = cut (g.shown layer.lower.lower) layer.lower.offset layer.lower.length
 slot_shown {D} {g} (slots.Dusted layer) = counted (cut (g.shown layer.lower.lower) layer.lower.offset layer.lower.length) layer.faults 0 false
 slot_shown {D} {g} (slots.Decided layer) = counted (cut (g.shown layer.lower.lower) layer.lower.offset layer.lower.length) layer.faults layer.lies (any_may_drop layer.gate)
 
@@ -30,32 +26,25 @@ abbrev pub IsShifted : {D : Type 0} {g : Ghosts D} → Linear D g → Call → �
 IsShifted {D} {g} range call now result after =
     g.does range.lower (call_from range.offset call) now result after.lower × (after.offset ≡ range.offset) × (after.length ≡ range.length)
 
--- the device beneath does a call, or a range of it, or a range as its gate decides, or later, or block by block
+-- the device beneath does a call, or a range of it as its gate decides, or block by block
 abbrev pub slot_does : {D : Type 0} {g : Ghosts D} → Slot D g → Call → ℕ → Result ℕ DevError → Slot D g → Type 0
 slot_does {D} {g} (slots.Bare device) call now result (slots.Bare after) = g.does device call now result after
-slot_does {D} {g} (slots.Linear range) call now result (slots.Linear after) = IsShifted range call now result after
 slot_does {D} {g} (slots.Decided layer) call now result (slots.Decided after) =
-    IsDecided (any_verdict layer.gate (kind_of call) now) (IsShifted layer.lower call now result after.lower) call now result layer after
+    IsDecided (any_verdict layer.gate (kind_of call) now) (λ begun. IsShifted layer.lower call begun result after.lower) call now result layer after
     × (after.gate ≡ any_after layer.gate (kind_of call) now)
-slot_does {D} {g} (slots.Delayed layer) call now result (slots.Delayed after) =
-    IsDelayed (IsShifted layer.lower call (later_by now (delay_of layer call)) result after.lower) (later_by now (delay_of layer call)) result layer after
 slot_does {D} {g} (slots.Dusted layer) call now result (slots.Dusted after) = IsDusted IsShifted call now result layer after
 slot_does {D} {g} slot call now result after = ⊥
 
 -- whether a layer stands there
 abbrev pub has_layer : {D : Type 0} {g : Ghosts D} → Slot D g → Bool
 has_layer {D} {g} (slots.Bare device) = false
-has_layer {D} {g} (slots.Linear range) = true
 has_layer {D} {g} (slots.Decided layer) = true
-has_layer {D} {g} (slots.Delayed layer) = true
 has_layer {D} {g} (slots.Dusted layer) = true
 
 -- the device beneath
 abbrev pub device_of : {D : Type 0} {g : Ghosts D} → Slot D g → D
 device_of {D} {g} (slots.Bare device) = device
-device_of {D} {g} (slots.Linear range) = range.lower
 device_of {D} {g} (slots.Decided layer) = layer.lower.lower
-device_of {D} {g} (slots.Delayed layer) = layer.lower.lower
 device_of {D} {g} (slots.Dusted layer) = layer.lower.lower
 
 -- which slots have a layer, the top first, where this is said of the device beneath

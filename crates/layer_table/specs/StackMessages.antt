@@ -39,13 +39,9 @@ nothing_kept f slot after result is = (ap (λ s. f (device_of s)) is.stays, ap h
 own_kept : {D A : Type 0} {g : Ghosts D} (f : D → A) (slot : Slot D g) (text : List ℕ) (result : Result (Unit {0}) MessageError) (after : Slot D g)
     → AnswersItself slot text result after → IsSlotKept f slot after
 own_kept {D} {A} {g} f (slots.Bare device) text result after is = nothing_kept f (slots.Bare device) after result is
-own_kept {D} {A} {g} f (slots.Linear range) text result after is = nothing_kept f (slots.Linear range) after result is
 own_kept {D} {A} {g} f (slots.Decided it) text result after is = nothing_kept f (slots.Decided it) after result is
-own_kept {D} {A} {g} f (slots.Delayed it) text result after is = nothing_kept f (slots.Delayed it) after result is
 own_kept {D} {A} {g} f (slots.Dusted it) text result (slots.Bare after) is = nothing_kept f (slots.Dusted it) (slots.Bare after) result is
-own_kept {D} {A} {g} f (slots.Dusted it) text result (slots.Linear after) is = nothing_kept f (slots.Dusted it) (slots.Linear after) result is
 own_kept {D} {A} {g} f (slots.Dusted it) text result (slots.Decided after) is = nothing_kept f (slots.Dusted it) (slots.Decided after) result is
-own_kept {D} {A} {g} f (slots.Dusted it) text result (slots.Delayed after) is = nothing_kept f (slots.Dusted it) (slots.Delayed after) result is
 own_kept {D} {A} {g} f (slots.Dusted it) text result (slots.Dusted after) is = (ap (λ (range : Linear D g). f range.lower) is.lower, refl)
 
 below_kept : {D A : Type 0} {g : Ghosts D} (f : D → A) (below : D → ℕ → List ℕ → Result (Unit {0}) MessageError → D → Type 0) → KeepsByMessage below f
@@ -53,32 +49,14 @@ below_kept : {D A : Type 0} {g : Ghosts D} (f : D → A) (below : D → ℕ → 
     → AnswersBelow below slot layer text result after → IsSlotKept f slot after
 below_kept {D} {A} {g} f below kept (slots.Bare device) layer text result (slots.Bare after) is =
     (kept device layer text result after is, refl)
-below_kept {D} {A} {g} f below kept (slots.Bare device) layer text result (slots.Linear after) is = absurd is
 below_kept {D} {A} {g} f below kept (slots.Bare device) layer text result (slots.Decided after) is = absurd is
-below_kept {D} {A} {g} f below kept (slots.Bare device) layer text result (slots.Delayed after) is = absurd is
 below_kept {D} {A} {g} f below kept (slots.Bare device) layer text result (slots.Dusted after) is = absurd is
-below_kept {D} {A} {g} f below kept (slots.Linear range) layer text result (slots.Bare after) is = absurd is
-below_kept {D} {A} {g} f below kept (slots.Linear range) layer text result (slots.Linear after) is =
-    (kept range.lower layer text result after.lower is.0, refl)
-below_kept {D} {A} {g} f below kept (slots.Linear range) layer text result (slots.Decided after) is = absurd is
-below_kept {D} {A} {g} f below kept (slots.Linear range) layer text result (slots.Delayed after) is = absurd is
-below_kept {D} {A} {g} f below kept (slots.Linear range) layer text result (slots.Dusted after) is = absurd is
 below_kept {D} {A} {g} f below kept (slots.Decided it) layer text result (slots.Bare after) is = absurd is
-below_kept {D} {A} {g} f below kept (slots.Decided it) layer text result (slots.Linear after) is = absurd is
 below_kept {D} {A} {g} f below kept (slots.Decided it) layer text result (slots.Decided after) is =
     (kept it.lower.lower layer text result after.lower.lower is.0.0, refl)
-below_kept {D} {A} {g} f below kept (slots.Decided it) layer text result (slots.Delayed after) is = absurd is
 below_kept {D} {A} {g} f below kept (slots.Decided it) layer text result (slots.Dusted after) is = absurd is
-below_kept {D} {A} {g} f below kept (slots.Delayed it) layer text result (slots.Bare after) is = absurd is
-below_kept {D} {A} {g} f below kept (slots.Delayed it) layer text result (slots.Linear after) is = absurd is
-below_kept {D} {A} {g} f below kept (slots.Delayed it) layer text result (slots.Decided after) is = absurd is
-below_kept {D} {A} {g} f below kept (slots.Delayed it) layer text result (slots.Delayed after) is =
-    (kept it.lower.lower layer text result after.lower.lower is.0.0, refl)
-below_kept {D} {A} {g} f below kept (slots.Delayed it) layer text result (slots.Dusted after) is = absurd is
 below_kept {D} {A} {g} f below kept (slots.Dusted it) layer text result (slots.Bare after) is = absurd is
-below_kept {D} {A} {g} f below kept (slots.Dusted it) layer text result (slots.Linear after) is = absurd is
 below_kept {D} {A} {g} f below kept (slots.Dusted it) layer text result (slots.Decided after) is = absurd is
-below_kept {D} {A} {g} f below kept (slots.Dusted it) layer text result (slots.Delayed after) is = absurd is
 below_kept {D} {A} {g} f below kept (slots.Dusted it) layer text result (slots.Dusted after) is =
     (kept it.lower.lower layer text result after.lower.lower is.0.0, refl)
 

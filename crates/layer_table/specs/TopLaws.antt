@@ -6,11 +6,14 @@ use Rattle.dust_layer.specs.Bad.{Bad}
 use Rattle.bio.specs.declared.outcome.DevError.{DevError}
 use Rattle.blockdev.specs.Calls.{Call}
 use Rattle.fault_layers.specs.declared.gate.Verdict.TheVariants.{Pass}
+use Rattle.fault_layers.specs.declared.delay.DelayGate.{DelayGate}
 use Rattle.fault_layers.specs.Decided.{kind_of}
+use Rattle.fault_layers.specs.DelayRule.{delay_of}
 use Rattle.sector_disk.specs.declared.disk.SectorDisk.{SectorDisk}
 use Rattle.layer_table.specs.declared.any_gate.AnyGate.{AnyGate}
+use Rattle.layer_table.specs.declared.any_gate.AnyGate.TheVariants.{Delay, Open}
 use Rattle.layer_table.specs.AnyRule.{any_after, any_verdict}
-use Rattle.layer_table.specs.Layers.{later_of, Deciding, Delaying, DoesAt, Dusting, Follows, FollowsBlocks, FollowsLater, Layer, LayersDo, Passing, Rule, SoManyDo, Under}
+use Rattle.layer_table.specs.Layers.{Deciding, DoesAt, Dusting, Follows, FollowsBlocks, FollowsLater, Layer, LayersDo, Rule, SoManyDo, Under}
 
 -- layers with the same in each field are one
 same_values : (o p l m : ℕ) (g h : Rule) (f e i k : ℕ) → o ≡ p → l ≡ m → g ≡ h → f ≡ e → i ≡ k
@@ -34,18 +37,6 @@ at_top layer layers old call now result top others new rule is does =
     subst (λ (it : Rule). DoesAt (SoManyDo (length layers)) it (record { layers = layers; disk = old }) call now result (record { layers = others; disk = new }) layer top)
     is does.0
 
-pub linear_top : (layer : Layer) (layers : List Layer) (old : SectorDisk) (call : Call) (now : ℕ) (result : Result ℕ DevError) (after : List Layer)
-    (new : SectorDisk)
-    → layer.rule ≡ Passing → LayersDo (layer ∷ layers) old call now result after new → Follows Pass layer layers old call now result after new
-linear_top layer layers old call now result [] new is does = absurd does
-linear_top layer layers old call now result (top ∷ others) new is does =
-    let done = at_top layer layers old call now result top others new Passing is does in
-    record {
-      passes = λ _. (others, same_top top layer others others (same_layer top layer does.1 does.2 (done.1 ∙ sym is) done.2 done.3) refl, done.0);
-      fails = λ never. absurd (cc);
-      drops = λ never. absurd (cc);
-    }
-
 -- a layer with a gate
 pub gate_top : (layer : Layer) (layers : List Layer) (old : SectorDisk) (call : Call) (now : ℕ) (result : Result ℕ DevError) (after : List Layer)
     (new : SectorDisk)
@@ -59,6 +50,9 @@ gate_top layer layers old call now result (top ∷ others) new gate is does =
       passes = λ pass.
           let did = done.0.passes pass in
           (others, same_top top _ others others (same_layer top _ does.1 does.2 done.1 did.1 did.2) refl, did.0);
+      delays = λ by delay.
+          let did = done.0.delays by delay in
+          (others, same_top top _ others others (same_layer top _ does.1 does.2 done.1 did.1 did.2) refl, did.0, did.3);
       fails = λ fail.
           let did = done.0.fails fail in (
             did.0,
@@ -84,20 +78,20 @@ gate_stays layer layers old call now result after new gate is stays does =
     (same_layer (record layer { rule = Deciding (any_after gate (kind_of call) now) }) layer refl refl (ap Deciding stays ∙ sym is) refl refl)
     (gate_top layer layers old call now result after new gate is does)
 
--- a layer whose calls begin later
+-- one that passes all
+pub linear_top : (layer : Layer) (layers : List Layer) (old : SectorDisk) (call : Call) (now : ℕ) (result : Result ℕ DevError) (after : List Layer)
+    (new : SectorDisk)
+    → layer.rule ≡ Deciding Open → LayersDo (layer ∷ layers) old call now result after new → Follows Pass layer layers old call now result after new
+linear_top layer layers old call now result after new is does = gate_stays layer layers old call now result after new Open is refl does
+
+-- one whose calls begin later
 pub delay_top : (layer : Layer) (layers : List Layer) (old : SectorDisk) (call : Call) (now : ℕ) (result : Result ℕ DevError) (after : List Layer)
     (new : SectorDisk)
-    (read write flush : ℕ) → layer.rule ≡ Delaying read write flush → LayersDo (layer ∷ layers) old call now result after new
-    → FollowsLater (later_by now (later_of read write flush call)) layer layers old call result after new
-delay_top layer layers old call now result [] new read write flush is does = absurd does
-delay_top layer layers old call now result (top ∷ others) new read write flush is does =
-    let done = at_top layer layers old call now result top others new (Delaying read write flush) is does in
-    record {
-      others = others;
-      stays = same_top top layer others others (same_layer top layer does.1 does.2 done.rule done.faults done.lies) refl;
-      below = done.done;
-      ends = done.ends;
-    }
+    (delays : DelayGate) → layer.rule ≡ Deciding (Delay delays) → LayersDo (layer ∷ layers) old call now result after new
+    → FollowsLater (later_by now (delay_of delays (kind_of call))) layer layers old call result after new
+delay_top layer layers old call now result after new delays is does =
+    let done = (gate_stays layer layers old call now result after new (Delay delays) is refl does).delays (delay_of delays (kind_of call)) refl in
+    record { others = done.0; stays = done.1; below = done.2; ends = done.3 }
 
 -- a layer with bad blocks
 pub dust_top : (layer : Layer) (layers : List Layer) (old : SectorDisk) (call : Call) (now : ℕ) (result : Result ℕ DevError) (after : List Layer)

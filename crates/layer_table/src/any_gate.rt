@@ -1,16 +1,20 @@
 use bio::Ms;
-use fault_layers::{ErrorGate, FlakeyGate, FuseGate, Gate, Kind, Verdict};
+use fault_layers::{DelayGate, ErrorGate, FlakeyGate, FuseGate, Gate, Kind, Verdict};
 use table_line::Target;
 
 /// The gate of any layer that only decides.
 #[derive(Clone, Copy, Debug, Drop, PartialEq, Eq)]
 pub enum AnyGate {
+    /// It passes every call.
+    Open,
     /// It fails every call.
     Error(ErrorGate),
     /// It decides by the moment.
     Flakey(FlakeyGate),
     /// It decides by the calls before.
     Fuse(FuseGate),
+    /// It passes every call later.
+    Delay(DelayGate),
 }
 
 impl AnyGate {
@@ -18,18 +22,21 @@ impl AnyGate {
     ghost use Rattle.table_line.specs.Ranges.{IsTargetInRange};
     ghost use Rattle.layer_table.specs.Layers.{gate_asked};
 
-    /// The gate of a target, where it has one; a flakey device's moments count from `load`, in milliseconds.
-    pub fn of(offset: u64, target: Target, load: Ms) -> Option<AnyGate>
+    /// The gate of a target, which is open where the target decides about no call; a flakey device's moments count from `load`, in milliseconds.
+    pub fn of(offset: u64, target: Target, load: Ms) -> AnyGate
         requires { IsTargetInRange offset target }
         ensures { result ≡ gate_asked target load }
     {
         match target {
-            Target::Linear | Target::Dust { .. } | Target::Delay { .. } => None,
-            Target::Error => Some(AnyGate::Error(ErrorGate {})),
+            Target::Linear | Target::Dust { .. } => AnyGate::Open,
+            Target::Error => AnyGate::Error(ErrorGate {}),
             Target::Flakey { up, down, feature } => {
-                Some(AnyGate::Flakey(FlakeyGate::new(up, down, feature, load)))
+                AnyGate::Flakey(FlakeyGate::new(up, down, feature, load))
             }
-            Target::Fuse { calls } => Some(AnyGate::Fuse(FuseGate::new(calls))),
+            Target::Fuse { calls } => AnyGate::Fuse(FuseGate::new(calls)),
+            Target::Delay { read, write, flush } => {
+                AnyGate::Delay(DelayGate::new(Ms::new(read), Ms::new(write), Ms::new(flush)))
+            }
         }
     }
 }
@@ -46,9 +53,11 @@ impl Gate for AnyGate {
 
     fn decide(&mut self, kind: Kind, now: Ms) -> Verdict {
         match self {
+            AnyGate::Open => Verdict::Pass,
             AnyGate::Error(gate) => gate.decide(kind, now),
             AnyGate::Flakey(gate) => gate.decide(kind, now),
             AnyGate::Fuse(gate) => gate.decide(kind, now),
+            AnyGate::Delay(gate) => gate.decide(kind, now),
         }
     }
 

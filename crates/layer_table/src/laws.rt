@@ -5,16 +5,18 @@ ghost use Rattle.blockdev.specs.Calls.{Call};
 ghost use Rattle.bio.specs.Moments.{later_by};
 ghost use Rattle.dust_layer.specs.declared.mode.Mode.{Mode};
 ghost use Rattle.dust_layer.specs.Bad.{Bad};
+ghost use Rattle.fault_layers.specs.declared.delay.DelayGate.{DelayGate};
 ghost use Rattle.fault_layers.specs.declared.error_dev.ErrorGate.{ErrorGate};
 ghost use Rattle.fault_layers.specs.declared.gate.Verdict.TheVariants.{Fail, Pass};
 ghost use Rattle.fault_layers.specs.Decided.{kind_of};
+ghost use Rattle.fault_layers.specs.DelayRule.{delay_of};
 ghost use Rattle.fault_layers.specs.FlakeyRule.{flakey_verdict, Cycle};
 ghost use Rattle.fault_layers.specs.FuseRule.{fuse_after, fuse_verdict};
 ghost use Rattle.sector_disk.specs.declared.disk.SectorDisk.{SectorDisk};
 ghost use Rattle.sector_disk.specs.Shown.{shown_of};
 ghost use Rattle.layer_table.specs.declared.any_gate.AnyGate.TheVariants as gates;
 ghost use Rattle.layer_table.specs.declared.stack.Stack.{Stack};
-ghost use Rattle.layer_table.specs.Layers.{disk_of, layers_of, layers_over, stack_does, stack_shown, later_of, Deciding, Delaying, Dusting, Follows, FollowsBlocks, FollowsLater, IsPartOf, IsSeenAs, Layer, LayersDo, Passing};
+ghost use Rattle.layer_table.specs.Layers.{disk_of, layers_of, layers_over, stack_does, stack_shown, Deciding, Dusting, Follows, FollowsBlocks, FollowsLater, IsPartOf, IsSeenAs, Layer, LayersDo};
 
 /// What is seen of a stack is what its layers make, from the lowest up, of what is seen of the disk.
 #[tactic(auto, using(crate::specs::StackLaws::seen_by_layers))]
@@ -35,11 +37,11 @@ pub fn stacks_do_what_their_layers_do()
         LayersDo (layers_of old) (disk_of old) call now result (layers_of new) (disk_of new) }
 {}
 
-/// A linear layer at the top passes each call to the layers beneath, shifted by its offset.
+/// A linear layer at the top, whose gate is open, passes each call to the layers beneath, shifted by its offset.
 #[tactic(auto, using(crate::specs::TopLaws::linear_top))]
 pub fn linear_layers_pass()
     ensures { (layer : Layer) (layers : List Layer) (old : SectorDisk) (call : Call) (now : ℕ) (result : Result ℕ DevError) (after : List Layer)
-        (new : SectorDisk) → layer.rule ≡ Passing → LayersDo (layer ∷ layers) old call now result after new →
+        (new : SectorDisk) → layer.rule ≡ Deciding gates.Open → LayersDo (layer ∷ layers) old call now result after new →
         Follows Pass layer layers old call now result after new }
 {}
 
@@ -69,8 +71,8 @@ pub fn fuse_layers_count()
 #[tactic(auto, using(crate::specs::TopLaws::delay_top))]
 pub fn delay_layers_begin_later()
     ensures { (layer : Layer) (layers : List Layer) (old : SectorDisk) (call : Call) (now : ℕ) (result : Result ℕ DevError) (after : List Layer)
-        (new : SectorDisk) (read write flush : ℕ) → layer.rule ≡ Delaying read write flush → LayersDo (layer ∷ layers) old call now result after new →
-        FollowsLater (later_by now (later_of read write flush call)) layer layers old call result after new }
+        (new : SectorDisk) (delays : DelayGate) → layer.rule ≡ Deciding (gates.Delay delays) → LayersDo (layer ∷ layers) old call now result after new →
+        FollowsLater (later_by now (delay_of delays (kind_of call))) layer layers old call result after new }
 {}
 
 /// A dust layer at the top goes block by block, by its list and its mode.

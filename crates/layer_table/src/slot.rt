@@ -2,19 +2,15 @@ use crate::any_gate::AnyGate;
 use bio::{DevError, Ms};
 use blockdev::{BlockDev, Message, MessageError};
 use dust_layer::Dust;
-use fault_layers::{Delay, Gated, Linear};
+use fault_layers::{Gated, Linear};
 
 /// A place for a layer: the device beneath alone, or one layer over a range of it.
 #[derive(Drop)]
 pub enum Slot<D: BlockDev + Drop> {
     /// The device beneath.
     Bare(D),
-    /// A range of it.
-    Linear(Linear<D>),
     /// A range of it, under a gate.
     Decided(Gated<Linear<D>, AnyGate>),
-    /// A range of it whose calls begin later.
-    Delayed(Delay<Linear<D>>),
     /// A range of it that has bad blocks.
     Dusted(Dust<Linear<D>>),
 }
@@ -30,9 +26,7 @@ impl<D: BlockDev + Drop> BlockDev for Slot<D> {
     fn sectors(&self) -> u64 {
         match self {
             Slot::Bare(device) => device.sectors(),
-            Slot::Linear(range) => range.sectors(),
             Slot::Decided(layer) => layer.sectors(),
-            Slot::Delayed(layer) => layer.sectors(),
             Slot::Dusted(layer) => layer.sectors(),
         }
     }
@@ -40,9 +34,7 @@ impl<D: BlockDev + Drop> BlockDev for Slot<D> {
     fn read(&mut self, now: Ms, first: u64, buffer: &mut [u8]) -> Result<Ms, DevError> {
         match self {
             Slot::Bare(device) => device.read(now, first, buffer),
-            Slot::Linear(range) => range.read(now, first, buffer),
             Slot::Decided(layer) => layer.read(now, first, buffer),
-            Slot::Delayed(layer) => layer.read(now, first, buffer),
             Slot::Dusted(layer) => layer.read(now, first, buffer),
         }
     }
@@ -50,9 +42,7 @@ impl<D: BlockDev + Drop> BlockDev for Slot<D> {
     fn write(&mut self, now: Ms, first: u64, bytes: &[u8], fua: bool) -> Result<Ms, DevError> {
         match self {
             Slot::Bare(device) => device.write(now, first, bytes, fua),
-            Slot::Linear(range) => range.write(now, first, bytes, fua),
             Slot::Decided(layer) => layer.write(now, first, bytes, fua),
-            Slot::Delayed(layer) => layer.write(now, first, bytes, fua),
             Slot::Dusted(layer) => layer.write(now, first, bytes, fua),
         }
     }
@@ -60,9 +50,7 @@ impl<D: BlockDev + Drop> BlockDev for Slot<D> {
     fn discard(&mut self, now: Ms, first: u64, count: u64) -> Result<Ms, DevError> {
         match self {
             Slot::Bare(device) => device.discard(now, first, count),
-            Slot::Linear(range) => range.discard(now, first, count),
             Slot::Decided(layer) => layer.discard(now, first, count),
-            Slot::Delayed(layer) => layer.discard(now, first, count),
             Slot::Dusted(layer) => layer.discard(now, first, count),
         }
     }
@@ -70,9 +58,7 @@ impl<D: BlockDev + Drop> BlockDev for Slot<D> {
     fn flush(&mut self, now: Ms) -> Result<Ms, DevError> {
         match self {
             Slot::Bare(device) => device.flush(now),
-            Slot::Linear(range) => range.flush(now),
             Slot::Decided(layer) => layer.flush(now),
-            Slot::Delayed(layer) => layer.flush(now),
             Slot::Dusted(layer) => layer.flush(now),
         }
     }
@@ -80,9 +66,7 @@ impl<D: BlockDev + Drop> BlockDev for Slot<D> {
     fn faults(&self) -> u64 {
         match self {
             Slot::Bare(device) => device.faults(),
-            Slot::Linear(range) => range.faults(),
             Slot::Decided(layer) => layer.faults(),
-            Slot::Delayed(layer) => layer.faults(),
             Slot::Dusted(layer) => layer.faults(),
         }
     }
@@ -90,9 +74,7 @@ impl<D: BlockDev + Drop> BlockDev for Slot<D> {
     fn lies(&self) -> u64 {
         match self {
             Slot::Bare(device) => device.lies(),
-            Slot::Linear(range) => range.lies(),
             Slot::Decided(layer) => layer.lies(),
-            Slot::Delayed(layer) => layer.lies(),
             Slot::Dusted(layer) => layer.lies(),
         }
     }
@@ -112,9 +94,7 @@ impl<D: BlockDev + Drop> Slot<D> {
     {
         match self {
             Slot::Bare(device) => device,
-            Slot::Linear(range) => range.into_lower(),
             Slot::Decided(layer) => layer.into_lower().into_lower(),
-            Slot::Delayed(layer) => layer.into_lower().into_lower(),
             Slot::Dusted(layer) => layer.into_lower().into_lower(),
         }
     }
@@ -150,9 +130,7 @@ impl<D: Message + Drop> Slot<D> {
     {
         match self {
             Slot::Bare(device) => device.message(layer, text),
-            Slot::Linear(range) => range.message(layer, text),
             Slot::Decided(gated) => gated.message(layer, text),
-            Slot::Delayed(delayed) => delayed.message(layer, text),
             Slot::Dusted(dust) => dust.message_below(layer, text),
         }
     }

@@ -14,7 +14,7 @@ use crate::stack::{Slots, Stack};
 use bio::Ms;
 use blockdev::BlockDev;
 use dust_layer::Dust;
-use fault_layers::{Delay, Gated, Linear};
+use fault_layers::{Gated, Linear};
 use refusals::Refusal;
 use sector_disk::SectorDisk;
 use std::alloc::Global;
@@ -101,13 +101,7 @@ fn layer<D: BlockDev + Drop>(alloc: Global, lower: D, spec: LayerSpec, load: Ms)
     let range = Linear::new(lower, spec.offset, spec.length);
     match spec.target {
         Target::Dust { block_bytes } => Slot::Dusted(Dust::new(alloc, range, block_bytes)),
-        Target::Delay { read, write, flush } => {
-            Slot::Delayed(Delay::new(range, Ms::new(read), Ms::new(write), Ms::new(flush)))
-        }
-        _ => match AnyGate::of(spec.offset, spec.target, load) {
-            Some(gate) => Slot::Decided(Gated::under(range, gate)),
-            None => Slot::Linear(range),
-        },
+        target => Slot::Decided(Gated::under(range, AnyGate::of(spec.offset, target, load))),
     }
 }
 

@@ -1,4 +1,3 @@
-use Rattle.std.proofs.Common.{length}
 use Rattle.sector_disk.proofs.Moved.{given_of}
 use Rattle.sector_disk.proofs.disk.SectorDisk.bytes.Goals as goal
 

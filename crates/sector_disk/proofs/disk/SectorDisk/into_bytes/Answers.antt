@@ -1,6 +1,5 @@
 use Rattle.std.proofs.Common.{refl}
 use Rattle.std.proofs.lemmas.Result.{IfOk-weaker}
-use Rattle.sector_disk.specs.declared.disk.SectorDisk.{SectorDisk}
 use Rattle.sector_disk.proofs.Moved.{given_of}
 use Rattle.sector_disk.proofs.disk.SectorDisk.into_bytes.Goals as goal
 

@@ -1,7 +1,24 @@
-use Rattle.std.specs.Prelude.{◌≡◌, ◌%◌, ◌≤◌, ℕ, List, length}
+-- Which bytes are an image.
+use Rattle.std.proofs.Common.{◌≡◌, ◌≤◌, ℕ, List, Option, Some, None, length, subst, sym}
+use Rattle.std.specs.Prelude.{◌%◌}
+use Rattle.dmlw_files.specs.Files.{IsWithin, MatchesContents}
 
 -- the bytes are those of an image: whole sectors, at least one, and 2 ^ 29 bytes at most
 pub record IsImage (bytes : List ℕ) : Type 0 where
   pub whole : length bytes % 512 ≡ 0
   pub least : 512 ≤ length bytes
   pub most : length bytes ≤ 536870912
+
+-- what a file holds is known, and is an image
+abbrev pub HoldsImage : Option (List ℕ) → Type 0
+HoldsImage None = ⊥
+HoldsImage (Some known) = IsImage known
+
+-- so it isn't too long, and what is read of it is an image
+pub image_within : (file : Option (List ℕ)) → HoldsImage file → IsWithin 536870912 file
+image_within None is = is
+image_within (Some known) is = is.most
+
+pub image_read : (file : Option (List ℕ)) (bytes : List ℕ) → HoldsImage file → MatchesContents file bytes → IsImage bytes
+image_read None bytes is same = absurd is
+image_read (Some known) bytes is same = subst IsImage (sym same) is

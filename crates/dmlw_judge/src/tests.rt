@@ -48,7 +48,7 @@ impl Files for TwoFiles<'_> {
 
 // What the command tells of files of these names: on its output, then on the error stream, then its status, behind a `?` where not
 // all was told. A line feed is shown as `;`.
-fn told(
+fn output_of(
     alloc: Global,
     names: &[&str],
     moment: u64,
@@ -168,7 +168,7 @@ fn judging_of(alloc: Global, row: &str) -> Result<String, AllocError> {
         script: text.as_bytes(),
         image: &image,
     };
-    told(
+    output_of(
         alloc,
         &["script", "image"],
         number(words.next()),
@@ -199,7 +199,7 @@ fn missing_files_are_refused(rt: HostRuntime) -> Result<(), Fail> {
         image: &[0; 100],
     };
     for names in [["none", "image"], ["script", "none"], ["script", "image"]] {
-        let told = told(alloc, names.as_slice(), 0, &mut files)?;
+        let told = output_of(alloc, names.as_slice(), 0, &mut files)?;
         assert_eq!(rt; told.as_str(), "dmlw: 32 File;1");
     }
     Ok(())
@@ -214,18 +214,18 @@ fn faults_are_explained(rt: HostRuntime) -> Result<(), Fail> {
         script: b"data 2\nlog 32\nw a 2 1 41\n",
         image: &image,
     };
-    let line = told(alloc, &["script", "image", "explain"], 0, &mut files)?;
+    let line = output_of(alloc, &["script", "image", "explain"], 0, &mut files)?;
     assert!(rt;
         line.as_str().starts_with("dmlw: line 3: 3 PastEnd;  line 3 of script: w a 2 1 41;  ")
     );
     files.script = b"data 2\nlog 32\n";
-    let moment = told(alloc, &["script", "image", "explain"], 0, &mut files)?;
+    let moment = output_of(alloc, &["script", "image", "explain"], 0, &mut files)?;
     assert_eq!(rt;
         moment.as_str(),
         "dmlw: 34 BadMoment;  script: a moment is a number of the run's events, and the image has the sectors of the data disk under its layers;1"
     );
     files.image = &[0; 100];
-    let part = told(alloc, &["script", "image", "explain"], 0, &mut files)?;
+    let part = output_of(alloc, &["script", "image", "explain"], 0, &mut files)?;
     assert_eq!(rt;
         part.as_str(),
         "dmlw: 32 File;  image isn't 512 to 536870912 bytes long, in whole sectors of 512 bytes;1"
@@ -291,12 +291,12 @@ fn large_images_are_judged(rt: HostRuntime) -> Result<(), Fail> {
         script: text.as_bytes(),
         image: &image,
     };
-    let before = told(alloc, &["script", "image"], 3_998, &mut files)?;
+    let before = output_of(alloc, &["script", "image"], 3_998, &mut files)?;
     assert_eq!(rt;
         before.as_str(),
         "no sector 1999 holds no submitted value;1"
     );
-    let after = told(alloc, &["script", "image"], 4_000, &mut files)?;
+    let after = output_of(alloc, &["script", "image"], 4_000, &mut files)?;
     assert_eq!(rt; after.as_str(), "yes;0");
     Ok(())
 }

@@ -98,7 +98,7 @@ fn large(alloc: Global) -> Result<Vec<u8>, Fail> {
 }
 
 // What a replay did: its exit status, a `?` where not all was told, what it told, and of the image that was written its size and the first byte of each sector that isn't 0.
-fn shown(
+fn output_of(
     alloc: Global,
     log: &[u8],
     sectors: usize,
@@ -180,7 +180,7 @@ fn logs_are_replayed(rt: HostRuntime) -> Result<(), Fail> {
         (5, Upto::Flush, "1:dmlw: 27 PastTarget after 0 entries\n"),
     ];
     for (sectors, upto, wanted) in &rows {
-        let ran = shown(alloc, &log, *sectors, NAMES, upto)?;
+        let ran = output_of(alloc, &log, *sectors, NAMES, upto)?;
         assert_eq!(rt; ran.as_str(), *wanted);
     }
     Ok(())
@@ -220,7 +220,7 @@ fn beginnings_of_a_log_are_replayed(rt: HostRuntime) -> Result<(), Fail> {
     ];
     for (script, sectors, count, wanted) in rows {
         let log = recorded(alloc, script)?;
-        let ran = shown(alloc, &log, sectors, NAMES, &Upto::Count(count))?;
+        let ran = output_of(alloc, &log, sectors, NAMES, &Upto::Count(count))?;
         assert_eq!(rt; ran.as_str(), wanted);
     }
     Ok(())
@@ -230,9 +230,9 @@ fn beginnings_of_a_log_are_replayed(rt: HostRuntime) -> Result<(), Fail> {
 fn sectors_of_a_log_may_be_large(rt: HostRuntime) -> Result<(), Fail> {
     let alloc = rt.alloc();
     let log = large(alloc)?;
-    let ran = shown(alloc, &log, 16, NAMES, &Upto::Count(1))?;
+    let ran = output_of(alloc, &log, 16, NAMES, &Upto::Count(1))?;
     assert_eq!(rt; ran.as_str(), "0:replayed 1\n16 10=1 11=2 12=3 13=4");
-    let ran = shown(alloc, &log, 13, NAMES, &Upto::Count(1))?;
+    let ran = output_of(alloc, &log, 13, NAMES, &Upto::Count(1))?;
     assert_eq!(rt; ran.as_str(), "1:dmlw: 27 PastTarget after 0 entries\n");
     Ok(())
 }
@@ -255,7 +255,7 @@ fn files_are_refused(rt: HostRuntime) -> Result<(), Fail> {
             first,
             out,
         };
-        let ran = shown(alloc, &log, 16, names, &Upto::Flush)?;
+        let ran = output_of(alloc, &log, 16, names, &Upto::Flush)?;
         assert_eq!(rt; ran.as_str(), wanted);
     }
     Ok(())

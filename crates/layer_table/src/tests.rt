@@ -37,7 +37,7 @@ const UPPER: &str = "0 8 linear disk 4
 0 8 flakey disk 4 10 5 1 drop_writes
 0 8 fuse disk 1 6
 0 8 dust disk 2 512
-0 8 delay disk 3 0";
+0 8 delay disk 3 1";
 
 // At both sides of each bound of the flakey layers, in milliseconds, and at the last moment.
 const MOMENTS: [u64; 12] = [
@@ -90,11 +90,16 @@ fn call(
         Kind::Discard => stack.discard(now, first, 2),
         Kind::Flush => stack.flush(now),
     };
+    // A delay of a millisecond may stand among the layers.
     match (end, kind) {
-        (Ok(end), Kind::Read) if end == now => Some(buffer[0]),
-        (Ok(end), _) if end == now => Some(0),
+        (Ok(end), Kind::Read) if is_soon(now, end) => Some(buffer[0]),
+        (Ok(end), _) if is_soon(now, end) => Some(0),
         _ => None,
     }
+}
+
+fn is_soon(now: Ms, end: Ms) -> bool {
+    end == now || end == now.later_by(Ms::new(1))
 }
 
 // The same calls of a stack and of its plain layers.

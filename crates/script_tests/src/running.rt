@@ -38,7 +38,7 @@ fn text_of(alloc: Global, lines: &str) -> Result<String, AllocError> {
 }
 
 // What a run of the script prints, and how it ended.
-fn shown(rt: &impl Abort, alloc: Global, text: &str) -> Result<String, Fail> {
+fn run_text(rt: &impl Abort, alloc: Global, text: &str) -> Result<String, Fail> {
     let script = read_script(alloc, text.as_bytes(), Kind::Record)?;
     let mut out = Vec::new(alloc);
     let ended = match record(alloc, text.as_bytes(), &script, &mut out) {
@@ -62,7 +62,7 @@ fn scripts_are_run(rt: HostRuntime) -> Result<(), Fail> {
     for row in SCRIPTS.lines() {
         let mut parts = row.split("=");
         let text = text_of(alloc, parts.next().unwrap_or_default())?;
-        let shown = shown(&rt, alloc, text.as_str())?;
+        let shown = run_text(&rt, alloc, text.as_str())?;
         assert_eq!(rt; Some(shown.as_str()), parts.next(), "{row}");
     }
     Ok(())
@@ -125,7 +125,7 @@ fn long_scripts_are_run(rt: HostRuntime) -> Result<(), Fail> {
     }
     lines.push_str(",close")?;
     let text = text_of(alloc, lines.as_str())?;
-    let shown = shown(&rt, alloc, text.as_str())?;
+    let shown = run_text(&rt, alloc, text.as_str())?;
     assert!(rt; shown.as_str().ends_with("b2999 ok;6001 12001"));
     Ok(())
 }
@@ -134,7 +134,7 @@ fn long_scripts_are_run(rt: HostRuntime) -> Result<(), Fail> {
 #[test]
 fn long_reads_are_taken(rt: HostRuntime) -> Result<(), Fail> {
     let alloc = rt.alloc();
-    let shown = shown(&rt, alloc, "data 4096\nlog 32\nr 2048 2048\n")?;
+    let shown = run_text(&rt, alloc, "data 4096\nlog 32\nr 2048 2048\n")?;
     assert!(rt; shown.as_str().starts_with("read 2048+2048 ok 0000"));
     assert_eq!(rt; shown.len(), 18 + 4096 + 1 + 3);
     Ok(())
@@ -149,13 +149,13 @@ fn writes_of_any_size_are_taken(rt: HostRuntime) -> Result<(), Fail> {
         text.push_str(format!(in alloc; "w a{count} 2000 {count} 41\n")?.as_str())?;
         text.push_str(format!(in alloc; "c a{count}\n")?.as_str())?;
     }
-    let open = shown(&rt, alloc, text.as_str())?;
+    let open = run_text(&rt, alloc, text.as_str())?;
     assert_eq!(rt;
         open.as_str(),
         "a1 ok;a7 ok;a8 ok;a9 ok;a63 ok;a64 ok;a65 ok;a511 ok;a2048 ok;0 0"
     );
     text.push_str("close\nw z 0 2048 42\nc z\nr 2047 1\n")?;
-    let closed = shown(&rt, alloc, text.as_str())?;
+    let closed = run_text(&rt, alloc, text.as_str())?;
     assert!(rt;
         closed
             .as_str()

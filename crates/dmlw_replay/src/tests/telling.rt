@@ -1,5 +1,5 @@
 // Damaged logs, what helps, outputs that fail, and a large image.
-use super::{FakeFiles, NAMES, Named, SCRIPT, recorded, shown};
+use super::{FakeFiles, NAMES, Named, SCRIPT, output_of, recorded};
 use crate::replay;
 use dmlw_explain::ReplayNames;
 use replay::Upto;
@@ -37,7 +37,7 @@ fn cut_logs_are_replayed_to_the_cut(rt: HostRuntime) -> Result<(), Fail> {
     ];
     for (length, upto, wanted) in &rows {
         let cut = log.get(..*length).unwrap_or_default();
-        let ran = shown(alloc, cut, 16, NAMES, upto)?;
+        let ran = output_of(alloc, cut, 16, NAMES, upto)?;
         assert_eq!(rt; ran.as_str(), *wanted);
     }
     Ok(())
@@ -57,7 +57,7 @@ fn damaged_logs_are_refused(rt: HostRuntime) -> Result<(), Fail> {
         if let Some(byte) = log.get_mut(place) {
             *byte = 9;
         }
-        let ran = shown(alloc, &log, 16, NAMES, &Upto::Count(0))?;
+        let ran = output_of(alloc, &log, 16, NAMES, &Upto::Count(0))?;
         assert_eq!(rt; ran.as_str(), wanted);
     }
     Ok(())

@@ -2,7 +2,7 @@ use super::*;
 use blockdev::Message;
 
 // The number and the name of a message's refusal, or `ok`.
-fn said(alloc: Global, stack: &mut Stack, layer: u64, text: &str) -> Result<String, Fail> {
+fn answer_of(alloc: Global, stack: &mut Stack, layer: u64, text: &str) -> Result<String, Fail> {
     match stack.message(layer, text) {
         Ok(()) => Ok(format!(in alloc; "ok")?),
         Err(error) => {
@@ -54,7 +54,7 @@ fn answers(rt: &impl Abort, alloc: Global, stack: &mut Stack, rows: &str) -> Res
         let (asked, want) = row.split_once('|').unwrap_or_default();
         let (layer, text) = asked.split_once(' ').unwrap_or_default();
         let layer = layer.parse::<u64>().unwrap_or(99);
-        let answer = said(alloc, stack, layer, text)?;
+        let answer = answer_of(alloc, stack, layer, text)?;
         assert_eq!(rt; answer.as_str(), want, "{row}");
     }
     Ok(())

@@ -1,4 +1,5 @@
 // Layers over a disk, told in plain words: a list of layers, and a byte for each sector.
+use bio::Ms;
 use fault_layers::{Kind, Verdict};
 use table_line::{Feature, LayerSpec, Target};
 
@@ -34,7 +35,12 @@ fn verdict(layer: &Plain, kind: Kind, now: u64) -> Verdict {
     let is_read = kind == Kind::Read;
     match layer.spec.target {
         // A dust layer passes each call before messages enable it.
-        Target::Linear | Target::Dust { .. } | Target::Delay { .. } => Verdict::Pass,
+        Target::Linear | Target::Dust { .. } => Verdict::Pass,
+        Target::Delay { read, write, flush } => Verdict::Delay(Ms::new(match kind {
+            Kind::Read => read,
+            Kind::Flush => flush,
+            _ => write,
+        })),
         Target::Error => Verdict::Fail,
         Target::Fuse { calls } if is_read || layer.passed < calls => Verdict::Pass,
         Target::Fuse { .. } => Verdict::Fail,
@@ -81,12 +87,11 @@ pub(super) fn plain_call(
     value: u8,
 ) -> Option<u8> {
     let mut sector = first;
+    let mut begun = Ms::new(now);
     for layer in layers.iter_mut().rev() {
-        match verdict(layer, kind, now) {
-            Verdict::Pass => {
-                sector = sector.saturating_add(layer.spec.offset);
-                layer.passed = layer.passed.saturating_add(u64::from(kind != Kind::Read));
-            }
+        match verdict(layer, kind, begun.milliseconds()) {
+            Verdict::Pass => {}
+            Verdict::Delay(by) => begun = begun.later_by(by),
             Verdict::Fail => {
                 layer.faults = layer.faults.saturating_add(1);
                 return None;
@@ -96,6 +101,8 @@ pub(super) fn plain_call(
                 return Some(0);
             }
         }
+        sector = sector.saturating_add(layer.spec.offset);
+        layer.passed = layer.passed.saturating_add(u64::from(kind != Kind::Read));
     }
     on_disk(disk, kind, sector as usize, value)
 }

@@ -62,7 +62,7 @@ fn step<L: BlockDev + Drop>(
 
 // What is shown of the replay of a log in an image of so many bytes on a target of so many sectors, which passes so many calls: also whether a call of
 // the log's device was late.
-fn shown(
+fn run_text(
     rt: &impl Abort,
     alloc: Global,
     text: &str,
@@ -108,7 +108,7 @@ fn each_entry_is_one_call(rt: HostRuntime) -> Result<(), Fail> {
     ];
     for (text, length, sectors, count, wanted) in rows {
         let upto = Upto::Count(count);
-        let found = shown(&rt, alloc, text, length, sectors, u64::MAX, &upto)?;
+        let found = run_text(&rt, alloc, text, length, sectors, u64::MAX, &upto)?;
         assert_eq!(rt; found.as_str(), wanted);
     }
     Ok(())
@@ -127,7 +127,7 @@ fn thousands_of_entries_are_replayed(rt: HostRuntime) -> Result<(), Fail> {
     }
     text.push_str(" 15360512 0 0 1 0")?;
     let text = text.as_str();
-    let found = shown(&rt, alloc, text, 15_361_024, 16, u64::MAX, &Upto::Flush)?;
+    let found = run_text(&rt, alloc, text, 15_361_024, 16, u64::MAX, &Upto::Flush)?;
     assert!(rt; found.as_str() == wanted.as_str());
     Ok(())
 }
@@ -145,7 +145,7 @@ fn targets_that_fail_end_a_replay(rt: HostRuntime) -> Result<(), Fail> {
         (5, "9:w5+1 w6+2 w8+1 d9+3 w1+1 "),
     ];
     for (passes, wanted) in rows {
-        let found = shown(&rt, alloc, CALLS, 7_680, 16, passes, &Upto::Count(9))?;
+        let found = run_text(&rt, alloc, CALLS, 7_680, 16, passes, &Upto::Count(9))?;
         assert_eq!(rt; found.as_str(), wanted);
     }
     Ok(())
@@ -194,7 +194,7 @@ fn marks_are_found_by_all_their_bytes(rt: HostRuntime) -> Result<(), Fail> {
     ];
     for (mark, wanted) in rows {
         let upto = Upto::Mark(mark);
-        let found = shown(&rt, alloc, MARKS, 3_584, 16, u64::MAX, &upto)?;
+        let found = run_text(&rt, alloc, MARKS, 3_584, 16, u64::MAX, &upto)?;
         assert_eq!(rt; found.as_str(), wanted);
     }
     Ok(())

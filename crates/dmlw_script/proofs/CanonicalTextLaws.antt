@@ -5,8 +5,6 @@ use Rattle.std.specs.List.{onto_first, AllByRecursion, AllZip}
 use Rattle.std.proofs.lemmas.Bool.{and_from, and_parts, cond-true, leb-true, ltb-false}
 use Rattle.std.proofs.lemmas.Bool.Decides.{nat_tests}
 use Rattle.std.proofs.lemmas.Fmt.{digits_decimal}
-use Rattle.std.proofs.lemmas.List.{append-nil}
-use Rattle.std.proofs.lemmas.List.Concat.{flat_map-append}
 use Rattle.std.proofs.lemmas.List.Elements.{All-from_recursion}
 use Rattle.bio.specs.Check.{range_answer}
 use Rattle.bio.specs.declared.request.BadBio.{BadBio}
@@ -30,7 +28,7 @@ use Rattle.dmlw_script.specs.Lines.{with_line_feeds, is_ascii_line, is_line_byte
 use Rattle.dmlw_script.specs.Ids.{is_id, is_name_byte, letters_of, script_id}
 use Rattle.dmlw_script.specs.Plans.{ArePicks, CanFollow, count_after_command, head_of, layer_line, line_at, lines_behind_head, lines_of_body, name_at, lines_of_script, step_answer, submission_answer, submissions, top_of, with_ending, Disk, HasLineText, IsDisk, IsName, IsWellFormed, IsPlan, Plan, WritesByte}
 use Rattle.table_line.specs.Standing.{CanStand}
-use Rattle.dmlw_script.specs.CanonicalText.{ended_line, ending_text, line_text, canonical_text}
+use Rattle.dmlw_script.specs.CanonicalText.{ended_line, line_text, canonical_text}
 use Rattle.dmlw_script.specs.Words.{byte_text, hex_digit}
 use Rattle.words.specs.Words.{before_byte, IsNumber}
 use Rattle.table_line.specs.LineLaws.{printed_again}
@@ -242,18 +240,6 @@ ending_written : (ending : Option (List ℕ)) (ss : List Said) → ArePicks endi
 ending_written None ss picks written = written
 ending_written (Some picks) ss low written = written_push ss (parsed_lines.Crash picks) written (crash_written picks low)
 
--- the text of lines and of the crash behind them
-pub ending_spelled : (ending : Option (List ℕ)) (ss : List Said) → flat_map ended_line (with_ending ending ss) ≡ flat_map ended_line ss ++ ending_text ending
-ending_spelled None ss = sym (append-nil (flat_map ended_line ss))
-ending_spelled (Some picks) ss =
-    flat_map-append ended_line ss (parsed_lines.Crash picks ∷ [])
-    ∙ ap (λ (x : List ℕ). flat_map ended_line ss ++ x) (append-nil (ended_line (parsed_lines.Crash picks)))
-
--- a first word and picks behind it, each behind a space
-pub picks_spelled : (word : List ℕ) (picks : List ℕ) → spaced (word ∷ map decimal picks) ≡ word ++ flat_map (λ n. 32 ∷ decimal n) picks
-picks_spelled word [] = sym (append-nil word)
-picks_spelled word (pick ∷ picks) = ap (λ (x : List ℕ). word ++ 32 ∷ x) (picks_spelled (decimal pick) picks)
-
 -- an `at`'s line
 at_written : (moment : ℕ) → moment < 2 ^ 64 → IsWritten (step (steps.At moment))
 at_written moment low = record { says = record { word = decimal moment; number = decimal_number moment low; spelled = refl }; good = written_number (codes "at") moment refl low }
@@ -345,19 +331,6 @@ head_written d l is_data is_log =
             (layers_written disks.Log l.sectors l.layers is_log.stand),
       ),
     )
-
--- a text that is written in three parts, from nothing, is the script's
-pub text_in_parts : (plan : Plan) (d l : Disk) (start head body whole : List ℕ) → d ≡ plan.data_disk → l ≡ plan.log_disk → start ≡ [] → head ≡ start ++ flat_map ended_line (head_of d l)
-    → body ≡ head ++ flat_map ended_line (lines_of_body plan.names 0 plan.commands) → whole ≡ body ++ ending_text plan.ending → whole ≡ canonical_text plan
-text_in_parts plan d l start head body whole is_data is_log none is_head is_body is_whole =
-    let lines = lines_of_body plan.names 0 plan.commands in
-    let front = flat_map ended_line (head_of plan.data_disk plan.log_disk) in
-    let first : head ≡ front =
-    is_head ∙ ap (λ (x : List ℕ). x ++ flat_map ended_line (head_of d l)) none ∙ ap (λ (x : Disk). flat_map ended_line (head_of x l)) is_data
-    ∙ ap (λ (x : Disk). flat_map ended_line (head_of plan.data_disk x)) is_log in
-    is_whole ∙ ap (λ (x : List ℕ). x ++ ending_text plan.ending) (is_body ∙ ap (λ (x : List ℕ). x ++ flat_map ended_line lines) first)
-    ∙ append_assoc front (flat_map ended_line lines) (ending_text plan.ending) ∙ ap (λ (x : List ℕ). front ++ x) (sym (ending_spelled plan.ending lines))
-    ∙ sym (flat_map-append ended_line (head_of plan.data_disk plan.log_disk) (lines_behind_head plan))
 
 -- ---- scripts
 

@@ -1,4 +1,4 @@
-//! Tests of `dmlw_script` and `script_runner`, through what these make public. They stand apart from the crates that they test, so that these aren't proved a
+//! Tests of `dmlw_script`, `script_printer` and `script_runner`, through what these make public. They stand apart from the crates that they test, so that these aren't proved a
 //! second time with their tests.
 #![tactic(auto)]
 

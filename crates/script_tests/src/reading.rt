@@ -1,5 +1,6 @@
 use dmlw_script::*;
 use refusals::Refusal;
+use script_printer::print_script;
 use std::alloc::{AllocError, Global};
 use std::process::Abort;
 use std::test::Fail;

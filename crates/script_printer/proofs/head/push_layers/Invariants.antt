@@ -2,7 +2,7 @@ use Rattle.std.proofs.Common.{◌≡◌, ◌++◌, drop}
 use Rattle.std.specs.Prelude.{flat_map, map}
 use Rattle.dmlw_script.specs.CanonicalText.{ended_line}
 use Rattle.dmlw_script.specs.Plans.{layer_line}
-use Rattle.dmlw_script.proofs.printer.push_layers.Given as goal
+use Rattle.script_printer.proofs.head.push_layers.Given as goal
 
 abbrev pub invariant-loop-layer : goal.invariant-loop-layer
 invariant-loop-layer l =

@@ -2,7 +2,7 @@ use Rattle.std.proofs.Common.{◌≡◌, ◌+◌, ◌++◌, length, take, drop}
 use Rattle.std.specs.Prelude.{flat_map}
 use Rattle.dmlw_script.specs.Plans.{lines_of_body, submissions, top_of, IsWellFormed}
 use Rattle.dmlw_script.specs.CanonicalText.{ended_line}
-use Rattle.dmlw_script.proofs.printer.push_body.Given as goal
+use Rattle.script_printer.proofs.printing.push_body.Given as goal
 
 abbrev pub invariant-loop-command : goal.invariant-loop-command
 invariant-loop-command l = record {

@@ -1,8 +1,8 @@
 use Rattle.std.proofs.Common.{◌≡◌, List, sym, subst, ℕ}
 use Rattle.dmlw_script.specs.Grammar.{IsTextOf}
 use Rattle.dmlw_script.specs.CanonicalText.{canonical_text}
-use Rattle.dmlw_script.proofs.CanonicalTextLaws.{spelling_spells, text_in_parts}
-use Rattle.dmlw_script.proofs.printer.print_script.Goals as goal
+use Rattle.script_printer.proofs.Spelling.{text_in_parts}
+use Rattle.script_printer.proofs.printing.print_script.Goals as goal
 
 pub returns-clause-spelled : goal.returns-clause-spelled
 returns-clause-spelled c =
@@ -15,4 +15,4 @@ returns-clause-again c =
     let spelled : c.push_ending.new.out.items ≡ canonical_text script =
     text_in_parts script c.data.result.now c.log.result.now _ _ _ _ c.data.ensures.disk c.log.ensures.disk c.new-out.ensures.items c.in_ok-push_head.ensures
     c.in_ok-push_body.ensures c.in_ok-push_ending.ensures in
-    subst (λ (x : List ℕ). IsTextOf x script) (sym spelled) (spelling_spells script c.data.ensures.script)
+    subst (λ (x : List ℕ). IsTextOf x script) (sym spelled) (c.each_script_has_a_text.ensures script c.data.ensures.script)

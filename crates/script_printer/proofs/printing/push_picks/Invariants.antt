@@ -1,6 +1,6 @@
 use Rattle.std.proofs.Common.{◌≡◌, ◌++◌, ◌∷◌, drop}
 use Rattle.std.specs.Prelude.{codes, decimal, flat_map}
-use Rattle.dmlw_script.proofs.printer.push_picks.Given as goal
+use Rattle.script_printer.proofs.printing.push_picks.Given as goal
 
 abbrev pub invariant-loop-pick : goal.invariant-loop-pick
 invariant-loop-pick l =

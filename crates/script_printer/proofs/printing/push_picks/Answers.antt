@@ -1,8 +1,8 @@
 use Rattle.std.proofs.Common.{◌≡◌, ◌++◌, ◌∷◌, ◌∙◌, List, ap, sym, arith, ℕ}
 use Rattle.std.proofs.lemmas.List.{append-nil, drop_all}
 use Rattle.std.specs.Prelude.{codes, decimal, flat_map}
-use Rattle.dmlw_script.proofs.CanonicalTextLaws.{picks_spelled}
-use Rattle.dmlw_script.proofs.printer.push_picks.Goals as goal
+use Rattle.script_printer.proofs.Spelling.{picks_spelled}
+use Rattle.script_printer.proofs.printing.push_picks.Goals as goal
 
 pub returns : goal.returns
 returns c =

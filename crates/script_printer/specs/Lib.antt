@@ -1,0 +1,2 @@
+pub use Rattle.dmlw_script.specs.Grammar
+pub use Rattle.dmlw_script.specs.CanonicalText

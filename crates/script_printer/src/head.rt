@@ -1,0 +1,47 @@
+ghost use Rattle.std.specs.Prelude.{◌≡◌, ◌++◌, flat_map, map, OnOk};
+ghost use Rattle.dmlw_script.specs.Plans.{head_of, layer_line};
+ghost use Rattle.dmlw_script.specs.CanonicalText.{ended_line};
+
+use crate::parts::push_value;
+use dmlw_script::{DiskName, DiskSpec};
+use std::alloc::AllocError;
+use table_line::{LayerSpec, push_line};
+
+// The lines of a script's head.
+pub(crate) fn push_head(
+    out: &mut Vec<u8>,
+    data_disk: &DiskSpec,
+    log_disk: &DiskSpec,
+) -> Result<(), AllocError>
+    ensures { OnOk result (out.new.items ≡ out.old.items ++ flat_map ended_line (head_of data_disk.now log_disk.now)) }
+{
+    push_value(out, b"data ", data_disk.sectors())?;
+    push_value(out, b"\nlog ", log_disk.sectors())?;
+    out.push(b'\n')?;
+    push_layers(out, DiskName::Data, data_disk.layers())?;
+    push_layers(out, DiskName::Log, log_disk.layers())
+}
+
+// The lines of a disk's layers.
+fn push_layers(out: &mut Vec<u8>, over: DiskName, layers: &[LayerSpec]) -> Result<(), AllocError>
+    ensures { OnOk result (out.new.items ≡ out.old.items ++ flat_map ended_line (map (layer_line over) layers.now)) }
+{
+    for layer in layers {
+        push_layer(out, over, layer)?;
+    }
+    Ok(())
+}
+
+// The line of a layer.
+fn push_layer(out: &mut Vec<u8>, over: DiskName, layer: &LayerSpec) -> Result<(), AllocError>
+    ensures { OnOk result (out.new.items ≡ out.old.items ++ ended_line (layer_line over layer.now)) }
+{
+    let verb: &[u8] = match over {
+        DiskName::Data => b"data-layer ",
+        DiskName::Log => b"log-layer ",
+    };
+    out.extend_from_slice(verb)?;
+    push_line(out, layer)?;
+    out.push(b'\n')?;
+    Ok(())
+}

@@ -1,0 +1,22 @@
+ghost use Rattle.std.specs.Prelude.{◌≡◌, ◌++◌, decimal, OnOk};
+ghost use Rattle.dmlw_script.specs.Ids.{letters_of};
+
+use dmlw_script::ScriptId;
+use std::alloc::AllocError;
+use words::push_number;
+
+// A line's first word and space, and a number.
+pub(crate) fn push_value(out: &mut Vec<u8>, verb: &[u8], number: u64) -> Result<(), AllocError>
+    ensures { OnOk result (out.new.items ≡ out.old.items ++ (verb.now ++ decimal number)) }
+{
+    out.extend_from_slice(verb)?;
+    push_number(out, number)
+}
+
+// A line's first word and space, and an id.
+pub(crate) fn push_name(out: &mut Vec<u8>, verb: &[u8], name: ScriptId) -> Result<(), AllocError>
+    ensures { OnOk result (out.new.items ≡ out.old.items ++ (verb.now ++ letters_of name)) }
+{
+    out.extend_from_slice(verb)?;
+    out.extend_from_slice(name.letters())
+}

@@ -5,3 +5,4 @@ pub mod Entering
 pub mod Plain
 pub mod Ends
 pub mod Apps
+mod Refused

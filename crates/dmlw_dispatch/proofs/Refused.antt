@@ -4,7 +4,6 @@ use Rattle.std.specs.Prelude.{codes}
 use Rattle.std.proofs.lemmas.Bool.Decides.{nat_tests}
 use Rattle.std.specs.Io.KnownBytes.{Appends}
 use Rattle.std.specs.declared.io.ErrorKind.TheVariants.{InvalidData, NotFound, OutOfMemory as NoMemory}
-use Rattle.bio.specs.declared.outcome.End.TheVariants as causes
 use Rattle.refusals.specs.declared.refusal.Refusal.TheVariants as refusals
 use Rattle.clap.proofs.OnLiterals.{clap_on_literals}
 use Rattle.clap.specs.Walk.{reading_by}
@@ -29,7 +28,7 @@ use Rattle.dmlw_files.specs.Files.{Write}
 use Rattle.dmlw_replay.specs.declared.stop.Stop.{Stop}
 use Rattle.dmlw_replay.specs.declared.stop.Stop.TheVariants as stops
 use Rattle.dmlw_replay.specs.Replays.{replay_exit}
-use Rattle.dmlw_replay.specs.Whats.{IsNoWhat, IsWhat}
+use Rattle.dmlw_replay.specs.Whats.{IsWhat}
 use Rattle.dmlw_dispatch.specs.CommandLine.{Entered, Enters, IsCommandOf, bare_app, command_app, command_words, has_explain, is_explain, is_formats, is_positional, needed, program_app, without_explain}
 use Rattle.dmlw_dispatch.specs.Commands.{AsksForOne, DoesWords, EndsCommand, EndsFlawed, EndsPage, EndsTask, EndsText, EndsUntasked, IsFaultLine, ReplaysWhat, TellsBy, TellsOneLine, TellsPage, TellsPrinting, TellsUntasked, flaw_text, is_asked_for, of_fault, of_replay, unread_exit}
 use Rattle.dmlw_dispatch.specs.Names.{HasWords, all_names, arguments, is_same, name_of, name_text}
@@ -312,7 +311,7 @@ asks_replay_what n (log, first, out, what, is, named) =
     let byte = same_number 102 101 (one_byte _ _ (same_some _ _ is ∙ named.1)) in omega arith
 
 -- a WHAT that names no end, and one that names one, told as none
-no_what : IsNoWhat (codes "x")
+no_what : (upto : Upto) → IsWhat (codes "x") upto → ⊥
 no_what (Count n) named = let byte = same_number 120 101 (one_byte _ _ named.1) in omega arith
 no_what (Mark text) named = let byte = same_number 120 109 (one_byte _ _ named) in omega arith
 no_what Flush named = let byte = same_number 120 102 (one_byte _ _ named) in omega arith
@@ -705,7 +704,7 @@ does_page contents page is = record {
   };
 }
 
--- a line of a fault by which nothing ends, no line, and one of a replay where logging ended
+-- a line of a fault where a command is done, or ends by a usage fault, and a line that is none of a fault's
 line_done : (line : List ℕ) → IsFaultLine exits.Done line → ⊥
 line_done line (of_fault (faults.Refused fault) ends is) = cc
 line_done line (of_fault (faults.LoggingEnded end) ends is) = cc
@@ -721,12 +720,8 @@ line_begins exit line (of_fault (faults.Refused fault) ends is) = one_byte line 
 line_begins exit line (of_fault (faults.LoggingEnded end) ends is) = one_byte line (fault_line (faults.LoggingEnded end)) is
 line_begins exit line (of_replay applied cause ends is) = one_byte line (stopped_line applied cause) is
 
-line_replay : IsFaultLine exits.LoggingEnded (stopped_line 0 refusals.NoFlush) → ⊥
-line_replay (of_fault (faults.Refused fault) ends is) = cc
-line_replay (of_fault (faults.LoggingEnded causes.Full) ended is) = let long = same_number 33 14 (ap length is) in omega arith
-line_replay (of_fault (faults.LoggingEnded causes.Device) ended is) = let long = same_number 33 16 (ap length is) in omega arith
-line_replay (of_fault (faults.LoggingEnded causes.Memory) ended is) = let long = same_number 33 16 (ap length is) in omega arith
-line_replay (of_replay applied cause ends is) = cc
+line_other : (exit : Exit) → IsFaultLine exit (1 ∷ []) → ⊥
+line_other exit is = let byte = same_number 1 100 (line_begins exit (1 ∷ []) is) in omega arith
 
 line_stop : IsFaultLine exits.Refused (stopped_line 2 refusals.NoFlush)
 line_stop = of_replay 2 refusals.NoFlush refl refl

@@ -75,6 +75,24 @@ impl Write for Unflushed {
     }
 }
 
+// A writer that hands on what it took where it is flushed.
+#[derive(Drop)]
+struct Buffered {
+    is_held: bool,
+}
+
+impl Write for Buffered {
+    fn write(&mut self, buf: &[u8]) -> io::Result<usize> {
+        self.is_held = true;
+        Ok(buf.len())
+    }
+
+    fn flush(&mut self) -> io::Result<()> {
+        self.is_held = false;
+        Ok(())
+    }
+}
+
 // What a command did.
 #[derive(Debug, Drop)]
 struct Ran {
@@ -205,6 +223,32 @@ fn reads_command_lines(rt: HostRuntime) -> Result<(), Fail> {
     Ok(())
 }
 
+// Each text stands there once, and the program's name alone shows the help on the error stream.
+#[test]
+fn shows_each_text_once(rt: HostRuntime) -> Result<(), Fail> {
+    let alloc = rt.alloc();
+    let help = run(alloc, &["dmlw", "help"], b"");
+    let text = str::from_utf8(&help.out).unwrap_or_default();
+    let (_, behind) = text.split_once("Usage: dmlw").ok_or("a usage")?;
+    assert!(rt; help.status == 0 && help.err.is_empty());
+    assert!(rt; !behind.contains("Usage: dmlw"), "{text}");
+    assert!(rt; run(alloc, &["dmlw"], b"").is(2, "", text));
+    let ran = run(alloc, &["dmlw", "--version"], b"");
+    assert!(rt; ran.is(0, "dmlw 0.1 (log format version 1)\n", ""));
+    for words in [
+        ["dmlw", "frob"].as_slice(),
+        ["dmlw", "record", "a"].as_slice(),
+        ["dmlw", "list", "a", "b"].as_slice(),
+    ] {
+        let ran = run(alloc, words, b"");
+        let text = str::from_utf8(&ran.err).unwrap_or_default();
+        let (before, behind) = text.split_once("error: ").ok_or("a fault")?;
+        assert!(rt; ran.status == 2 && before.is_empty(), "{text}");
+        assert!(rt; !behind.contains("error: "), "{text}");
+    }
+    Ok(())
+}
+
 // The page of the formats is printed as it is.
 #[test]
 fn prints_the_formats(rt: HostRuntime) {
@@ -287,6 +331,27 @@ fn sees_what_it_shows_flushed(rt: HostRuntime) {
         let ended = execute(alloc, words, &mut files, &mut out, &mut err);
         assert!(rt; ended.is_told && !err.is_empty(), "fault of {words:?}");
         assert!(rt; out.is_empty(), "output of {words:?}");
+    }
+}
+
+// What was shown isn't held back.
+#[test]
+fn flushes_what_it_shows(rt: HostRuntime) {
+    let alloc = rt.alloc();
+    for words in [
+        ["dmlw", "help"].as_slice(),
+        ["dmlw", "--version"].as_slice(),
+        ["dmlw", "help", "formats"].as_slice(),
+        ["dmlw"].as_slice(),
+        ["dmlw", "frob"].as_slice(),
+        ["dmlw", "judge", "script", "x", "image"].as_slice(),
+        ["dmlw", "list", "image"].as_slice(),
+    ] {
+        let mut files = FakeFiles::new(b"");
+        let mut out = Buffered { is_held: false };
+        let mut err = Buffered { is_held: false };
+        let ended = execute(alloc, words, &mut files, &mut out, &mut err);
+        assert!(rt; ended.is_told && !out.is_held && !err.is_held, "{words:?}");
     }
 }
 

@@ -1,6 +1,6 @@
 -- For each definition of a judging, what breaks it, and is refused by it.
 use Rattle.std.proofs.Common.{◌≡◌, ◌∙◌, ◌⊎◌, ℕ, ◌+◌, ◌*◌, ◌<◌, ◌≤◌, ◌++◌, false, Option, Some, None, List, [], ◌∷◌, Result, Ok, Err, ap, arith, inl, inr, length, refl, replicate, slice_index_or, subst, sym}
-use Rattle.std.specs.Prelude.{codes}
+use Rattle.std.specs.Prelude.{codes, decimal}
 use Rattle.sectors.specs.Content.{sector_of}
 use Rattle.bio.specs.declared.event.CoreEvent.{CoreEvent}
 use Rattle.bio.specs.declared.event.CoreEvent.TheVariants.{Mark, Stop}
@@ -218,10 +218,10 @@ judges_moment script (none, kept) = file_told (refused_by refusals.BadMoment) (n
 line_yes : verdict_line verdicts.Yes ≡ codes "yes\n"
 line_yes = refl
 
-line_event : verdict_line (verdicts.No 20 (Some 1)) ≡ codes "no sector 20 ruled out by event 1\n"
+line_event : verdict_line (verdicts.No 20 (Some 1)) ≡ (codes "no sector " ++ decimal 20 ++ codes " " ++ codes "ruled out by event " ++ decimal 1) ++ codes "\n"
 line_event = refl
 
-line_none : verdict_line (verdicts.No 20 None) ≡ codes "no sector 20 holds no submitted value\n"
+line_none : verdict_line (verdicts.No 20 None) ≡ (codes "no sector " ++ decimal 20 ++ codes " " ++ codes "holds no submitted value") ++ codes "\n"
 line_none = refl
 
 exit_yes : exit_judged (Ok verdicts.Yes) ≡ exits.Done

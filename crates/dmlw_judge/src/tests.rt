@@ -277,6 +277,39 @@ fn outputs_may_fail(rt: HostRuntime) -> Result<(), Fail> {
     Ok(())
 }
 
+// A writer that hands on what it took where it is flushed.
+#[derive(Drop)]
+struct Buffered {
+    is_held: bool,
+}
+
+impl Write for Buffered {
+    fn write(&mut self, buf: &[u8]) -> io::Result<usize> {
+        self.is_held = true;
+        Ok(buf.len())
+    }
+
+    fn flush(&mut self) -> io::Result<()> {
+        self.is_held = false;
+        Ok(())
+    }
+}
+
+#[test]
+fn verdicts_are_not_held_back(rt: HostRuntime) {
+    let alloc = rt.alloc();
+    let mut files = TwoFiles {
+        script: b"data 1\nlog 32\n",
+        image: &[0; 512],
+    };
+    let mut out = Buffered { is_held: false };
+    let mut err = Vec::new(alloc);
+    let ended = judge(
+        alloc, false, "script", 0, "image", &mut files, &mut out, &mut err,
+    );
+    assert!(rt; ended.exit.status() == 0 && ended.is_told && !out.is_held);
+}
+
 // An image of 16,384 sectors, and a script of 4,000 events.
 #[test]
 fn large_images_are_judged(rt: HostRuntime) -> Result<(), Fail> {

@@ -164,9 +164,16 @@ split_none : (before more : List (List ℕ)) → [] ≡ before ++ more → lengt
 split_none [] more split = refl
 split_none (first ∷ before) more split = absurd (cc)
 
+-- no line isn't a line
+abbrev no_line : Option ℕ
+no_line = None
+
+names_none : (line : ℕ) → no_line ≡ Some line → ⊥
+names_none line same = cc
+
 none_of_nothing : (image : Option (List ℕ)) (n : ℕ) (fault : RunError) → HasNoVerdict (record { script = Some []; image = image; moment = n }) fault
     → line_of fault ≡ Some 2 → ⊥
-none_of_nothing image n fault (file f is) second = let same : None ≡ Some 2 = sym (file_line f is) ∙ second in cc
+none_of_nothing image n fault (file f is) second = names_none 2 (sym (file_line f is) ∙ second)
 none_of_nothing image n fault (text again shown line refusal read wrong first) second =
     let same : Some line ≡ Some 2 = second in
     let two : line ≡ 2 = cc in
@@ -175,7 +182,7 @@ none_of_nothing image n fault (text again shown line refusal read wrong first) s
     let place = first.place in omega arith
 none_of_nothing image n fault (run again shown plan f read spells fails) second =
     no_script plan (subst (λ (t : List ℕ). IsTextOf t plan) read.script_holds spells)
-none_of_nothing image n fault (no_moment again shown plan events read spells rehearsed cannot) second = cc
+none_of_nothing image n fault (no_moment again shown plan events read spells rehearsed cannot) second = names_none 2 second
 
 -- and at its first moment an image of the disk's size isn't refused as one of another, nor for the moment
 cannot_nowhere : (sectors n : ℕ) (events : List CoreEvent) (image : List ℕ) → events ≡ [] → n ≡ 0 → length image ≡ 512 * sectors
@@ -218,7 +225,7 @@ judges_moment script (none, kept) = file_told (refused_by refusals.BadMoment) (n
 line_yes : verdict_line verdicts.Yes ≡ codes "yes\n"
 line_yes = refl
 
-line_event : verdict_line (verdicts.No 20 (Some 1)) ≡ (codes "no sector " ++ decimal 20 ++ codes " " ++ codes "ruled out by event " ++ decimal 1) ++ codes "\n"
+line_event : verdict_line (verdicts.No 20 (Some 1)) ≡ (codes "no sector " ++ decimal 20 ++ codes " " ++ (codes "ruled out by event " ++ decimal 1)) ++ codes "\n"
 line_event = refl
 
 line_none : verdict_line (verdicts.No 20 None) ≡ (codes "no sector " ++ decimal 20 ++ codes " " ++ codes "holds no submitted value") ++ codes "\n"

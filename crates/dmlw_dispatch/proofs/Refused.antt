@@ -255,7 +255,7 @@ enters_other : (entered : Entered) → Enters (codes "dmlw" ∷ codes "list" ∷
 unfolding clap_on_literals
 enters_other entered told is =
     let same : Some (codes "list") ≡ Some (codes "status") =
-        ap (λ (found : Option Entered). option_map (λ e. e.0) found) told.enters ∙ ap (λ (name : Text). Some name) is in
+    ap (λ (found : Option Entered). option_map (λ e. e.0) found) told.enters ∙ ap (λ (name : Text). Some name) is in
     let byte = same_number 108 115 (one_byte _ _ (same_some _ _ same)) in omega arith
 
 -- ---- tasks
@@ -570,7 +570,7 @@ printing_told ended (done, file, tells) is = let same = quiet_done (heard [] (1 
 
 -- memory that ran out, told by no line
 memory_silent : (ended : Ended) → TellsUntasked OutOfMemory (heard [] []) ended → ended.is_told ≡ true → ⊥
-memory_silent ended tells yes = let (more, none, grew) = tells.told yes in cc
+memory_silent ended tells took = let (more, none, grew) = tells.told took in cc
 
 -- a text that asks for a file, ends as none of its kind, prints on the output unasked, or is told by no line
 text_asking : (t : Telling) (ended : Ended) → EndsText DisplayHelp (Some []) (Some (a_write ∷ [])) None None t ended → ⊥
@@ -583,7 +583,7 @@ text_printing : (t : Telling) (ended : Ended) → EndsText UnknownArgument None 
 text_printing t ended told = let same = told.silent refl in cc
 
 text_silent : (ended : Ended) → EndsText OutOfMemory None None None None (heard [] []) ended → ended.is_told ≡ true → ⊥
-text_silent ended told yes = memory_silent ended told.tells yes
+text_silent ended told took = memory_silent ended told.tells took
 
 text_usage : EndsText UnknownArgument None None (Some []) (Some []) (heard [] (1 ∷ [])) (record { exit = exits.Usage; is_told = true })
 text_usage = record { unwritten = refl; ends = refl; silent = λ asked. refl; tells = tt }
@@ -600,9 +600,12 @@ page_ends : (t : Telling) (page : List ℕ) (old new : Option (List ℕ)) (done 
 page_ends t page old new (Ok u) ended printed tells is = let same : exits.Done ≡ exits.LoggingEnded = sym tells.exits ∙ is in cc
 page_ends t page old new (Err fault) ended printed tells is = file_ends t fault ended printed tells is
 
+abbrev no_bytes : List ℕ
+no_bytes = []
+
 page_unprinted : (t : Telling) (ended : Ended) → TellsPage (1 ∷ []) (Some []) (Some []) t ended → ended.exit ≡ exits.Done → ⊥
 page_unprinted t ended told is =
-    let same : [] ≡ 1 ∷ [] = page_done (1 ∷ []) (Some []) (Some []) told.done told.printed (sym told.tells.exits ∙ is) in cc
+    let same : no_bytes ≡ 1 ∷ [] = page_done (1 ∷ []) (Some []) (Some []) told.done told.printed (sym told.tells.exits ∙ is) in cc
 
 page_ended : (page : List ℕ) (t : Telling) (ended : Ended) → TellsPage page None None t ended → ended.exit ≡ exits.LoggingEnded → ⊥
 page_ended page t ended told is = page_ends t page None None told.done ended told.printed told.tells is
@@ -614,7 +617,7 @@ page_shown : TellsPage (1 ∷ []) (Some []) (Some (1 ∷ [])) (heard [] []) (rec
 page_shown = record {
   done = Ok tt;
   printed = refl;
-  tells = record { exits = refl; told = λ yes. ([], (λ off. refl), refl); quiet = λ off none. refl };
+  tells = record { exits = refl; told = λ took. ([], (λ off. refl), refl); quiet = λ off none. refl };
 }
 
 -- one that asks for a file, or isn't printed
@@ -654,10 +657,10 @@ flaw_printing : (t : Telling) (ended : Ended) → EndsFlawed flaws.What None Non
 flaw_printing t ended told = let none = told.silent in cc
 
 flaw_silent : (ended : Ended) → EndsFlawed flaws.Moment None None None None (heard [] []) ended → ended.is_told ≡ true → ⊥
-flaw_silent ended told yes = let grew = told.told yes in cc
+flaw_silent ended told took = let grew = told.told took in cc
 
 flaw_told : EndsFlawed flaws.What None None (Some []) (Some []) (heard [] (flaw_text flaws.What)) (record { exit = exits.Usage; is_told = true })
-flaw_told = record { unwritten = refl; usage = refl; silent = refl; told = λ yes. refl }
+flaw_told = record { unwritten = refl; usage = refl; silent = refl; told = λ took. refl }
 
 -- how tasks end that no law tells of: a page that isn't printed, a text and a flaw that ask for a file
 task_page : (contents : List ℕ → Option (List ℕ)) (page : Bor (List ℕ)) (t : Telling) (ended : Ended) → page.now ≡ 1 ∷ []
@@ -739,7 +742,7 @@ one_line_silent told =
     let byte = same_number 0 100 (one_byte [] told.line none ∙ line_begins exits.Refused told.line told.is) in omega arith
 
 one_line : TellsOneLine refused_now (Some (1 ∷ [])) (Some (1 ∷ fault_line memory_error))
-one_line = record { line = fault_line memory_error; is = of_fault memory_error refl refl; told = λ yes. refl }
+one_line = record { line = fault_line memory_error; is = of_fault memory_error refl refl; told = λ took. refl }
 
 -- a command that is done, or ruled out, and told something; one that is refused, and told nothing, or another line than a fault's; and one for which
 -- logging ended, and that told another line
@@ -753,16 +756,16 @@ by_refused : TellsBy exits.Refused refused_now (Some []) (Some []) → ⊥
 by_refused told = one_line_silent told
 
 other_line : (ended : Ended) → ended.is_told ≡ true → TellsOneLine ended (Some []) (Some (1 ∷ [])) → ⊥
-other_line ended yes told =
-    let same : 1 ∷ [] ≡ told.line = told.told yes in
+other_line ended took told =
+    let same : 1 ∷ [] ≡ told.line = told.told took in
     let byte = same_number 1 100 (one_byte (1 ∷ []) told.line same ∙ line_begins ended.exit told.line told.is) in omega arith
 
 by_other : TellsBy exits.Refused refused_now (Some []) (Some (1 ∷ [])) → ⊥
 by_other told = other_line refused_now refl told
 
 by_ended : (ended : Ended) → ended.is_told ≡ true → TellsBy exits.LoggingEnded ended (Some []) (Some (1 ∷ [])) → ⊥
-by_ended ended yes (inl same) = cc
-by_ended ended yes (inr told) = other_line ended yes told
+by_ended ended took (inl same) = cc
+by_ended ended took (inr told) = other_line ended took told
 
 by_line : TellsBy exits.Refused refused_now (Some (1 ∷ [])) (Some (1 ∷ fault_line memory_error))
 by_line = one_line

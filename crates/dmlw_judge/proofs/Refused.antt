@@ -202,7 +202,7 @@ none_by_moment bytes image plan fault spelled none size (run again shown other f
 none_by_moment bytes image plan fault spelled none size (no_moment again shown other events read spells rehearsed cannot) bad =
     let one = one_script_of bytes plan other spelled (subst (λ (t : List ℕ). IsTextOf t other) read.script_holds spells) in
     let same : length shown ≡ 512 * top_of other.data_disk =
-        ap length read.image_holds ∙ size ∙ ap (λ (p : Plan). 512 * top_of p.data_disk) one in
+    ap length read.image_holds ∙ size ∙ ap (λ (p : Plan). 512 * top_of p.data_disk) one in
     cannot_nowhere (top_of other.data_disk) 0 events shown (no_events other events (ap (λ (p : Plan). p.commands) (sym one) ∙ none) rehearsed) refl same cannot
 
 -- a verdict that isn't printed, and a fault behind something that was

@@ -10,8 +10,8 @@ use Rattle.dmlw_commands.specs.declared.exit.Exit.TheVariants.{Done, LoggingEnde
 use Rattle.dmlw_commands.specs.Exits.{exit_after, exit_at, exit_of, fault_line, status_of, told_line}
 use Rattle.dmlw_commands.specs.declared.ending.Ended.{Ended}
 use Rattle.dmlw_commands.specs.Endings.{Telling, Tells, TellsLine}
-use Rattle.dmlw_files.specs.Files.{AsksFor, Write}
-use Rattle.dmlw_commands.specs.Records.{Records, WritesLog}
+use Rattle.dmlw_files.specs.Files.{AsksFor, KeepsFiles, Write}
+use Rattle.dmlw_commands.specs.Records.{HoldsLog, Records, WritesLog}
 use Rattle.dmlw_judge.specs.Judgements.{exit_judged}
 use Rattle.dmlw_replay.specs.Replays.{PrintsReplay, Replays, replay_exit, replay_line}
 use Rattle.dmlw_replay.specs.declared.stop.Stop.{Stop}
@@ -20,7 +20,7 @@ use Rattle.judge.specs.declared.verdict.Verdict.{Verdict}
 use Rattle.judge.specs.declared.verdict.Verdict.TheVariants as verdicts
 use Rattle.replay.specs.Refusals.{replay_refusal}
 use Rattle.replay.specs.declared.upto.Upto.{Upto}
-use Rattle.dmlw_dispatch.specs.Commands.{AsksForOne, EndsCommand, EndsTask, EndsUntasked, IsFaultLine, TellsBy, TellsOneLine, TellsUntasked, of_fault, of_replay}
+use Rattle.dmlw_dispatch.specs.Commands.{AsksForOne, EndsCommand, EndsTask, EndsUntasked, IsFaultLine, LeavesLog, TellsBy, TellsOneLine, TellsUntasked, of_fault, of_replay}
 use Rattle.clap.specs.Words.{Text, kind_of}
 use Rattle.clap.specs.declared.error.Error.{Error}
 use Rattle.dmlw_dispatch.specs.CommandLine.{is_formats}
@@ -216,3 +216,10 @@ memory_read words error is = read_as (is_formats words) words error is
 pub asks_for_one : (log : List ℕ) (kept : Type 0) (old new : Option (List Write)) → kept ⊎ AsksFor log old new → kept ⊎ AsksForOne old new
 asks_for_one log kept old new (inl keeps) = inl keeps
 asks_for_one log kept old new (inr asked) = inr (log, asked)
+
+-- what a recording leaves, by its ends
+pub leaves_log : (script log : List ℕ) (contents later : List ℕ → Option (List ℕ)) (old new : Option (List ℕ)) (exit : Exit)
+    → (exit ≡ Done → HoldsLog (contents script) Done old new (later log))
+    → (exit ≡ LoggingEnded → KeepsFiles contents later ⊎ HoldsLog (contents script) LoggingEnded old new (later log))
+    → LeavesLog script log contents later old new exit
+leaves_log script log contents later old new exit done ended = record { done = done; ended = ended }

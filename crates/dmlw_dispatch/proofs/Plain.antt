@@ -9,19 +9,21 @@ use Rattle.clap.specs.declared.error.kind.ErrorKind.TheVariants.{OutOfMemory}
 use Rattle.clap.specs.Words.{Row, Text, kind_of}
 use Rattle.script_runner.specs.Errors.{memory_error}
 use Rattle.dmlw_commands.specs.declared.ending.Ended.{Ended}
+use Rattle.dmlw_commands.specs.declared.exit.Exit.{Exit}
+use Rattle.dmlw_commands.specs.declared.exit.Exit.TheVariants.{Done, LoggingEnded, Refused}
 use Rattle.dmlw_commands.specs.Endings.{EndsRecording, EndsShowing, Telling, telling}
 use Rattle.dmlw_files.specs.Files.{Write}
 use Rattle.dmlw_commands.specs.Lists.{ListsImage, Shows, ShowsStatus}
 use Rattle.dmlw_commands.specs.Records.{file}
 use Rattle.dmlw_judge.specs.Judgements.{EndsJudging, Question, file as unjudged}
 use Rattle.dmlw_replay.specs.declared.stop.Stop.TheVariants as stops
-use Rattle.dmlw_replay.specs.Replays.{EndsReplaying, file as unreplayed}
+use Rattle.dmlw_replay.specs.Replays.{EndsReplaying, HoldsReplayed, file as unreplayed}
 use Rattle.dmlw_replay.specs.Whats.{IsWhat}
 use Rattle.replay.specs.declared.upto.Upto.{Upto}
 use Rattle.replay.specs.declared.upto.Upto.TheVariants as uptos
 use Rattle.words.specs.Words.{IsNumber, is_number, number_value}
 use Rattle.dmlw_dispatch.specs.CommandLine.{Enters, command_words, has_explain, is_explain, is_positional, without_explain}
-use Rattle.dmlw_dispatch.specs.Commands.{DoesWords, EndsTask, EndsText, ReplaysWhat}
+use Rattle.dmlw_dispatch.specs.Commands.{DoesWords, EndsTask, EndsText, LeavesLog, LeavesReplayed, ReplaysWhat, TaskLeaves}
 use Rattle.dmlw_dispatch.specs.Names.{HasWords, name_text}
 use Rattle.dmlw_dispatch.specs.Tasks.{AsksBy, IsRead, IsReadByClap}
 use Rattle.dmlw_dispatch.specs.declared.name.Name.{Name}
@@ -95,6 +97,13 @@ memory_ends : (kind : ErrorKind) (before after : Option (List Write)) (old new :
     → EndsText kind before after old new t ended → EndsText OutOfMemory before after old new t ended
 memory_ends kind before after old new t ended is ends = subst (λ (k : ErrorKind). EndsText k before after old new t ended) is ends
 
+-- what is refused isn't done, and its logging didn't end
+not_done : (exit : Exit) → exit ≡ Refused → exit ≡ Done → ⊥
+not_done exit refused done = cc
+
+not_ended : (exit : Exit) → exit ≡ Refused → exit ≡ LoggingEnded → ⊥
+not_ended exit refused ended = cc
+
 -- a recording for which there was no memory
 recording_refused : (contents : Option (List ℕ)) (log : List ℕ) (before after : Option (List Write)) (old new : Option (List ℕ)) (t : Telling) (ended : Ended)
     → EndsText OutOfMemory before after old new t ended → EndsRecording contents log before after old new t ended
@@ -146,6 +155,19 @@ record_ends (tasks.Show error) script log contents before after old new t ended 
     recording_refused (contents script) log before after old new t ended (memory_ends (kind_of error) before after old new t ended asks ends)
 record_ends task script log contents before after old new t ended asks ends = absurd asks
 
+-- and leaves its log
+log_left : (task : Task) (script log : Text) (contents later : List ℕ → Option (List ℕ)) (before after : Option (List Write)) (old new : Option (List ℕ))
+    (t : Telling) (ended : Ended) → AsksBy names.Record (plain_rows names.Record (script ∷ log ∷ [])) task
+    → EndsTask task contents before after old new t ended → TaskLeaves task contents later old new ended.exit
+    → LeavesLog script log contents later old new ended.exit
+log_left (tasks.Record s l) script log contents later before after old new t ended asks ends leaves =
+    subst (λ (name : List ℕ). LeavesLog script name contents later old new ended.exit) (sym (same_some log l.now asks.1))
+    (subst (λ (name : List ℕ). LeavesLog name l.now contents later old new ended.exit) (sym (same_some script s.now asks.0)) leaves)
+log_left (tasks.Show error) script log contents later before after old new t ended asks ends leaves =
+    let refused = (memory_ends (kind_of error) before after old new t ended asks ends).ends in
+    record { done = λ is. absurd (not_done ended.exit refused is); ended = λ is. absurd (not_ended ended.exit refused is) }
+log_left task script log contents later before after old new t ended asks ends leaves = absurd asks
+
 -- a task that `list LOG` asks for ends as the listing does
 list_ends : (task : Task) (log : Text) (contents : List ℕ → Option (List ℕ)) (before after : Option (List Write)) (old new : Option (List ℕ))
     (t : Telling) (ended : Ended) → AsksBy names.List (plain_rows names.List (log ∷ [])) task
@@ -190,6 +212,28 @@ replay_ends (tasks.Show error) log first out what given contents before after ol
   replay_refused (contents log) (contents first) out given before after old new t ended (memory_ends (kind_of error) before after old new t ended asks ends),
 )
 replay_ends task log first out what given contents before after old new t ended is asks ends = absurd asks
+
+-- and leaves the image that came of it
+image_left : (task : Task) (log first out what : Text) (given : Upto) (contents later : List ℕ → Option (List ℕ)) (before after : Option (List Write))
+    (old new : Option (List ℕ)) (t : Telling) (ended : Ended) → IsWhat what given
+    → AsksBy names.Replay (plain_rows names.Replay (log ∷ first ∷ out ∷ what ∷ [])) task → EndsTask task contents before after old new t ended
+    → TaskLeaves task contents later old new ended.exit → ended.exit ≡ Done → LeavesReplayed what (contents log) (contents first) (later out)
+image_left (tasks.Replay files upto) log first out what given contents later before after old new t ended is asks ends leaves done =
+    let (is_log, is_first, is_out, word, is_word, named) = asks in
+    let log_name : files.log.now ≡ log = sym (same_some log files.log.now is_log) in
+    let first_name : files.first.now ≡ first = sym (same_some first files.first.now is_first) in
+    let out_name : files.out.now ≡ out = sym (same_some out files.out.now is_out) in (
+      upto,
+      subst (λ (w : Text). IsWhat w upto) (sym (same_some what word is_word)) named,
+      subst (λ (name : Text). HoldsReplayed (contents log) (contents first) upto (later name)) out_name
+          (subst (λ (name : Text). HoldsReplayed (contents log) (contents name) upto (later files.out.now)) first_name
+          (subst (λ (name : Text). HoldsReplayed (contents name) (contents files.first.now) upto (later files.out.now)) log_name (leaves done))),
+    )
+image_left (tasks.Flawed flaws.What) log first out what given contents later before after old new t ended is asks ends leaves done =
+    let (word, is_word, none) = asks in absurd (subst (λ (w : Text). IsWhat w given → ⊥) (sym (same_some what word is_word)) (none given) is)
+image_left (tasks.Show error) log first out what given contents later before after old new t ended is asks ends leaves done =
+    absurd (not_done ended.exit (memory_ends (kind_of error) before after old new t ended asks ends).ends done)
+image_left task log first out what given contents later before after old new t ended is asks ends leaves done = absurd asks
 
 -- the question of a judging by names of files
 abbrev pub asked_of : (List ℕ → Option (List ℕ)) → Text → ℕ → Text → Question
@@ -238,11 +282,11 @@ number_plain (x ∷ xs) n number =
 -- ---- each command line
 
 -- where these words are done, the script was recorded
-pub record_done : (contents : List ℕ → Option (List ℕ)) (before after : Option (List Write)) (old new errors_old errors_new : Option (List ℕ)) (ended : Ended)
+pub record_done : (contents later : List ℕ → Option (List ℕ)) (before after : Option (List Write)) (old new errors_old errors_new : Option (List ℕ)) (ended : Ended)
     (program script log : List ℕ) → is_positional script ≡ true → is_positional log ≡ true
-    → DoesWords (command_words program names.Record (script ∷ log ∷ [])) contents before after old new errors_old errors_new ended
+    → DoesWords (command_words program names.Record (script ∷ log ∷ [])) contents later before after old new errors_old errors_new ended
     → EndsRecording (contents script) log before after old new (telling false errors_old errors_new) ended
-record_done contents before after old new errors_old errors_new ended program script log plain_script plain_log does =
+record_done contents later before after old new errors_old errors_new ended program script log plain_script plain_log does =
     let plain : ArePlain (script ∷ log ∷ []) = (plain_script, (plain_log, tt)) in
     let asks = plain_asks names.Record program (script ∷ log ∷ []) (plain_rows names.Record (script ∷ log ∷ [])) does.task plain
     (record_enters program script log plain_script plain_log) (refl, (refl, tt)) does.read in
@@ -250,12 +294,23 @@ record_done contents before after old new errors_old errors_new ended program sc
     (stays_silent names.Record program (script ∷ log ∷ []) plain)
     (record_ends does.task script log contents before after old new _ ended asks does.ends)
 
+-- and the log's file holds its log
+pub record_leaves : (contents later : List ℕ → Option (List ℕ)) (before after : Option (List Write)) (old new errors_old errors_new : Option (List ℕ)) (ended : Ended)
+    (program script log : List ℕ) → is_positional script ≡ true → is_positional log ≡ true
+    → DoesWords (command_words program names.Record (script ∷ log ∷ [])) contents later before after old new errors_old errors_new ended
+    → LeavesLog script log contents later old new ended.exit
+record_leaves contents later before after old new errors_old errors_new ended program script log plain_script plain_log does =
+    let plain : ArePlain (script ∷ log ∷ []) = (plain_script, (plain_log, tt)) in
+    let asks = plain_asks names.Record program (script ∷ log ∷ []) (plain_rows names.Record (script ∷ log ∷ [])) does.task plain
+    (record_enters program script log plain_script plain_log) (refl, (refl, tt)) does.read in
+    log_left does.task script log contents later before after old new _ ended asks does.ends does.leaves
+
 -- where these words are done, the log was listed
-pub list_done : (contents : List ℕ → Option (List ℕ)) (before after : Option (List Write)) (old new errors_old errors_new : Option (List ℕ)) (ended : Ended)
+pub list_done : (contents later : List ℕ → Option (List ℕ)) (before after : Option (List Write)) (old new errors_old errors_new : Option (List ℕ)) (ended : Ended)
     (program log : List ℕ) → is_positional log ≡ true
-    → DoesWords (command_words program names.List (log ∷ [])) contents before after old new errors_old errors_new ended
+    → DoesWords (command_words program names.List (log ∷ [])) contents later before after old new errors_old errors_new ended
     → EndsShowing ListsImage (contents log) before after old new (telling false errors_old errors_new) ended
-list_done contents before after old new errors_old errors_new ended program log plain_log does =
+list_done contents later before after old new errors_old errors_new ended program log plain_log does =
     let plain : ArePlain (log ∷ []) = (plain_log, tt) in
     let asks = plain_asks names.List program (log ∷ []) (plain_rows names.List (log ∷ [])) does.task plain (list_enters program log plain_log)
     (refl, tt) does.read in
@@ -263,11 +318,11 @@ list_done contents before after old new errors_old errors_new ended program log 
     (stays_silent names.List program (log ∷ []) plain) (list_ends does.task log contents before after old new _ ended asks does.ends)
 
 -- where these words are done, the log's status was told
-pub status_done : (contents : List ℕ → Option (List ℕ)) (before after : Option (List Write)) (old new errors_old errors_new : Option (List ℕ)) (ended : Ended)
+pub status_done : (contents later : List ℕ → Option (List ℕ)) (before after : Option (List Write)) (old new errors_old errors_new : Option (List ℕ)) (ended : Ended)
     (program log : List ℕ) → is_positional log ≡ true
-    → DoesWords (command_words program names.Status (log ∷ [])) contents before after old new errors_old errors_new ended
+    → DoesWords (command_words program names.Status (log ∷ [])) contents later before after old new errors_old errors_new ended
     → EndsShowing ShowsStatus (contents log) before after old new (telling false errors_old errors_new) ended
-status_done contents before after old new errors_old errors_new ended program log plain_log does =
+status_done contents later before after old new errors_old errors_new ended program log plain_log does =
     let plain : ArePlain (log ∷ []) = (plain_log, tt) in
     let asks = plain_asks names.Status program (log ∷ []) (plain_rows names.Status (log ∷ [])) does.task plain (status_enters program log plain_log)
     (refl, tt) does.read in
@@ -275,12 +330,12 @@ status_done contents before after old new errors_old errors_new ended program lo
     (stays_silent names.Status program (log ∷ []) plain) (status_ends does.task log contents before after old new _ ended asks does.ends)
 
 -- where these words are done, the log was replayed, up to what the last word names
-pub replay_done : (contents : List ℕ → Option (List ℕ)) (before after : Option (List Write)) (old new errors_old errors_new : Option (List ℕ)) (ended : Ended)
+pub replay_done : (contents later : List ℕ → Option (List ℕ)) (before after : Option (List Write)) (old new errors_old errors_new : Option (List ℕ)) (ended : Ended)
     (program log first out what : List ℕ) (given : Upto) → is_positional log ≡ true → is_positional first ≡ true → is_positional out ≡ true
     → IsWhat what given
-    → DoesWords (command_words program names.Replay (log ∷ first ∷ out ∷ what ∷ [])) contents before after old new errors_old errors_new ended
+    → DoesWords (command_words program names.Replay (log ∷ first ∷ out ∷ what ∷ [])) contents later before after old new errors_old errors_new ended
     → ReplaysWhat what (contents log) (contents first) out before after old new (telling false errors_old errors_new) ended
-replay_done contents before after old new errors_old errors_new ended program log first out what given plain_log plain_first plain_out is does =
+replay_done contents later before after old new errors_old errors_new ended program log first out what given plain_log plain_first plain_out is does =
     let plain_what = what_plain what given is in
     let plain : ArePlain (log ∷ first ∷ out ∷ what ∷ []) = (plain_log, (plain_first, (plain_out, (plain_what, tt)))) in
     let asks = plain_asks names.Replay program (log ∷ first ∷ out ∷ what ∷ []) (plain_rows names.Replay (log ∷ first ∷ out ∷ what ∷ [])) does.task plain
@@ -289,12 +344,25 @@ replay_done contents before after old new errors_old errors_new ended program lo
     (stays_silent names.Replay program (log ∷ first ∷ out ∷ what ∷ []) plain)
     (replay_ends does.task log first out what given contents before after old new _ ended is asks does.ends)
 
+-- and its file holds the image that came of it
+pub replay_leaves : (contents later : List ℕ → Option (List ℕ)) (before after : Option (List Write)) (old new errors_old errors_new : Option (List ℕ)) (ended : Ended)
+    (program log first out what : List ℕ) (given : Upto) → is_positional log ≡ true → is_positional first ≡ true → is_positional out ≡ true
+    → IsWhat what given
+    → DoesWords (command_words program names.Replay (log ∷ first ∷ out ∷ what ∷ [])) contents later before after old new errors_old errors_new ended
+    → ended.exit ≡ Done → LeavesReplayed what (contents log) (contents first) (later out)
+replay_leaves contents later before after old new errors_old errors_new ended program log first out what given plain_log plain_first plain_out is does =
+    let plain_what = what_plain what given is in
+    let plain : ArePlain (log ∷ first ∷ out ∷ what ∷ []) = (plain_log, (plain_first, (plain_out, (plain_what, tt)))) in
+    let asks = plain_asks names.Replay program (log ∷ first ∷ out ∷ what ∷ []) (plain_rows names.Replay (log ∷ first ∷ out ∷ what ∷ [])) does.task plain
+    (replay_enters program log first out what plain_log plain_first plain_out plain_what) (refl, (refl, (refl, (refl, tt)))) does.read in
+    image_left does.task log first out what given contents later before after old new _ ended is asks does.ends does.leaves
+
 -- where these words are done, the image was judged
-pub judge_done : (contents : List ℕ → Option (List ℕ)) (before after : Option (List Write)) (old new errors_old errors_new : Option (List ℕ)) (ended : Ended)
+pub judge_done : (contents later : List ℕ → Option (List ℕ)) (before after : Option (List Write)) (old new errors_old errors_new : Option (List ℕ)) (ended : Ended)
     (program script m image : List ℕ) (moment : ℕ) → is_positional script ≡ true → IsNumber m moment → is_positional image ≡ true
-    → DoesWords (command_words program names.Judge (script ∷ m ∷ image ∷ [])) contents before after old new errors_old errors_new ended
+    → DoesWords (command_words program names.Judge (script ∷ m ∷ image ∷ [])) contents later before after old new errors_old errors_new ended
     → EndsJudging (asked_of contents script moment image) before after old new (telling false errors_old errors_new) ended
-judge_done contents before after old new errors_old errors_new ended program script m image moment plain_script number plain_image does =
+judge_done contents later before after old new errors_old errors_new ended program script m image moment plain_script number plain_image does =
     let plain_m = number_plain m moment number in
     let plain : ArePlain (script ∷ m ∷ image ∷ []) = (plain_script, (plain_m, (plain_image, tt))) in
     let asks = plain_asks names.Judge program (script ∷ m ∷ image ∷ []) (plain_rows names.Judge (script ∷ m ∷ image ∷ [])) does.task plain

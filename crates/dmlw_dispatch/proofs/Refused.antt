@@ -24,13 +24,15 @@ use Rattle.dmlw_commands.specs.declared.exit.Exit.{Exit}
 use Rattle.dmlw_commands.specs.declared.exit.Exit.TheVariants as exits
 use Rattle.dmlw_commands.specs.Endings.{Telling, Tells, telling}
 use Rattle.dmlw_commands.specs.Exits.{exit_by, exit_of, fault_line, stopped_line}
+use Rattle.dmlw_commands.specs.Records.{HoldsLog}
 use Rattle.dmlw_files.specs.Files.{Write}
 use Rattle.dmlw_replay.specs.declared.stop.Stop.{Stop}
 use Rattle.dmlw_replay.specs.declared.stop.Stop.TheVariants as stops
-use Rattle.dmlw_replay.specs.Replays.{replay_exit}
+use Rattle.dmlw_explain.specs.declared.explaining.ReplayNames.{ReplayNames}
+use Rattle.dmlw_replay.specs.Replays.{HoldsReplayed, replay_exit}
 use Rattle.dmlw_replay.specs.Whats.{IsWhat}
 use Rattle.dmlw_dispatch.specs.CommandLine.{Entered, Enters, IsCommandOf, bare_app, command_app, command_words, has_explain, is_explain, is_formats, is_positional, needed, program_app, without_explain}
-use Rattle.dmlw_dispatch.specs.Commands.{AsksForOne, DoesWords, EndsCommand, EndsFlawed, EndsPage, EndsTask, EndsText, EndsUntasked, IsFaultLine, ReplaysWhat, TellsBy, TellsOneLine, TellsPage, TellsPrinting, TellsUntasked, flaw_text, is_asked_for, of_fault, of_replay, unread_exit}
+use Rattle.dmlw_dispatch.specs.Commands.{AsksForOne, DoesWords, EndsCommand, EndsFlawed, EndsPage, EndsTask, EndsText, EndsUntasked, IsFaultLine, LeavesLog, ReplaysWhat, TaskLeaves, TellsBy, TellsOneLine, TellsPage, TellsPrinting, TellsUntasked, flaw_text, is_asked_for, of_fault, of_replay, unread_exit}
 use Rattle.dmlw_dispatch.specs.Names.{HasWords, all_names, arguments, is_same, name_of, name_text}
 use Rattle.dmlw_dispatch.specs.Tasks.{Asks, AsksBy, IsAsked, IsAskedBy, IsComplete, IsRead, IsReadByClap, IsUntasked, IsWord, fault as by_fault, memory as by_memory, missing as by_missing}
 use Rattle.dmlw_dispatch.specs.declared.name.Name.{Name}
@@ -536,8 +538,8 @@ command_ended = record { known = omega arith; once = inr one_more_write; unwritt
 -- ---- what is told
 
 -- a command that doesn't explain itself, whose error stream held this
-abbrev heard : List ℕ → List ℕ → Telling
-heard before after = telling false (Some before) (Some after)
+abbrev stream_told : List ℕ → List ℕ → Telling
+stream_told before after = telling false (Some before) (Some after)
 
 -- where it is done, it has told nothing
 quiet_done : (t : Telling) (done : Result (Unit {0}) RunError) (ended : Ended) → t.explains ≡ false → Tells t done ended → ended.exit ≡ exits.Done → t.after ≡ t.before
@@ -565,11 +567,11 @@ printing_ended : (t : Telling) (ended : Ended) → TellsPrinting t ended → end
 printing_ended t ended (Ok u, file, tells) is = let same : exits.Done ≡ exits.LoggingEnded = sym tells.exits ∙ is in cc
 printing_ended t ended (Err fault, file, tells) is = file_ends t fault ended file tells is
 
-printing_told : (ended : Ended) → TellsPrinting (heard [] (1 ∷ [])) ended → ended.exit ≡ exits.Done → ⊥
-printing_told ended (done, file, tells) is = let same = quiet_done (heard [] (1 ∷ [])) done ended refl tells is in cc
+printing_told : (ended : Ended) → TellsPrinting (stream_told [] (1 ∷ [])) ended → ended.exit ≡ exits.Done → ⊥
+printing_told ended (done, file, tells) is = let same = quiet_done (stream_told [] (1 ∷ [])) done ended refl tells is in cc
 
 -- memory that ran out, told by no line
-memory_silent : (ended : Ended) → TellsUntasked OutOfMemory (heard [] []) ended → ended.is_told ≡ true → ⊥
+memory_silent : (ended : Ended) → TellsUntasked OutOfMemory (stream_told [] []) ended → ended.is_told ≡ true → ⊥
 memory_silent ended tells took = let (more, none, grew) = tells.told took in cc
 
 -- a text that asks for a file, ends as none of its kind, prints on the output unasked, or is told by no line
@@ -582,10 +584,10 @@ text_done t ended told is = let same : exits.Usage ≡ exits.Done = sym told.end
 text_printing : (t : Telling) (ended : Ended) → EndsText UnknownArgument None None (Some []) (Some (1 ∷ [])) t ended → ⊥
 text_printing t ended told = let same = told.silent refl in cc
 
-text_silent : (ended : Ended) → EndsText OutOfMemory None None None None (heard [] []) ended → ended.is_told ≡ true → ⊥
+text_silent : (ended : Ended) → EndsText OutOfMemory None None None None (stream_told [] []) ended → ended.is_told ≡ true → ⊥
 text_silent ended told took = memory_silent ended told.tells took
 
-text_usage : EndsText UnknownArgument None None (Some []) (Some []) (heard [] (1 ∷ [])) (record { exit = exits.Usage; is_told = true })
+text_usage : EndsText UnknownArgument None None (Some []) (Some []) (stream_told [] (1 ∷ [])) (record { exit = exits.Usage; is_told = true })
 text_usage = record { unwritten = refl; ends = refl; silent = λ asked. refl; tells = tt }
 
 -- a page that isn't printed, though it is done; that ends by no error of a file; or that is done, and told on the error stream
@@ -610,10 +612,10 @@ page_unprinted t ended told is =
 page_ended : (page : List ℕ) (t : Telling) (ended : Ended) → TellsPage page None None t ended → ended.exit ≡ exits.LoggingEnded → ⊥
 page_ended page t ended told is = page_ends t page None None told.done ended told.printed told.tells is
 
-page_told : (page : List ℕ) (ended : Ended) → TellsPage page None None (heard [] (1 ∷ [])) ended → ended.exit ≡ exits.Done → ⊥
-page_told page ended told is = let same = quiet_done (heard [] (1 ∷ [])) told.done ended refl told.tells is in cc
+page_told : (page : List ℕ) (ended : Ended) → TellsPage page None None (stream_told [] (1 ∷ [])) ended → ended.exit ≡ exits.Done → ⊥
+page_told page ended told is = let same = quiet_done (stream_told [] (1 ∷ [])) told.done ended refl told.tells is in cc
 
-page_shown : TellsPage (1 ∷ []) (Some []) (Some (1 ∷ [])) (heard [] []) (record { exit = exits.Done; is_told = true })
+page_shown : TellsPage (1 ∷ []) (Some []) (Some (1 ∷ [])) (stream_told [] []) (record { exit = exits.Done; is_told = true })
 page_shown = record {
   done = Ok tt;
   printed = refl;
@@ -656,10 +658,10 @@ flaw_refused t ended told is = let same : exits.Usage ≡ exits.Refused = sym to
 flaw_printing : (t : Telling) (ended : Ended) → EndsFlawed flaws.What None None (Some []) (Some (1 ∷ [])) t ended → ⊥
 flaw_printing t ended told = let none = told.silent in cc
 
-flaw_silent : (ended : Ended) → EndsFlawed flaws.Moment None None None None (heard [] []) ended → ended.is_told ≡ true → ⊥
+flaw_silent : (ended : Ended) → EndsFlawed flaws.Moment None None None None (stream_told [] []) ended → ended.is_told ≡ true → ⊥
 flaw_silent ended told took = let grew = told.told took in cc
 
-flaw_told : EndsFlawed flaws.What None None (Some []) (Some []) (heard [] (flaw_text flaws.What)) (record { exit = exits.Usage; is_told = true })
+flaw_told : EndsFlawed flaws.What None None (Some []) (Some []) (stream_told [] (flaw_text flaws.What)) (record { exit = exits.Usage; is_told = true })
 flaw_told = record { unwritten = refl; usage = refl; silent = refl; told = λ took. refl }
 
 -- how tasks end that no law tells of: a page that isn't printed, a text and a flaw that ask for a file
@@ -681,31 +683,55 @@ task_flaw contents t ended told is = flaw_refused t ended told is
 abbrev explained_line : List Text
 explained_line = codes "dmlw" ∷ codes "list" ∷ codes "--explain" ∷ codes "a" ∷ []
 
-does_another : (contents : List ℕ → Option (List ℕ)) (before after : Option (List Write)) (old new errors_old errors_new : Option (List ℕ)) (ended : Ended)
-    → (does : DoesWords explained_line contents before after old new errors_old errors_new ended) → does.task ≡ tasks.Status (str (codes "a")) → ⊥
-does_another contents before after old new errors_old errors_new ended does is =
+does_another : (contents later : List ℕ → Option (List ℕ)) (before after : Option (List Write)) (old new errors_old errors_new : Option (List ℕ)) (ended : Ended)
+    → (does : DoesWords explained_line contents later before after old new errors_old errors_new ended) → does.task ≡ tasks.Status (str (codes "a")) → ⊥
+does_another contents later before after old new errors_old errors_new ended does is =
     read_another (subst (IsRead list_line) is does.read)
 
-does_usage : (contents : List ℕ → Option (List ℕ)) (before after : Option (List Write)) (old new errors_old errors_new : Option (List ℕ)) (ended : Ended)
-    → (does : DoesWords explained_line contents before after old new errors_old errors_new ended) → does.task ≡ tasks.List (str (codes "a"))
+does_usage : (contents later : List ℕ → Option (List ℕ)) (before after : Option (List Write)) (old new errors_old errors_new : Option (List ℕ)) (ended : Ended)
+    → (does : DoesWords explained_line contents later before after old new errors_old errors_new ended) → does.task ≡ tasks.List (str (codes "a"))
     → ended.exit ≡ exits.Usage → ⊥
-does_usage contents before after old new errors_old errors_new ended does is usage =
+does_usage contents later before after old new errors_old errors_new ended does is usage =
     listed (subst (λ (task : Task). EndsTask task contents before after old new (telling true errors_old errors_new) ended) is does.ends)
   where
     listed : EndsTask (tasks.List (str (codes "a"))) contents before after old new (telling true errors_old errors_new) ended → ⊥
     listed told = never_usage (telling true errors_old errors_new) told.done ended told.tells usage
 
 does_page : (contents : List ℕ → Option (List ℕ)) (page : Bor (List ℕ)) → page.now ≡ 1 ∷ []
-    → DoesWords (codes "dmlw" ∷ codes "help" ∷ codes "formats" ∷ []) contents (Some []) (Some []) (Some []) (Some (1 ∷ [])) (Some []) (Some [])
+    → DoesWords (codes "dmlw" ∷ codes "help" ∷ codes "formats" ∷ []) contents contents (Some []) (Some []) (Some []) (Some (1 ∷ [])) (Some []) (Some [])
     (record { exit = exits.Done; is_told = true })
 does_page contents page is = record {
   task = tasks.Formats page;
   read = tt;
   ends = record {
     unwritten = refl;
-    told = subst (λ (text : List ℕ). TellsPage text (Some []) (Some (1 ∷ [])) (heard [] []) (record { exit = exits.Done; is_told = true })) (sym is) page_shown;
+    told = subst (λ (text : List ℕ). TellsPage text (Some []) (Some (1 ∷ [])) (stream_told [] []) (record { exit = exits.Done; is_told = true })) (sym is) page_shown;
   };
+  leaves = tt;
 }
+
+-- a recording that is done leaves its log in the file LOG, and where logging ended and a file holds another thing than before it does too; a replay that
+-- is done leaves its image in the file OUT
+leaves_log_done : (script log : List ℕ) (contents later : List ℕ → Option (List ℕ)) (old new : Option (List ℕ))
+    → LeavesLog script log contents later old new exits.Done → HoldsLog (contents script) exits.Done old new (later log)
+leaves_log_done script log contents later old new leaves = leaves.done refl
+
+leaves_log_ended : (script log name : List ℕ) (contents later : List ℕ → Option (List ℕ)) (old new : Option (List ℕ))
+    → LeavesLog script log contents later old new exits.LoggingEnded → (later name ≡ contents name → ⊥)
+    → HoldsLog (contents script) exits.LoggingEnded old new (later log)
+leaves_log_ended script log name contents later old new leaves other = elim (leaves.ended refl) [
+  | inl same ↦ absurd (other (same name))
+  | inr holds ↦ holds
+]
+
+leaves_recorded : (script log : Bor (List ℕ)) (contents later : List ℕ → Option (List ℕ)) (old new : Option (List ℕ))
+    → TaskLeaves (tasks.Record script log) contents later old new exits.Done → HoldsLog (contents script.now) exits.Done old new (later log.now)
+leaves_recorded script log contents later old new leaves = leaves.done refl
+
+leaves_replayed : (files : ReplayNames) (upto : Upto) (contents later : List ℕ → Option (List ℕ)) (old new : Option (List ℕ))
+    → TaskLeaves (tasks.Replay files upto) contents later old new exits.Done
+    → HoldsReplayed (contents files.log.now) (contents files.first.now) upto (later files.out.now)
+leaves_replayed files upto contents later old new leaves = leaves refl
 
 -- a line of a fault where a command is done, or ends by a usage fault, and a line that is none of a fault's
 line_done : (line : List ℕ) → IsFaultLine exits.Done line → ⊥

@@ -18,10 +18,11 @@ use Rattle.dmlw_commands.specs.declared.exit.Exit.TheVariants.{Done, LoggingEnde
 use Rattle.dmlw_commands.specs.declared.ending.Ended.{Ended}
 use Rattle.dmlw_commands.specs.Endings.{EndsRecording, EndsShowing, Telling, Tells, telling}
 use Rattle.dmlw_commands.specs.Exits.{exit_of, fault_line, stopped_line}
-use Rattle.dmlw_files.specs.Files.{AsksFor, Write}
+use Rattle.dmlw_files.specs.Files.{AsksFor, KeepsFiles, Write}
 use Rattle.dmlw_commands.specs.Lists.{ListsImage, ShowsStatus}
+use Rattle.dmlw_commands.specs.Records.{HoldsLog}
 use Rattle.dmlw_judge.specs.Judgements.{EndsJudging}
-use Rattle.dmlw_replay.specs.Replays.{EndsReplaying}
+use Rattle.dmlw_replay.specs.Replays.{EndsReplaying, HoldsReplayed}
 use Rattle.dmlw_replay.specs.Whats.{IsWhat}
 use Rattle.replay.specs.declared.upto.Upto.{Upto}
 use Rattle.dmlw_dispatch.specs.CommandLine.{has_explain, without_explain}
@@ -94,6 +95,10 @@ abbrev pub ReplaysWhat : List ℕ → Option (List ℕ) → Option (List ℕ) �
 ReplaysWhat what log_file first_file name writes_old writes_new old new t ended =
     (upto : Upto) × IsWhat what upto × EndsReplaying log_file first_file name upto writes_old writes_new old new t ended
 
+-- What the replay of the log in a file leaves in its file, up to what a word names.
+abbrev pub LeavesReplayed : List ℕ → Option (List ℕ) → Option (List ℕ) → Option (List ℕ) → Type 0
+LeavesReplayed what log_file first_file written = (upto : Upto) × IsWhat what upto × HoldsReplayed log_file first_file upto written
+
 -- what a user is told of a word that is none of those that stand in its place
 abbrev pub flaw_text : Flaw → List ℕ
 flaw_text flaws.What = codes "error: <WHAT> is entries:<n>, mark:<text> or flush\n"
@@ -121,13 +126,27 @@ EndsTask (tasks.Formats page) contents writes_old writes_new old new t ended = E
 EndsTask (tasks.Show error) contents writes_old writes_new old new t ended = EndsText (kind_of error) writes_old writes_new old new t ended
 EndsTask (tasks.Flawed flaw) contents writes_old writes_new old new t ended = EndsFlawed flaw writes_old writes_new old new t ended
 
--- What doing a command line comes to, over files that hold this: its words but `--explain` are read as a task, and that task
--- ends, explaining itself where that word stands among them.
-pub record DoesWords (words : List (List ℕ)) (contents : List ℕ → Option (List ℕ)) (writes_old writes_new : Option (List Write)) (old new : Option (List ℕ))
+-- What a recording leaves in its log's file, by how it ends: the log where it is done; so it does where logging ended, unless each file holds
+-- what it held.
+pub record LeavesLog (script log : List ℕ) (contents later : List ℕ → Option (List ℕ)) (old new : Option (List ℕ)) (exit : Exit) : Type 0 where
+  pub done : exit ≡ Done → HoldsLog (contents script) Done old new (later log)
+  pub ended : exit ≡ LoggingEnded → KeepsFiles contents later ⊎ HoldsLog (contents script) LoggingEnded old new (later log)
+
+-- what a task leaves in the file that it asks to be written: a recording its log, and a replay that is done the image that came of it
+abbrev pub TaskLeaves : Task → (List ℕ → Option (List ℕ)) → (List ℕ → Option (List ℕ)) → Option (List ℕ) → Option (List ℕ) → Exit → Type 0
+TaskLeaves (tasks.Record script log) contents later old new exit = LeavesLog script.now log.now contents later old new exit
+TaskLeaves (tasks.Replay files upto) contents later old new exit =
+    exit ≡ Done → HoldsReplayed (contents files.log.now) (contents files.first.now) upto (later files.out.now)
+TaskLeaves task contents later old new exit = Unit {0}
+
+-- What doing a command line comes to, over files that hold this and then that: its words but `--explain` are read as a task, and that task
+-- ends, explaining itself where that word stands among them, and leaves what it makes in its file.
+pub record DoesWords (words : List (List ℕ)) (contents later : List ℕ → Option (List ℕ)) (writes_old writes_new : Option (List Write)) (old new : Option (List ℕ))
     (errors_old errors_new : Option (List ℕ)) (ended : Ended) : Type 0 where
   pub task : Task
   pub read : IsRead (without_explain words) task
   pub ends : EndsTask task contents writes_old writes_new old new (telling (has_explain words) errors_old errors_new) ended
+  pub leaves : TaskLeaves task contents later old new ended.exit
 
 -- The line of a fault by which a command ends so: of the fault itself, or of a replay that it refused after so many entries.
 pub data IsFaultLine (exit : Exit) (line : List ℕ) : Type 0 where

@@ -3,7 +3,7 @@ ghost use Rattle.std.specs.Io.KnownBytes.{Appends, Keeps};
 ghost use Rattle.std.specs.IoError.{error_kind};
 ghost use Rattle.clap.specs.Words.{kind_of};
 ghost use Rattle.dmlw_dispatch.specs.CommandLine.{has_explain};
-ghost use Rattle.dmlw_dispatch.specs.Commands.{AsksForOne, DoesWords, EndsCommand, EndsTask, EndsUntasked, TellsBy, TellsPage, TellsUntasked, flaw_text, is_asked_for, unread_exit};
+ghost use Rattle.dmlw_dispatch.specs.Commands.{AsksForOne, DoesWords, EndsCommand, EndsTask, EndsUntasked, TaskLeaves, TellsBy, TellsPage, TellsUntasked, flaw_text, is_asked_for, unread_exit};
 ghost use Rattle.dmlw_commands.specs.Endings.{telling};
 ghost use Rattle.script_runner.specs.Errors.{IsFileError};
 ghost use Rattle.dmlw_files.specs.Files.{KeepsFiles};
@@ -43,7 +43,7 @@ pub fn execute<'a, S: AsStr, F: Files, O: Write, E: Write>(
     out: &mut O,
     err: &mut E,
 ) -> Ended
-    ensures does { DoesWords (map S.text words.entry.now) (F.contents files.old) (F.writes files.old) (F.writes files.new)
+    ensures does { DoesWords (map S.text words.entry.now) (F.contents files.old) (F.contents files.new) (F.writes files.old) (F.writes files.new)
         (O.contents out.old) (O.contents out.new) (E.contents err.old) (E.contents err.new) result }
     ensures command { EndsCommand (F.writes files.old) (F.writes files.new) (status_of result.exit) }
 
@@ -68,6 +68,7 @@ pub fn execute<'a, S: AsStr, F: Files, O: Write, E: Write>(
 }
 
 // Does a task, and answers how it ended.
+#[tactic(auto, using(crate::proofs::Ends::leaves_log))]
 fn perform<F: Files, O: Write, E: Write>(
     alloc: Global,
     explains: bool,
@@ -78,6 +79,7 @@ fn perform<F: Files, O: Write, E: Write>(
 ) -> Ended
     ensures ends { EndsTask task.entry (F.contents files.old) (F.writes files.old) (F.writes files.new)
         (O.contents out.old) (O.contents out.new) (telling explains (E.contents err.old) (E.contents err.new)) result }
+    ensures leaves { TaskLeaves task.entry (F.contents files.old) (F.contents files.new) (O.contents out.old) (O.contents out.new) result.exit }
     ensures kept { IsRefusal result.exit → KeepsFiles (F.contents files.old) (F.contents files.new) }
     ensures unmade { result.exit ≡ LoggingEnded → KeepsFiles (F.contents files.old) (F.contents files.new) ⊎ AsksForOne (F.writes files.old) (F.writes files.new) }
 {

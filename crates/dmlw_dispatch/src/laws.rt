@@ -1,10 +1,11 @@
 ghost use Rattle.std.specs.Prelude.{◌≡◌, ◌∷◌, [], List, Option, Some, false, true, ℕ};
 ghost use Rattle.dmlw_dispatch.specs.CommandLine.{command_words, is_positional};
-ghost use Rattle.dmlw_dispatch.specs.Commands.{DoesWords, ReplaysWhat};
+ghost use Rattle.dmlw_dispatch.specs.Commands.{DoesWords, LeavesLog, LeavesReplayed, ReplaysWhat};
 ghost use Rattle.dmlw_dispatch.specs.Names.{name_of, name_text};
 ghost use Rattle.dmlw_dispatch.specs.declared.name.Name.{Name};
 ghost use Rattle.dmlw_dispatch.specs.declared.name.Name.TheVariants as names;
 ghost use Rattle.dmlw_commands.specs.declared.ending.Ended.{Ended};
+ghost use Rattle.dmlw_commands.specs.declared.exit.Exit.TheVariants.{Done};
 ghost use Rattle.dmlw_commands.specs.Endings.{EndsRecording, EndsShowing, telling};
 ghost use Rattle.dmlw_files.specs.Files.{Write};
 ghost use Rattle.dmlw_commands.specs.Lists.{ListsImage, ShowsStatus};
@@ -23,44 +24,55 @@ pub fn names_are_told_apart()
 /// Words that don't begin with a hyphen are names of files: where `record SCRIPT LOG` is done, the script
 /// in that file was recorded in that log.
 pub fn plain_words_record()
-    ensures { (contents : List ℕ → Option (List ℕ)) (before after : Option (List Write)) (old new errors_old errors_new : Option (List ℕ)) (ended : Ended)
+    ensures ends { (contents later : List ℕ → Option (List ℕ)) (before after : Option (List Write)) (old new errors_old errors_new : Option (List ℕ)) (ended : Ended)
         (program script log : List ℕ) → is_positional script ≡ true → is_positional log ≡ true →
-        DoesWords (command_words program names.Record (script ∷ log ∷ [])) contents before after old new errors_old errors_new ended →
+        DoesWords (command_words program names.Record (script ∷ log ∷ [])) contents later before after old new errors_old errors_new ended →
         EndsRecording (contents script) log before after old new (telling false errors_old errors_new) ended }
+    // And the file LOG holds the log.
+    ensures leaves { (contents later : List ℕ → Option (List ℕ)) (before after : Option (List Write)) (old new errors_old errors_new : Option (List ℕ)) (ended : Ended)
+        (program script log : List ℕ) → is_positional script ≡ true → is_positional log ≡ true →
+        DoesWords (command_words program names.Record (script ∷ log ∷ [])) contents later before after old new errors_old errors_new ended →
+        LeavesLog script log contents later old new ended.exit }
 {}
 
 /// Where `list LOG` is done, the list of the log in that file was shown.
 pub fn plain_words_list()
-    ensures { (contents : List ℕ → Option (List ℕ)) (before after : Option (List Write)) (old new errors_old errors_new : Option (List ℕ)) (ended : Ended)
+    ensures { (contents later : List ℕ → Option (List ℕ)) (before after : Option (List Write)) (old new errors_old errors_new : Option (List ℕ)) (ended : Ended)
         (program log : List ℕ) → is_positional log ≡ true →
-        DoesWords (command_words program names.List (log ∷ [])) contents before after old new errors_old errors_new ended →
+        DoesWords (command_words program names.List (log ∷ [])) contents later before after old new errors_old errors_new ended →
         EndsShowing ListsImage (contents log) before after old new (telling false errors_old errors_new) ended }
 {}
 
 /// Where `status LOG` is done, the status of the log in that file was shown.
 pub fn plain_words_status()
-    ensures { (contents : List ℕ → Option (List ℕ)) (before after : Option (List Write)) (old new errors_old errors_new : Option (List ℕ)) (ended : Ended)
+    ensures { (contents later : List ℕ → Option (List ℕ)) (before after : Option (List Write)) (old new errors_old errors_new : Option (List ℕ)) (ended : Ended)
         (program log : List ℕ) → is_positional log ≡ true →
-        DoesWords (command_words program names.Status (log ∷ [])) contents before after old new errors_old errors_new ended →
+        DoesWords (command_words program names.Status (log ∷ [])) contents later before after old new errors_old errors_new ended →
         EndsShowing ShowsStatus (contents log) before after old new (telling false errors_old errors_new) ended }
 {}
 
 /// Where `replay LOG FIRST OUT WHAT` is done, the log in that file was replayed, up to what WHAT names, on the image
 /// in the file FIRST, for the file OUT.
 pub fn plain_words_replay()
-    ensures { (contents : List ℕ → Option (List ℕ)) (before after : Option (List Write)) (old new errors_old errors_new : Option (List ℕ)) (ended : Ended)
+    ensures ends { (contents later : List ℕ → Option (List ℕ)) (before after : Option (List Write)) (old new errors_old errors_new : Option (List ℕ)) (ended : Ended)
         (program log first out what : List ℕ) (upto : Upto) → is_positional log ≡ true → is_positional first ≡ true → is_positional out ≡ true →
         IsWhat what upto →
-        DoesWords (command_words program names.Replay (log ∷ first ∷ out ∷ what ∷ [])) contents before after old new errors_old errors_new ended →
+        DoesWords (command_words program names.Replay (log ∷ first ∷ out ∷ what ∷ [])) contents later before after old new errors_old errors_new ended →
         ReplaysWhat what (contents log) (contents first) out before after old new (telling false errors_old errors_new) ended }
+    // And the file OUT holds the image that came of it.
+    ensures leaves { (contents later : List ℕ → Option (List ℕ)) (before after : Option (List Write)) (old new errors_old errors_new : Option (List ℕ)) (ended : Ended)
+        (program log first out what : List ℕ) (upto : Upto) → is_positional log ≡ true → is_positional first ≡ true → is_positional out ≡ true →
+        IsWhat what upto →
+        DoesWords (command_words program names.Replay (log ∷ first ∷ out ∷ what ∷ [])) contents later before after old new errors_old errors_new ended →
+        ended.exit ≡ Done → LeavesReplayed what (contents log) (contents first) (later out) }
 {}
 
 /// Where `judge SCRIPT M IMAGE` is done, the image in that file was judged by the script in that file, after as many
 /// events as M says.
 pub fn plain_words_judge()
-    ensures { (contents : List ℕ → Option (List ℕ)) (before after : Option (List Write)) (old new errors_old errors_new : Option (List ℕ)) (ended : Ended)
+    ensures { (contents later : List ℕ → Option (List ℕ)) (before after : Option (List Write)) (old new errors_old errors_new : Option (List ℕ)) (ended : Ended)
         (program script m image : List ℕ) (moment : ℕ) → is_positional script ≡ true → IsNumber m moment → is_positional image ≡ true →
-        DoesWords (command_words program names.Judge (script ∷ m ∷ image ∷ [])) contents before after old new errors_old errors_new ended →
+        DoesWords (command_words program names.Judge (script ∷ m ∷ image ∷ [])) contents later before after old new errors_old errors_new ended →
         EndsJudging (record { script = contents script; image = contents image; moment = moment }) before after old new
         (telling false errors_old errors_new) ended }
 {}

@@ -111,7 +111,7 @@ fn files_of(alloc: Global) -> Result<Folder, AllocError> {
 }
 
 // What a command line after the program's name tells: its status, its output and its faults, parted by `|`. A line feed is shown as `;`.
-pub fn told(alloc: Global, line: &str, folder: &mut Folder) -> Result<String, AllocError> {
+pub fn output_of(alloc: Global, line: &str, folder: &mut Folder) -> Result<String, AllocError> {
     let mut words = vec![in alloc; "dmlw"]?;
     for word in line.split(' ') {
         words.push(word)?;
@@ -178,7 +178,7 @@ fn does_each_command_in_turn(rt: HostRuntime) -> Result<(), Fail> {
     let mut folder = files_of(alloc)?;
     for row in ROWS.split('\n') {
         let (line, want) = row.split_once('|').unwrap_or_default();
-        let told = told(alloc, line, &mut folder)?;
+        let told = output_of(alloc, line, &mut folder)?;
         assert!(rt; told.as_str() == want, "{line}: {told}");
     }
     let image = folder.bytes("image");
@@ -209,7 +209,7 @@ fn explains_each_command(rt: HostRuntime) -> Result<(), Fail> {
         "status absent --explain|1||dmlw: 32 File;  ",
     ] {
         let (line, want) = row.split_once('|').unwrap_or_default();
-        let told = told(alloc, line, &mut folder)?;
+        let told = output_of(alloc, line, &mut folder)?;
         assert!(rt; told.starts_with(want), "{line}: {told}");
     }
     Ok(())
@@ -227,7 +227,7 @@ fn does_long_lines(rt: HostRuntime) -> Result<(), Fail> {
     for _ in 0..60 {
         line.push_str(" --explain")?;
     }
-    let told = told(alloc, &line, &mut folder)?;
+    let told = output_of(alloc, &line, &mut folder)?;
     assert!(rt; told.as_str() == "0|a ok;b ok;3 4;|", "{told}");
     Ok(())
 }
@@ -249,7 +249,10 @@ fn reads_no_file_of_a_flawed_line(rt: HostRuntime) -> Result<(), Fail> {
         "replay script zeroes other mark",
         "replay script zeroes other --explain Flush",
     ] {
-        assert!(rt; told(alloc, line, &mut folder)?.as_str() == what, "{line}");
+        assert!(rt;
+            output_of(alloc, line, &mut folder)?.as_str() == what,
+            "{line}"
+        );
     }
     for line in [
         "judge script x zeroes",
@@ -258,7 +261,7 @@ fn reads_no_file_of_a_flawed_line(rt: HostRuntime) -> Result<(), Fail> {
         "judge script --explain 1.0 zeroes",
     ] {
         assert!(rt;
-            told(alloc, line, &mut folder)?.as_str() == moment,
+            output_of(alloc, line, &mut folder)?.as_str() == moment,
             "{line}"
         );
     }

@@ -1,6 +1,6 @@
 // Generated scripts under layers, crashed at each of their lines: the log that is found lists with no fault, and where no hazard was told each beginning
 // of it replays to an image of which the verdict is yes at one of the moments at least.
-use super::doing::{Folder, told};
+use super::doing::{Folder, output_of};
 use std::alloc::{AllocError, Global};
 use std::process::Abort;
 use std::test::Fail;
@@ -121,7 +121,7 @@ struct Seen {
 fn is_held(alloc: Global, moments: u64, folder: &mut Folder) -> Result<bool, AllocError> {
     for moment in 0..=moments {
         let line = format!(in alloc; "judge script {moment} image")?;
-        if told(alloc, &line, folder)?.as_str() == "0|yes;|" {
+        if output_of(alloc, &line, folder)?.as_str() == "0|yes;|" {
             return Ok(true);
         }
     }
@@ -133,8 +133,8 @@ fn force(rt: &impl Abort, alloc: Global, script: &str, seen: &mut Seen) -> Resul
     let mut folder = Folder::new(alloc);
     folder.put(alloc, "script", script.as_bytes())?;
     folder.put(alloc, "zeroes", &vec![in alloc; 0; 3072]?)?;
-    let recorded = told(alloc, "record script log", &mut folder)?;
-    let listed = told(alloc, "list log", &mut folder)?;
+    let recorded = output_of(alloc, "record script log", &mut folder)?;
+    let listed = output_of(alloc, "list log", &mut folder)?;
     assert!(rt; listed.ends_with(";|"), "{script}{recorded}{listed}");
     seen.logs = seen.logs.saturating_add(1);
     if recorded.contains("hazard") {
@@ -143,7 +143,7 @@ fn force(rt: &impl Abort, alloc: Global, script: &str, seen: &mut Seen) -> Resul
     let entries = listed.matches(';').count().saturating_sub(1);
     for count in 0..=entries {
         let line = format!(in alloc; "replay log zeroes image entries:{count}")?;
-        let replayed = told(alloc, &line, &mut folder)?;
+        let replayed = output_of(alloc, &line, &mut folder)?;
         assert!(rt; replayed.starts_with("0|replayed "), "{script}{replayed}");
         assert!(rt;
             is_held(alloc, LINES, &mut folder)?,

@@ -1,5 +1,8 @@
-use Rattle.dmlw_dispatch.proofs.Plain.{replay_done}
+use Rattle.dmlw_dispatch.proofs.Plain.{replay_done, replay_leaves}
 use Rattle.dmlw_dispatch.proofs.laws.plain_words_replay.Goals as goal
 
-pub returns : goal.returns
-returns c = replay_done
+pub returns-clause-ends : goal.returns-clause-ends
+returns-clause-ends c = replay_done
+
+pub returns-clause-leaves : goal.returns-clause-leaves
+returns-clause-leaves c = replay_leaves

@@ -16,6 +16,7 @@ use Rattle.dmlw_files.specs.Files.{Write}
 use Rattle.dmlw_commands.specs.Lists.{ListsImage, Shows, ShowsStatus}
 use Rattle.dmlw_commands.specs.Records.{file}
 use Rattle.dmlw_judge.specs.Judgements.{EndsJudging, Question, file as unjudged}
+use Rattle.dmlw_explain.specs.declared.explaining.ReplayNames.{ReplayNames}
 use Rattle.dmlw_replay.specs.declared.stop.Stop.TheVariants as stops
 use Rattle.dmlw_replay.specs.Replays.{EndsReplaying, HoldsReplayed, file as unreplayed}
 use Rattle.dmlw_replay.specs.Whats.{IsWhat}
@@ -188,22 +189,30 @@ status_ends (tasks.Show error) log contents before after old new t ended asks en
     showing_refused ShowsStatus (contents log) before after old new t ended (memory_ends (kind_of error) before after old new t ended asks ends)
 status_ends task log contents before after old new t ended asks ends = absurd asks
 
--- a task that `replay LOG FIRST OUT WHAT` asks for ends as the replay does
-replay_ends : (task : Task) (log first out what : Text) (given : Upto) (contents : List ℕ → Option (List ℕ)) (before after : Option (List Write))
-    (old new : Option (List ℕ)) (t : Telling) (ended : Ended) → IsWhat what given
-    → AsksBy names.Replay (plain_rows names.Replay (log ∷ first ∷ out ∷ what ∷ [])) task → EndsTask task contents before after old new t ended
-    → ReplaysWhat what (contents log) (contents first) out before after old new t ended
-replay_ends (tasks.Replay files upto) log first out what given contents before after old new t ended is asks ends =
+-- what is said of the names and the end that a replay's task has is said of the words that ask for it
+of_words : (files : ReplayNames) (upto : Upto) (log first out what : Text) (P : Text → Text → Text → Upto → Type 0)
+    → AsksBy names.Replay (plain_rows names.Replay (log ∷ first ∷ out ∷ what ∷ [])) (tasks.Replay files upto)
+    → P files.log.now files.first.now files.out.now upto → (given : Upto) × IsWhat what given × P log first out given
+of_words files upto log first out what P asks says =
     let (is_log, is_first, is_out, word, is_word, named) = asks in
     let log_name : files.log.now ≡ log = sym (same_some log files.log.now is_log) in
     let first_name : files.first.now ≡ first = sym (same_some first files.first.now is_first) in
     let out_name : files.out.now ≡ out = sym (same_some out files.out.now is_out) in (
       upto,
       subst (λ (w : Text). IsWhat w upto) (sym (same_some what word is_word)) named,
-      subst (λ (name : Text). EndsReplaying (contents log) (contents first) name upto before after old new t ended) out_name
-          (subst (λ (name : Text). EndsReplaying (contents log) (contents name) files.out.now upto before after old new t ended) first_name
-          (subst (λ (name : Text). EndsReplaying (contents name) (contents files.first.now) files.out.now upto before after old new t ended) log_name ends)),
+      subst (λ (name : Text). P log first name upto) out_name
+          (subst (λ (name : Text). P log name files.out.now upto) first_name
+          (subst (λ (name : Text). P name files.first.now files.out.now upto) log_name says)),
     )
+
+-- a task that `replay LOG FIRST OUT WHAT` asks for ends as the replay does
+replay_ends : (task : Task) (log first out what : Text) (given : Upto) (contents : List ℕ → Option (List ℕ)) (before after : Option (List Write))
+    (old new : Option (List ℕ)) (t : Telling) (ended : Ended) → IsWhat what given
+    → AsksBy names.Replay (plain_rows names.Replay (log ∷ first ∷ out ∷ what ∷ [])) task → EndsTask task contents before after old new t ended
+    → ReplaysWhat what (contents log) (contents first) out before after old new t ended
+replay_ends (tasks.Replay files upto) log first out what given contents before after old new t ended is asks ends =
+    of_words files upto log first out what
+    (λ l f o u. EndsReplaying (contents l) (contents f) o u before after old new t ended) asks ends
 replay_ends (tasks.Flawed flaws.What) log first out what given contents before after old new t ended is asks ends =
     let (word, is_word, none) = asks in absurd (subst (λ (w : Text). IsWhat w given → ⊥) (sym (same_some what word is_word)) (none given) is)
 replay_ends (tasks.Show error) log first out what given contents before after old new t ended is asks ends = (
@@ -219,16 +228,7 @@ image_left : (task : Task) (log first out what : Text) (given : Upto) (contents 
     → AsksBy names.Replay (plain_rows names.Replay (log ∷ first ∷ out ∷ what ∷ [])) task → EndsTask task contents before after old new t ended
     → TaskLeaves task contents later old new ended.exit → ended.exit ≡ Done → LeavesReplayed what (contents log) (contents first) (later out)
 image_left (tasks.Replay files upto) log first out what given contents later before after old new t ended is asks ends leaves done =
-    let (is_log, is_first, is_out, word, is_word, named) = asks in
-    let log_name : files.log.now ≡ log = sym (same_some log files.log.now is_log) in
-    let first_name : files.first.now ≡ first = sym (same_some first files.first.now is_first) in
-    let out_name : files.out.now ≡ out = sym (same_some out files.out.now is_out) in (
-      upto,
-      subst (λ (w : Text). IsWhat w upto) (sym (same_some what word is_word)) named,
-      subst (λ (name : Text). HoldsReplayed (contents log) (contents first) upto (later name)) out_name
-          (subst (λ (name : Text). HoldsReplayed (contents log) (contents name) upto (later files.out.now)) first_name
-          (subst (λ (name : Text). HoldsReplayed (contents name) (contents files.first.now) upto (later files.out.now)) log_name (leaves done))),
-    )
+    of_words files upto log first out what (λ l f o u. HoldsReplayed (contents l) (contents f) u (later o)) asks (leaves done)
 image_left (tasks.Flawed flaws.What) log first out what given contents later before after old new t ended is asks ends leaves done =
     let (word, is_word, none) = asks in absurd (subst (λ (w : Text). IsWhat w given → ⊥) (sym (same_some what word is_word)) (none given) is)
 image_left (tasks.Show error) log first out what given contents later before after old new t ended is asks ends leaves done =

@@ -1,6 +1,6 @@
 -- For each definition of a replay's command, what breaks it, and is refused by it.
-use Rattle.std.proofs.Common.{◌≡◌, ◌∙◌, ◌⊎◌, ℕ, ◌<◌, ◌≤◌, true, false, Option, Some, None, List, [], ◌∷◌, ◌++◌, Result, Ok, Err, ap, arith, drop, inl, inr, length, refl, replicate, slice_index_or, subst, sym}
-use Rattle.std.specs.Prelude.{◌/◌, codes, decimal, slice_get}
+use Rattle.std.proofs.Common.{◌≡◌, ◌∙◌, ℕ, ◌<◌, true, false, Option, Some, None, List, [], ◌∷◌, ◌++◌, Result, Ok, Err, ap, arith, drop, inl, inr, length, refl, replicate, slice_index_or, subst, sym}
+use Rattle.std.specs.Prelude.{◌/◌, codes, decimal}
 use Rattle.sectors.specs.Content.{sector_of}
 use Rattle.words.specs.Words.{is_number, number_value}
 use Rattle.bio.specs.declared.outcome.DevError.TheVariants.{Io}
@@ -31,7 +31,7 @@ use Rattle.dmlw_commands.specs.Exits.{fault_line, stopped_line}
 use Rattle.dmlw_files.specs.Files.{Write}
 use Rattle.dmlw_replay.specs.declared.stop.Stop.{Stop}
 use Rattle.dmlw_replay.specs.declared.stop.Stop.TheVariants as stops
-use Rattle.dmlw_replay.specs.Replays.{AreImages, EndsReplaying, FailsOnImages, FailsReplay, HasStopCause, HoldsReplayed, IsReplayed, PrintsReplay, Replays, StopsReplay, file, images, memory, replay_exit, replay_line, replayed_line, stopped, unopened}
+use Rattle.dmlw_replay.specs.Replays.{AreImages, EndsReplaying, FailsReplay, HasStopCause, HoldsReplayed, IsReplayed, PrintsReplay, Replays, StopsReplay, file, images, replay_exit, replay_line, replayed_line, unopened}
 use Rattle.dmlw_replay.specs.Whats.{IsNoWhat, IsWhat}
 
 -- the end of a replay that is named is a mark of this text

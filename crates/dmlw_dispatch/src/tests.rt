@@ -249,11 +249,32 @@ fn shows_each_text_once(rt: HostRuntime) -> Result<(), Fail> {
     Ok(())
 }
 
+// Rows of the page: the exit statuses, and numbers and names of refusals.
+const ROWS: &str = "| 0 | done |
+| 1 | refused: a line on standard error says by which number and name;
+| 2 | the command line isn't one of the program's |
+| 3 | logging ended before its time:
+| `w <id> <first> <count> <byte> [flush] [fua] [meta]` | submits a write of that byte
+| 1 to 2,048 sectors, two lower case hexadecimal digits |
+| 1 to 1,048,576 |
+| 2 | Memory |
+| 3, 4, 5 | PastEnd, TooLong, NotWhole |
+| 13, 14, 15 | BadMagic, BadVersion, BadSectorSize |
+| 24 | Busy |
+| 25, 26 | NoSuchMark, NoFlush |
+| 30 | BadLine |
+| 32 | File |
+| 33 | PastEntries |
+| 34 | BadMoment |";
+
 // The page of the formats is printed as it is.
 #[test]
 fn prints_the_formats(rt: HostRuntime) {
     let ran = run(rt.alloc(), &["dmlw", "help", "formats"], b"");
     assert!(rt; ran.is(0, FORMATS, "") && FORMATS.starts_with("# Formats\n"));
+    for row in ROWS.split('\n') {
+        assert!(rt; FORMATS.contains(row), "{row}");
+    }
 }
 
 // `--explain` may stand anywhere after the program's name.

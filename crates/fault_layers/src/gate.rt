@@ -20,7 +20,7 @@ pub enum Kind {
 pub enum Verdict {
     /// The device beneath does it, and its answer is the call's.
     Pass,
-    /// So does it, but begins it so many milliseconds later.
+    /// The device beneath begins it so many milliseconds later, and its answer is the call's.
     Delay(Ms),
     /// It answers Io, and the device beneath isn't called.
     Fail,

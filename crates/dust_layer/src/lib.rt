@@ -11,8 +11,4 @@ pub mod laws;
 mod mode;
 mod obey;
 mod order;
-#[cfg(test)]
-mod order_tests;
 mod parts;
-#[cfg(test)]
-mod tests;

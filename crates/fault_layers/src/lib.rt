@@ -20,5 +20,3 @@ mod gate;
 mod gated;
 pub mod laws;
 mod linear;
-#[cfg(test)]
-mod tests;

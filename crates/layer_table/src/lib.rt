@@ -13,5 +13,3 @@ mod any_gate;
 pub mod laws;
 mod slot;
 mod stack;
-#[cfg(test)]
-mod tests;

@@ -11,5 +11,3 @@ mod call;
 mod choice;
 mod disk;
 pub mod laws;
-#[cfg(test)]
-mod tests;

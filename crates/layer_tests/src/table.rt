@@ -3,13 +3,10 @@ ghost use Rattle.std.specs.List.{AllByRecursion};
 ghost use Rattle.table_line.specs.declared.layer_spec.Target.TheVariants.{Linear};
 ghost use Rattle.table_line.specs.Ranges.{IsLayerSpec};
 
-mod messages;
-mod plain;
-
-use super::*;
 use bio::{DevError, Ms};
 use blockdev::BlockDev;
 use fault_layers::Kind;
+use layer_table::Stack;
 use plain::{Plain, plain_call};
 use refusals::Refusal;
 use sector_disk::SectorDisk;
@@ -17,6 +14,9 @@ use std::alloc::Global;
 use std::process::Abort;
 use std::test::Fail;
 use table_line::{LayerSpec, Target, parse_line};
+
+mod messages;
+mod plain;
 
 // Lines for the lower layer over a disk of 16 sectors, which count from the moment 0 on, and for the upper one, which counts
 // from 3000 on.
@@ -65,30 +65,50 @@ fn spec_of(rt: &impl Abort, line: &str) -> LayerSpec
     }
 }
 
-// The stack with one more layer.
-fn put(rt: &impl Abort, alloc: Global, stack: Stack, line: &str, load: u64) -> Stack {
-    match stack.over(alloc, spec_of(rt, line), Ms::new(load)) {
-        Ok(higher) => higher,
-        Err(_) => panic!(rt; "{line}"),
+// Makes calls on a disk under the layers of these lines, the lowest first, each loaded at its moment; what the calls give, and the bytes that the disk then
+// has. A line that is refused puts no layer, and the calls are told of the last refusal. No other function but `under` holds a stack by value: that is dear
+// to prove.
+fn on_stack<T: Drop, F: FnOnce(&mut Stack, Option<Refusal>) -> Result<T, Fail>>(
+    rt: &impl Abort,
+    alloc: Global,
+    disk: SectorDisk,
+    lines: &[(&str, u64)],
+    calls: F,
+) -> Result<(T, Vec<u8>), Fail>
+    requires { F.IsAlwaysCallable calls }
+{
+    let mut stack = Stack::new(disk);
+    let mut refused = None;
+    for (line, load) in lines {
+        stack = match stack.over(alloc, spec_of(rt, line), Ms::new(*load)) {
+            Ok(higher) => higher,
+            Err((same, refusal)) => {
+                refused = Some(refusal);
+                same
+            }
+        };
     }
+    let given = calls(&mut stack, refused)?;
+    let image = stack.into_disk().bytes()?;
+    Ok((given, image))
 }
 
 // What a call of one sector, or a discard of two, answers: the byte that is read or 0, or that it failed.
-fn call(
+fn call<D: BlockDev + Drop>(
     rt: &impl Abort,
-    stack: &mut Stack,
+    device: &mut D,
     kind: Kind,
     now: Ms,
     first: u64,
     value: u8,
 ) -> Option<u8> {
-    assert!(rt; first < 4 && stack.sectors() >= 8);
+    assert!(rt; first < 4 && device.sectors() >= 8);
     let mut buffer = [255; 512];
     let end = match kind {
-        Kind::Read => stack.read(now, first, &mut buffer),
-        Kind::Write => stack.write(now, first, &[value; 512], first == 1),
-        Kind::Discard => stack.discard(now, first, 2),
-        Kind::Flush => stack.flush(now),
+        Kind::Read => device.read(now, first, &mut buffer),
+        Kind::Write => device.write(now, first, &[value; 512], first == 1),
+        Kind::Discard => device.discard(now, first, 2),
+        Kind::Flush => device.flush(now),
     };
     // A delay of a millisecond may stand among the layers.
     match (end, kind) {
@@ -102,8 +122,13 @@ fn is_soon(now: Ms, end: Ms) -> bool {
     end == now || end == now.later_by(Ms::new(1))
 }
 
-// The same calls of a stack and of its plain layers.
-fn play(rt: &impl Abort, stack: &mut Stack, layers: &mut [Plain], disk: &mut [u8]) {
+// The same calls of a device and of plain layers.
+fn play<D: BlockDev + Drop>(
+    rt: &impl Abort,
+    device: &mut D,
+    layers: &mut [Plain],
+    disk: &mut [u8],
+) {
     for (place, now) in MOMENTS.into_iter().enumerate() {
         let first = place as u64 % 4;
         for kind in [
@@ -116,31 +141,43 @@ fn play(rt: &impl Abort, stack: &mut Stack, layers: &mut [Plain], disk: &mut [u8
             Kind::Read,
         ] {
             let value = place as u8 % 200 + 1;
-            let got = call(rt, stack, kind, Ms::new(now), first, value);
+            let got = call(rt, device, kind, Ms::new(now), first, value);
             let wanted = plain_call(layers, disk, kind, now, first, value);
             assert_eq!(rt; got, wanted, "{kind:?} at {now}");
         }
     }
 }
 
-// Plays the calls on these layers, and looks at the counts and at the disk beneath.
-fn check(rt: &impl Abort, alloc: Global, lines: &[(&str, u64)]) -> Result<(), Fail> {
-    let mut stack = Stack::new(SectorDisk::new(alloc, 16)?);
+// Plays the calls on a device and on plain layers, and looks at the counts; what the plain layers' disk then holds.
+fn play_all<D: BlockDev + Drop>(
+    rt: &impl Abort,
+    alloc: Global,
+    device: &mut D,
+    lines: &[(&str, u64)],
+) -> Result<[u8; 16], Fail> {
     let mut layers = Vec::new(alloc);
     for (line, load) in lines {
-        stack = put(rt, alloc, stack, line, *load);
         layers.push(Plain::new(spec_of(rt, line), *load))?;
     }
     let mut disk = [0; 16];
-    play(rt, &mut stack, &mut layers, &mut disk);
+    play(rt, device, &mut layers, &mut disk);
     let faults = layers
         .iter()
         .fold(0, |sum: u64, layer| sum.saturating_add(layer.faults));
     let lies = layers
         .iter()
         .fold(0, |sum: u64, layer| sum.saturating_add(layer.lies));
-    assert_eq!(rt; (stack.faults(), stack.lies()), (faults, lies));
-    let image = stack.into_disk().bytes()?;
+    assert_eq!(rt; (device.faults(), device.lies()), (faults, lies));
+    Ok(disk)
+}
+
+// Plays the calls on these layers, and looks at the counts and at the disk beneath.
+fn check(rt: &impl Abort, alloc: Global, lines: &[(&str, u64)]) -> Result<(), Fail> {
+    let under = SectorDisk::new(alloc, 16)?;
+    let (disk, image) = on_stack(rt, alloc, under, lines, |stack, refused| {
+        assert_eq!(rt; refused, None);
+        play_all(rt, alloc, stack, lines)
+    })?;
     for (sector, value) in disk.iter().enumerate() {
         assert_eq!(rt; image.get(sector * 512), Some(value));
     }
@@ -185,56 +222,62 @@ const ROWS: &str = "0 16 linear disk 0+
 0 1048576 linear disk 0-
 0 14 flakey disk 3 10 5-";
 
+// A line that is put there makes a device of its sectors, and one that isn't leaves the disk's.
+fn check_range(rt: &impl Abort, row: &str, sectors: u64, refused: Option<Refusal>) {
+    let wanted = spec_of(rt, row.trim_end_matches(['+', '-'])).length;
+    if row.ends_with('+') {
+        assert_eq!(rt; refused, None, "{row}");
+        assert_eq!(rt; sectors, wanted, "{row}");
+    } else {
+        assert!(rt; row.ends_with('-'), "{row}");
+        assert_eq!(rt; refused, Some(Refusal::OutOfRange), "{row}");
+        assert_eq!(rt; sectors, 16, "{row}");
+    }
+}
+
 #[test]
 fn ranges(rt: HostRuntime) -> Result<(), Fail> {
     let alloc = rt.alloc();
     for row in ROWS.split('\n') {
         let line = row.trim_end_matches(['+', '-']);
-        let spec = spec_of(&rt, line);
-        let stack = Stack::new(SectorDisk::new(alloc, 16)?);
-        match stack.over(alloc, spec, Ms::new(0)) {
-            Ok(higher) => {
-                assert!(rt; row.ends_with('+'), "{row}");
-                assert_eq!(rt; higher.sectors(), spec.length, "{row}");
-            }
-            Err((same, refusal)) => {
-                assert!(rt; row.ends_with('-'), "{row}");
-                assert_eq!(rt; refusal, Refusal::OutOfRange);
-                assert_eq!(rt; same.sectors(), 16);
-            }
-        }
+        let disk = SectorDisk::new(alloc, 16)?;
+        on_stack(&rt, alloc, disk, &[(line, 0)], |stack, refused| {
+            check_range(&rt, row, stack.sectors(), refused);
+            Ok(())
+        })?;
     }
     Ok(())
 }
 
+// Four layers, and one more.
+const FIVE: [(&str, u64); 5] = [
+    ("0 15 linear disk 1", 0),
+    ("0 14 linear disk 1", 0),
+    ("0 13 fuse disk 1 9", 0),
+    ("0 12 linear disk 1", 0),
+    ("0 8 linear disk 0", 0),
+];
+
+// The disk under four layers, with a write through them; then the same under five.
 #[test]
 fn a_fifth_layer_is_refused(rt: HostRuntime) -> Result<(), Fail> {
-    let mut stack = Stack::new(SectorDisk::new(rt.alloc(), 16)?);
-    for line in [
-        "0 15 linear disk 1",
-        "0 14 linear disk 1",
-        "0 13 fuse disk 1 9",
-        "0 12 linear disk 1",
-    ] {
-        stack = put(&rt, rt.alloc(), stack, line, 0);
-    }
-    assert_eq!(rt;
-        call(&rt, &mut stack, Kind::Write, Ms::new(5), 2, 7),
-        Some(0)
-    );
-    match stack.over(rt.alloc(), spec_of(&rt, "0 8 linear disk 0"), Ms::new(0)) {
-        Ok(_) => panic!(rt; "a fifth layer"),
-        Err((same, refusal)) => {
-            assert_eq!(rt; refusal, Refusal::OutOfRange);
-            stack = same;
-        }
-    }
-    assert_eq!(rt; stack.sectors(), 12);
-    assert_eq!(rt;
-        call(&rt, &mut stack, Kind::Read, Ms::new(5), 2, 0),
-        Some(7)
-    );
-    let image = stack.into_disk().bytes()?;
+    let alloc = rt.alloc();
+    let [first, second, third, fourth, _] = FIVE;
+    let four = [first, second, third, fourth];
+    let disk = SectorDisk::new(alloc, 16)?;
+    let ((), image) = on_stack(&rt, alloc, disk, &four, |stack, refused| {
+        assert_eq!(rt; refused, None);
+        assert_eq!(rt; call(&rt, stack, Kind::Write, Ms::new(5), 2, 7), Some(0));
+        Ok(())
+    })?;
+    assert_eq!(rt; image.get(6 * 512), Some(&7));
+    let disk = SectorDisk::from_bytes(alloc, image)?;
+    let ((), image) = on_stack(&rt, alloc, disk, &FIVE, |stack, refused| {
+        assert_eq!(rt; refused, Some(Refusal::OutOfRange));
+        assert_eq!(rt; stack.sectors(), 12);
+        assert_eq!(rt; call(&rt, stack, Kind::Read, Ms::new(5), 2, 0), Some(7));
+        Ok(())
+    })?;
     assert_eq!(rt; image.get(6 * 512), Some(&7));
     Ok(())
 }

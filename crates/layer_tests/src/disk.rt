@@ -1,11 +1,11 @@
 ghost use Rattle.std.specs.Prelude.{◌≡◌, ◌<◌};
 ghost use Rattle.sector_disk.specs.Shown.{shown_of};
 
-use super::*;
 use bio::{DevError, Ms};
 use blockdev::BlockDev;
 use failing::Failing;
 use lying::Lying;
+use sector_disk::SectorDisk;
 use std::alloc::Global;
 use std::process::Abort;
 use std::test::Fail;

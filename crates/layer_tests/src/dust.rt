@@ -1,20 +1,22 @@
-use crate::{Dust, Mode};
 use bio::{DevError, Ms};
 use blockdev::{BlockDev, Message, MessageError};
+use dust_layer::{Dust, Mode};
 use fault_layers::{Delay, Fuse};
 use sector_disk::SectorDisk;
 use std::alloc::Global;
 use std::process::Abort;
 use std::test::Fail;
 
+mod orders;
+
 // Blocks of 1,024 bytes over a device.
-#[tactic(auto, using(crate::specs::Sizes::of_1024))]
+#[tactic(auto, using(dust_layer::specs::Sizes::of_1024))]
 fn over<D: BlockDev + Drop>(alloc: Global, lower: D) -> Dust<D> {
     Dust::new(alloc, lower, 1024)
 }
 
 // Blocks of a sector each.
-#[tactic(auto, using(crate::specs::Sizes::of_512))]
+#[tactic(auto, using(dust_layer::specs::Sizes::of_512))]
 fn by_sector<D: BlockDev + Drop>(alloc: Global, lower: D) -> Dust<D> {
     Dust::new(alloc, lower, 512)
 }

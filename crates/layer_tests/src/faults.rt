@@ -1,8 +1,8 @@
 ghost use Rattle.std.specs.Prelude.{◌<◌};
 
-use super::*;
 use bio::{DevError, Ms};
 use blockdev::BlockDev;
+use fault_layers::{Delay, ErrorDev, Flakey, Fuse, Linear};
 use sector_disk::SectorDisk;
 use std::process::Abort;
 use std::test::Fail;

@@ -19,5 +19,3 @@ mod name;
 mod parsing;
 mod printing;
 mod table_error;
-#[cfg(test)]
-mod tests;

@@ -1,7 +1,7 @@
-use super::*;
 use refusals::Refusal;
 use std::alloc::Global;
 use std::test::Fail;
+use table_line::{TableError, parse_line, push_line};
 
 // What a line is read as, and printed as again; or its refusal's number and name.
 fn answer(alloc: Global, line: &[u8]) -> Result<String, Fail> {
@@ -148,57 +148,39 @@ fn lines(rt: HostRuntime) -> Result<(), Fail> {
     Ok(())
 }
 
+// A line, and each field of what it is read as; a name stands for each target, whose own fields stand behind it.
+const VALUES: &str = "0 16 linear a 8|LayerSpec { length: 16, offset: 8, target: Linear }
+0 7 error|LayerSpec { length: 7, offset: 0, target: Error }
+0 9 fuse b 2 3|LayerSpec { length: 9, offset: 2, target: Fuse { calls: 3 } }
+0 9 flakey b 2 10 5 1 drop_writes|LayerSpec { length: 9, offset: 2, target: Flakey { up: 10, down: 5, feature: DropWrites } }
+0 9 dust b 2 1024|LayerSpec { length: 9, offset: 2, target: Dust { block_bytes: 1024 } }
+0 9 delay b 2 10 b 2 20 b 2 30|LayerSpec { length: 9, offset: 2, target: Delay { read: 10, write: 20, flush: 30 } }";
+
 #[test]
 fn values(rt: HostRuntime) -> Result<(), Fail> {
-    let flakey = Target::Flakey {
-        up: 10,
-        down: 5,
-        feature: Feature::DropWrites,
-    };
-    let delay = Target::Delay {
-        read: 10,
-        write: 20,
-        flush: 30,
-    };
-    for (line, spec) in [
-        (b"0 16 linear a 8".as_slice(), (16, 8, Target::Linear)),
-        (b"0 7 error".as_slice(), (7, 0, Target::Error)),
-        (
-            b"0 9 fuse b 2 3".as_slice(),
-            (9, 2, Target::Fuse { calls: 3 }),
-        ),
-        (
-            b"0 9 flakey b 2 10 5 1 drop_writes".as_slice(),
-            (9, 2, flakey),
-        ),
-        (
-            b"0 9 dust b 2 1024".as_slice(),
-            (9, 2, Target::Dust { block_bytes: 1_024 }),
-        ),
-        (b"0 9 delay b 2 10 b 2 20 b 2 30".as_slice(), (9, 2, delay)),
-    ] {
-        let (length, offset, target) = spec;
-        let wanted = LayerSpec {
-            length,
-            offset,
-            target,
-        };
-        assert_eq!(rt; parse_line(line), Ok(wanted));
+    for row in VALUES.split('\n') {
+        let (line, wanted) = row.split_once('|').unwrap_or_default();
+        let spec = parse_line(line.as_bytes())?;
+        let shown = format!(in rt.alloc(); "{spec:?}")?;
+        assert_eq!(rt; shown.as_str(), wanted);
     }
     Ok(())
 }
 
+// Each error is shown in words of its own.
 #[test]
 fn errors_are_shown(rt: HostRuntime) -> Result<(), Fail> {
-    for (error, want) in [
-        (TableError::UnknownTarget, "no target of this name"),
-        (TableError::WrongCount, "too many words, or too few"),
-        (TableError::BadNumber, "a word that is no number"),
-        (TableError::OutOfRange, "a value out of its range"),
-        (TableError::BadFeature, "no such feature"),
-    ] {
-        let shown = format!(in rt.alloc(); "{error}")?;
-        assert_eq!(rt; shown.as_str(), want);
-    }
+    let shown = format!(in rt.alloc();
+        "{}\n{}\n{}\n{}\n{}",
+        TableError::UnknownTarget,
+        TableError::WrongCount,
+        TableError::BadNumber,
+        TableError::OutOfRange,
+        TableError::BadFeature
+    )?;
+    assert_eq!(rt;
+        shown.as_str(),
+        "no target of this name\ntoo many words, or too few\na word that is no number\na value out of its range\nno such feature"
+    );
     Ok(())
 }

@@ -10,5 +10,3 @@ pub use judging::judge;
 mod judging;
 pub mod laws;
 mod moments;
-#[cfg(test)]
-mod tests;

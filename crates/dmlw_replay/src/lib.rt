@@ -12,6 +12,4 @@ mod ending;
 mod images;
 mod replaying;
 mod stop;
-#[cfg(test)]
-mod tests;
 mod what;

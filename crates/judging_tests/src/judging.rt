@@ -1,10 +1,10 @@
 ghost use Rattle.std.specs.Prelude.{None};
 
-use crate::judge;
+use crate::writers::{Broken, Buffered, push_lines};
 use dmlw_files::{FileError, Files, Trouble};
+use dmlw_judge::judge;
 use std::alloc::{AllocError, Global};
 use std::io;
-use std::io::Write;
 use std::test::Fail;
 
 mod headline;
@@ -63,13 +63,8 @@ fn output_of(
         alloc, explains, script, moment, image, files, &mut out, &mut err,
     );
     let mut told = String::new(alloc);
-    for byte in out.iter().chain(err.iter()) {
-        told.push(if *byte == b'\n' {
-            ';'
-        } else {
-            char::from(*byte)
-        })?;
-    }
+    push_lines(&mut told, &out)?;
+    push_lines(&mut told, &err)?;
     if !ended.is_told {
         told.push_str("?")?;
     }
@@ -233,26 +228,6 @@ fn faults_are_explained(rt: HostRuntime) -> Result<(), Fail> {
     Ok(())
 }
 
-// A writer that fails, at a write or at a flush.
-#[derive(Drop)]
-struct Broken {
-    takes: bool,
-    kind: io::ErrorKind,
-}
-
-impl Write for Broken {
-    fn write(&mut self, buf: &[u8]) -> io::Result<usize> {
-        if self.takes {
-            return Ok(buf.len());
-        }
-        Err(io::Error::from(self.kind))
-    }
-
-    fn flush(&mut self) -> io::Result<()> {
-        Err(io::Error::from(self.kind))
-    }
-}
-
 #[test]
 fn outputs_may_fail(rt: HostRuntime) -> Result<(), Fail> {
     let alloc = rt.alloc();
@@ -275,24 +250,6 @@ fn outputs_may_fail(rt: HostRuntime) -> Result<(), Fail> {
         }
     }
     Ok(())
-}
-
-// A writer that hands on what it took where it is flushed.
-#[derive(Drop)]
-struct Buffered {
-    is_held: bool,
-}
-
-impl Write for Buffered {
-    fn write(&mut self, buf: &[u8]) -> io::Result<usize> {
-        self.is_held = true;
-        Ok(buf.len())
-    }
-
-    fn flush(&mut self) -> io::Result<()> {
-        self.is_held = false;
-        Ok(())
-    }
 }
 
 #[test]

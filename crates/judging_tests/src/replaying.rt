@@ -1,11 +1,12 @@
 ghost use Rattle.std.specs.Prelude.{None};
 
-use crate::replay;
+use crate::writers::push_lines;
 use dmlw_commands::record::record;
 use dmlw_explain::ReplayNames;
 use dmlw_files::{FileError, Files, Trouble};
-use replay::Upto;
+use dmlw_replay::{replay, upto_of};
 use std::alloc::Global;
+use std::process::Abort;
 use std::test::Fail;
 
 mod telling;
@@ -97,14 +98,8 @@ fn large(alloc: Global) -> Result<Vec<u8>, Fail> {
     Ok(image)
 }
 
-// What a replay did: its exit status, a `?` where not all was told, what it told, and of the image that was written its size and the first byte of each sector that isn't 0.
-fn output_of(
-    alloc: Global,
-    log: &[u8],
-    sectors: usize,
-    names: ReplayNames,
-    upto: &Upto,
-) -> Result<String, Fail> {
+// The files "log", and "first", an image of so many sectors of zeroes.
+fn files_of(alloc: Global, log: &[u8], sectors: usize) -> Result<FakeFiles<'static>, Fail> {
     let mut files = FakeFiles {
         files: Vec::new(alloc),
         written: None,
@@ -115,17 +110,29 @@ fn output_of(
     })?;
     files.files.push(Named {
         name: "first",
-        bytes: vec![in alloc; 0; sectors.min(4_096) * 512]?,
+        bytes: vec![in alloc; 0; sectors.min(65_536) * 512]?,
     })?;
+    Ok(files)
+}
+
+// What a replay up to the end that the word names did: its exit status, a `?` where not all was told, what it told, and of the image that was written its size and the
+// first byte of each sector that isn't 0.
+fn output_of(
+    alloc: Global,
+    files: &mut FakeFiles,
+    names: ReplayNames,
+    word: &str,
+) -> Result<String, Fail> {
+    let upto = upto_of(word.as_bytes()).ok_or("an end of a replay")?;
     let mut out = Vec::new(alloc);
     let mut err = Vec::new(alloc);
-    let ended = replay(alloc, false, names, upto, &mut files, &mut out, &mut err);
+    let ended = replay(alloc, false, names, &upto, files, &mut out, &mut err);
     let mut text = format!(in alloc; "{}:", ended.exit.status())?;
     if !ended.is_told {
         text.push_str("?")?;
     }
-    text.push_str(str::from_utf8(&out).unwrap_or_default())?;
-    text.push_str(str::from_utf8(&err).unwrap_or_default())?;
+    push_lines(&mut text, &out)?;
+    push_lines(&mut text, &err)?;
     if let Some(image) = &files.written {
         push_image(alloc, image, &mut text)?;
     }
@@ -153,37 +160,35 @@ const NAMES: ReplayNames<'static> = ReplayNames {
     out: "out",
 };
 
+// Replays a log: each row has how many sectors the image has, and the end of the replay; then what it did.
+fn assert_replays(rt: &impl Abort, alloc: Global, log: &[u8], rows: &str) -> Result<(), Fail> {
+    for row in rows.lines() {
+        let (asked, wanted) = row.split_once('|').unwrap_or_default();
+        let (sectors, word) = asked.split_once(' ').unwrap_or_default();
+        let sectors = sectors.parse::<usize>().unwrap_or(0);
+        let mut files = files_of(alloc, log, sectors)?;
+        let ran = output_of(alloc, &mut files, NAMES, word)?;
+        assert_eq!(rt; ran.as_str(), wanted, "{row}");
+    }
+    Ok(())
+}
+
 #[test]
 fn logs_are_replayed(rt: HostRuntime) -> Result<(), Fail> {
     let alloc = rt.alloc();
-    let log = recorded(alloc, SCRIPT)?;
-    let rows: [(usize, Upto, &str); 8] = [
-        (16, Upto::Flush, "0:replayed 2\n16 5=65"),
-        (
-            16,
-            Upto::Mark(b"dm-log-writes-end"),
-            "0:replayed 3\n16 5=65",
-        ),
-        (16, Upto::Count(1), "0:replayed 1\n16 5=65"),
-        (16, Upto::Count(0), "0:replayed 0\n16"),
-        (4_096, Upto::Count(3), "0:replayed 3\n4096 5=65"),
-        (
-            16,
-            Upto::Count(4),
-            "1:dmlw: 33 PastEntries after 0 entries\n",
-        ),
-        (
-            16,
-            Upto::Mark(b"none"),
-            "1:dmlw: 25 NoSuchMark after 0 entries\n",
-        ),
-        (5, Upto::Flush, "1:dmlw: 27 PastTarget after 0 entries\n"),
-    ];
-    for (sectors, upto, wanted) in &rows {
-        let ran = output_of(alloc, &log, *sectors, NAMES, upto)?;
-        assert_eq!(rt; ran.as_str(), *wanted);
-    }
-    Ok(())
+    assert_replays(
+        &rt,
+        alloc,
+        &recorded(alloc, SCRIPT)?,
+        "16 flush|0:replayed 2;16 5=65
+16 mark:dm-log-writes-end|0:replayed 3;16 5=65
+16 entries:1|0:replayed 1;16 5=65
+16 entries:0|0:replayed 0;16
+4096 entries:3|0:replayed 3;4096 5=65
+16 entries:4|1:dmlw: 33 PastEntries after 0 entries;
+16 mark:none|1:dmlw: 25 NoSuchMark after 0 entries;
+5 flush|1:dmlw: 27 PastTarget after 0 entries;",
+    )
 }
 
 // Writes of three sectors, of which the flush takes two along; a FUA write that overtakes an earlier one; a flush that overtakes a write, which
@@ -202,61 +207,81 @@ const DISCARD: &[u8] = b"data 16\nlog 32\nw a 1 1 7f\nc a\nd b 1 1\nc b\nf g\nc 
 #[test]
 fn beginnings_of_a_log_are_replayed(rt: HostRuntime) -> Result<(), Fail> {
     let alloc = rt.alloc();
-    let rows: [(&[u8], usize, u64, &str); 14] = [
-        (SPLICE, 64, 0, "0:replayed 0\n64"),
-        (SPLICE, 64, 1, "0:replayed 1\n64 30=51"),
-        (SPLICE, 64, 2, "0:replayed 2\n64 20=34 30=51"),
-        (SPLICE, 64, 3, "0:replayed 3\n64 20=34 30=51"),
-        (SPLICE, 64, 5, "0:replayed 5\n64 10=17 20=34 30=51"),
-        (FUA, 16, 1, "0:replayed 1\n16 5=98"),
-        (FUA, 16, 2, "0:replayed 2\n16 5=97"),
-        (FUA, 16, 4, "0:replayed 4\n16 5=97"),
-        (FLUSH, 16, 1, "0:replayed 1\n16"),
-        (FLUSH, 16, 2, "0:replayed 2\n16 9=99"),
-        (FLUSH, 16, 5, "0:replayed 5\n16 5=97 9=99"),
-        (DISCARD, 16, 1, "0:replayed 1\n16 1=127"),
-        (DISCARD, 16, 2, "0:replayed 2\n16"),
-        (DISCARD, 16, 4, "0:replayed 4\n16"),
-    ];
-    for (script, sectors, count, wanted) in rows {
-        let log = recorded(alloc, script)?;
-        let ran = output_of(alloc, &log, sectors, NAMES, &Upto::Count(count))?;
-        assert_eq!(rt; ran.as_str(), wanted);
-    }
-    Ok(())
+    assert_replays(
+        &rt,
+        alloc,
+        &recorded(alloc, SPLICE)?,
+        "64 entries:0|0:replayed 0;64
+64 entries:1|0:replayed 1;64 30=51
+64 entries:2|0:replayed 2;64 20=34 30=51
+64 entries:3|0:replayed 3;64 20=34 30=51
+64 entries:5|0:replayed 5;64 10=17 20=34 30=51",
+    )?;
+    assert_replays(
+        &rt,
+        alloc,
+        &recorded(alloc, FUA)?,
+        "16 entries:1|0:replayed 1;16 5=98
+16 entries:2|0:replayed 2;16 5=97
+16 entries:4|0:replayed 4;16 5=97",
+    )?;
+    assert_replays(
+        &rt,
+        alloc,
+        &recorded(alloc, FLUSH)?,
+        "16 entries:1|0:replayed 1;16
+16 entries:2|0:replayed 2;16 9=99
+16 entries:5|0:replayed 5;16 5=97 9=99",
+    )?;
+    assert_replays(
+        &rt,
+        alloc,
+        &recorded(alloc, DISCARD)?,
+        "16 entries:1|0:replayed 1;16 1=127
+16 entries:2|0:replayed 2;16
+16 entries:4|0:replayed 4;16",
+    )
 }
 
 #[test]
 fn sectors_of_a_log_may_be_large(rt: HostRuntime) -> Result<(), Fail> {
     let alloc = rt.alloc();
-    let log = large(alloc)?;
-    let ran = output_of(alloc, &log, 16, NAMES, &Upto::Count(1))?;
-    assert_eq!(rt; ran.as_str(), "0:replayed 1\n16 10=1 11=2 12=3 13=4");
-    let ran = output_of(alloc, &log, 13, NAMES, &Upto::Count(1))?;
-    assert_eq!(rt; ran.as_str(), "1:dmlw: 27 PastTarget after 0 entries\n");
-    Ok(())
+    assert_replays(
+        &rt,
+        alloc,
+        &large(alloc)?,
+        "16 entries:1|0:replayed 1;16 10=1 11=2 12=3 13=4
+13 entries:1|1:dmlw: 27 PastTarget after 0 entries;",
+    )
 }
+
+// The names of three words.
+fn names_of(words: &str) -> ReplayNames {
+    let mut words = words.split(' ');
+    ReplayNames {
+        log: words.next().unwrap_or_default(),
+        first: words.next().unwrap_or_default(),
+        out: words.next().unwrap_or_default(),
+    }
+}
+
+// The names of the three files, and what a replay up to the flush did.
+const NAMED: &str = "log first first|0:replayed 2;16 5=65
+log first fixed|1:replayed 2;dmlw: 32 File;
+log first log|1:dmlw: 32 File;
+none first out|1:dmlw: 32 File;
+log none out|1:dmlw: 32 File;
+first first out|1:dmlw: 13 BadMagic;";
 
 #[test]
 fn files_are_refused(rt: HostRuntime) -> Result<(), Fail> {
     let alloc = rt.alloc();
     let log = recorded(alloc, SCRIPT)?;
-    let rows = [
-        ("log", "first", "first", "0:replayed 2\n16 5=65"),
-        ("log", "first", "fixed", "1:replayed 2\ndmlw: 32 File\n"),
-        ("log", "first", "log", "1:dmlw: 32 File\n"),
-        ("none", "first", "out", "1:dmlw: 32 File\n"),
-        ("log", "none", "out", "1:dmlw: 32 File\n"),
-        ("first", "first", "out", "1:dmlw: 13 BadMagic\n"),
-    ];
-    for (log_name, first, out, wanted) in rows {
-        let names = ReplayNames {
-            log: log_name,
-            first,
-            out,
-        };
-        let ran = output_of(alloc, &log, 16, names, &Upto::Flush)?;
-        assert_eq!(rt; ran.as_str(), wanted);
+    for row in NAMED.lines() {
+        let (words, wanted) = row.split_once('|').unwrap_or_default();
+        let mut files = files_of(alloc, &log, 16)?;
+        let ran = output_of(alloc, &mut files, names_of(words), "flush")?;
+        assert_eq!(rt; ran.as_str(), wanted, "{row}");
     }
     Ok(())
 }

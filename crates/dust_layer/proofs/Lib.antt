@@ -3,3 +3,4 @@ mod OrderLaws
 mod Dusting
 mod OnlyGood
 mod ListLaws
+mod Examples

@@ -1,69 +1,18 @@
-ghost use Rattle.std.specs.Prelude.{None};
-
 use dmlw_commands::list::list;
 use dmlw_commands::record::record;
 use dmlw_commands::status::status;
-use dmlw_files::{FileError, Files, Output, Trouble};
+use dmlw_files::{Files, Output};
 use std::alloc::{AllocError, Global};
 use std::io;
 use std::io::Write;
 use std::test::Fail;
+use test_files::{Broken, FIRST, OneFile, Ran};
 
 mod explain;
 mod host;
 mod layers;
 mod lines;
 mod reading;
-
-// The files "script" and "image" can be read, and the file "log" written.
-#[derive(Drop)]
-struct FakeFiles<'a> {
-    bytes: &'a [u8],
-    // How many bytes it takes to hold the file that is read.
-    length: u64,
-    log: Option<Vec<u8>>,
-}
-
-impl<'a> FakeFiles<'a> {
-    fn new(bytes: &'a [u8]) -> FakeFiles<'a> {
-        FakeFiles {
-            bytes,
-            length: bytes.len() as u64,
-            log: None,
-        }
-    }
-}
-
-impl Files for FakeFiles<'_> {
-    ghost contents = { λ _ _. None };
-
-    ghost writes = { λ _. None };
-
-    fn read(&mut self, alloc: Global, name: &str, limit: u64) -> Result<Vec<u8>, FileError> {
-        let is_known = name == "script" || name == "image";
-        if !is_known || self.length.max(self.bytes.len() as u64) > limit {
-            return Err(FileError::Unusable);
-        }
-        Vec::from_slice(alloc, self.bytes).map_err(|_| FileError::Memory)
-    }
-
-    fn write(&mut self, alloc: Global, name: &str, bytes: &[u8]) -> Result<(), FileError> {
-        if name != "log" {
-            return Err(FileError::Unusable);
-        }
-        let bytes = Vec::from_slice(alloc, bytes).map_err(|_| FileError::Memory)?;
-        self.log = Some(bytes);
-        Ok(())
-    }
-
-    fn trouble(&self) -> Option<&Trouble> {
-        None
-    }
-
-    fn is_same(&self, first: &str, second: &str) -> bool {
-        first == second
-    }
-}
 
 // A writer that has room for so many bytes.
 #[derive(Drop)]
@@ -80,20 +29,6 @@ impl Write for Narrow {
 
     fn flush(&mut self) -> io::Result<()> {
         Ok(())
-    }
-}
-
-// A writer that takes what it is given, and can't be flushed.
-#[derive(Drop)]
-struct Unflushed;
-
-impl Write for Unflushed {
-    fn write(&mut self, buf: &[u8]) -> io::Result<usize> {
-        Ok(buf.len())
-    }
-
-    fn flush(&mut self) -> io::Result<()> {
-        Err(io::Error::from(io::ErrorKind::Other))
     }
 }
 
@@ -159,26 +94,8 @@ fn execute<F: Files, O: Write, E: Write>(
     ended.exit.status()
 }
 
-// What a command did.
-#[derive(Debug, Drop)]
-struct Ran {
-    status: u8,
-    out: Vec<u8>,
-    err: Vec<u8>,
-    log: Option<Vec<u8>>,
-}
-
-impl Ran {
-    // The status, and what was printed.
-    fn is(&self, status: u8, out: &str, err: &str) -> bool {
-        self.status == status
-            && self.out.as_slice() == out.as_bytes()
-            && self.err.as_slice() == err.as_bytes()
-    }
-}
-
 fn run(alloc: Global, words: &[&str], bytes: &[u8]) -> Ran {
-    let mut files = FakeFiles::new(bytes);
+    let mut files = OneFile::new(bytes);
     let mut out = Vec::new(alloc);
     let mut err = Vec::new(alloc);
     let status = execute(alloc, words, &mut files, &mut out, &mut err);
@@ -205,8 +122,6 @@ fn image(alloc: Global, pieces: &[(usize, &[u8])]) -> Result<Vec<u8>, AllocError
     image.resize(16_384, 0)?;
     Ok(image)
 }
-
-const FIRST: &str = "data 16\nlog 32\nw a 5 1 41\nc a\nf b\nc b\nclose\n";
 
 // The front of a super block: the magic number and the version.
 const SUPER: &[u8] = b"rhswfsj\0\x01\0\0\0\0\0\0\0";
@@ -376,7 +291,7 @@ fn refuses_files(rt: HostRuntime) -> Result<(), Fail> {
 fn refuses_a_full_output(rt: HostRuntime) -> Result<(), Fail> {
     let alloc = rt.alloc();
     for room in 0..14 {
-        let mut files = FakeFiles::new(FIRST.as_bytes());
+        let mut files = OneFile::new(FIRST.as_bytes());
         let mut err = Vec::new(alloc);
         let words = ["dmlw", "record", "script", "log"];
         let status = execute(alloc, &words, &mut files, &mut Narrow { room }, &mut err);
@@ -401,10 +316,14 @@ fn refuses_an_output_that_cannot_be_flushed(rt: HostRuntime) -> Result<(), Fail>
         } else {
             ("image", log.as_slice())
         };
-        let mut files = FakeFiles::new(bytes);
+        let mut files = OneFile::new(bytes);
+        let mut out = Broken {
+            takes: true,
+            kind: io::ErrorKind::Other,
+        };
         let mut err = Vec::new(alloc);
         let words = ["dmlw", command, name, "log"];
-        let code = execute(alloc, &words, &mut files, &mut Unflushed, &mut err);
+        let code = execute(alloc, &words, &mut files, &mut out, &mut err);
         assert!(rt; code == 1 && files.log.is_none(), "{command}");
         assert!(rt;
             err.as_slice() == b"dmlw: 32 File\n".as_slice(),
@@ -421,7 +340,7 @@ fn goes_on_where_nobody_reads(rt: HostRuntime) {
     for room in 0..14 {
         for kind in [io::ErrorKind::BrokenPipe, io::ErrorKind::StorageFull] {
             let is_pipe = kind == io::ErrorKind::BrokenPipe;
-            let mut files = FakeFiles::new(FIRST.as_bytes());
+            let mut files = OneFile::new(FIRST.as_bytes());
             let mut err = Vec::new(alloc);
             let mut out = Output::new(Failing { room, kind });
             let words = ["dmlw", "record", "script", "log"];
@@ -442,7 +361,7 @@ fn goes_on_where_nobody_reads(rt: HostRuntime) {
 
 #[test]
 fn tells_a_fault_in_one_write(rt: HostRuntime) {
-    let mut files = FakeFiles::new(b"data 16\nlog 32\nno\n".as_slice());
+    let mut files = OneFile::new(b"data 16\nlog 32\nno\n".as_slice());
     let mut err = Counted { writes: 0 };
     let mut out = Vec::new(rt.alloc());
     let words = ["dmlw", "record", "script", "log"];

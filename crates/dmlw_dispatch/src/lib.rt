@@ -15,5 +15,3 @@ pub mod laws;
 mod name;
 mod program;
 mod task;
-#[cfg(test)]
-mod tests;

@@ -1,11 +1,11 @@
 ghost use Rattle.std.specs.Prelude.{None};
 
-use crate::writers::{Broken, Buffered, push_lines};
 use dmlw_files::{FileError, Files, Trouble};
 use dmlw_judge::judge;
 use std::alloc::{AllocError, Global};
 use std::io;
 use std::test::Fail;
+use test_files::{Broken, Buffered, push_lines};
 
 mod headline;
 

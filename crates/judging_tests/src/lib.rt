@@ -6,5 +6,3 @@
 mod judging;
 #[cfg(test)]
 mod replaying;
-#[cfg(test)]
-mod writers;

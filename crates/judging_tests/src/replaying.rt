@@ -1,6 +1,5 @@
 ghost use Rattle.std.specs.Prelude.{None};
 
-use crate::writers::push_lines;
 use dmlw_commands::record::record;
 use dmlw_explain::ReplayNames;
 use dmlw_files::{FileError, Files, Trouble};
@@ -8,6 +7,7 @@ use dmlw_replay::{replay, upto_of};
 use std::alloc::Global;
 use std::process::Abort;
 use std::test::Fail;
+use test_files::push_lines;
 
 mod telling;
 

@@ -3,15 +3,11 @@ ghost use Rattle.sector_disk.specs.Shown.{shown_of};
 
 use bio::{DevError, Ms};
 use blockdev::BlockDev;
-use failing::Failing;
-use lying::Lying;
 use sector_disk::SectorDisk;
 use std::alloc::Global;
 use std::process::Abort;
 use std::test::Fail;
-
-mod failing;
-mod lying;
+use test_devices::{Failing, Lying};
 
 // Crashes of a disk of 8 sectors of zeroes, a line each. `w31` writes 1s to sector 3, `F31` does with FUA, `d32`
 // discards 2 sectors from sector 3 on, `f` flushes, `c12` crashes with the picks 1 and 2, and `=` says what each
@@ -253,20 +249,13 @@ fn the_device_laws_hold() {
 #[test]
 fn devices_lie_and_fail(rt: HostRuntime) -> Result<(), Fail> {
     let now = Ms::new(3);
-    let mut lying = Lying {
-        lower: SectorDisk::new(rt.alloc(), 1)?,
-        lies: 0,
-    };
+    let mut lying = Lying::new(SectorDisk::new(rt.alloc(), 1)?);
     assert_eq!(rt; lying.sectors(), 1);
     assert_eq!(rt; lying.write(now, 0, &[1; 512], true), Ok(now));
     assert_eq!(rt; lying.flush(now), Ok(now));
     assert_eq!(rt; (lying.faults(), lying.lies()), (0, 2));
     check_sector(&rt, &mut lying.lower, 0, b'0', "a write that was lost");
-    let mut failing = Failing {
-        lower: SectorDisk::new(rt.alloc(), 1)?,
-        left: 1,
-        faults: 0,
-    };
+    let mut failing = Failing::in_changes(SectorDisk::new(rt.alloc(), 1)?, 1);
     assert_eq!(rt; failing.sectors(), 1);
     assert_eq!(rt; failing.write(now, 0, &[1; 512], false), Ok(now));
     assert_eq!(rt; failing.write(now, 0, &[2; 512], false), Err(DevError::Io));

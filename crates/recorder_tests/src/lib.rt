@@ -8,5 +8,3 @@ mod recording;
 mod replaying;
 #[cfg(test)]
 mod storing;
-#[cfg(test)]
-mod watched;

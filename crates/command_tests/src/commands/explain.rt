@@ -1,9 +1,10 @@
 // What `--explain` adds.
-use super::{FIRST, recorded, run};
+use super::{recorded, run};
 use dmlw_commands::record::record;
 use dmlw_files::HostFiles;
 use std::alloc::{AllocError, Global};
 use std::test::Fail;
+use test_files::FIRST;
 
 // What is told of a script's recording, after the line of its fault.
 fn explained(alloc: Global, script: &[u8]) -> Result<String, AllocError> {

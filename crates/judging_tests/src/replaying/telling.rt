@@ -1,10 +1,10 @@
 // Damaged logs, what helps, outputs that fail, and a large image.
 use super::{NAMES, SCRIPT, assert_replays, files_of, names_of, output_of, recorded};
-use crate::writers::{Broken, push_lines};
 use dmlw_replay::{replay, upto_of};
 use replay::Upto;
 use std::io;
 use std::test::Fail;
+use test_files::{Broken, push_lines};
 
 // A log that was cut behind its second entry: what stands before that is replayed, and no more. One that was cut before it isn't opened.
 #[test]
@@ -110,21 +110,6 @@ fn outputs_may_fail(rt: HostRuntime) -> Result<(), Fail> {
 #[test]
 fn large_images_are_replayed(rt: HostRuntime) -> Result<(), Fail> {
     let alloc = rt.alloc();
-    let mut files = files_of(alloc, &recorded(alloc, SCRIPT)?, 65_536)?;
-    let mut out = Vec::new(alloc);
-    let mut err = Vec::new(alloc);
-    let ended = replay(
-        alloc,
-        false,
-        NAMES,
-        &Upto::Flush,
-        &mut files,
-        &mut out,
-        &mut err,
-    );
-    assert!(rt; ended.exit.status() == 0 && err.is_empty());
-    let image = files.written.take().ok_or("an image")?;
-    assert_eq!(rt; image.len(), 65_536 * 512);
-    assert_eq!(rt; image.get(5 * 512), Some(&65));
-    Ok(())
+    let log = recorded(alloc, SCRIPT)?;
+    assert_replays(&rt, alloc, &log, "65536 flush|0:replayed 2;65536 5=65")
 }

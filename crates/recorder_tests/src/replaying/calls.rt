@@ -1,5 +1,4 @@
 use super::{disk_of, image_of, number_of, upto_of};
-use crate::watched::Watched;
 use log_reader::LogReader;
 use refusals::Refusal;
 use replay::{ReplayFault, Upto, replay};
@@ -7,12 +6,13 @@ use sector_disk::SectorDisk;
 use std::alloc::{AllocError, Global};
 use std::process::Abort;
 use std::test::Fail;
+use test_devices::{Failing, Watched};
 
 // A replay's log and its target, each on a device that notes its calls.
 #[derive(Drop)]
 struct Pair {
-    log: LogReader<Watched<SectorDisk>>,
-    target: Watched<SectorDisk>,
+    log: LogReader<Watched<Failing<SectorDisk>>>,
+    target: Watched<Failing<SectorDisk>>,
 }
 
 // The log of an image of so many bytes, and a target of so many sectors of zeroes; each passes so many calls.
@@ -24,11 +24,14 @@ fn pair_of(
     sectors: u64,
     passes: u64,
 ) -> Result<Pair, Fail> {
-    let disk = Watched::new(alloc, disk_of(rt, alloc, image)?, log_passes);
+    let disk = Failing::in_calls(disk_of(rt, alloc, image)?, log_passes);
     let target = SectorDisk::new(alloc, sectors.clamp(1, 1_048_576))?;
+    let target = Failing::in_calls(target, passes);
     Ok(Pair {
-        log: LogReader::open(alloc, disk).ok().expect(rt, "a log"),
-        target: Watched::new(alloc, target, passes),
+        log: LogReader::open(alloc, Watched::new(alloc, disk))
+            .ok()
+            .expect(rt, "a log"),
+        target: Watched::new(alloc, target),
     })
 }
 

@@ -4,15 +4,25 @@ ghost use Rattle.blockdev.specs.Counted.{counted, lawful_counted};
 use bio::{DevError, Ms};
 use blockdev::BlockDev;
 
-/// A device that passes so many writes, discards and flushes, and answers Io to each later one. Reads pass.
+/// A device that passes so many writes, discards and flushes, and does each later one too, but answers Io.
 #[derive(Drop)]
-pub struct Failing<D: BlockDev + Drop> {
+pub struct Nasty<D: BlockDev + Drop> {
     pub lower: D,
-    pub left: u64,
-    pub faults: u64,
+    left: u64,
+    faults: u64,
 }
 
-impl<D: BlockDev + Drop> BlockDev for Failing<D> {
+impl<D: BlockDev + Drop> Nasty<D> {
+    pub fn new(lower: D, passes: u64) -> Nasty<D> {
+        Nasty {
+            lower,
+            left: passes,
+            faults: 0,
+        }
+    }
+}
+
+impl<D: BlockDev + Drop> BlockDev for Nasty<D> {
     ghost shown = { λ device. counted (D.shown device.lower) device.faults 0 false };
 
     ghost does = { λ _ _ _ _ _. Unit {0} };
@@ -26,30 +36,33 @@ impl<D: BlockDev + Drop> BlockDev for Failing<D> {
     }
 
     fn write(&mut self, now: Ms, first: u64, bytes: &[u8], fua: bool) -> Result<Ms, DevError> {
+        let ended = self.lower.write(now, first, bytes, fua)?;
         if self.left == 0 {
             self.faults = self.faults.saturating_add(1);
             return Err(DevError::Io);
         }
         self.left -= 1;
-        self.lower.write(now, first, bytes, fua)
+        Ok(ended)
     }
 
     fn discard(&mut self, now: Ms, first: u64, count: u64) -> Result<Ms, DevError> {
+        let ended = self.lower.discard(now, first, count)?;
         if self.left == 0 {
             self.faults = self.faults.saturating_add(1);
             return Err(DevError::Io);
         }
         self.left -= 1;
-        self.lower.discard(now, first, count)
+        Ok(ended)
     }
 
     fn flush(&mut self, now: Ms) -> Result<Ms, DevError> {
+        let ended = self.lower.flush(now)?;
         if self.left == 0 {
             self.faults = self.faults.saturating_add(1);
             return Err(DevError::Io);
         }
         self.left -= 1;
-        self.lower.flush(now)
+        Ok(ended)
     }
 
     fn faults(&self) -> u64 {

@@ -8,7 +8,13 @@ use blockdev::BlockDev;
 #[derive(Drop)]
 pub struct Lying<D: BlockDev + Drop> {
     pub lower: D,
-    pub lies: u64,
+    lies: u64,
+}
+
+impl<D: BlockDev + Drop> Lying<D> {
+    pub fn new(lower: D) -> Lying<D> {
+        Lying { lower, lies: 0 }
+    }
 }
 
 impl<D: BlockDev + Drop> BlockDev for Lying<D> {

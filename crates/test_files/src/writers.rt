@@ -1,4 +1,3 @@
-// Writers of tests, and what was told to one.
 use std::alloc::AllocError;
 use std::io;
 use std::io::Write;

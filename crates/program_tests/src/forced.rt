@@ -1,9 +1,10 @@
 // Generated scripts under layers, crashed at each of their lines: the log that is found lists with no fault, and where no hazard was told each beginning
 // of it replays to an image of which the verdict is yes at one of the moments at least.
-use super::doing::{Folder, output_of};
+use crate::doing::{Folder, output_of};
 use std::alloc::{AllocError, Global};
 use std::process::Abort;
 use std::test::Fail;
+use test_files::Numbers;
 
 // The heads of scripts: their disks, and layers that fail calls and tell no lie.
 const HEADS: [&str; 7] = [
@@ -20,22 +21,6 @@ const HEADS: [&str; 7] = [
 const SECTORS: u64 = 6;
 
 const LINES: u64 = 12;
-
-// Numbers that look like those of a die, from a seed on.
-#[derive(Drop)]
-struct Numbers {
-    state: u64,
-}
-
-impl Numbers {
-    // The next one, below this one.
-    fn below(&mut self, count: u64) -> u64 {
-        self.state ^= self.state << 13;
-        self.state ^= self.state >> 7;
-        self.state ^= self.state << 17;
-        (self.state >> 20) % count.max(1)
-    }
-}
 
 // A line that submits the request of a number.
 fn submission(alloc: Global, numbers: &mut Numbers, id: u64) -> Result<String, AllocError> {
@@ -162,9 +147,7 @@ fn crashes_leave_beginnings_that_are_judged_possible(rt: HostRuntime) -> Result<
         beginnings: 0,
     };
     for seed in 1..=24 {
-        let mut numbers = Numbers {
-            state: (seed as u64).wrapping_mul(0x9e37_79b9_7f4a_7c15) | 1,
-        };
+        let mut numbers = Numbers::new(seed as u64);
         let head = HEADS.get(seed % HEADS.len()).copied().unwrap_or_default();
         let lines = lines_of(alloc, &mut numbers)?;
         for count in 0..=lines.len() {

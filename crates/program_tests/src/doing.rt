@@ -1,10 +1,10 @@
 ghost use Rattle.std.specs.Prelude.{None};
 
-use super::FIRST;
-use crate::executing::execute;
+use dmlw_dispatch::execute;
 use dmlw_files::{FileError, Files, Trouble};
 use std::alloc::{AllocError, Global};
 use std::test::Fail;
+use test_files::{FIRST, push_lines};
 
 // A file of a test.
 #[derive(Debug, Drop)]
@@ -121,21 +121,10 @@ pub fn output_of(alloc: Global, line: &str, folder: &mut Folder) -> Result<Strin
     let ended = execute(alloc, &words, folder, &mut out, &mut err);
     let mut told = ended.exit.status().to_string(alloc)?;
     told.push('|')?;
-    push_shown(&out, &mut told)?;
+    push_lines(&mut told, &out)?;
     told.push('|')?;
-    push_shown(&err, &mut told)?;
+    push_lines(&mut told, &err)?;
     Ok(told)
-}
-
-fn push_shown(bytes: &[u8], told: &mut String) -> Result<(), AllocError> {
-    for byte in bytes {
-        told.push(if *byte == b'\n' {
-            ';'
-        } else {
-            char::from(*byte)
-        })?;
-    }
-    Ok(())
 }
 
 // Command lines after one another, and what each tells. The events of the script are the write's submission and end, the flush's, and the

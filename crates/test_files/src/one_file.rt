@@ -1,0 +1,56 @@
+ghost use Rattle.std.specs.Prelude.{None};
+
+use dmlw_files::{FileError, Files, Trouble};
+use std::alloc::Global;
+
+/// Files of which "script" and "image" can be read, which hold the same, and "log" can be written.
+#[derive(Drop)]
+pub struct OneFile<'a> {
+    bytes: &'a [u8],
+    /// How many bytes it takes to hold the file that is read.
+    pub length: u64,
+    /// What was written.
+    pub log: Option<Vec<u8>>,
+}
+
+impl<'a> OneFile<'a> {
+    /// Files that hold these bytes, and take as many to hold.
+    pub fn new(bytes: &'a [u8]) -> OneFile<'a> {
+        OneFile {
+            bytes,
+            length: bytes.len() as u64,
+            log: None,
+        }
+    }
+}
+
+impl Files for OneFile<'_> {
+    ghost contents = { λ _ _. None };
+
+    ghost writes = { λ _. None };
+
+    fn read(&mut self, alloc: Global, name: &str, limit: u64) -> Result<Vec<u8>, FileError> {
+        let is_known = name == "script" || name == "image";
+        if !is_known || self.length.max(self.bytes.len() as u64) > limit {
+            return Err(FileError::Unusable);
+        }
+        Vec::from_slice(alloc, self.bytes).map_err(|_| FileError::Memory)
+    }
+
+    fn write(&mut self, alloc: Global, name: &str, bytes: &[u8]) -> Result<(), FileError> {
+        if name != "log" {
+            return Err(FileError::Unusable);
+        }
+        let bytes = Vec::from_slice(alloc, bytes).map_err(|_| FileError::Memory)?;
+        self.log = Some(bytes);
+        Ok(())
+    }
+
+    fn trouble(&self) -> Option<&Trouble> {
+        None
+    }
+
+    fn is_same(&self, first: &str, second: &str) -> bool {
+        first == second
+    }
+}

@@ -61,7 +61,7 @@ cannot_size = inr (λ size. let same = same_number 0 512 size in omega arith)
 no_events : (plan : Plan) (events : List CoreEvent) → plan.commands ≡ [] → IsRehearsed plan events → events ≡ []
 no_events plan events none rehearsed =
     let ran = subst (λ cs. RunsLines stack_answering plan.names cs rehearsed.text rehearsed.start rehearsed.last) none rehearsed.ran in
-    rehearsed.recorded ∙ ap (λ (r : DiskRun). r.recorder.core.events) ran.1 ∙ ap (λ core. core.events) rehearsed.starts.log_disk.core
+    rehearsed.recorded ∙ ap (λ (r : DiskRun). r.recorder.core.events) ran.1 ∙ ap (λ core. core.events) rehearsed.starts.log_disk.begun.core
 
 -- so its moment 1 isn't judged
 judged_later : (plan : Plan) (image : List ℕ) (verdict : Verdict) → plan.commands ≡ [] → IsJudged plan 1 image verdict → ⊥
@@ -127,7 +127,7 @@ among_none (first ∷ before) rest line split = cc
 -- the run of a script of no lines fails at no line, and by no moment
 fails_nowhere : (bytes : List ℕ) (plan : Plan) (fault : RunError) → plan.commands ≡ [] → FailsOnDisks bytes plan None None fault → line_of fault ≡ None
 fails_nowhere bytes plan fault none (disk_file f is) = file_line f is
-fails_nowhere bytes plan fault none (unmade f is keeps) = ap line_of is.ends_by
+fails_nowhere bytes plan fault none (unmade f is keeps) = ap line_of is.refused.ends_by
 fails_nowhere bytes plan fault none (disk_run start f starts (close place refusal printed refuses grew)) =
     absurd (among_none refuses.before refuses.rest _ (sym none ∙ refuses.split))
 fails_nowhere bytes plan fault none (disk_run start f starts (message place error printed refuses grew)) =
@@ -141,7 +141,7 @@ file_told fault (inr is) bad = let same : refusals.Memory ≡ refusals.BadMoment
 fails_otherwise : (bytes : List ℕ) (plan : Plan) (fault : RunError) → plan.commands ≡ [] → FailsOnDisks bytes plan None None fault
     → told fault ≡ refusals.BadMoment → ⊥
 fails_otherwise bytes plan fault none (disk_file f is) bad = file_told f is bad
-fails_otherwise bytes plan fault none (unmade f is keeps) bad = let same : refusals.File ≡ refusals.BadMoment = ap told (sym is.ends_by) ∙ bad in cc
+fails_otherwise bytes plan fault none (unmade f is keeps) bad = let same : refusals.File ≡ refusals.BadMoment = ap told (sym is.refused.ends_by) ∙ bad in cc
 fails_otherwise bytes plan fault none (disk_run start f starts (close place refusal printed refuses grew)) bad =
     among_none refuses.before refuses.rest _ (sym none ∙ refuses.split)
 fails_otherwise bytes plan fault none (disk_run start f starts (message place error printed refuses grew)) bad =

@@ -226,6 +226,6 @@ pub run_lawful : (plan : Plan) (text : List ℕ) (start last : DiskRun) → IsPl
     → is_well_formed last.recorder.core.events ≡ true → is_lawful (top_of plan.data_disk) last.recorder.core.events ≡ true
 run_lawful plan text start last is starts ran well_formed =
     let none : AreWithin (top_of plan.data_disk) start.recorder.core.events =
-    subst (λ (c : CoreState). AreWithin (top_of plan.data_disk) c.events) (sym starts.log_disk.core) (λ place. refl) in
+    subst (λ (c : CoreState). AreWithin (top_of plan.data_disk) c.events) (sym starts.log_disk.begun.core) (λ place. refl) in
     let within = lines_within stack_answering (top_of plan.data_disk) plan.names [] plan.commands text start last is.well_formed ran none in
     well_formed-lawful (top_of plan.data_disk) last.recorder.core.events well_formed (λ place here. within place)

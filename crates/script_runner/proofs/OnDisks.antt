@@ -1,10 +1,11 @@
 -- The start of a run on disks in memory, and what its log's disk holds at the end.
-use Rattle.std.proofs.Common.{◌≡◌, ◌∙◌, ◌⊎◌, ◌*◌, ◌+◌, ℕ, Option, None, Some, List, [], ◌∷◌, false, length, refl, sym, ap, subst, inl, inr, arith}
+use Rattle.std.proofs.Common.{◌≡◌, ◌∙◌, ◌⊎◌, ◌*◌, ◌+◌, ℕ, IfErr, IfOk, Result, Err, Ok, Option, None, Some, List, [], ◌∷◌, false, length, refl, sym, ap, subst, inl, inr, arith}
 use Rattle.std.proofs.Math.Nat.{mul-div_cancel}
 use Rattle.script_runner.specs.CallLaws.{keeps_same}
 use Rattle.bio.specs.declared.outcome.Status.{Status}
 use Rattle.bio.specs.Lawful.{has_no_close}
 use Rattle.sectors.specs.Content.{AgreeBelow, Content, sector_of, writes}
+use Rattle.blockdev.specs.declared.device.BlockDev.{Ghosts}
 use Rattle.blockdev.specs.Law.{Goes}
 use Rattle.blockdev.specs.View.{Place}
 use Rattle.layer_table.specs.declared.stack.Stack.{Stack}
@@ -30,11 +31,13 @@ use Rattle.pending.specs.CoreState.{CoreState, new_state}
 use Rattle.pending.specs.declared.hazard.Hazard.{Hazard}
 use Rattle.pending.specs.Hazards.{first_hazard}
 use Rattle.pending.specs.QueueEvent.{recorded}
+use Rattle.recorder.specs.declared.recorder.Recorder.{Recorder}
 use Rattle.recorder.specs.Growth.{HasWholeLog, RecorderGoes}
 use Rattle.recorder.specs.Recording.{log_of}
 use Rattle.recorder.specs.Replayed.{ReplaysToWhatCouldBe}
 use Rattle.recorder.specs.Shown.{recording_of}
 use Rattle.script_runner.specs.declared.error.RunError.{RunError}
+use Rattle.script_runner.specs.Begun.{IsNewOn, IsUnmadeOn}
 use Rattle.script_runner.specs.Errors.{memory_error}
 use Rattle.script_runner.specs.OnDisks.{DiskRecorder, DiskRun, FailsOnDisks, IsCounted, IsNew, IsRecorded, IsStackOf, IsUnmade, Starts, file, left_on, on_stack, seen_on, stack_answering, unmade, zeroes}
 use Rattle.dmlw_script.specs.Plans.{top_of, Disk, IsDisk, Plan}
@@ -87,21 +90,37 @@ stack_place : (disk : Disk) (stack : Stack) → IsStackOf disk stack
     → (stack_shown stack).place ≡ record { origin = top_origin 0 disk.layers; disk = disk.sectors }
 stack_place disk stack is = is.over.place ∙ ap (λ (n : ℕ). record { origin = top_origin 0 disk.layers; disk = n }) is.blank.size
 
--- a recorder over a log that was made on the top of a disk of zeroes is new
-pub new_log : (disk : Disk) (stack : Stack) (store : LogStore Stack on_stack) (recorder : DiskRecorder) → IsStackOf disk stack
-    → store.placed ≡ 0 → Goes (writes 0 (first_sector 512 0)) (stack_shown stack) (stack_shown store.device)
-    → ((stack_shown store.device).lies ≡ 0 → (left : Content) → (stack_shown store.device).crash left → IsLogOf (stack_shown store.device).size left 512 [])
-    → (recorder.core ≡ new_state) × (recorder.store ≡ store) × (recorder.end ≡ None) → IsNew disk recorder
-new_log disk stack store recorder blank none goes empty (core, same, end) = record {
+-- a recorder over a log that was made on a device is new
+pub new_log : {L : Type 0} {l : Ghosts L} (device : L) (store : LogStore L l) (recorder : Recorder L l)
+    → store.placed ≡ 0 → Goes (writes 0 (first_sector 512 0)) (l.shown device) (l.shown store.device)
+    → ((l.shown store.device).lies ≡ 0 → (left : Content) → (l.shown store.device).crash left → IsLogOf (l.shown store.device).size left 512 [])
+    → (recorder.core ≡ new_state) × (recorder.store ≡ store) × (recorder.end ≡ None) → IsNewOn device recorder
+new_log {L} {l} device store recorder none goes empty (core, same, end) = record {
   core = core;
   end = end;
-  placed = ap (λ (s : LogStore Stack on_stack). s.placed) same ∙ none;
-  stack = stack;
-  blank = blank;
-  made = subst (λ (s : LogStore Stack on_stack). Goes (writes 0 (first_sector 512 0)) (stack_shown stack) (stack_shown s.device)) (sym same) goes;
-  empty = subst (λ (s : LogStore Stack on_stack). (stack_shown s.device).lies ≡ 0 → (left : Content) → (stack_shown s.device).crash left → IsLogOf (top_of disk) left 512 [])
-      (sym same) (λ told left may. subst (λ (n : ℕ). IsLogOf n left 512 []) (goes.size ∙ stack_size disk stack blank) (empty told left may));
+  placed = ap (λ (s : LogStore L l). s.placed) same ∙ none;
+  made = subst (λ (s : LogStore L l). Goes (writes 0 (first_sector 512 0)) (l.shown device) (l.shown s.device)) (sym same) goes;
+  empty = subst (λ (s : LogStore L l). (l.shown s.device).lies ≡ 0 → (left : Content) → (l.shown s.device).crash left → IsLogOf (l.shown s.device).size left 512 [])
+      (sym same) empty;
 }
+
+-- a run that starts on a stack for the log and one for the data
+pub starts_on : (plan : Plan) (log : Stack) (result : Result DiskRun RunError) → IsStackOf plan.log_disk log → IfOk result (λ run. IsNewOn log run.recorder)
+    → IfOk result (λ run. IsStackOf plan.data_disk run.disk × (run.requests.items ≡ []) × (run.moment ≡ 0)) → IfOk result (Starts plan)
+starts_on plan log (Err fault) blank begun rest = tt
+starts_on plan log (Ok run) blank begun (data_disk, none, moment) = record {
+  data_disk = data_disk;
+  log_disk = record { stack = log; blank = blank; begun = begun };
+  none = none;
+  moment = moment;
+}
+
+-- a run that can't be started on such a stack
+pub not_on : (plan : Plan) (log : Stack) (result : Result DiskRun RunError) → IsStackOf plan.log_disk log
+    → IfErr result (λ fault. (fault ≡ memory_error) ⊎ IsUnmadeOn on_stack log fault) → IfErr result (λ fault. (fault ≡ memory_error) ⊎ IsUnmade plan.log_disk fault)
+not_on plan log (Ok run) blank fails = tt
+not_on plan log (Err fault) blank (inl memory) = inl memory
+not_on plan log (Err fault) blank (inr refused) = inr (record { stack = log; blank = blank; refused = refused })
 
 -- a run that can't be started fails, and has printed nothing
 pub fails_to_start : (text : List ℕ) (plan : Plan) (known : Option (List ℕ)) (fault : RunError) → (fault ≡ memory_error) ⊎ IsUnmade plan.log_disk fault
@@ -139,7 +158,7 @@ same_lies lies over_data over_log here there = rw (sym here, sym there) refl
 
 -- nothing has to be placed where nothing is recorded
 new_written : (disk : Disk) (recorder : DiskRecorder) → IsNew disk recorder → IsWritten recorder
-new_written disk recorder new = λ closed on. absurd (let recording = ap (λ (c : CoreState). has_no_close c.events) new.core in cc)
+new_written disk recorder new = λ closed on. absurd (let recording = ap (λ (c : CoreState). has_no_close c.events) new.begun.core in cc)
 
 -- what a script's recording leaves
 pub is_recorded : (plan : Plan) (text : List ℕ) (start last : DiskRun) (log : Stack) (hazard : Option Hazard) (status : Status) (lies : Lies) (image : List ℕ) (picks : Option (List ℕ))
@@ -161,9 +180,9 @@ pub is_recorded : (plan : Plan) (text : List ℕ) (start last : DiskRun) (log : 
 is_recorded plan text start last log hazard status lies image picks starts ran goes first counted tells same lied count ending bytes reopens whole =
     let device = last.recorder.store.device in
     let new = starts.log_disk in
-    let size : (stack_shown device).size ≡ top_of plan.log_disk = goes.size ∙ new.made.size ∙ stack_size plan.log_disk new.stack new.blank in
+    let size : (stack_shown device).size ≡ top_of plan.log_disk = goes.size ∙ new.begun.made.size ∙ stack_size plan.log_disk new.stack new.blank in
     let place : (stack_shown device).place ≡ record { origin = top_origin 0 plan.log_disk.layers; disk = plan.log_disk.sectors } =
-    goes.place ∙ new.made.place ∙ stack_place plan.log_disk new.stack new.blank in
+    goes.place ∙ new.begun.made.place ∙ stack_place plan.log_disk new.stack new.blank in
     let part = part_of_disk device in
     let sectors : (shown_of (disk_of device)).size ≡ plan.log_disk.sectors = sym part.disk ∙ ap (λ (p : Place). p.disk) place in
     let here : AgreeBelow (shown_of (disk_of device)).size (left_on plan.ending (disk_of device)) (sector_of image) =
@@ -186,7 +205,7 @@ is_recorded plan text start last log hazard status lies image picks starts ran g
       lied = told;
       honest = λ none.
           let below = new.blank.over.can_lie none in
-          ap (λ (l : Lies). l.log_disk) told ∙ goes.honest (new.made.can_lie ∙ below) ∙ new.made.honest below ∙ new.blank.over.lies;
+          ap (λ (l : Lies). l.log_disk) told ∙ goes.honest (new.begun.made.can_lie ∙ below) ∙ new.begun.made.honest below ∙ new.blank.over.lies;
       size = subst (λ (s : Stack). length image ≡ 512 * (shown_of (disk_of s)).size) same count ∙ ap (λ (n : ℕ). 512 * n) sectors;
       bytes = agree;
       beginning = λ none.

@@ -26,6 +26,7 @@ pub mod Lines
 pub mod Runs
 pub mod Written
 pub mod Followed
+pub mod Begun
 pub mod OnDisks
 pub mod Rehearsals
 pub mod inside

@@ -1,28 +1,20 @@
 -- What recording a script on two disks in memory, each under its layers, comes to.
-use Rattle.std.specs.Prelude.{◌≡◌, ℕ, ◌*◌, ◌+◌, ◌<◌, true, false, Err, List, [], length, replicate, Option, None, Some}
+use Rattle.std.specs.Prelude.{◌≡◌, ℕ, ◌*◌, ◌+◌, ◌<◌, false, List, [], length, replicate, Option, None, Some}
 use Rattle.std.specs.Io.KnownBytes.{Keeps}
-use Rattle.bio.specs.Causes.{end_cause}
-use Rattle.bio.specs.declared.outcome.DevError.{DevError}
-use Rattle.bio.specs.declared.outcome.DevError.TheVariants.{Io}
 use Rattle.bio.specs.declared.outcome.Status.{Status}
 use Rattle.bio.specs.Lawful.{has_no_close}
-use Rattle.sectors.specs.Content.{AgreeBelow, Content, moved, sector_of, writes}
+use Rattle.sectors.specs.Content.{AgreeBelow, Content, moved, sector_of}
 use Rattle.blockdev.specs.declared.device.BlockDev.{Ghosts}
-use Rattle.blockdev.specs.Calls.{Writes}
-use Rattle.blockdev.specs.Law.{Goes}
 use Rattle.sector_disk.specs.declared.disk.SectorDisk.{SectorDisk}
 use Rattle.sector_disk.specs.Candidates.{left_by}
 use Rattle.sector_disk.specs.Shown.{cache_of, shown_of}
 use Rattle.sector_disk.specs.Sizes.{Begins}
 use Rattle.log_format.specs.LogOf.{IsLogOf, status_of}
-use Rattle.log_format.specs.Placing.{first_sector}
 use Rattle.layer_table.specs.declared.stack.Stack.{Stack}
 use Rattle.layer_table.specs.Layers.{disk_of, layers_of, layers_under, stack_does, stack_shown, AreOver}
 use Rattle.table_line.specs.Standing.{some_drops, top_origin}
-use Rattle.log_store.specs.Calls.{HasFaulted}
 use Rattle.log_store.specs.Shown.{store_of}
 use Rattle.log_store.specs.Store.{entries_of}
-use Rattle.pending.specs.CoreState.{new_state}
 use Rattle.pending.specs.declared.hazard.Hazard.{Hazard}
 use Rattle.pending.specs.Hazards.{first_hazard}
 use Rattle.pending.specs.QueueEvent.{recorded}
@@ -32,7 +24,7 @@ use Rattle.recorder.specs.Recording.{log_of}
 use Rattle.recorder.specs.Replayed.{ReplaysToWhatCouldBe}
 use Rattle.recorder.specs.Shown.{recording_of}
 use Rattle.script_runner.specs.declared.error.RunError.{RunError}
-use Rattle.script_runner.specs.declared.error.RunError.TheVariants.{LoggingEnded}
+use Rattle.script_runner.specs.Begun.{IsNewOn, IsUnmadeOn}
 use Rattle.script_runner.specs.declared.recording.Lies.{Lies}
 use Rattle.script_runner.specs.Errors.{IsFileError}
 use Rattle.dmlw_script.specs.Plans.{Disk, top_of}
@@ -67,27 +59,17 @@ pub record IsStackOf (disk : Disk) (stack : Stack) : Type 0 where
   pub layers : layers_of stack ≡ layers_under disk.layers 0 []
   pub over : AreOver disk.layers (shown_of (disk_of stack)) (stack_shown stack)
 
--- Nothing is recorded yet, and a log of no entries was made on the top of a disk of zeroes and its layers: unless one of them lied, a crash
--- leaves just that.
+-- Nothing is recorded yet, and a log of no entries was made on the top of a disk of zeroes and its layers.
 pub record IsNew (disk : Disk) (recorder : DiskRecorder) : Type 0 where
-  pub core : recorder.core ≡ new_state
-  pub end : recorder.end ≡ None
-  pub placed : recorder.store.placed ≡ 0
   pub stack : Stack
   pub blank : IsStackOf disk stack
-  pub made : Goes (writes 0 (first_sector 512 0)) (stack_shown stack) (stack_shown recorder.store.device)
-  pub empty : (stack_shown recorder.store.device).lies ≡ 0 → (left : Content) → (stack_shown recorder.store.device).crash left →
-      IsLogOf (top_of disk) left 512 []
+  pub begun : IsNewOn stack recorder
 
--- No log could be made on a disk of zeroes under its layers: the write of its super block was answered by this error, and that is the cause.
+-- No log could be made on the top of a disk of zeroes and its layers.
 pub record IsUnmade (disk : Disk) (fault : RunError) : Type 0 where
   pub stack : Stack
   pub blank : IsStackOf disk stack
-  pub last : Stack
-  pub error : DevError
-  pub answered : stack_does stack (Writes 0 (first_sector 512 0) true) 0 (Err error) last
-  pub failed : error ≡ Io → HasFaulted (stack_shown stack) (stack_shown last)
-  pub ends_by : fault ≡ LoggingEnded (end_cause error)
+  pub refused : IsUnmadeOn on_stack stack fault
 
 -- A script's run before its first line, at moment 0: on a data disk of zeroes and a new log, both of the sizes and under the layers that the script names.
 pub record Starts (plan : Plan) (run : DiskRun) : Type 0 where

@@ -1,11 +1,12 @@
-ghost use Rattle.std.specs.Prelude.{◌≡◌, ◌≤◌, ◌*◌, ◌⊎◌, IfErr, IfOk, List, length, option_copied, ℕ};
+ghost use Rattle.std.specs.Prelude.{◌≡◌, ◌≤◌, ◌*◌, ◌⊎◌, [], IfErr, IfOk, List, length, option_copied, ℕ};
 ghost use Rattle.std.specs.Io.KnownBytes.{Appends};
 ghost use Rattle.sectors.specs.Content.{AgreeBelow, sector_of};
 ghost use Rattle.sector_disk.specs.Shown.{shown_of};
 ghost use Rattle.script_runner.specs.Errors.{memory_error};
 ghost use Rattle.layer_table.specs.Layers.{disk_of};
 ghost use Rattle.dmlw_script.specs.Plans.{IsDisk};
-ghost use Rattle.script_runner.specs.OnDisks.{FailsOnDisks, IsNew, IsRecorded, IsStackOf, IsUnmade, Starts, left_on};
+ghost use Rattle.script_runner.specs.Begun.{IsNewOn, IsUnmadeOn};
+ghost use Rattle.script_runner.specs.OnDisks.{FailsOnDisks, IsRecorded, IsStackOf, IsUnmade, Starts, left_on};
 
 use crate::error::RunError;
 use crate::laws::{closed_runs_leave_whole_logs, lines_go_as_one_call};
@@ -91,20 +92,45 @@ pub(crate) fn start(alloc: Global, script: &Script) -> Result<Running<Stack, Sta
     ensures starts { IfOk result (Starts script.now) }
     ensures faults { IfErr result (λ fault. (fault ≡ memory_error) ⊎ IsUnmade script.now.log_disk fault) }
 {
-    let recorder = new_recorder(alloc, script.log())?;
-    let data = new_stack(alloc, script.data())?;
-    let running = Running::new(alloc, recorder, data, script.names().len())?;
-    Ok(running)
+    let log = new_stack(alloc, script.log())?;
+    start_over(alloc, script, log)
 }
 
-// A recorder over a new log, on the top of a disk's layers.
-fn new_recorder(alloc: Global, disk: &DiskSpec) -> Result<Recorder<Stack>, RunError>
-    requires { IsDisk disk.now }
-    ensures made { IfOk result (IsNew disk.now) }
-    ensures faults { IfErr result (λ fault. (fault ≡ memory_error) ⊎ IsUnmade disk.now fault) }
+// The same, where the log's disk stands under its layers.
+fn start_over<L: BlockDev + Drop>(
+    alloc: Global,
+    script: &Script,
+    log: L,
+) -> Result<Running<Stack, L>, RunError>
+    ensures recorder { IfOk result (λ run. IsNewOn log run.recorder) }
+    ensures rest { IfOk result (λ run. IsStackOf script.now.data_disk run.disk × (run.requests.items ≡ []) × (run.moment ≡ 0)) }
+    ensures faults { IfErr result (λ fault. (fault ≡ memory_error) ⊎ IsUnmadeOn L.BlockDev log fault) }
 {
-    let stack = new_stack(alloc, disk)?;
-    match LogStore::create(stack) {
+    let data = new_stack(alloc, script.data())?;
+    start_on(alloc, log, data, script.names().len())
+}
+
+// A run before its first line, over a new log on one device and over another device, with room for so many requests.
+fn start_on<D: BlockDev + Drop, L: BlockDev + Drop>(
+    alloc: Global,
+    log: L,
+    disk: D,
+    requests: usize,
+) -> Result<Running<D, L>, RunError>
+    ensures recorder { IfOk result (λ run. IsNewOn log run.recorder) }
+    ensures rest { IfOk result (λ run. (run.disk ≡ disk) × (run.requests.items ≡ []) × (run.moment ≡ 0)) }
+    ensures faults { IfErr result (λ fault. (fault ≡ memory_error) ⊎ IsUnmadeOn L.BlockDev log fault) }
+{
+    let recorder = new_recorder(alloc, log)?;
+    Ok(Running::new(alloc, recorder, disk, requests)?)
+}
+
+// A recorder over a new log on a device.
+fn new_recorder<L: BlockDev + Drop>(alloc: Global, device: L) -> Result<Recorder<L>, RunError>
+    ensures made { IfOk result (IsNewOn device) }
+    ensures faults { IfErr result (λ fault. (fault ≡ memory_error) ⊎ IsUnmadeOn L.BlockDev device fault) }
+{
+    match LogStore::create(device) {
         Ok(store) => match Recorder::new(alloc, store) {
             Ok(recorder) => Ok(recorder),
             Err(_store) => Err(RunError::from(Refusal::Memory)),

@@ -5,17 +5,14 @@ use Rattle.script_runner.proofs.OnDisks.{new_log}
 use Rattle.script_runner.proofs.recording.new_recorder.Goals as goal
 
 pub returns-in-Ok-new-clause-made : goal.returns-in-Ok-new-clause-made
-returns-in-Ok-new-clause-made c =
+returns-in-Ok-new-clause-made g c =
     let store = c.in-Ok.ensures in
-    new_log c.args.disk.now c.in_ok-stack.stack c.in-Ok.store c.in-Ok-new.recorder c.in_ok-stack.ensures.stack
-    store.begun.1 store.goes store.empty c.in-Ok-new.ensures.made
+    new_log c.args.device c.in-Ok.store c.in-Ok-new.recorder store.begun.1 store.goes store.empty c.in-Ok-new.ensures.made
 
 pub returns-in-Err-clause-faults : goal.returns-in-Err-clause-faults
-returns-in-Err-clause-faults c =
+returns-in-Err-clause-faults g c =
     let refused = c.in-Err.ensures in
     inr (record {
-      stack = c.in_ok-stack.stack;
-      blank = c.in_ok-stack.ensures.stack;
       last = c.in-Err.refused.0;
       error = refused.does.0;
       answered = refused.does.2;

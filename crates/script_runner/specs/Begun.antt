@@ -1,0 +1,33 @@
+-- A recorder over a log that is made on a device, and why none can be made.
+use Rattle.std.specs.Prelude.{◌≡◌, true, Err, [], None}
+use Rattle.bio.specs.Causes.{end_cause}
+use Rattle.bio.specs.declared.outcome.DevError.{DevError}
+use Rattle.bio.specs.declared.outcome.DevError.TheVariants.{Io}
+use Rattle.sectors.specs.Content.{Content, writes}
+use Rattle.blockdev.specs.declared.device.BlockDev.{Ghosts}
+use Rattle.blockdev.specs.Calls.{Writes}
+use Rattle.blockdev.specs.Law.{Goes}
+use Rattle.log_format.specs.LogOf.{IsLogOf}
+use Rattle.log_format.specs.Placing.{first_sector}
+use Rattle.log_store.specs.Calls.{HasFaulted}
+use Rattle.pending.specs.CoreState.{new_state}
+use Rattle.recorder.specs.declared.recorder.Recorder.{Recorder}
+use Rattle.script_runner.specs.declared.error.RunError.{RunError}
+use Rattle.script_runner.specs.declared.error.RunError.TheVariants.{LoggingEnded}
+
+-- Nothing is recorded yet, and a log of no entries was made on this device: unless it lied, a crash leaves just that.
+pub record IsNewOn {L : Type 0} {l : Ghosts L} (device : L) (recorder : Recorder L l) : Type 0 where
+  pub core : recorder.core ≡ new_state
+  pub end : recorder.end ≡ None
+  pub placed : recorder.store.placed ≡ 0
+  pub made : Goes (writes 0 (first_sector 512 0)) (l.shown device) (l.shown recorder.store.device)
+  pub empty : (l.shown recorder.store.device).lies ≡ 0 → (left : Content) → (l.shown recorder.store.device).crash left →
+      IsLogOf (l.shown recorder.store.device).size left 512 []
+
+-- No log could be made on this device: the write of its super block was answered by this error, and that is the cause.
+pub record IsUnmadeOn {L : Type 0} (l : Ghosts L) (device : L) (fault : RunError) : Type 0 where
+  pub last : L
+  pub error : DevError
+  pub answered : l.does device (Writes 0 (first_sector 512 0) true) 0 (Err error) last
+  pub failed : error ≡ Io → HasFaulted (l.shown device) (l.shown last)
+  pub ends_by : fault ≡ LoggingEnded (end_cause error)

@@ -1,6 +1,7 @@
 ghost use Rattle.std.specs.Prelude.{◌≡◌, ◌<◌};
 ghost use Rattle.sector_disk.specs.Shown.{shown_of};
 
+use crate::calls::calls;
 use bio::{DevError, Ms};
 use blockdev::BlockDev;
 use sector_disk::SectorDisk;
@@ -155,6 +156,37 @@ fn images_are_given_back(rt: HostRuntime) -> Result<(), Fail> {
     Ok(())
 }
 
+// The disk has these bytes, and is given back as them.
+fn check_bytes(rt: &impl Abort, disk: SectorDisk, wanted: &[u8]) -> Result<(), Fail> {
+    let length = wanted.len();
+    assert!(rt; disk.bytes()?.as_slice() == wanted, "a disk of {length}");
+    assert!(rt;
+        disk.into_bytes()?.as_slice() == wanted,
+        "{length} given back"
+    );
+    Ok(())
+}
+
+// A disk of these bytes, once it is discarded whole.
+fn discarded(rt: &impl Abort, alloc: Global, image: &Vec<u8>) -> Result<SectorDisk, Fail> {
+    let length = image.len();
+    assert!(rt; 0 < length && length <= 3_072_000 && length % 512 == 0);
+    let mut disk = SectorDisk::from_bytes(alloc, image.clone()?)?;
+    let sectors = disk.sectors();
+    disk.discard(Ms::new(0), 0, sectors)?;
+    Ok(disk)
+}
+
+// A new disk, once it is written whole with FUA, and its power failed.
+fn written(rt: &impl Abort, alloc: Global, image: &Vec<u8>) -> Result<SectorDisk, Fail> {
+    let length = image.len();
+    assert!(rt; 0 < length && length <= 3_072_000 && length % 512 == 0);
+    let mut disk = SectorDisk::new(alloc, length as u64 / 512)?;
+    disk.write(Ms::new(0), 0, image, true)?;
+    disk.crash(&[]);
+    Ok(disk)
+}
+
 // Images of each size are made, written, discarded and given back.
 #[test]
 fn disks_of_each_size_are_kept(rt: HostRuntime) -> Result<(), Fail> {
@@ -164,33 +196,10 @@ fn disks_of_each_size_are_kept(rt: HostRuntime) -> Result<(), Fail> {
         let length = sectors as usize * 512;
         let image = vec![in alloc; 65; length]?;
         let zeroes = vec![in alloc; 0; length]?;
-        let mut disk = SectorDisk::from_bytes(alloc, image.clone()?)?;
-        assert_eq!(rt; disk.sectors(), sectors);
-        assert!(rt;
-            disk.bytes()?.as_slice() == image.as_slice(),
-            "the image of {sectors}"
-        );
-        disk.discard(Ms::new(0), 0, sectors)?;
-        assert!(rt;
-            disk.bytes()?.as_slice() == zeroes.as_slice(),
-            "{sectors} discarded"
-        );
-        assert!(rt;
-            disk.into_bytes()?.as_slice() == zeroes.as_slice(),
-            "{sectors} given back"
-        );
-        let mut new = SectorDisk::new(alloc, sectors)?;
-        assert!(rt;
-            new.bytes()?.as_slice() == zeroes.as_slice(),
-            "{sectors} of zeroes"
-        );
-        new.write(Ms::new(0), 0, &image, true)?;
-        new.crash(&[]);
-        assert!(rt;
-            new.bytes()?.as_slice() == image.as_slice(),
-            "{sectors} written"
-        );
-        assert!(rt; new.into_bytes()?.as_slice() == image.as_slice());
+        check_bytes(&rt, SectorDisk::from_bytes(alloc, image.clone()?)?, &image)?;
+        check_bytes(&rt, discarded(&rt, alloc, &image)?, &zeroes)?;
+        check_bytes(&rt, SectorDisk::new(alloc, sectors)?, &zeroes)?;
+        check_bytes(&rt, written(&rt, alloc, &image)?, &image)?;
     }
     let mut large = SectorDisk::new(alloc, 1_048_576)?;
     assert_eq!(rt; large.sectors(), 1_048_576);
@@ -248,19 +257,13 @@ fn the_device_laws_hold() {
 // The law has other members than the disk: a device that lies, and one that fails.
 #[test]
 fn devices_lie_and_fail(rt: HostRuntime) -> Result<(), Fail> {
-    let now = Ms::new(3);
-    let mut lying = Lying::new(SectorDisk::new(rt.alloc(), 1)?);
-    assert_eq!(rt; lying.sectors(), 1);
-    assert_eq!(rt; lying.write(now, 0, &[1; 512], true), Ok(now));
-    assert_eq!(rt; lying.flush(now), Ok(now));
-    assert_eq!(rt; (lying.faults(), lying.lies()), (0, 2));
+    let alloc = rt.alloc();
+    let mut lying = Lying::new(SectorDisk::new(alloc, 1)?);
+    calls(&rt, alloc, &mut lying, "3 F 0 1 1|3\n3 f|3\n3 #|0 2")?;
     check_sector(&rt, &mut lying.lower, 0, b'0', "a write that was lost");
-    let mut failing = Failing::in_changes(SectorDisk::new(rt.alloc(), 1)?, 1);
-    assert_eq!(rt; failing.sectors(), 1);
-    assert_eq!(rt; failing.write(now, 0, &[1; 512], false), Ok(now));
-    assert_eq!(rt; failing.write(now, 0, &[2; 512], false), Err(DevError::Io));
-    assert_eq!(rt; failing.flush(now), Err(DevError::Io));
-    assert_eq!(rt; (failing.faults(), failing.lies()), (2, 0));
+    let mut failing = Failing::in_changes(SectorDisk::new(alloc, 1)?, 1);
+    let rows = "3 w 0 1 1|3\n3 w 0 1 2|Io\n3 f|Io\n3 #|2 0";
+    calls(&rt, alloc, &mut failing, rows)?;
     check_sector(&rt, &mut failing.lower, 0, b'1', "a write that failed");
     failing.lower.crash(&[]);
     check_sector(&rt, &mut failing.lower, 0, b'0', "a flush that failed");

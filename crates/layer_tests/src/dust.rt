@@ -1,10 +1,10 @@
+use crate::calls::talk;
 use bio::{DevError, Ms};
 use blockdev::{BlockDev, Message, MessageError};
 use dust_layer::{Dust, Mode};
 use fault_layers::{Delay, Fuse};
 use sector_disk::SectorDisk;
 use std::alloc::Global;
-use std::process::Abort;
 use std::test::Fail;
 
 mod orders;
@@ -27,100 +27,87 @@ fn dusted(alloc: Global) -> Result<Dust<SectorDisk>, Fail> {
     Ok(over(alloc, disk))
 }
 
-// The first bytes of so many sectors, as decimal digits, where a read ends Ok; else what it ends by.
-fn first_bytes<D: BlockDev + Drop>(rt: &impl Abort, device: &mut D, first: u64) -> [u8; 4] {
-    assert!(rt; first <= 12 && device.sectors() == 16);
-    let mut buffer = [9; 2048];
-    let end = device.read(Ms::new(0), first, &mut buffer);
-    match end {
-        Ok(_) => [buffer[0], buffer[512], buffer[1024], buffer[1536]],
-        Err(_) => [255; 4],
-    }
-}
-
 // The write of four sectors over blocks of two: its bad block stops it once, and leaves the list the next time.
+const ONCE: &str = "m 1 addbadblock 3 1|ok
+m 1 enable|ok
+0 w 5 4 7|Io
+0 #|1 0
+0 r 2 4|0 0 0 0 7
+0 r 5 4|Io
+0 #|2 0
+0 w 5 4 7|0
+0 r 5 4|0 7 7 7 7
+m 1 addbadblock 3|ok
+m 1 addbadblock 3|7 AlreadyBad
+m 1 removebadblock 4|8 NotBad
+m 1 addbadblock 7|ok
+m 1 addbadblock 8|6 BadMessage
+m 1 addbadblock 2 256|6 BadMessage
+m 1 queryblock 3|6 BadMessage
+m 1 removebadblock 7|ok
+m 0 enable|6 BadMessage
+m 2 enable|6 BadMessage";
+
 #[test]
 fn bad_blocks_fail_once(rt: HostRuntime) -> Result<(), Fail> {
-    let mut device = dusted(rt.alloc())?;
-    let now = Ms::new(0);
+    let alloc = rt.alloc();
+    let mut device = dusted(alloc)?;
     assert!(rt; device.mode() == Mode::Bypass && device.mode().text() == "bypass");
-    assert_eq!(rt; device.message(1, "addbadblock 3 1"), Ok(()));
-    assert_eq!(rt; device.message(1, "enable"), Ok(()));
+    talk(&rt, alloc, &mut device, ONCE)?;
     assert!(rt; device.mode().text() == "fail_read_on_bad_block");
-    assert!(rt; device.sectors() == 16);
-    assert_eq!(rt; device.write(now, 5, &[7; 2048], false), Err(DevError::Io));
-    assert_eq!(rt; (device.faults(), device.lies()), (1, 0));
-    assert_eq!(rt; first_bytes(&rt, &mut device, 2), [0, 0, 0, 7]);
-    assert_eq!(rt; first_bytes(&rt, &mut device, 5), [255; 4]);
-    assert_eq!(rt; device.faults(), 2);
-    assert!(rt; device.sectors() == 16);
-    assert_eq!(rt; device.write(now, 5, &[7; 2048], false), Ok(now));
-    assert_eq!(rt; first_bytes(&rt, &mut device, 5), [7; 4]);
-    for (text, want) in [
-        ("addbadblock 3", Ok(())),
-        ("addbadblock 3", Err(MessageError::AlreadyBad)),
-        ("removebadblock 4", Err(MessageError::NotBad)),
-        ("addbadblock 7", Ok(())),
-        ("addbadblock 8", Err(MessageError::BadMessage)),
-        ("addbadblock 2 256", Err(MessageError::BadMessage)),
-        ("queryblock 3", Err(MessageError::BadMessage)),
-        ("removebadblock 7", Ok(())),
-    ] {
-        assert_eq!(rt; device.message(1, text), want);
-    }
-    assert_eq!(rt; device.message(0, "enable"), Err(MessageError::BadMessage));
-    assert_eq!(rt; device.message(2, "enable"), Err(MessageError::BadMessage));
     Ok(())
 }
 
 // In bypass each call passes, and the list stays; a read at a listed block fails, whatever its count; a discard mends it, and a flush passes.
+const BYPASS: &str = "m 1 addbadblock 0|ok
+0 r 0 4|0 0 0 0 0
+m 1 enable|ok
+0 r 0 4|Io
+0 r 2 4|0 0 0 0 0
+5 f|5
+m 1 disable|ok
+5 F 0 1 3|5
+m 1 enable|ok
+0 r 0 4|Io
+5 d 1 2|5
+0 r 0 4|0 3 0 0 0
+m 1 addbadblock 0 255|ok
+m 1 clearbadblocks|ok
+0 r 0 4|0 3 0 0 0
+0 #|2 0";
+
 #[test]
 fn bypass_passes(rt: HostRuntime) -> Result<(), Fail> {
-    let mut device = dusted(rt.alloc())?;
-    let now = Ms::new(5);
-    assert_eq!(rt; device.message(1, "addbadblock 0"), Ok(()));
-    assert_eq!(rt; first_bytes(&rt, &mut device, 0), [0; 4]);
-    assert_eq!(rt; device.message(1, "enable"), Ok(()));
-    assert_eq!(rt; first_bytes(&rt, &mut device, 0), [255; 4]);
-    assert_eq!(rt; first_bytes(&rt, &mut device, 2), [0; 4]);
-    assert_eq!(rt; device.flush(now), Ok(now));
-    assert_eq!(rt; device.message(1, "disable"), Ok(()));
-    assert!(rt; device.sectors() == 16);
-    assert_eq!(rt; device.write(now, 0, &[3; 512], true), Ok(now));
-    assert_eq!(rt; device.message(1, "enable"), Ok(()));
-    assert_eq!(rt; first_bytes(&rt, &mut device, 0), [255; 4]);
-    assert!(rt; device.sectors() == 16);
-    assert_eq!(rt; device.discard(now, 1, 2), Ok(now));
-    assert_eq!(rt; first_bytes(&rt, &mut device, 0), [3, 0, 0, 0]);
-    assert_eq!(rt; device.message(1, "addbadblock 0 255"), Ok(()));
-    assert_eq!(rt; device.message(1, "clearbadblocks"), Ok(()));
-    assert_eq!(rt; first_bytes(&rt, &mut device, 0), [3, 0, 0, 0]);
-    assert_eq!(rt; device.faults(), 2);
+    let alloc = rt.alloc();
+    talk(&rt, alloc, &mut dusted(alloc)?, BYPASS)?;
     Ok(())
 }
+
+// A read is delayed by 1 ms, a change by 10 and a flush by 100.
+const LATE: &str = "m 1 enable|ok
+0 w 5 4 1|30
+0 d 0 16|80
+0 r 6 2|1 0 0
+0 f|100";
+
+// The second block is written, and its write fails beneath.
+const FUSED: &str = "m 1 addbadblock 1|ok
+m 1 enable|ok
+0 w 0 4 2|Io
+m 1 removebadblock 1|ok
+0 r 0 4|2 2 2 0 0
+0 #|1 0";
 
 // Each part begins when the one before ended, so delays add up; a block whose part failed beneath stays listed.
 #[test]
 fn parts_follow_each_other(rt: HostRuntime) -> Result<(), Fail> {
-    let disk = SectorDisk::new(rt.alloc(), 16)?;
+    let alloc = rt.alloc();
+    let disk = SectorDisk::new(alloc, 16)?;
     let late = Delay::new(disk, Ms::new(1), Ms::new(10), Ms::new(100));
-    let mut device = over(rt.alloc(), late);
-    assert_eq!(rt; device.message(1, "enable"), Ok(()));
-    assert!(rt; device.sectors() == 16);
-    let now = Ms::new(0);
-    assert_eq!(rt; device.write(now, 5, &[1; 2048], false), Ok(Ms::new(30)));
-    assert_eq!(rt; device.discard(now, 0, 16), Ok(Ms::new(80)));
-    assert_eq!(rt; device.read(now, 6, &mut [0; 1024]), Ok(Ms::new(1)));
-    assert_eq!(rt; device.flush(now), Ok(Ms::new(100)));
-    let fused = Fuse::new(device.into_lower(), 1);
-    let mut device = over(rt.alloc(), fused);
-    assert_eq!(rt; device.message(1, "addbadblock 1"), Ok(()));
-    assert_eq!(rt; device.message(1, "enable"), Ok(()));
-    assert!(rt; device.sectors() == 16);
-    assert_eq!(rt; device.write(now, 0, &[2; 2048], false), Err(DevError::Io));
-    assert_eq!(rt; device.message(1, "removebadblock 1"), Ok(()));
-    assert_eq!(rt; first_bytes(&rt, &mut device, 0), [2, 2, 0, 0]);
-    assert_eq!(rt; (device.faults(), device.lies()), (1, 0));
+    let mut device = over(alloc, late);
+    talk(&rt, alloc, &mut device, LATE)?;
+    let mut device = over(alloc, Fuse::new(device.into_lower(), 1));
+    talk(&rt, alloc, &mut device, FUSED)?;
     Ok(())
 }
 

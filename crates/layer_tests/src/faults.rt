@@ -1,5 +1,6 @@
 ghost use Rattle.std.specs.Prelude.{◌<◌};
 
+use crate::calls::calls;
 use bio::{DevError, Ms};
 use blockdev::BlockDev;
 use fault_layers::{Delay, ErrorDev, Flakey, Fuse, Linear};
@@ -221,25 +222,28 @@ fn layers_do_what_their_rules_say(rt: HostRuntime) -> Result<(), Fail> {
     Ok(())
 }
 
+// A delay of reads, of writes and discards, and of flushes; then one of flushes alone, over a flakey layer.
+const DELAYED: &str = "100 w 0 1 1|120
+100 r 0 1|110 1
+100 d 0 1|120
+100 f|130
+18446744073709551610 f|18446744073709551615
+0 #|0 0";
+
+const LATER: &str = "9979 f|9999
+9980 f|Io
+0 #|1 0";
+
 // A delayed call ends as much later as its kind is delayed; a discard is delayed as a write is.
 #[test]
 fn delayed_calls_begin_later(rt: HostRuntime) -> Result<(), Fail> {
-    let disk = SectorDisk::new(rt.alloc(), 1)?;
+    let alloc = rt.alloc();
+    let disk = SectorDisk::new(alloc, 1)?;
     let mut device = Delay::new(disk, Ms::new(10), Ms::new(20), Ms::new(30));
-    assert_eq!(rt; device.sectors(), 1);
-    let now = Ms::new(100);
-    let mut buffer = [9; 512];
-    assert_eq!(rt; device.write(now, 0, &[1; 512], false), Ok(Ms::new(120)));
-    assert_eq!(rt; device.read(now, 0, &mut buffer), Ok(Ms::new(110)));
-    assert_eq!(rt; device.discard(now, 0, 1), Ok(Ms::new(120)));
-    assert_eq!(rt; device.flush(now), Ok(Ms::new(130)));
-    assert_eq!(rt; device.flush(Ms::new(u64::MAX - 5)), Ok(Ms::new(u64::MAX)));
-    assert_eq!(rt; (device.faults(), device.lies()), (0, 0));
+    calls(&rt, alloc, &mut device, DELAYED)?;
     let flakey = Flakey::new(device.into_lower(), 10, 5, Feature::None, Ms::new(0));
     let mut device = Delay::new(flakey, Ms::new(0), Ms::new(0), Ms::new(20));
-    assert_eq!(rt; device.flush(Ms::new(9_979)), Ok(Ms::new(9_999)));
-    assert_eq!(rt; device.flush(Ms::new(9_980)), Err(DevError::Io));
-    assert_eq!(rt; (device.faults(), device.lies()), (1, 0));
+    calls(&rt, alloc, &mut device, LATER)?;
     Ok(())
 }
 

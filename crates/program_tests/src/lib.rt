@@ -3,8 +3,8 @@
 #![tactic(auto)]
 
 #[cfg(test)]
+mod command_lines;
+#[cfg(test)]
 mod doing;
 #[cfg(test)]
 mod forced;
-#[cfg(test)]
-mod words;

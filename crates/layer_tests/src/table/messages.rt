@@ -1,21 +1,5 @@
 use super::*;
-use blockdev::Message;
-
-// The number and the name of a message's refusal, or `ok`.
-fn answer_of<D: Message + Drop>(
-    alloc: Global,
-    device: &mut D,
-    layer: u64,
-    text: &str,
-) -> Result<String, Fail> {
-    match device.message(layer, text) {
-        Ok(()) => Ok(format!(in alloc; "ok")?),
-        Err(error) => {
-            let refusal = Refusal::from(error);
-            Ok(format!(in alloc; "{refusal}")?)
-        }
-    }
-}
+use crate::calls::{answers, talk};
 
 // Dust twice: by sectors at the bottom, and by two sectors beneath a delay.
 const FOUR: [(&str, u64); 4] = [
@@ -46,41 +30,16 @@ const ANSWERS: &str = "0 enable|6 BadMessage
 3 |6 BadMessage
 1 enable|ok";
 
-// Puts the messages, and looks at their answers.
-fn answers<D: Message + Drop>(
-    rt: &impl Abort,
-    alloc: Global,
-    device: &mut D,
-    rows: &str,
-) -> Result<(), Fail> {
-    for row in rows.split('\n') {
-        let (asked, want) = row.split_once('|').unwrap_or_default();
-        let (layer, text) = asked.split_once(' ').unwrap_or_default();
-        let layer = layer.parse::<u64>().unwrap_or(99);
-        let answer = answer_of(alloc, device, layer, text)?;
-        assert_eq!(rt; answer.as_str(), want, "{row}");
-    }
-    Ok(())
-}
-
-// Messages and calls. Sector 4 of the top is sector 10 of the disk: its block fails once, and then a write mends it.
-fn talk<D: Message + Drop>(rt: &impl Abort, alloc: Global, device: &mut D) -> Result<(), Fail> {
-    answers(rt, alloc, device, ANSWERS)?;
-    let now = Ms::new(100);
-    assert!(rt; device.sectors() == 40);
-    assert_eq!(rt; device.write(now, 4, &[7; 512], false), Err(DevError::Io));
-    assert_eq!(rt; device.write(now, 4, &[7; 512], false), Ok(Ms::new(120)));
-    let mut buffer = [0; 512];
-    assert_eq!(rt; device.read(now, 1, &mut buffer), Ok(Ms::new(110)));
-    answers(rt, alloc, device, "3 enable|ok")?;
-    assert!(rt; device.sectors() == 40);
-    assert_eq!(rt; device.read(now, 1, &mut buffer), Err(DevError::Io));
-    assert_eq!(rt; device.discard(now, 0, 2), Ok(Ms::new(120)));
-    assert_eq!(rt; device.read(now, 1, &mut buffer), Ok(Ms::new(110)));
-    assert_eq!(rt; device.flush(now), Ok(Ms::new(130)));
-    assert_eq!(rt; (device.faults(), device.lies()), (2, 0));
-    Ok(())
-}
+// Sector 4 of the top is sector 10 of the disk: its block fails once, and then a write mends it.
+const TALK: &str = "100 w 4 1 7|Io
+100 w 4 1 7|120
+100 r 1 1|110 0
+m 3 enable|ok
+100 r 1 1|Io
+100 d 0 2|120
+100 r 1 1|110 0
+100 f|130
+100 #|2 0";
 
 #[test]
 fn messages_go_to_their_layer(rt: HostRuntime) -> Result<(), Fail> {
@@ -88,7 +47,8 @@ fn messages_go_to_their_layer(rt: HostRuntime) -> Result<(), Fail> {
     let disk = SectorDisk::new(alloc, 64)?;
     let ((), image) = on_stack(&rt, alloc, disk, &FOUR, |stack, refused| {
         assert_eq!(rt; refused, None);
-        talk(&rt, alloc, stack)
+        answers(&rt, alloc, stack, ANSWERS)?;
+        Ok(talk(&rt, alloc, stack, TALK)?)
     })?;
     assert_eq!(rt; image.get(10 * 512), Some(&7));
     Ok(())
@@ -112,7 +72,7 @@ fn fewer_layers_take_fewer_messages(rt: HostRuntime) -> Result<(), Fail> {
         let disk = SectorDisk::new(alloc, 64)?;
         on_stack(&rt, alloc, disk, lines, |stack, refused| {
             assert_eq!(rt; refused, None);
-            answers(&rt, alloc, stack, rows)
+            Ok(answers(&rt, alloc, stack, rows)?)
         })?;
     }
     Ok(())

@@ -2,7 +2,7 @@
 """lines: prints the table of docs/GATE.md that counts each crate's lines: code, tests, definitions and their laws, proofs, and its must-fail edits.
 
   bench/lines.py
-        Tests are the files that only a test build reads: tests.rt, what lies in tests/, and all of a crate that ends in _tests.
+        Tests are the files that only a test build reads: tests.rt, what lies in tests/, and all of a crate whose name ends in _tests or begins with test_.
 """
 import glob, os, re
 
@@ -16,7 +16,7 @@ def count(paths):
 def row(crate):
     at = f"{root}/crates/{crate}"
     sources = glob.glob(f"{at}/src/**/*.rt", recursive=True)
-    is_test = lambda path: crate.endswith("_tests") or re.search(r"/(\w+_)?tests(/|\.rt$)", path[len(at):])
+    is_test = lambda path: crate.endswith("_tests") or crate.startswith("test_") or re.search(r"/(\w+_)?tests(/|\.rt$)", path[len(at):])
     specs, proofs = (glob.glob(f"{at}/{it}/**/*.antt", recursive=True) for it in ("specs", "proofs"))
     return (count(it for it in sources if not is_test(it)), count(it for it in sources if is_test(it)), count(specs), count(proofs),
             len(glob.glob(f"{at}/must-fail/*.edit")))

@@ -10,12 +10,33 @@ mod layers;
 // What reading a text answers: the printed script, or the fault.
 fn answer(alloc: Global, text: &[u8], kind: Kind) -> Result<String, AllocError> {
     match read_script(alloc, text, kind) {
-        Ok(script) => match String::from_utf8(print_script(alloc, &script)?) {
-            Ok(printed) => Ok(printed),
-            Err(_) => String::from_str(alloc, "no text"),
-        },
+        Ok(script) => printed(alloc, &script),
         Err(fault) => format!(in alloc; "{fault}"),
     }
+}
+
+// A script as its text.
+fn printed(alloc: Global, script: &Script) -> Result<String, AllocError> {
+    match String::from_utf8(print_script(alloc, script)?) {
+        Ok(text) => Ok(text),
+        Err(_) => String::from_str(alloc, "no text"),
+    }
+}
+
+// The sizes of a script's disks, its names, how many commands it has, and the lines of its text where the last of these and the one behind it stand.
+fn parts_of(alloc: Global, text: &[u8], script: &Script) -> Result<String, AllocError> {
+    let mut names = String::new(alloc);
+    for name in script.names() {
+        names.push_str(format!(in alloc; " {name}{}", name.letters().len())?.as_str())?;
+    }
+    format!(in alloc;
+        "{} {}{names} {} {:?} {:?}",
+        script.data().sectors(),
+        script.log().sectors(),
+        script.commands().len(),
+        line_of(text, script.head_lines().saturating_add(4)),
+        line_of(text, script.head_lines().saturating_add(5))
+    )
 }
 
 #[test]
@@ -23,20 +44,9 @@ fn first_run(rt: HostRuntime) -> Result<(), Fail> {
     let alloc = rt.alloc();
     let text = b"# a run\ndata 16\n\nlog 32\nw a 5 1 41\nc a\nf b\nc b\n#\nclose\n";
     let script = read_script(alloc, text, Kind::Record)?;
-    let mut names = String::new(alloc);
-    for name in script.names() {
-        names.push_str(format!(in alloc; " {name}{}", name.letters().len())?.as_str())?;
-    }
-    let shown = format!(in alloc;
-        "{} {}{names} {} {:?} {:?}",
-        script.data().sectors(),
-        script.log().sectors(),
-        script.commands().len(),
-        line_of(text, script.head_lines().saturating_add(4)),
-        line_of(text, script.head_lines().saturating_add(5))
-    )?;
-    assert_eq!(rt; shown.as_str(), "16 32 a1 b1 5 Some(10) None");
     assert!(rt; script.crash().is_none());
+    let shown = parts_of(alloc, text, &script)?;
+    assert_eq!(rt; shown.as_str(), "16 32 a1 b1 5 Some(10) None");
     Ok(())
 }
 
@@ -45,13 +55,21 @@ fn first_run(rt: HostRuntime) -> Result<(), Fail> {
 fn crashes_end_scripts(rt: HostRuntime) -> Result<(), Fail> {
     let alloc = rt.alloc();
     let text = b"data 16\nlog 32\nturn\n#\ncrash 7 0 18446744073709551615\n";
-    let script = read_script(alloc, text, Kind::Record)?;
-    let picks = script.crash().expect(&rt, "a crash");
-    assert_eq!(rt; picks, [7, 0, u64::MAX].as_slice());
-    assert_eq!(rt; script.commands().len(), 1);
+    check_crash(
+        &rt,
+        &read_script(alloc, text, Kind::Record)?,
+        &[7, 0, u64::MAX],
+    );
     assert_eq!(rt; line_of(text, 3), Some(5));
     assert_eq!(rt; line_of(text, 4), None);
     Ok(())
+}
+
+// A script of one command ends by a crash with these picks.
+fn check_crash(rt: &impl Abort, script: &Script, wanted: &[u64]) {
+    let picks = script.crash().expect(rt, "a crash");
+    assert!(rt; picks == wanted, "{picks:?}");
+    assert_eq!(rt; script.commands().len(), 1);
 }
 
 // Texts, and what reading them answers: the spelling of the script that they are, or the fault. Each
@@ -702,6 +720,17 @@ fn long_scripts_are_read(rt: HostRuntime) -> Result<(), Fail> {
     Ok(())
 }
 
+// How long the texts of a script's marks are together.
+fn count_marked(script: &Script) -> usize {
+    let mut total: usize = 0;
+    for command in script.commands() {
+        if let Command::Step(Step::Mark { text }) = command {
+            total = total.saturating_add(text.len());
+        }
+    }
+    total
+}
+
 // Marks of any length are read, each with its own text.
 #[test]
 fn marks_keep_their_texts(rt: HostRuntime) -> Result<(), Fail> {
@@ -714,13 +743,7 @@ fn marks_keep_their_texts(rt: HostRuntime) -> Result<(), Fail> {
         }
         text.push_str("\n")?;
     }
-    let script = read_script(alloc, text.as_bytes(), Kind::Record)?;
-    let mut total: usize = 0;
-    for command in script.commands() {
-        if let Command::Step(Step::Mark { text }) = command {
-            total = total.saturating_add(text.len());
-        }
-    }
+    let total = count_marked(&read_script(alloc, text.as_bytes(), Kind::Record)?);
     assert_eq!(rt; total, 71_560);
     assert!(rt; answer(alloc, text.as_bytes(), Kind::Record)?.as_str() == text.as_str());
     Ok(())

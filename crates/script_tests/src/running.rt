@@ -1,4 +1,4 @@
-use dmlw_script::{Kind, read_script};
+use dmlw_script::{Kind, Script, read_script};
 use script_runner::*;
 use std::alloc::{AllocError, Global};
 use std::process::Abort;
@@ -37,11 +37,16 @@ fn text_of(alloc: Global, lines: &str) -> Result<String, AllocError> {
     Ok(text)
 }
 
-// What a run of the script prints, and how it ended.
+// What a run of the script of a text prints, and how it ended.
 fn run_text(rt: &impl Abort, alloc: Global, text: &str) -> Result<String, Fail> {
     let script = read_script(alloc, text.as_bytes(), Kind::Record)?;
+    told(rt, alloc, text, &script)
+}
+
+// The same of the script.
+fn told(rt: &impl Abort, alloc: Global, text: &str, script: &Script) -> Result<String, Fail> {
     let mut out = Vec::new(alloc);
-    let ended = match record(alloc, text.as_bytes(), &script, &mut out) {
+    let ended = match record(alloc, text.as_bytes(), script, &mut out) {
         Ok(recorded) => {
             assert_eq!(rt; recorded.image.len() as u64, 512 * script.log().sectors());
             recorded.status.to_string(alloc)?
@@ -82,10 +87,15 @@ log 32,log-layer 0 32 error,w a 5 1 41=19 Device";
 // How many events a rehearsal of the script leaves, or how it fails.
 fn rehearsed(alloc: Global, text: &str) -> Result<String, Fail> {
     let script = read_script(alloc, text.as_bytes(), Kind::Record)?;
-    match rehearse(alloc, text.as_bytes(), &script) {
-        Ok(rehearsed) => Ok(rehearsed.events().len().to_string(alloc)?),
+    match count_events(alloc, text, &script) {
+        Ok(count) => Ok(count.to_string(alloc)?),
         Err(error) => Ok(error.to_string(alloc)?),
     }
+}
+
+// How many events a rehearsal leaves.
+fn count_events(alloc: Global, text: &str, script: &Script) -> Result<usize, RunError> {
+    Ok(rehearse(alloc, text.as_bytes(), script)?.events().len())
 }
 
 #[test]

@@ -1,7 +1,7 @@
 // Tests of the lines of layers and of messages.
 use super::{answer, assert_texts};
-use dmlw_script::{Command, Kind, Step, line_of, read_script};
-use std::alloc::Global;
+use dmlw_script::{Command, Kind, Script, Step, line_of, read_script};
+use std::alloc::{AllocError, Global};
 use std::process::Abort;
 use std::test::Fail;
 
@@ -508,6 +508,17 @@ fn message_texts(rt: HostRuntime) -> Result<(), Fail> {
     assert_texts(&rt, rt.alloc(), MESSAGE_TEXTS, Kind::Record)
 }
 
+// Each message of a script: its disk, its layer, and how long its text is.
+fn messages_of(alloc: Global, script: &Script) -> Result<String, AllocError> {
+    let mut shown = String::new(alloc);
+    for command in script.commands() {
+        if let Command::Step(Step::Message { over, layer, text }) = command {
+            shown.push_str(format!(in alloc; " {over:?} {layer} {}", text.len())?.as_str())?;
+        }
+    }
+    Ok(shown)
+}
+
 // A message's disk, its layer and its text, of any length.
 #[test]
 fn messages_keep_their_words(rt: HostRuntime) -> Result<(), Fail> {
@@ -520,12 +531,7 @@ fn messages_keep_their_words(rt: HostRuntime) -> Result<(), Fail> {
         text.push_str("x")?;
     }
     let script = read_script(alloc, text.as_bytes(), Kind::Record)?;
-    let mut shown = String::new(alloc);
-    for command in script.commands() {
-        if let Command::Step(Step::Message { over, layer, text }) = command {
-            shown.push_str(format!(in alloc; " {over:?} {layer} {}", text.len())?.as_str())?;
-        }
-    }
+    let shown = messages_of(alloc, &script)?;
     assert_eq!(rt; shown.as_str(), " Log 4 4 Data 0 70000");
     Ok(())
 }
@@ -536,16 +542,21 @@ fn disks_have_layers(rt: HostRuntime) -> Result<(), Fail> {
     let alloc = rt.alloc();
     let text = b"data 16\nlog 32\n\ndata-layer 0 8 linear disk 4\nlog-layer 0 9 error\nat 7\nf a\n";
     let script = read_script(alloc, text, Kind::Record)?;
+    let shown = disks_of(alloc, &script)?;
+    assert_eq!(rt; shown.as_str(), "4 16 8 1 9");
+    assert_eq!(rt; line_of(text, 4), Some(6));
+    Ok(())
+}
+
+// How many lines a script's head has, and the sizes of its disks.
+fn disks_of(alloc: Global, script: &Script) -> Result<String, AllocError> {
     let (data, log) = (script.data(), script.log());
-    let shown = format!(in alloc;
-        "{} {:?} {} {} {} {}",
+    format!(in alloc;
+        "{} {} {} {} {}",
         script.head_lines(),
-        line_of(text, 4),
         data.sectors(),
         data.top_sectors(),
         data.layers().len(),
         log.top_sectors()
-    )?;
-    assert_eq!(rt; shown.as_str(), "4 Some(6) 16 8 1 9");
-    Ok(())
+    )
 }

@@ -1,13 +1,13 @@
-use Rattle.std.proofs.Common.{◌≡◌, true, false, [], ◌∷◌, Ok, Err, refl, replicate}
+use Rattle.std.proofs.Common.{◌≡◌, true, false, None, Some, [], ◌∷◌, Ok, Err, refl, replicate}
 use Rattle.bio.specs.declared.event.CoreEvent.TheVariants.{Submit, Complete, Mark, Stop, Close}
 use Rattle.bio.specs.declared.outcome.End.TheVariants as ends
 use Rattle.bio.specs.declared.request.Bio.{Bio}
 use Rattle.bio.specs.declared.request.Bio.TheVariants.{Write, Flush, Discard, Read}
 use Rattle.bio.specs.declared.request.BadBio.TheVariants.{NotWhole, TooLong, PastEnd}
 use Rattle.bio.specs.Check.{check_answer}
-use Rattle.bio.specs.Events.{is_before}
+use Rattle.bio.specs.Events.{flush_after, is_before}
 use Rattle.bio.specs.Lawful.{is_lawful, is_text, is_well_formed}
-use Rattle.bio.specs.Requests.{covers, overlaps}
+use Rattle.bio.specs.Requests.{covers, is_change, overlaps}
 
 -- a write of two sectors at sector 5
 two : Bio
@@ -36,6 +36,20 @@ covered-read = refl
 
 covered-flush : covers Flush 0 ≡ false
 covered-flush = refl
+
+-- writes and discards put values in sectors, flushes and reads don't
+change-write : is_change two ≡ true
+unfolding two
+change-write = refl
+
+change-discard : is_change (Discard 5 2) ≡ true
+change-discard = refl
+
+change-flush : is_change Flush ≡ false
+change-flush = refl
+
+change-read : is_change (Read 5 2) ≡ false
+change-read = refl
 
 -- ranges that touch don't overlap, and ranges of one common sector do
 overlap-touching : overlaps two (Discard 7 1) ≡ false
@@ -105,6 +119,18 @@ lawful-within = refl
 lawful-past : is_lawful 6 (Submit two ∷ []) ≡ false
 unfolding two
 lawful-past = refl
+
+-- a flush after a place isn't one before it, nor its own
+after-later : flush_after (Submit Flush ∷ Complete 0 true ∷ Submit Flush ∷ []) 0 ≡ Some 2
+after-later = refl
+
+after-none : flush_after (Submit Flush ∷ Complete 0 true ∷ []) 0 ≡ None
+after-none = refl
+
+-- a list with an end is lawful too
+lawful-ended : is_lawful 7 (Submit two ∷ Complete 0 true ∷ []) ≡ true
+unfolding two
+lawful-ended = refl
 
 -- a request that ended just before another was submitted is before it
 before-just : is_before (Submit Flush ∷ Complete 0 true ∷ Submit Flush ∷ []) 0 2 ≡ true

@@ -1,3 +1,4 @@
 pub mod Listing
 pub mod Failing
 pub mod Endings
+mod Refused

@@ -1,3 +1,4 @@
 mod Examples
 mod Under
 mod LayerKept
+mod Refused

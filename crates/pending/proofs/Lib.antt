@@ -19,3 +19,4 @@ pub mod HazardWords
 pub mod LastValue
 pub mod Durable
 pub mod Possibles
+pub mod Refused

@@ -9,3 +9,4 @@ mod OnDisks
 mod Following
 mod Bare
 mod LawfulRuns
+mod Refused

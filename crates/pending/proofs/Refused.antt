@@ -1,0 +1,74 @@
+-- What a core never is, which numbers of entries belong to a moment, and which events are alike but for their results: examples that hold and
+-- examples that don't.
+use Rattle.std.proofs.Common.{◌≡◌, true, false, List, [], ◌∷◌, length, map, replicate, refl, arith}
+use Rattle.bio.specs.declared.event.CoreEvent.{CoreEvent}
+use Rattle.bio.specs.declared.event.CoreEvent.TheVariants.{Submit, Complete, Mark, Stop, Close}
+use Rattle.bio.specs.declared.outcome.End.TheVariants.{Full}
+use Rattle.bio.specs.declared.request.Bio.TheVariants.{Write, Flush}
+use Rattle.pending.specs.Beginnings.{BelongsTo, queued_by}
+use Rattle.pending.specs.CompletionList.{dm_log_writes}
+use Rattle.pending.specs.CoreState.{IsSound, items_of, new_state}
+use Rattle.pending.specs.Results.{as_success}
+
+-- a core of no events is sound
+sound : IsSound new_state
+sound = record { sector_size = refl; well_formed = refl; within = omega arith; unstopped = λ going. refl; going = λ recording. refl }
+
+-- one of a log whose sectors have 100 bytes isn't, nor one that gave an entry
+sector_size : IsSound (record new_state { sector_bytes = 100 }) → ⊥
+sector_size told = let size : false ≡ true = told.sector_size in cc
+
+within : IsSound (record new_state { taken = 1 }) → ⊥
+within told = let most = told.within in let none : length (items_of (record new_state { taken = 1 })) ≡ 0 = refl in omega arith
+
+-- nor one that was closed twice, one that goes on after a Stop, or one that was stopped by none
+well_formed : IsSound (record new_state { events = Close ∷ Close ∷ [] }) → ⊥
+well_formed told = let formed : false ≡ true = told.well_formed in cc
+
+unstopped : IsSound (record new_state { events = Stop Full ∷ [] }) → ⊥
+unstopped told = let none : false ≡ true = told.unstopped refl in cc
+
+going : IsSound (record new_state { stopped = true }) → ⊥
+going told = let on : true ≡ false = told.going refl in cc
+
+-- a write that goes into the log with the flush after it: none is queued by the first three events, and both by the fourth
+abbrev flushed : List CoreEvent
+flushed = Submit (Write 5 (replicate 512 65) false false false) ∷ Complete 0 true ∷ Submit Flush ∷ Complete 2 true ∷ []
+
+by-third : queued_by (dm_log_writes 512) flushed 3 ≡ 0
+by-third = refl
+
+by-fourth : queued_by (dm_log_writes 512) flushed 4 ≡ 2
+by-fourth = refl
+
+-- so none, one and two entries belong to the moment before the fourth
+belongs-none : BelongsTo (dm_log_writes 512) flushed 3 0
+belongs-none = let before = by-third in record { from = omega arith; to = omega arith }
+
+belongs-one : BelongsTo (dm_log_writes 512) flushed 3 1
+belongs-one = let before = by-third in let after = by-fourth in record { from = omega arith; to = omega arith }
+
+belongs-both : BelongsTo (dm_log_writes 512) flushed 3 2
+belongs-both = let before = by-third in let after = by-fourth in record { from = omega arith; to = omega arith }
+
+-- and not three, nor one to the moment after it or to one long before it
+belongs-three : BelongsTo (dm_log_writes 512) flushed 3 3 → ⊥
+belongs-three told = let most = told.to in let after = by-fourth in omega arith
+
+belongs-after : BelongsTo (dm_log_writes 512) flushed 4 1 → ⊥
+belongs-after told = let least = told.from in let after = by-fourth in omega arith
+
+belongs-before : BelongsTo (dm_log_writes 512) flushed 2 1 → ⊥
+belongs-before told = let most = told.to in let before = by-third in omega arith
+
+-- events that are equal but for the results of their ends
+alike : map as_success (Submit Flush ∷ Complete 0 false ∷ Mark (65 ∷ []) ∷ Stop Full ∷ Close ∷ [])
+    ≡ map as_success (Submit Flush ∷ Complete 0 true ∷ Mark (65 ∷ []) ∷ Stop Full ∷ Close ∷ [])
+alike = refl
+
+-- ends of two requests aren't, nor a Stop and a Close
+other-end : as_success (Complete 0 true) ≡ as_success (Complete 1 true) → ⊥
+other-end same = cc
+
+other-event : as_success (Stop Full) ≡ as_success Close → ⊥
+other-event same = cc

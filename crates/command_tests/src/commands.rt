@@ -6,6 +6,7 @@ use std::alloc::{AllocError, Global};
 use std::io;
 use std::io::Write;
 use std::test::Fail;
+use test_asserts::{holds, is_same};
 use test_files::{Broken, FIRST, OneFile, Ran};
 
 mod explain;
@@ -252,12 +253,19 @@ fn leaves_logs_as_they_came(rt: HostRuntime) -> Result<(), Fail> {
                 char::from(*byte)
             })?;
         }
-        assert_eq!(rt; Some(shown.as_str()), fields.next(), "{row}");
+        assert!(rt; is_same(&rt, &Some(shown.as_str()), &fields.next(), row));
         let log = ran.log.ok_or("a log")?;
-        assert_eq!(rt; Some(filled(alloc, &log)?.as_str()), fields.next(), "{row}");
+        assert!(rt;
+            is_same(
+                &rt,
+                &Some(filled(alloc, &log)?.as_str()),
+                &fields.next(),
+                row,
+            )
+        );
         let counted = log.get(16).copied().unwrap_or_default();
         let counts = fields.next().unwrap_or_default().parse::<u8>();
-        assert_eq!(rt; Ok(counted), counts, "{row}");
+        assert!(rt; is_same(&rt, &Ok(counted), &counts, row));
     }
     Ok(())
 }
@@ -324,10 +332,13 @@ fn refuses_an_output_that_cannot_be_flushed(rt: HostRuntime) -> Result<(), Fail>
         let mut err = Vec::new(alloc);
         let words = ["dmlw", command, name, "log"];
         let code = execute(alloc, &words, &mut files, &mut out, &mut err);
-        assert!(rt; code == 1 && files.log.is_none(), "{command}");
+        assert!(rt; holds(&rt, code == 1 && files.log.is_none(), command));
         assert!(rt;
-            err.as_slice() == b"dmlw: 32 File\n".as_slice(),
-            "{command}"
+            holds(
+                &rt,
+                err.as_slice() == b"dmlw: 32 File\n".as_slice(),
+                command,
+            )
         );
     }
     Ok(())

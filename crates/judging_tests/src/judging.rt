@@ -5,6 +5,7 @@ use dmlw_judge::judge;
 use std::alloc::{AllocError, Global};
 use std::io;
 use std::test::Fail;
+use test_asserts::{holds, is_told};
 use test_files::{Broken, Buffered, push_lines};
 
 mod headline;
@@ -181,7 +182,7 @@ fn images_are_judged(rt: HostRuntime) -> Result<(), Fail> {
     for row in JUDGINGS.lines() {
         let (asked, wanted) = row.split_once("=").unwrap_or((row, ""));
         let told = judging_of(alloc, asked)?;
-        assert_eq!(rt; told.as_str(), wanted, "{asked}");
+        assert!(rt; is_told(&rt, told.as_str(), wanted, asked));
     }
     Ok(())
 }
@@ -246,7 +247,7 @@ fn outputs_may_fail(rt: HostRuntime) -> Result<(), Fail> {
                 alloc, false, "script", 0, "image", &mut files, &mut out, &mut err,
             );
             assert!(rt; ended.exit.status() == 1);
-            assert!(rt; err.as_slice() == wanted.as_bytes(), "{wanted}");
+            assert!(rt; holds(&rt, err.as_slice() == wanted.as_bytes(), wanted));
         }
     }
     Ok(())

@@ -5,8 +5,10 @@ use dmlw_explain::ReplayNames;
 use dmlw_files::{FileError, Files, Trouble};
 use dmlw_replay::{replay, upto_of};
 use std::alloc::Global;
+use std::io::Print;
 use std::process::Abort;
 use std::test::Fail;
+use test_asserts::is_told;
 use test_files::push_lines;
 
 mod telling;
@@ -161,14 +163,19 @@ const NAMES: ReplayNames<'static> = ReplayNames {
 };
 
 // Replays a log: each row has how many sectors the image has, and the end of the replay; then what it did.
-fn assert_replays(rt: &impl Abort, alloc: Global, log: &[u8], rows: &str) -> Result<(), Fail> {
+fn assert_replays(
+    rt: &(impl Abort + Print),
+    alloc: Global,
+    log: &[u8],
+    rows: &str,
+) -> Result<(), Fail> {
     for row in rows.lines() {
         let (asked, wanted) = row.split_once('|').unwrap_or_default();
         let (sectors, word) = asked.split_once(' ').unwrap_or_default();
         let sectors = sectors.parse::<usize>().unwrap_or(0);
         let mut files = files_of(alloc, log, sectors)?;
         let ran = output_of(alloc, &mut files, NAMES, word)?;
-        assert_eq!(rt; ran.as_str(), wanted, "{row}");
+        assert!(rt; is_told(rt, ran.as_str(), wanted, row));
     }
     Ok(())
 }
@@ -281,7 +288,7 @@ fn files_are_refused(rt: HostRuntime) -> Result<(), Fail> {
         let (words, wanted) = row.split_once('|').unwrap_or_default();
         let mut files = files_of(alloc, &log, 16)?;
         let ran = output_of(alloc, &mut files, names_of(words), "flush")?;
-        assert_eq!(rt; ran.as_str(), wanted, "{row}");
+        assert!(rt; is_told(&rt, ran.as_str(), wanted, row));
     }
     Ok(())
 }

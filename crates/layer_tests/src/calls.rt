@@ -3,7 +3,9 @@ use bio::{DevError, Ms};
 use blockdev::{BlockDev, Message};
 use refusals::Refusal;
 use std::alloc::{AllocError, Global};
+use std::io::Print;
 use std::process::Abort;
+use test_asserts::is_told;
 
 // When a call ended, in milliseconds, or its error.
 fn end_text(alloc: Global, end: Result<Ms, DevError>) -> Result<String, AllocError> {
@@ -101,7 +103,7 @@ fn told<D: BlockDev + Drop>(
 
 // Makes the call of a row: a moment in milliseconds, the call, and behind `|` what it tells.
 fn call<D: BlockDev + Drop>(
-    rt: &impl Abort,
+    rt: &(impl Abort + Print),
     alloc: Global,
     device: &mut D,
     row: &str,
@@ -110,13 +112,13 @@ fn call<D: BlockDev + Drop>(
     let (moment, call) = asked.split_once(' ').unwrap_or_default();
     let now = Ms::new(moment.parse::<u64>().unwrap_or(0));
     let said = told(rt, alloc, device, now, call)?;
-    assert_eq!(rt; said.as_str(), wanted, "{row}");
+    assert!(rt; is_told(rt, said.as_str(), wanted, row));
     Ok(())
 }
 
 // Puts the message of a row: a layer, the message, and behind `|` its answer.
 fn message<D: Message + Drop>(
-    rt: &impl Abort,
+    rt: &(impl Abort + Print),
     alloc: Global,
     device: &mut D,
     row: &str,
@@ -125,13 +127,13 @@ fn message<D: Message + Drop>(
     let (layer, text) = asked.split_once(' ').unwrap_or_default();
     let layer = layer.parse::<u64>().unwrap_or(99);
     let answer = answer_of(alloc, device, layer, text)?;
-    assert_eq!(rt; answer.as_str(), wanted, "{row}");
+    assert!(rt; is_told(rt, answer.as_str(), wanted, row));
     Ok(())
 }
 
 /// Makes the calls of these rows, one after another: a moment in milliseconds, the call, and behind `|` what it tells.
 pub fn calls<D: BlockDev + Drop>(
-    rt: &impl Abort,
+    rt: &(impl Abort + Print),
     alloc: Global,
     device: &mut D,
     rows: &str,
@@ -144,7 +146,7 @@ pub fn calls<D: BlockDev + Drop>(
 
 /// Puts the messages of these rows, one after another: a layer, the message, and behind `|` its answer.
 pub fn answers<D: Message + Drop>(
-    rt: &impl Abort,
+    rt: &(impl Abort + Print),
     alloc: Global,
     device: &mut D,
     rows: &str,
@@ -157,7 +159,7 @@ pub fn answers<D: Message + Drop>(
 
 /// Makes calls and puts messages, of which a row begins with `m`.
 pub fn talk<D: Message + Drop>(
-    rt: &impl Abort,
+    rt: &(impl Abort + Print),
     alloc: Global,
     device: &mut D,
     rows: &str,

@@ -6,8 +6,10 @@ use bio::{DevError, Ms};
 use blockdev::BlockDev;
 use sector_disk::SectorDisk;
 use std::alloc::Global;
+use std::io::Print;
 use std::process::Abort;
 use std::test::Fail;
+use test_asserts::{holds, is_same};
 use test_devices::{Failing, Lying};
 
 // Crashes of a disk of 8 sectors of zeroes, a line each. `w31` writes 1s to sector 3, `F31` does with FUA, `d32`
@@ -72,11 +74,17 @@ fn discard(disk: &mut SectorDisk, sector: u8, count: u8) -> Result<Ms, DevError>
     disk.discard(Ms::new(5), first, count)
 }
 
-fn check_sector(rt: &impl Abort, disk: &mut SectorDisk, sector: u64, want: u8, line: &str) {
-    assert!(rt; sector < disk.sectors(), "{line}");
+fn check_sector(
+    rt: &(impl Abort + Print),
+    disk: &mut SectorDisk,
+    sector: u64,
+    want: u8,
+    line: &str,
+) {
+    assert!(rt; holds(rt, sector < disk.sectors(), line));
     let mut buffer = [9; 512];
     let end = disk.read(Ms::new(7), sector, &mut buffer);
-    assert_eq!(rt; end, Ok(Ms::new(7)), "{line}");
+    assert!(rt; is_same(rt, &end, &Ok(Ms::new(7)), line));
     let wanted = want.saturating_sub(48);
     assert!(rt;
         buffer.iter().all(|byte| *byte == wanted),
@@ -94,7 +102,7 @@ fn crash(alloc: Global, disk: &mut SectorDisk, digits: &[u8]) -> Result<(), Fail
 }
 
 fn step(
-    rt: &impl Abort,
+    rt: &(impl Abort + Print),
     alloc: Global,
     disk: &mut SectorDisk,
     word: &[u8],
@@ -112,7 +120,7 @@ fn step(
         }
         _ => Ok(Ms::new(5)),
     };
-    assert_eq!(rt; end, Ok(Ms::new(5)), "{line}");
+    assert!(rt; is_same(rt, &end, &Ok(Ms::new(5)), line));
     if let [b'=', want @ ..] = word {
         for (sector, byte) in want.iter().enumerate() {
             check_sector(rt, disk, sector as u64, *byte, line);

@@ -5,9 +5,11 @@ use bio::{DevError, Ms};
 use blockdev::BlockDev;
 use fault_layers::{Delay, ErrorDev, Flakey, Fuse, Linear};
 use sector_disk::SectorDisk;
+use std::io::Print;
 use std::process::Abort;
 use std::test::Fail;
 use table_line::Feature;
+use test_asserts::is_same;
 
 // Layers over a disk of 8 sectors of zeroes, a line each: the layer, then its calls. `@12` is the moment from here on, in
 // milliseconds. `w31+` writes 1s to sector 3, `F31+` does with FUA, `d32+` discards 2 sectors from sector 3 on, `f+` flushes and
@@ -89,7 +91,13 @@ fn read<D: BlockDev + Drop>(
     end
 }
 
-fn step<D: BlockDev + Drop>(rt: &impl Abort, device: &mut D, now: Ms, word: &[u8], line: &str) {
+fn step<D: BlockDev + Drop>(
+    rt: &(impl Abort + Print),
+    device: &mut D,
+    now: Ms,
+    word: &[u8],
+    line: &str,
+) {
     let (end, want) = match word {
         [b'w', sector, value, want] => (write(rt, device, now, *sector, *value, false), *want),
         [b'F', sector, value, want] => (write(rt, device, now, *sector, *value, true), *want),
@@ -99,14 +107,14 @@ fn step<D: BlockDev + Drop>(rt: &impl Abort, device: &mut D, now: Ms, word: &[u8
         [b'f', want] => (tell(device.flush(now), now), *want),
         _ => (0, 0),
     };
-    assert_eq!(rt; end, want, "{line}");
+    assert!(rt; is_same(rt, &end, &want, line));
     if let [b'#', faults, lies] = word {
         let counts = (device.faults(), device.lies());
-        assert_eq!(rt; counts, (digit(*faults), digit(*lies)), "{line}");
+        assert!(rt; is_same(rt, &counts, &(digit(*faults), digit(*lies)), line));
     }
 }
 
-fn play<D: BlockDev + Drop>(rt: &impl Abort, device: D, line: &str) -> D {
+fn play<D: BlockDev + Drop>(rt: &(impl Abort + Print), device: D, line: &str) -> D {
     let mut device = device;
     let mut now = 0;
     for word in line.split(' ').skip(1) {
@@ -119,7 +127,7 @@ fn play<D: BlockDev + Drop>(rt: &impl Abort, device: D, line: &str) -> D {
 }
 
 // The disk after the calls of a line, its layers taken off again.
-fn played(rt: &impl Abort, disk: SectorDisk, line: &str) -> SectorDisk {
+fn played(rt: &(impl Abort + Print), disk: SectorDisk, line: &str) -> SectorDisk {
     let start = Ms::new(0);
     match line.split(' ').next().unwrap_or_default() {
         "error" => play(rt, ErrorDev::new(disk), line).into_lower(),
@@ -162,7 +170,7 @@ fn played(rt: &impl Abort, disk: SectorDisk, line: &str) -> SectorDisk {
 }
 
 // The same for a part of the disk, and for two layers.
-fn played_deep(rt: &impl Abort, disk: SectorDisk, line: &str) -> SectorDisk {
+fn played_deep(rt: &(impl Abort + Print), disk: SectorDisk, line: &str) -> SectorDisk {
     let start = Ms::new(0);
     assert_eq!(rt; disk.sectors(), 8);
     match line.split(' ').next().unwrap_or_default() {
@@ -190,14 +198,14 @@ fn played_deep(rt: &impl Abort, disk: SectorDisk, line: &str) -> SectorDisk {
     }
 }
 
-fn check_disk(rt: &impl Abort, disk: &mut SectorDisk, word: &[u8], line: &str) {
+fn check_disk(rt: &(impl Abort + Print), disk: &mut SectorDisk, word: &[u8], line: &str) {
     if let [b'!', ..] = word {
         disk.crash(&[]);
     }
     if let [b'=' | b'!', want @ ..] = word {
         for (sector, value) in want.iter().enumerate() {
             let end = read(rt, disk, Ms::new(7), sector as u64, *value);
-            assert_eq!(rt; end, b'+', "{line}");
+            assert!(rt; is_same(rt, &end, &b'+', line));
         }
     }
 }

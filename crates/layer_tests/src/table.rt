@@ -11,9 +11,11 @@ use plain::{Plain, plain_call};
 use refusals::Refusal;
 use sector_disk::SectorDisk;
 use std::alloc::Global;
+use std::io::Print;
 use std::process::Abort;
 use std::test::Fail;
 use table_line::{LayerSpec, Target, parse_line};
+use test_asserts::{holds, is_same};
 
 mod messages;
 mod plain;
@@ -124,7 +126,7 @@ fn is_soon(now: Ms, end: Ms) -> bool {
 
 // The same calls of a device and of plain layers.
 fn play<D: BlockDev + Drop>(
-    rt: &impl Abort,
+    rt: &(impl Abort + Print),
     device: &mut D,
     layers: &mut [Plain],
     disk: &mut [u8],
@@ -150,7 +152,7 @@ fn play<D: BlockDev + Drop>(
 
 // Plays the calls on a device and on plain layers, and looks at the counts; what the plain layers' disk then holds.
 fn play_all<D: BlockDev + Drop>(
-    rt: &impl Abort,
+    rt: &(impl Abort + Print),
     alloc: Global,
     device: &mut D,
     lines: &[(&str, u64)],
@@ -172,7 +174,7 @@ fn play_all<D: BlockDev + Drop>(
 }
 
 // Plays the calls on these layers, and looks at the counts and at the disk beneath.
-fn check(rt: &impl Abort, alloc: Global, lines: &[(&str, u64)]) -> Result<(), Fail> {
+fn check(rt: &(impl Abort + Print), alloc: Global, lines: &[(&str, u64)]) -> Result<(), Fail> {
     let under = SectorDisk::new(alloc, 16)?;
     let (disk, image) = on_stack(rt, alloc, under, lines, |stack, refused| {
         assert_eq!(rt; refused, None);
@@ -223,15 +225,15 @@ const ROWS: &str = "0 16 linear disk 0+
 0 14 flakey disk 3 10 5-";
 
 // A line that is put there makes a device of its sectors, and one that isn't leaves the disk's.
-fn check_range(rt: &impl Abort, row: &str, sectors: u64, refused: Option<Refusal>) {
+fn check_range(rt: &(impl Abort + Print), row: &str, sectors: u64, refused: Option<Refusal>) {
     let wanted = spec_of(rt, row.trim_end_matches(['+', '-'])).length;
     if row.ends_with('+') {
-        assert_eq!(rt; refused, None, "{row}");
-        assert_eq!(rt; sectors, wanted, "{row}");
+        assert!(rt; is_same(rt, &refused, &None, row));
+        assert!(rt; is_same(rt, &sectors, &wanted, row));
     } else {
-        assert!(rt; row.ends_with('-'), "{row}");
-        assert_eq!(rt; refused, Some(Refusal::OutOfRange), "{row}");
-        assert_eq!(rt; sectors, 16, "{row}");
+        assert!(rt; holds(rt, row.ends_with('-'), row));
+        assert!(rt; is_same(rt, &refused, &Some(Refusal::OutOfRange), row));
+        assert!(rt; is_same(rt, &sectors, &16, row));
     }
 }
 

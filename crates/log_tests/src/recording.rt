@@ -2,6 +2,7 @@ use bio::{Bio, Bytes, End, Id};
 use pending::*;
 use std::alloc::{AllocError, Global};
 use std::test::Fail;
+use test_asserts::is_same;
 
 // A write of so many bytes; the number has a bit each for flush, FUA and meta.
 fn write(alloc: Global, first: u64, length: usize, flags: u64) -> Result<Bio, AllocError> {
@@ -130,7 +131,7 @@ fn steps_are_answered(rt: HostRuntime) -> Result<(), Fail> {
     for row in ROWS.split("\n") {
         let mut parts = row.split("=");
         let shown = played(rt.alloc(), parts.next().unwrap_or_default())?;
-        assert_eq!(rt; Some(shown.as_str()), parts.next(), "{row}");
+        assert!(rt; is_same(&rt, &Some(shown.as_str()), &parts.next(), row));
     }
     Ok(())
 }
@@ -174,7 +175,7 @@ fn hazards_are_found(rt: HostRuntime) -> Result<(), Fail> {
     for row in HAZARDS.split("\n") {
         let mut parts = row.split("=");
         let shown = hazard_of(rt.alloc(), parts.next().unwrap_or_default())?;
-        assert_eq!(rt; Some(shown.as_str()), parts.next(), "{row}");
+        assert!(rt; is_same(&rt, &Some(shown.as_str()), &parts.next(), row));
     }
     Ok(())
 }

@@ -2,6 +2,7 @@ use dmlw_dispatch::{execute, refuse};
 use std::alloc::Global;
 use std::io;
 use std::test::Fail;
+use test_asserts::holds;
 use test_files::{Broken, Buffered, FIRST, OneFile, Ran};
 
 fn run(alloc: Global, words: &[&str], bytes: &[u8]) -> Ran {
@@ -105,7 +106,7 @@ fn reads_command_lines(rt: HostRuntime) -> Result<(), Fail> {
         } else {
             (2, &ran.err, &ran.out)
         };
-        assert!(rt; ran.status == code && other.is_empty(), "{line}");
+        assert!(rt; holds(&rt, ran.status == code && other.is_empty(), line));
         let text = str::from_utf8(text).unwrap_or_default();
         assert!(rt; text.contains(part), "{line}: {text}");
     }
@@ -122,7 +123,7 @@ fn shows_each_text_once(rt: HostRuntime) -> Result<(), Fail> {
     let text = str::from_utf8(&help.out).unwrap_or_default();
     let (_, behind) = text.split_once("Usage: dmlw").ok_or("a usage")?;
     assert!(rt; help.status == 0 && help.err.is_empty());
-    assert!(rt; !behind.contains("Usage: dmlw"), "{text}");
+    assert!(rt; holds(&rt, !behind.contains("Usage: dmlw"), text));
     assert!(rt; run(alloc, &["dmlw"], b"").is(2, "", text));
     let ran = run(alloc, &["dmlw", "--version"], b"");
     assert!(rt; ran.is(0, "dmlw 0.1 (log format version 1)\n", ""));
@@ -134,8 +135,8 @@ fn shows_each_text_once(rt: HostRuntime) -> Result<(), Fail> {
         let ran = run(alloc, words, b"");
         let text = str::from_utf8(&ran.err).unwrap_or_default();
         let (before, behind) = text.split_once("error: ").ok_or("a fault")?;
-        assert!(rt; ran.status == 2 && before.is_empty(), "{text}");
-        assert!(rt; !behind.contains("error: "), "{text}");
+        assert!(rt; holds(&rt, ran.status == 2 && before.is_empty(), text));
+        assert!(rt; holds(&rt, !behind.contains("error: "), text));
     }
     Ok(())
 }
@@ -166,7 +167,7 @@ fn prints_the_formats(rt: HostRuntime) {
     let page = str::from_utf8(&ran.out).unwrap_or_default();
     assert!(rt; page.starts_with("# Formats\n"));
     for row in ROWS.split('\n') {
-        assert!(rt; page.contains(row), "{row}");
+        assert!(rt; holds(&rt, page.contains(row), row));
     }
 }
 

@@ -4,6 +4,7 @@ use dmlw_dispatch::execute;
 use dmlw_files::{FileError, Files, Trouble};
 use std::alloc::{AllocError, Global};
 use std::test::Fail;
+use test_asserts::{holds, is_told};
 use test_files::{FIRST, push_lines};
 
 // A file of a test.
@@ -217,7 +218,7 @@ fn does_long_lines(rt: HostRuntime) -> Result<(), Fail> {
         line.push_str(" --explain")?;
     }
     let told = output_of(alloc, &line, &mut folder)?;
-    assert!(rt; told.as_str() == "0|a ok;b ok;3 4;|", "{told}");
+    assert!(rt; is_told(&rt, told.as_str(), "0|a ok;b ok;3 4;|", "a long line"));
     Ok(())
 }
 
@@ -239,8 +240,11 @@ fn reads_no_file_of_a_flawed_line(rt: HostRuntime) -> Result<(), Fail> {
         "replay script zeroes other --explain Flush",
     ] {
         assert!(rt;
-            output_of(alloc, line, &mut folder)?.as_str() == what,
-            "{line}"
+            holds(
+                &rt,
+                output_of(alloc, line, &mut folder)?.as_str() == what,
+                line,
+            )
         );
     }
     for line in [
@@ -250,8 +254,11 @@ fn reads_no_file_of_a_flawed_line(rt: HostRuntime) -> Result<(), Fail> {
         "judge script --explain 1.0 zeroes",
     ] {
         assert!(rt;
-            output_of(alloc, line, &mut folder)?.as_str() == moment,
-            "{line}"
+            holds(
+                &rt,
+                output_of(alloc, line, &mut folder)?.as_str() == moment,
+                line,
+            )
         );
     }
     assert!(rt; folder.reads == 0 && folder.files.len() == 3);

@@ -2,8 +2,10 @@ use dmlw_script::*;
 use refusals::Refusal;
 use script_printer::print_script;
 use std::alloc::{AllocError, Global};
+use std::io::Print;
 use std::process::Abort;
 use std::test::Fail;
+use test_asserts::is_told;
 
 mod layers;
 
@@ -683,7 +685,12 @@ crash 1
 =line 1: 30 BadLine";
 
 // Each text is answered so.
-fn assert_texts(rt: &impl Abort, alloc: Global, texts: &str, kind: Kind) -> Result<(), Fail> {
+fn assert_texts(
+    rt: &(impl Abort + Print),
+    alloc: Global,
+    texts: &str,
+    kind: Kind,
+) -> Result<(), Fail> {
     for row in texts.split("\n~") {
         let mut parts = row.split("=");
         let (text, want) = (
@@ -691,7 +698,7 @@ fn assert_texts(rt: &impl Abort, alloc: Global, texts: &str, kind: Kind) -> Resu
             parts.next().unwrap_or_default(),
         );
         let found = answer(alloc, text.as_bytes(), kind)?;
-        assert_eq!(rt; found.as_str(), want, "{row}");
+        assert!(rt; is_told(rt, found.as_str(), want, row));
     }
     Ok(())
 }

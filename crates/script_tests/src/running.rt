@@ -3,6 +3,7 @@ use script_runner::*;
 use std::alloc::{AllocError, Global};
 use std::process::Abort;
 use std::test::Fail;
+use test_asserts::is_same;
 
 // Scripts, a line each, whose lines stand between commas; after `=` stands what the run prints, and the recorder's status or the fault.
 const SCRIPTS: &str = "log 32,w a 5 1 41,c a,f b,c b,close=a ok;b ok;3 4
@@ -68,7 +69,7 @@ fn scripts_are_run(rt: HostRuntime) -> Result<(), Fail> {
         let mut parts = row.split("=");
         let text = text_of(alloc, parts.next().unwrap_or_default())?;
         let shown = run_text(&rt, alloc, text.as_str())?;
-        assert_eq!(rt; Some(shown.as_str()), parts.next(), "{row}");
+        assert!(rt; is_same(&rt, &Some(shown.as_str()), &parts.next(), row));
     }
     Ok(())
 }
@@ -105,7 +106,7 @@ fn scripts_are_rehearsed(rt: HostRuntime) -> Result<(), Fail> {
         let mut parts = row.split("=");
         let text = text_of(alloc, parts.next().unwrap_or_default())?;
         let shown = rehearsed(alloc, text.as_str())?;
-        assert_eq!(rt; Some(shown.as_str()), parts.next(), "{row}");
+        assert!(rt; is_same(&rt, &Some(shown.as_str()), &parts.next(), row));
     }
     Ok(())
 }

@@ -4,6 +4,7 @@ use dmlw_commands::record::record;
 use dmlw_files::HostFiles;
 use std::alloc::{AllocError, Global};
 use std::test::Fail;
+use test_asserts::holds;
 use test_files::FIRST;
 
 // What is told of a script's recording, after the line of its fault.
@@ -62,7 +63,7 @@ log-layer 0 32 flakey disk 0 1 1 2|feature is `0`, or `1` and
 f é|it has a byte that isn't ASCII text";
     for row in rows.split('\n') {
         let (line, words) = row.split_once('|').unwrap_or_default();
-        assert!(rt; tells(rt.alloc(), line, words)?, "{row}");
+        assert!(rt; holds(&rt, tells(rt.alloc(), line, words)?, row));
     }
     Ok(())
 }

@@ -2,8 +2,10 @@
 use super::lines::{script_of, with_commas};
 use super::{recorded, run};
 use std::alloc::Global;
+use std::io::Print;
 use std::process::Abort;
 use std::test::Fail;
+use test_asserts::{holds, is_same, is_told};
 
 // Lines of scripts behind `data 16`, between commas; the status, what is printed and the fault; and the log as it is listed, with its fault, or `none`.
 // A fuse that is spent before the super block of a settle, and one call later; a layer of each disk that drops writes and tells them as done; a log
@@ -61,26 +63,26 @@ fn answers_messages(rt: HostRuntime) -> Result<(), Fail> {
 }
 
 // Records the script of each row, and looks at what comes of it.
-fn answers(rt: &impl Abort, alloc: Global, rows: &str) -> Result<(), Fail> {
+fn answers(rt: &(impl Abort + Print), alloc: Global, rows: &str) -> Result<(), Fail> {
     for row in rows.lines() {
         let mut fields = row.split(';');
         let script = script_of(alloc, fields.next().unwrap_or_default())?;
         let ran = recorded(alloc, script.as_bytes());
         let status = fields.next().unwrap_or_default().parse::<u8>().unwrap_or(9);
-        assert_eq!(rt; ran.status, status, "{row}");
+        assert!(rt; is_same(rt, &ran.status, &status, row));
         let out = with_commas(alloc, &ran.out)?;
-        assert_eq!(rt; Some(out.as_str()), fields.next(), "{row}");
+        assert!(rt; is_same(rt, &Some(out.as_str()), &fields.next(), row));
         let err = with_commas(alloc, &ran.err)?;
-        assert_eq!(rt; Some(err.as_str()), fields.next(), "{row}");
+        assert!(rt; is_same(rt, &Some(err.as_str()), &fields.next(), row));
         let list = fields.next().unwrap_or_default();
         if list == "none" {
-            assert!(rt; ran.log.is_none(), "{row}");
+            assert!(rt; holds(rt, ran.log.is_none(), row));
         } else {
             let listed = run(alloc, &["dmlw", "list", "image"], &ran.log.ok_or("a log")?);
             let shown = with_commas(alloc, &listed.out)?;
-            assert_eq!(rt; shown.as_str(), list, "{row}");
+            assert!(rt; is_told(rt, shown.as_str(), list, row));
             let fault = with_commas(alloc, &listed.err)?;
-            assert_eq!(rt; Some(fault.as_str()), fields.next(), "{row}");
+            assert!(rt; is_same(rt, &Some(fault.as_str()), &fields.next(), row));
         }
     }
     Ok(())

@@ -2,6 +2,7 @@
 use super::{recorded, run};
 use std::alloc::{AllocError, Global};
 use std::test::Fail;
+use test_asserts::{holds, is_same};
 
 // Lines of scripts behind `data 16`, between commas; what is printed, how many entries the log counts, and how they are listed. First a FUA
 // write that overtakes one of its sector, and a flush that ends before an older one; then a discard, a write with flush and FUA that is settled by a
@@ -51,14 +52,17 @@ fn lists_what_lines_leave(rt: HostRuntime) -> Result<(), Fail> {
         let script = script_of(alloc, fields.next().unwrap_or_default())?;
         let ran = recorded(alloc, script.as_bytes());
         let shown = with_commas(alloc, &ran.out)?;
-        assert_eq!(rt; Some(shown.as_str()), fields.next(), "{row}");
+        assert!(rt; is_same(&rt, &Some(shown.as_str()), &fields.next(), row));
         let count = fields.next().unwrap_or_default();
         let list = fields.next().unwrap_or_default();
         let want = format!(in alloc; "super version 1 entries {count} sectorsize 512,{list}")?;
         let listed = run(alloc, &["dmlw", "list", "image"], &ran.log.ok_or("a log")?);
         assert!(rt;
-            with_commas(alloc, &listed.out)?.as_str() == want.as_str(),
-            "{row}"
+            holds(
+                &rt,
+                with_commas(alloc, &listed.out)?.as_str() == want.as_str(),
+                row,
+            )
         );
     }
     Ok(())

@@ -4,6 +4,7 @@ use dmlw_replay::{replay, upto_of};
 use replay::Upto;
 use std::io;
 use std::test::Fail;
+use test_asserts::holds;
 use test_files::{Broken, push_lines};
 
 // A log that was cut behind its second entry: what stands before that is replayed, and no more. One that was cut before it isn't opened.
@@ -72,7 +73,7 @@ fn faults_are_explained(rt: HostRuntime) -> Result<(), Fail> {
         let ended = replay(alloc, true, names, &upto, &mut files, &mut out, &mut err);
         let mut told = String::new(alloc);
         push_lines(&mut told, &err)?;
-        assert!(rt; ended.is_told && told.as_str().starts_with(wanted), "{row}");
+        assert!(rt; holds(&rt, ended.is_told && told.as_str().starts_with(wanted), row));
         assert_eq!(rt; told.is_empty(), wanted.is_empty());
     }
     Ok(())
@@ -101,7 +102,7 @@ fn outputs_may_fail(rt: HostRuntime) -> Result<(), Fail> {
                 &mut err,
             );
             assert!(rt; ended.exit.status() == 1 && files.written.is_none());
-            assert!(rt; err.as_slice() == wanted.as_bytes(), "{wanted}");
+            assert!(rt; holds(&rt, err.as_slice() == wanted.as_bytes(), wanted));
         }
     }
     Ok(())

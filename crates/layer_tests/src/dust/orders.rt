@@ -7,6 +7,7 @@ use sector_disk::SectorDisk;
 use std::alloc::Global;
 use std::process::Abort;
 use std::test::Fail;
+use test_asserts::is_same;
 
 // How many writes of a sector fail before one passes.
 fn failed_writes<D: Message + Drop>(rt: &impl Abort, device: &mut D, sector: u64) -> u64 {
@@ -35,15 +36,18 @@ fn texts_that_list_a_block(rt: HostRuntime) -> Result<(), Fail> {
         let (block, writes) = rest.split_once('|').unwrap_or_default();
         let block = block.parse::<u64>().unwrap_or(999);
         let writes = writes.parse::<u64>().unwrap_or(999);
-        assert_eq!(rt; device.message(1, text), Ok(()), "{row}");
-        assert_eq!(rt;
-            device.message(1, text),
-            Err(MessageError::AlreadyBad),
-            "{row}"
+        assert!(rt; is_same(&rt, &device.message(1, text), &Ok(()), row));
+        assert!(rt;
+            is_same(
+                &rt,
+                &device.message(1, text),
+                &Err(MessageError::AlreadyBad),
+                row,
+            )
         );
-        assert_eq!(rt; failed_writes(&rt, &mut device, block), writes, "{row}");
-        assert_eq!(rt; device.message(1, text), Ok(()), "{row}");
-        assert_eq!(rt; device.message(1, "clearbadblocks"), Ok(()), "{row}");
+        assert!(rt; is_same(&rt, &failed_writes(&rt, &mut device, block), &writes, row));
+        assert!(rt; is_same(&rt, &device.message(1, text), &Ok(()), row));
+        assert!(rt; is_same(&rt, &device.message(1, "clearbadblocks"), &Ok(()), row));
     }
     Ok(())
 }
@@ -57,10 +61,13 @@ fn texts_that_ask_for_none(rt: HostRuntime) -> Result<(), Fail> {
     let disk = SectorDisk::new(rt.alloc(), 128)?;
     let mut device = by_sector(rt.alloc(), disk);
     for text in NO_ORDERS.split('|') {
-        assert_eq!(rt;
-            device.message(1, text),
-            Err(MessageError::BadMessage),
-            "{text}"
+        assert!(rt;
+            is_same(
+                &rt,
+                &device.message(1, text),
+                &Err(MessageError::BadMessage),
+                text,
+            )
         );
     }
     Ok(())

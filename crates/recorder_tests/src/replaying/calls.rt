@@ -4,8 +4,10 @@ use refusals::Refusal;
 use replay::{ReplayFault, Upto, replay};
 use sector_disk::SectorDisk;
 use std::alloc::{AllocError, Global};
+use std::io::Print;
 use std::process::Abort;
 use std::test::Fail;
+use test_asserts::{holds, is_told};
 use test_devices::{Failing, Watched};
 
 // A replay's log and its target, each on a device that notes its calls.
@@ -89,7 +91,7 @@ fn image_named(alloc: Global, name: &str) -> Result<Vec<u8>, AllocError> {
 
 // Each row is an image, the calls that its device passes, how many sectors the target has, and the calls that it passes; then the replays, one after another, each as
 // what is asked for and what is shown.
-fn assert_replays(rt: &impl Abort, alloc: Global, rows: &str) -> Result<(), Fail> {
+fn assert_replays(rt: &(impl Abort + Print), alloc: Global, rows: &str) -> Result<(), Fail> {
     for row in rows.lines() {
         let mut parts = row.split(';');
         let mut words = parts.next().unwrap_or_default().split(' ');
@@ -101,13 +103,10 @@ fn assert_replays(rt: &impl Abort, alloc: Global, rows: &str) -> Result<(), Fail
         for part in parts {
             let (asked, wanted) = part.split_once('=').unwrap_or_default();
             let found = step(alloc, &mut pair, &upto_of(asked))?;
-            assert_eq!(rt; found.as_str(), wanted, "{row}");
+            assert!(rt; is_told(rt, found.as_str(), wanted, row));
         }
         // Each call of the log's device is at the moment 0.
-        assert!(rt;
-            !pair.log.into_device().seen.as_str().contains('@'),
-            "{row}"
-        );
+        assert!(rt; holds(rt, !pair.log.into_device().seen.as_str().contains('@'), row));
     }
     Ok(())
 }

@@ -1,5 +1,5 @@
 -- For each definition of a command line, what breaks it, and is refused by it, and what holds.
-use Rattle.std.proofs.Common.{◌≡◌, ◌∙◌, ◌⊎◌, ◌≤◌, ◌<◌, ◌==◌, ◌++◌, ℕ, Bool, true, false, not, List, [], ◌∷◌, Option, Some, None, Result, Ok, Err, MatchResult, Bor, ap, arith, inl, inr, length, option_map, refl, slice_index_or, subst, sym}
+use Rattle.std.proofs.Common.{◌≡◌, ◌∙◌, ◌⊎◌, ◌<◌, ℕ, true, false, List, [], ◌∷◌, Option, Some, None, Result, Ok, Err, MatchResult, Bor, ap, arith, inl, inr, option_map, refl, slice_index_or, subst, sym}
 use Rattle.std.specs.Prelude.{codes}
 use Rattle.std.proofs.lemmas.Bool.Decides.{nat_tests}
 use Rattle.std.specs.Io.KnownBytes.{Appends}
@@ -17,7 +17,7 @@ use Rattle.replay.specs.declared.upto.Upto.{Upto}
 use Rattle.replay.specs.declared.upto.Upto.TheVariants.{Count, Flush, Mark}
 use Rattle.script_runner.specs.declared.error.RunError.{RunError}
 use Rattle.script_runner.specs.declared.error.RunError.TheVariants as faults
-use Rattle.script_runner.specs.Errors.{IsFileError, memory_error, refused_by}
+use Rattle.script_runner.specs.Errors.{IsFileError, memory_error}
 use Rattle.words.specs.Words.{is_number, number_value}
 use Rattle.dmlw_commands.specs.declared.ending.Ended.{Ended}
 use Rattle.dmlw_commands.specs.declared.exit.Exit.{Exit}
@@ -34,7 +34,7 @@ use Rattle.dmlw_replay.specs.Whats.{IsWhat}
 use Rattle.dmlw_dispatch.specs.CommandLine.{Entered, Enters, IsCommandOf, bare_app, command_app, command_words, has_explain, is_explain, is_formats, is_positional, needed, program_app, without_explain}
 use Rattle.dmlw_dispatch.specs.Commands.{AsksForOne, DoesWords, EndsCommand, EndsFlawed, EndsPage, EndsTask, EndsText, EndsUntasked, IsFaultLine, LeavesLog, ReplaysWhat, TaskLeaves, TellsBy, TellsOneLine, TellsPage, TellsPrinting, TellsUntasked, flaw_text, is_asked_for, of_fault, of_replay, unread_exit}
 use Rattle.dmlw_dispatch.specs.Names.{HasWords, all_names, arguments, is_same, name_of, name_text}
-use Rattle.dmlw_dispatch.specs.Tasks.{Asks, AsksBy, IsAsked, IsAskedBy, IsComplete, IsRead, IsReadByClap, IsUntasked, IsWord, fault as by_fault, memory as by_memory, missing as by_missing}
+use Rattle.dmlw_dispatch.specs.Tasks.{Asks, AsksBy, IsAsked, IsAskedBy, IsComplete, IsRead, IsUntasked, IsWord, fault as by_fault, memory as by_memory, missing as by_missing}
 use Rattle.dmlw_dispatch.specs.declared.name.Name.{Name}
 use Rattle.dmlw_dispatch.specs.declared.name.Name.TheVariants as names
 use Rattle.dmlw_dispatch.specs.declared.task.Flaw.{Flaw}

@@ -1,5 +1,5 @@
 -- For each definition of a script's run, what breaks it, and is refused by it, and what holds.
-use Rattle.std.proofs.Common.{◌≡◌, ◌∙◌, ◌⊎◌, ◌+◌, ◌*◌, ◌<◌, ◌++◌, ℕ, suc, Bool, true, false, List, [], ◌∷◌, Option, Some, None, Result, Ok, Err, ap, arith, inl, inr, length, refl, replicate, slice_index_or, subst, sym}
+use Rattle.std.proofs.Common.{◌≡◌, ◌∙◌, ◌+◌, ◌<◌, ◌++◌, ℕ, suc, Bool, true, false, List, [], ◌∷◌, Option, Some, None, Result, Ok, Err, ap, arith, inl, inr, length, refl, replicate, slice_index_or, subst, sym}
 use Rattle.std.specs.Prelude.{codes, decimal, is_ok, slice_get}
 use Rattle.std.proofs.lemmas.List.{length-replicate}
 use Rattle.sectors.specs.Content.{AgreeBelow, Content, moved, sector_of}
@@ -40,7 +40,6 @@ use Rattle.dmlw_script.specs.declared.command.Command.TheVariants as commands
 use Rattle.dmlw_script.specs.declared.command.Step.TheVariants as steps
 use Rattle.dmlw_script.specs.declared.command.Submission.{Submission}
 use Rattle.dmlw_script.specs.declared.command.Submission.TheVariants as submits
-use Rattle.dmlw_script.specs.declared.disk_name.DiskName.{DiskName}
 use Rattle.dmlw_script.specs.declared.disk_name.DiskName.TheVariants as disks
 use Rattle.dmlw_script.specs.declared.command.WriteOptions.{WriteOptions}
 use Rattle.dmlw_script.specs.declared.script_id.ScriptId.{ScriptId}
@@ -66,7 +65,7 @@ use Rattle.script_runner.specs.Lines.{Answering, Asks, Does, EndsAsked, EndsRequ
 use Rattle.script_runner.specs.OnDisks.{DiskRecorder, DiskRun, FailsOnDisks, IsCounted, IsRecorded, IsStackOf, IsUnmade, Starts, file as disk_file, left_on, run as disk_run, stack_answering, unmade}
 use Rattle.script_runner.specs.Runs.{Chain, EndsRun, RefusesClose, RefusesLine, RunsLines, close, file as run_file, message}
 use Rattle.script_runner.specs.Submitted.{bio_of}
-use Rattle.script_runner.specs.Texts.{first_bytes, mark_failed, outcome_line, read_line}
+use Rattle.script_runner.specs.Texts.{mark_failed, outcome_line, read_line}
 
 -- ---- handing over
 

@@ -21,5 +21,3 @@ pub mod laws;
 mod ms;
 mod outcome;
 mod request;
-#[cfg(test)]
-mod tests;

@@ -16,6 +16,4 @@ mod kept;
 mod lawful;
 pub mod laws;
 mod marks;
-#[cfg(test)]
-mod tests;
 mod verdict;

@@ -10,5 +10,3 @@ pub use refusal::Refusal;
 
 mod fault;
 mod refusal;
-#[cfg(test)]
-mod tests;

@@ -15,6 +15,4 @@ pub mod laws;
 mod numbers;
 mod printing;
 mod splitting;
-#[cfg(test)]
-mod tests;
 mod text;

@@ -1,8 +1,7 @@
-use super::*;
-use crate::ends::{end_at, ends_of};
-use crate::kept::last_kept;
-use crate::marks::{mark_at, marks_of};
+//! Which images are judged possible, and which lists of events are lawful.
+
 use bio::{Bio, Bytes, CoreEvent, End, Id};
+use judge::{Verdict, could_hold, is_lawful};
 use std::alloc::{AllocError, Global};
 use std::test::Fail;
 
@@ -276,31 +275,6 @@ fn long_lists_are_judged(rt: HostRuntime) -> Result<(), Fail> {
     let by = Some(Id::new(19_996));
     let ruled_out = Verdict::No { sector: 1806, by };
     assert!(rt; verdict == ruled_out);
-    Ok(())
-}
-
-// What is found of 400,000 events before the verdict; where the time of each grew with its place, the test would not end in time.
-#[test]
-fn long_lists_are_gone_through(rt: HostRuntime) -> Result<(), Fail> {
-    let alloc = rt.alloc();
-    let mut events = Vec::new(alloc);
-    for number in 0..200_000_u64 {
-        let id = Id::new(number * 2);
-        events.push(CoreEvent::Submit(Bio::Discard { first: 0, count: 1 }))?;
-        events.push(CoreEvent::Complete { id, ok: true })?;
-    }
-    events.push(CoreEvent::Submit(Bio::Flush))?;
-    events.push(CoreEvent::Complete {
-        id: Id::new(400_000),
-        ok: true,
-    })?;
-    let image = vec![in alloc; 0; 1024]?;
-    let ends = ends_of(alloc, &events)?;
-    assert_eq!(rt; end_at(&ends, 399_998), Some(399_999));
-    let last = last_kept(alloc, &events, &ends, image.len() / 512)?;
-    assert_eq!(rt; end_at(&last, 0), Some(399_998));
-    let marks = marks_of(alloc, &events, &ends, &last, &image)?;
-    assert_eq!(rt; (mark_at(&marks, 0), mark_at(&marks, 1)), (true, false));
     Ok(())
 }
 

@@ -1,6 +1,8 @@
-use super::*;
+//! How texts are cut, and which words are numbers.
+
 use std::alloc::Global;
 use std::test::Fail;
+use words::{count_words, cut, number_of, push_number, word_at};
 
 // What a word is read as, and printed as again; or that it is no number.
 fn answer(alloc: Global, word: &str) -> Result<String, Fail> {
@@ -15,7 +17,7 @@ fn answer(alloc: Global, word: &str) -> Result<String, Fail> {
 }
 
 #[test]
-fn numbers(rt: HostRuntime) -> Result<(), Fail> {
+fn numbers_are_read(rt: HostRuntime) -> Result<(), Fail> {
     for (word, want) in [
         ("0", "0"),
         ("7", "7"),
@@ -38,7 +40,7 @@ fn numbers(rt: HostRuntime) -> Result<(), Fail> {
 }
 
 #[test]
-fn cuts(rt: HostRuntime) -> Result<(), Fail> {
+fn texts_are_cut(rt: HostRuntime) -> Result<(), Fail> {
     let line: &[u8] = b"w a  5";
     let (first, rest) = cut(line, b' ');
     assert_eq!(rt; first, b"w".as_slice());
@@ -50,7 +52,7 @@ fn cuts(rt: HostRuntime) -> Result<(), Fail> {
 }
 
 #[test]
-fn words(rt: HostRuntime) -> Result<(), Fail> {
+fn words_are_told_apart(rt: HostRuntime) -> Result<(), Fail> {
     let alloc = rt.alloc();
     for (line, want) in [
         ("", ""),

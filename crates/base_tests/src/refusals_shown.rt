@@ -1,4 +1,6 @@
-use super::*;
+//! How a fault is shown.
+
+use refusals::{Fault, Refusal};
 use std::test::Fail;
 
 #[test]

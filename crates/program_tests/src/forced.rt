@@ -1,10 +1,10 @@
 // Generated scripts under layers, crashed at each of their lines: the log that is found lists with no fault, and where no hazard was told each beginning
 // of it replays to an image of which the verdict is yes at one of the moments at least.
-use crate::doing::{Folder, output_of};
+use crate::commands::output_of;
 use std::alloc::{AllocError, Global};
 use std::process::Abort;
 use std::test::Fail;
-use test_files::Numbers;
+use test_files::{Folder, Numbers};
 
 // The heads of scripts: their disks, and layers that fail calls and tell no lie.
 const HEADS: [&str; 7] = [
@@ -103,7 +103,7 @@ struct Seen {
 }
 
 // Whether the verdict on the image is yes at one of so many moments.
-fn is_held(alloc: Global, moments: u64, folder: &mut Folder) -> Result<bool, AllocError> {
+fn is_held(alloc: Global, moments: u64, folder: &mut Folder) -> Result<bool, Fail> {
     for moment in 0..=moments {
         let line = format!(in alloc; "judge script {moment} image")?;
         if output_of(alloc, &line, folder)?.as_str() == "0|yes;|" {
@@ -116,8 +116,8 @@ fn is_held(alloc: Global, moments: u64, folder: &mut Folder) -> Result<bool, All
 // Records a script that ends by a crash, and replays and judges each beginning of the log that is found.
 fn force(rt: &impl Abort, alloc: Global, script: &str, seen: &mut Seen) -> Result<(), Fail> {
     let mut folder = Folder::new(alloc);
-    folder.put(alloc, "script", script.as_bytes())?;
-    folder.put(alloc, "zeroes", &vec![in alloc; 0; 3072]?)?;
+    folder.put(alloc, "script", Vec::from_slice(alloc, script.as_bytes())?)?;
+    folder.put(alloc, "zeroes", vec![in alloc; 0; 3072]?)?;
     let recorded = output_of(alloc, "record script log", &mut folder)?;
     let listed = output_of(alloc, "list log", &mut folder)?;
     assert!(rt; listed.ends_with(";|"), "{script}{recorded}{listed}");

@@ -1,10 +1,18 @@
-//! Tests of `dmlw_dispatch`, through what it makes public: command lines and what they tell. They stand apart from that crate, so that it isn't proved a second time
-//! with its tests.
+//! Tests of the program that only code can ask: the system's files, want of memory, sizes that no file of a test has, generated scripts, and public calls that no command shows whole.
+//! What a command prints and writes is a transcript (`transcripts`).
 #![tactic(auto)]
 
 #[cfg(test)]
-mod command_lines;
-#[cfg(test)]
-mod doing;
+mod commands;
 #[cfg(test)]
 mod forced;
+#[cfg(test)]
+mod headline;
+#[cfg(test)]
+mod host;
+#[cfg(test)]
+mod layers;
+#[cfg(test)]
+mod runs;
+#[cfg(test)]
+mod scripts;

@@ -1,12 +1,12 @@
-//! Files, writers and numbers for tests of commands.
+//! Files in memory, writers and numbers, for transcripts and for tests of commands.
 #![tactic(auto)]
 
+mod folder;
 mod numbers;
 mod one_file;
-mod ran;
-mod writers;
+mod outlet;
 
+pub use folder::Folder;
 pub use numbers::Numbers;
 pub use one_file::OneFile;
-pub use ran::{FIRST, Ran};
-pub use writers::{Broken, Buffered, push_lines};
+pub use outlet::Outlet;

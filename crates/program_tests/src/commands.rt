@@ -1,0 +1,189 @@
+//! What `execute` and `refuse` do, where a transcript can't show it.
+use dmlw_dispatch::{execute, refuse};
+use dmlw_files::{Files, HostFiles};
+use std::alloc::Global;
+use std::io;
+use std::io::Write;
+use std::test::Fail;
+use test_asserts::holds;
+use test_files::{Folder, OneFile};
+
+// A script of a write, a flush and a close.
+const FIRST: &str = "data 16\nlog 32\nw a 5 1 41\nc a\nf b\nc b\nclose\n";
+
+/// What a command line after the program's name tells of a folder's files: its status, its output and its faults, parted by `|`. A line feed is shown as `;`.
+pub fn output_of<F: Files>(alloc: Global, line: &str, files: &mut F) -> Result<String, Fail> {
+    let mut words = vec![in alloc; "dmlw"]?;
+    for word in line.split(' ') {
+        words.push(word)?;
+    }
+    let mut out = Vec::new(alloc);
+    let mut err = Vec::new(alloc);
+    let ended = execute(alloc, &words, files, &mut out, &mut err);
+    let told = format!(in alloc;
+        "{}|{}|{}",
+        ended.exit.status(),
+        str::from_utf8(&out).unwrap_or_default(),
+        str::from_utf8(&err).unwrap_or_default()
+    )?;
+    with_semicolons(alloc, told.as_str())
+}
+
+// A text with `;` for each line feed.
+fn with_semicolons(alloc: Global, text: &str) -> Result<String, Fail> {
+    let mut shown = String::new(alloc);
+    for letter in text.chars() {
+        shown.push(if letter == '\n' { ';' } else { letter })?;
+    }
+    Ok(shown)
+}
+
+// Where an allocation is refused (`rt try --test --fail-alloc N`) that is what is shown, in place of an answer.
+#[test]
+fn shows_want_of_memory(rt: HostRuntime) -> Result<(), Fail> {
+    let alloc = rt.alloc();
+    let mut folder = Folder::new(alloc);
+    folder.put(alloc, "script", Vec::from_slice(alloc, FIRST.as_bytes())?)?;
+    let whole =
+        "super version 1 entries 3 sectorsize 512;0 @1 write 5+1;1 @3 flush;2 @4 mark dm-log-writes-end;";
+    for (line, wanted) in [
+        ("record script log", "a ok;b ok;3 4;"),
+        ("list log", whole),
+        ("status log", "3 4;"),
+    ] {
+        let told = output_of(alloc, line, &mut folder)?;
+        let (status, told) = told.as_str().split_once('|').unwrap_or_default();
+        let (out, err) = told.split_once('|').unwrap_or_default();
+        let is_whole = status == "0" && out == wanted && err.is_empty();
+        let is_told = matches!(
+            err,
+            "" | "dmlw: 2 Memory;" | "dmlw: 20 Memory;" | "dmlw: 32 File;"
+        );
+        assert!(rt; holds(&rt, is_whole || status != "0" && is_told, line));
+    }
+    Ok(())
+}
+
+// An image may have 2^29 bytes and no more.
+#[test]
+fn refuses_a_longer_image(rt: HostRuntime) -> Result<(), Fail> {
+    let alloc = rt.alloc();
+    let mut folder = Folder::new(alloc);
+    folder.put(alloc, "script", Vec::from_slice(alloc, FIRST.as_bytes())?)?;
+    let _ = output_of(alloc, "record script log", &mut folder)?;
+    let image = folder.bytes("log").ok_or("a log")?;
+    for (length, status) in [(536_870_912, "0|"), (536_870_913, "1|")] {
+        let mut files = OneFile::new(image);
+        files.length = length;
+        for line in ["list image", "status image"] {
+            let told = output_of(alloc, line, &mut files)?;
+            assert!(rt; holds(&rt, told.as_str().starts_with(status), line));
+        }
+    }
+    Ok(())
+}
+
+// A writer that counts its writes.
+#[derive(Drop)]
+struct Counted {
+    writes: usize,
+}
+
+impl Write for Counted {
+    fn write(&mut self, buf: &[u8]) -> io::Result<usize> {
+        self.writes = self.writes.saturating_add(1);
+        Ok(buf.len())
+    }
+
+    fn flush(&mut self) -> io::Result<()> {
+        Ok(())
+    }
+}
+
+#[test]
+fn tells_a_fault_in_one_write(rt: HostRuntime) {
+    let mut files = OneFile::new(b"data 16\nlog 32\nno\n".as_slice());
+    let mut err = Counted { writes: 0 };
+    let mut out = Vec::new(rt.alloc());
+    let words = ["dmlw", "record", "script", "log"];
+    let ended = execute(rt.alloc(), &words, &mut files, &mut out, &mut err);
+    assert!(rt; ended.exit.status() == 1 && err.writes == 1);
+}
+
+// Rows of the page: the exit statuses, and numbers and names of refusals.
+const ROWS: &str = "| 0 | done |
+| 1 | refused: a line on standard error says by which number and name;
+| 2 | the command line isn't one of the program's |
+| 3 | logging ended before its time:
+| `w <id> <first> <count> <byte> [flush] [fua] [meta]` | submits a write of that byte
+| 1 to 2,048 sectors, two lower case hexadecimal digits |
+| 1 to 1,048,576 |
+| 2 | Memory |
+| 3, 4, 5 | PastEnd, TooLong, NotWhole |
+| 13, 14, 15 | BadMagic, BadVersion, BadSectorSize |
+| 24 | Busy |
+| 25, 26 | NoSuchMark, NoFlush |
+| 30 | BadLine |
+| 32 | File |
+| 33 | PastEntries |
+| 34 | BadMoment |";
+
+// The page of the formats is printed as it is (`bench/outside.py` compares it with docs/FORMATS.md).
+#[test]
+fn prints_the_formats(rt: HostRuntime) {
+    let mut files = OneFile::new(b"".as_slice());
+    let mut out = Vec::new(rt.alloc());
+    let mut err = Vec::new(rt.alloc());
+    let words = ["dmlw", "help", "formats"];
+    let ended = execute(rt.alloc(), &words, &mut files, &mut out, &mut err);
+    assert!(rt; ended.exit.status() == 0 && err.is_empty());
+    let page = str::from_utf8(&out).unwrap_or_default();
+    assert!(rt; page.starts_with("# Formats\n"));
+    for row in ROWS.split('\n') {
+        assert!(rt; holds(&rt, page.contains(row), row));
+    }
+}
+
+// A command line of no word at all is none of the program's.
+#[test]
+fn shows_help_where_no_word_is_given(rt: HostRuntime) {
+    let mut files = OneFile::new(b"".as_slice());
+    let mut out = Vec::new(rt.alloc());
+    let mut err = Vec::new(rt.alloc());
+    let words: [&str; 0] = [];
+    let ended = execute(rt.alloc(), words.as_slice(), &mut files, &mut out, &mut err);
+    assert!(rt; ended.exit.status() == 2 && out.is_empty() && !err.is_empty());
+}
+
+#[test]
+fn refuses_unreadable_words(rt: HostRuntime) {
+    let mut err = Vec::new(rt.alloc());
+    let error = io::Error::from(io::ErrorKind::InvalidData);
+    assert_eq!(rt; refuse(rt.alloc(), error, &mut err), 2);
+    let error = io::Error::from(io::ErrorKind::OutOfMemory);
+    assert_eq!(rt; refuse(rt.alloc(), error, &mut err), 1);
+    let error = io::Error::from(io::ErrorKind::Other);
+    assert_eq!(rt; refuse(rt.alloc(), error, &mut err), 1);
+    let shown =
+        "error: a word of the command line isn't UTF-8 text\ndmlw: 2 Memory\ndmlw: 32 File\n";
+    assert!(rt; err.as_slice() == shown.as_bytes());
+}
+
+// The system's reason for a file of it.
+#[test]
+fn explains_files(rt: HostRuntime) -> Result<(), Fail> {
+    let mut files = HostFiles::new(&rt);
+    let told = output_of(rt.alloc(), "--explain list no-such-folder/log", &mut files)?;
+    assert_eq!(rt;
+        told.as_str(),
+        "1||dmlw: 32 File;  no-such-folder/log can't be read: No such file or directory (os error 2);"
+    );
+    let told = output_of(rt.alloc(), "--explain record same same", &mut files)?;
+    assert!(rt;
+        told.as_str().starts_with("1||dmlw: 32 File;")
+            && told
+                .as_str()
+                .ends_with("the log would be written over its script;")
+    );
+    Ok(())
+}

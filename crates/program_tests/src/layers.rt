@@ -1,0 +1,66 @@
+//! Layers under the log that fail calls, and what stands in the log then.
+use crate::commands::output_of;
+use std::alloc::Global;
+use std::test::Fail;
+use test_asserts::holds;
+use test_files::Folder;
+
+// The log of a whole run of the script below, as it is listed behind its first line.
+const WHOLE: &str = "0 @1 write 5+1;1 @3 flush;2 @4 mark dm-log-writes-end;";
+
+const LOWER: [&str; 4] = [
+    "0 32 linear disk 0",
+    "0 32 error",
+    "0 32 flakey disk 0 0 5 1 error_reads",
+    "0 32 fuse disk 0 7",
+];
+
+// The log's disk under two layers and a fuse of so many calls.
+fn layered(alloc: Global, first: &str, second: &str, calls: u64) -> Result<String, Fail> {
+    Ok(format!(in alloc;
+        "data 16\nlog 32\nlog-layer {first}\nlog-layer {second}\nlog-layer 0 32 fuse disk 0 {calls}\nw a 5 1 41\nc a\nf b\nc b\nclose\n"
+    )?)
+}
+
+// What is listed of a log is its first line, and a beginning of the whole list.
+fn is_beginning(listed: &str) -> bool {
+    match listed.split_once(';') {
+        Some((_super, entries)) => WHOLE.starts_with(entries),
+        None => false,
+    }
+}
+
+// Each layer over each, and a fuse of 0 to 6 calls over both: where a log could be made, its entries are a beginning of the list.
+#[test]
+fn layers_leave_beginnings(rt: HostRuntime) -> Result<(), Fail> {
+    let alloc = rt.alloc();
+    for first in LOWER {
+        for second in LOWER {
+            for calls in 0..7 {
+                let script = layered(alloc, first, second, calls)?;
+                let listed = listed_of(alloc, script.as_str())?;
+                assert!(rt; holds(&rt, is_beginning(listed.as_str()), script.as_str()));
+            }
+        }
+    }
+    Ok(())
+}
+
+// What is listed of the log that a script leaves; a whole list where it leaves none, since its device can't be written.
+fn listed_of(alloc: Global, script: &str) -> Result<String, Fail> {
+    let mut folder = Folder::new(alloc);
+    folder.put(alloc, "script", Vec::from_slice(alloc, script.as_bytes())?)?;
+    let told = output_of(alloc, "record script log", &mut folder)?;
+    if told.as_str().ends_with("dmlw: 19 Device;") {
+        return Ok(format!(in alloc; "none;{WHOLE}")?);
+    }
+    let listed = output_of(alloc, "list log", &mut folder)?;
+    Ok(String::from_str(
+        alloc,
+        listed
+            .as_str()
+            .strip_prefix("0|")
+            .unwrap_or("")
+            .trim_end_matches('|'),
+    )?)
+}

@@ -1,0 +1,103 @@
+//! What `record` and `rehearse` answer, beside what a transcript shows.
+use dmlw_script::{Kind, Script, read_script};
+use script_runner::*;
+use std::alloc::{AllocError, Global};
+use std::process::Abort;
+use std::test::Fail;
+use test_asserts::is_same;
+
+// The text of a script of these lines.
+fn text_of(alloc: Global, lines: &str) -> Result<String, AllocError> {
+    let mut text = String::from_str(alloc, "data 16\n")?;
+    for line in lines.split(",") {
+        text.push_str(line)?;
+        text.push_str("\n")?;
+    }
+    Ok(text)
+}
+
+// What a run of the script of a text prints, and how it ended.
+fn run_text(rt: &impl Abort, alloc: Global, text: &str) -> Result<String, Fail> {
+    let script = read_script(alloc, text.as_bytes(), Kind::Record)?;
+    told(rt, alloc, text, &script)
+}
+
+// The same of the script.
+fn told(rt: &impl Abort, alloc: Global, text: &str, script: &Script) -> Result<String, Fail> {
+    let mut out = Vec::new(alloc);
+    let ended = match record(alloc, text.as_bytes(), script, &mut out) {
+        Ok(recorded) => {
+            assert_eq!(rt; recorded.image.len() as u64, 512 * script.log().sectors());
+            recorded.status.to_string(alloc)?
+        }
+        Err(error) => error.to_string(alloc)?,
+    };
+    let mut shown = String::new(alloc);
+    for byte in out {
+        shown.push(if byte == b'\n' { ';' } else { char::from(byte) })?;
+    }
+    shown.push_str(ended.as_str())?;
+    Ok(shown)
+}
+
+// The image has the log disk's size, and the status is told.
+#[test]
+fn scripts_are_run(rt: HostRuntime) -> Result<(), Fail> {
+    let alloc = rt.alloc();
+    let text = text_of(alloc, "log 32,w a 5 1 41,c a,f b,c b,close")?;
+    assert_eq!(rt;
+        run_text(&rt, alloc, text.as_str())?.as_str(),
+        "a ok;b ok;3 4"
+    );
+    Ok(())
+}
+
+// Scripts of the same form, with how many events they leave, or the fault: a Close ends recording and a Stop logging, and what a line asks then
+// is no event.
+const REHEARSALS: &str = "log 32,r 5 1,turn,at 7=0
+log 32,w a 5 1 41,c a,f b,c b,close=5
+log 32,w a 5 1 41,c a,d b 4 1,mark here,c b=5
+log 5,w a 5 1 41,c a,f b,c b,close=5
+log 1,mark a,turn,mark b=2
+log 32,close,close,mark late=1
+log 32,w a 5 1 41,c a,w b 6 1 42,close=line 6: 24 Busy
+log 32,log-layer 0 32 error,w a 5 1 41=19 Device";
+
+// How many events a rehearsal of the script leaves, or how it fails.
+fn rehearsed(alloc: Global, text: &str) -> Result<String, Fail> {
+    let script = read_script(alloc, text.as_bytes(), Kind::Record)?;
+    match count_events(alloc, text, &script) {
+        Ok(count) => Ok(count.to_string(alloc)?),
+        Err(error) => Ok(error.to_string(alloc)?),
+    }
+}
+
+// How many events a rehearsal leaves.
+fn count_events(alloc: Global, text: &str, script: &Script) -> Result<usize, RunError> {
+    Ok(rehearse(alloc, text.as_bytes(), script)?.events().len())
+}
+
+#[test]
+fn scripts_are_rehearsed(rt: HostRuntime) -> Result<(), Fail> {
+    let alloc = rt.alloc();
+    for row in REHEARSALS.lines() {
+        let mut parts = row.split("=");
+        let text = text_of(alloc, parts.next().unwrap_or_default())?;
+        let shown = rehearsed(alloc, text.as_str())?;
+        assert!(rt; is_same(&rt, &Some(shown.as_str()), &parts.next(), row));
+    }
+    Ok(())
+}
+
+// A long script is rehearsed too.
+#[test]
+fn long_scripts_are_rehearsed(rt: HostRuntime) -> Result<(), Fail> {
+    let alloc = rt.alloc();
+    let mut lines = String::from_str(alloc, "log 20000")?;
+    for number in 0..3000 {
+        lines.push_str(format!(in alloc; ",w a{number} 7 2 41,c a{number}")?.as_str())?;
+    }
+    let text = text_of(alloc, lines.as_str())?;
+    assert_eq!(rt; rehearsed(alloc, text.as_str())?.as_str(), "6000");
+    Ok(())
+}

@@ -1,0 +1,78 @@
+//! Files in memory, by their names.
+ghost use Rattle.std.specs.Prelude.{None};
+
+use dmlw_files::{FileError, Files, Trouble};
+use std::alloc::{AllocError, Global};
+
+// A file.
+#[derive(Drop)]
+struct Named {
+    name: String,
+    bytes: Vec<u8>,
+}
+
+/// A folder of files in memory. None whose name begins with `fixed` can be written.
+#[derive(Drop)]
+pub struct Folder {
+    files: Vec<Named>,
+}
+
+impl Folder {
+    /// A folder of no files.
+    pub fn new(alloc: Global) -> Folder {
+        Folder {
+            files: Vec::new(alloc),
+        }
+    }
+
+    /// What the file of this name holds, if it is there.
+    pub fn bytes(&self, name: &str) -> Option<&[u8]> {
+        let file = self.files.iter().find(|file| file.name.as_str() == name)?;
+        Some(&file.bytes)
+    }
+
+    /// Makes the file of this name hold these bytes.
+    pub fn put(&mut self, alloc: Global, name: &str, bytes: Vec<u8>) -> Result<(), AllocError> {
+        let name = String::from_str(alloc, name)?;
+        self.remove(name.as_str());
+        self.files.push(Named { name, bytes })?;
+        Ok(())
+    }
+
+    /// Takes the file of this name away, if it is there.
+    pub fn remove(&mut self, name: &str) {
+        self.files.retain(|file| file.name.as_str() != name);
+    }
+}
+
+impl Files for Folder {
+    ghost contents = { λ _ _. None };
+
+    ghost writes = { λ _. None };
+
+    fn read(&mut self, alloc: Global, name: &str, limit: u64) -> Result<Vec<u8>, FileError> {
+        let Some(bytes) = self.bytes(name) else {
+            return Err(FileError::Unusable);
+        };
+        if bytes.len() as u64 > limit {
+            return Err(FileError::Unusable);
+        }
+        Vec::from_slice(alloc, bytes).map_err(|_| FileError::Memory)
+    }
+
+    fn write(&mut self, alloc: Global, name: &str, bytes: &[u8]) -> Result<(), FileError> {
+        if name.starts_with("fixed") {
+            return Err(FileError::Unusable);
+        }
+        let bytes = Vec::from_slice(alloc, bytes).map_err(|_| FileError::Memory)?;
+        self.put(alloc, name, bytes).map_err(|_| FileError::Memory)
+    }
+
+    fn trouble(&self) -> Option<&Trouble> {
+        None
+    }
+
+    fn is_same(&self, first: &str, second: &str) -> bool {
+        first == second
+    }
+}

@@ -1,0 +1,94 @@
+//! What a command writes to, which may be full, closed or stuck.
+use std::alloc::Global;
+use std::io;
+use std::io::Write;
+
+/// A stream in memory with room for so many bytes, which may be one that can't be flushed.
+#[derive(Drop)]
+pub struct Outlet {
+    taken: Vec<u8>,
+    room: usize,
+    // What it answers where it has no room, and, of a stuck one, to a flush.
+    kind: io::ErrorKind,
+    is_stuck: bool,
+    // Whether it holds what wasn't flushed.
+    is_held: bool,
+}
+
+impl Outlet {
+    /// A stream that takes all.
+    pub fn open(alloc: Global) -> Outlet {
+        Outlet {
+            taken: Vec::new(alloc),
+            room: usize::MAX,
+            kind: io::ErrorKind::Other,
+            is_stuck: false,
+            is_held: false,
+        }
+    }
+
+    /// The stream that a word names: `full:<n>`, `memory:<n>` and `pipe:<n>` have room for so many bytes, and say then that there is no room, no memory, or nobody that
+    /// reads; `stuck:full` and `stuck:memory` take all and say so where they are flushed.
+    pub fn named(alloc: Global, word: &str) -> Option<Outlet> {
+        let (how, what) = word.split_once(':')?;
+        let is_stuck = how == "stuck";
+        let mut outlet = Outlet::open(alloc);
+        outlet.kind = match if is_stuck { what } else { how } {
+            "full" => io::ErrorKind::StorageFull,
+            "memory" => io::ErrorKind::OutOfMemory,
+            "pipe" => io::ErrorKind::BrokenPipe,
+            _ => return None,
+        };
+        outlet.is_stuck = is_stuck;
+        if !is_stuck {
+            outlet.room = what.parse::<usize>().ok()?;
+        }
+        Some(outlet)
+    }
+
+    /// One with room for so many bytes.
+    pub fn narrow(alloc: Global, room: usize) -> Outlet {
+        let mut outlet = Outlet::open(alloc);
+        outlet.room = room;
+        outlet
+    }
+
+    /// One that can't be flushed.
+    pub fn stuck(alloc: Global) -> Outlet {
+        let mut outlet = Outlet::open(alloc);
+        outlet.is_stuck = true;
+        outlet
+    }
+
+    /// The bytes that it took.
+    pub fn taken(&self) -> &[u8] {
+        &self.taken
+    }
+
+    /// Whether it holds what could have been flushed and wasn't.
+    pub fn is_held(&self) -> bool {
+        self.is_held && !self.is_stuck
+    }
+}
+
+impl Write for Outlet {
+    fn write(&mut self, buf: &[u8]) -> io::Result<usize> {
+        let count = buf.len().min(self.room);
+        if count == 0 && !buf.is_empty() {
+            self.is_held = false;
+            return Err(io::Error::from(self.kind));
+        }
+        self.taken.extend_from_slice(&buf[..count])?;
+        self.room -= count;
+        self.is_held = true;
+        Ok(count)
+    }
+
+    fn flush(&mut self) -> io::Result<()> {
+        if self.is_stuck {
+            return Err(io::Error::from(self.kind));
+        }
+        self.is_held = false;
+        Ok(())
+    }
+}

@@ -1,0 +1,30 @@
+A layer that drops writes tells of writes that it didn't do; each is counted as a lie.
+
+  $ write script
+  > data 16
+  > log 32
+  > data-layer 0 16 flakey disk 0 10 5 1 drop_writes
+  > at 12000
+  > w a 5 1 41
+  > c a
+  > r 5 1
+  > close
+  $ dmlw record script log
+  a ok
+  read 5+1 ok 00
+  2 3
+  lies 1 0
+
+Over the log nothing is left of it: what is promised of a log asks that its device doesn't lie.
+
+  $ write script
+  > data 16
+  > log 32
+  > log-layer 0 32 flakey disk 0 0 5 1 drop_writes
+  > close
+  $ dmlw record script log
+  1 1
+  lies 0 4
+  $ dmlw list log
+  ! dmlw: 13 BadMagic
+  [1]

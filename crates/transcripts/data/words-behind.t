@@ -1,0 +1,345 @@
+Command lines with `--explain`, behind two hyphens, and of words that are none.
+
+  $ escaped script
+  > \
+  $ dmlw --explain record script log
+  ! dmlw: line 1: 30 BadLine
+  !   script ends before its line 1; a script begins with the lines `data` and `log`:
+  !     data <sectors>
+  !     log <sectors>
+  !     data-layer 0 <length> <target> ..
+  !     log-layer 0 <length> <target> ..
+  !     at <ms>
+  !     w <id> <first> <count> <byte> [flush] [fua] [meta]
+  !     f <id>
+  !     d <id> <first> <count>
+  !     c <id>
+  !     r <first> <count>
+  !     turn
+  !     mark <text>
+  !     message <disk> <layer> <text>
+  !     close
+  !     crash <pick> ..
+  [1]
+  $ dmlw record --explain script log
+  ! dmlw: line 1: 30 BadLine
+  !   script ends before its line 1; a script begins with the lines `data` and `log`:
+  !     data <sectors>
+  !     log <sectors>
+  !     data-layer 0 <length> <target> ..
+  !     log-layer 0 <length> <target> ..
+  !     at <ms>
+  !     w <id> <first> <count> <byte> [flush] [fua] [meta]
+  !     f <id>
+  !     d <id> <first> <count>
+  !     c <id>
+  !     r <first> <count>
+  !     turn
+  !     mark <text>
+  !     message <disk> <layer> <text>
+  !     close
+  !     crash <pick> ..
+  [1]
+  $ dmlw record script log --explain
+  ! dmlw: line 1: 30 BadLine
+  !   script ends before its line 1; a script begins with the lines `data` and `log`:
+  !     data <sectors>
+  !     log <sectors>
+  !     data-layer 0 <length> <target> ..
+  !     log-layer 0 <length> <target> ..
+  !     at <ms>
+  !     w <id> <first> <count> <byte> [flush] [fua] [meta]
+  !     f <id>
+  !     d <id> <first> <count>
+  !     c <id>
+  !     r <first> <count>
+  !     turn
+  !     mark <text>
+  !     message <disk> <layer> <text>
+  !     close
+  !     crash <pick> ..
+  [1]
+  $ write script
+  > data 16
+  > log 32
+  > w a 5 1 41
+  > c a
+  > f b
+  > c b
+  > close
+  $ dmlw record -- script log
+  a ok
+  b ok
+  3 4
+  $ dmlw record -- -x log
+  ! dmlw: 32 File
+  [1]
+  $ dmlw list -- -x
+  ! dmlw: 32 File
+  [1]
+  $ dmlw status -- -x
+  ! dmlw: 32 File
+  [1]
+  $ dmlw
+  ! Records block requests in a log, and reads logs back
+  ! 
+  ! Usage: dmlw <COMMAND>
+  ! 
+  ! Commands:
+  !   record  Records the requests of a script in a new log
+  !   list    Lists the entries of a log
+  !   status  Tells how far a log has come
+  !   replay  Replays the beginning of a log on an image
+  !   judge   Judges whether an image could have been on the device
+  !   help    Print this message or the help of the given subcommand(s)
+  ! 
+  ! Options:
+  !   -h, --help     Print help
+  !   -V, --version  Print version
+  ! 
+  ! Exit status: 0 done, 1 refused or ruled out, 2 usage, 3 logging ended before its time.
+  ! A status such as 3 4 says: 3 entries, of which the last uses sector 4.
+  ! With --explain, in any place: what helps stands behind a fault's line.
+  ! dmlw help formats: the grammar of scripts, the faults and the limits.
+  [2]
+
+What says why a command is refused stands behind its line.
+
+  $ image zeroes 8192
+  $ quiet dmlw record script log
+  $ dmlw --explain replay absent zeroes other flush
+  ! dmlw: 32 File
+  !   absent isn't 512 to 536870912 bytes long, in whole sectors of 512 bytes
+  [1]
+  $ dmlw replay absent zeroes other flush --explain
+  ! dmlw: 32 File
+  !   absent isn't 512 to 536870912 bytes long, in whole sectors of 512 bytes
+  [1]
+  $ dmlw judge script 9 zeroes --explain
+  ! dmlw: 34 BadMoment
+  !   script: a moment is a number of the run's events, and the image has the sectors of the data disk under its layers
+  [1]
+  $ dmlw judge script --explain 0 absent
+  ! dmlw: 32 File
+  !   absent isn't 512 to 536870912 bytes long, in whole sectors of 512 bytes
+  [1]
+  $ dmlw judge --explain script 0 zeroes
+  yes
+  $ dmlw --explain list zeroes
+  ! dmlw: 13 BadMagic
+  !   zeroes: it doesn't begin with the 8 bytes of a log, 72 68 77 66 73 6a 73 00: it isn't a log
+  [1]
+  $ dmlw list absent --explain
+  ! dmlw: 32 File
+  !   absent isn't 512 to 536870912 bytes long, in whole sectors of 512 bytes
+  [1]
+  $ dmlw status --explain zeroes
+  ! dmlw: 13 BadMagic
+  !   zeroes: it doesn't begin with the 8 bytes of a log, 72 68 77 66 73 6a 73 00: it isn't a log
+  [1]
+  $ dmlw status absent --explain
+  ! dmlw: 32 File
+  !   absent isn't 512 to 536870912 bytes long, in whole sectors of 512 bytes
+  [1]
+  $ image first 8192
+  $ dmlw --explain replay log first out flush
+  replayed 2
+  $ image first 8192
+  $ dmlw --explain replay log first out entries:4
+  ! dmlw: 33 PastEntries after 0 entries
+  !   log: the log has fewer entries: `dmlw status` tells how many it counts
+  [1]
+  $ image first 8192
+  $ dmlw --explain replay first first out flush
+  ! dmlw: 13 BadMagic
+  !   first: it doesn't begin with the 8 bytes of a log, 72 68 77 66 73 6a 73 00: it isn't a log
+  [1]
+  $ image first 8192
+  $ dmlw --explain replay log first log flush
+  ! dmlw: 32 File
+  !   log and log are one file: the image would be written over the log
+  [1]
+  $ image first 8192
+  $ dmlw --explain replay none first out flush
+  ! dmlw: 32 File
+  !   none isn't 512 to 536870912 bytes long, in whole sectors of 512 bytes
+  [1]
+  $ dmlw --explain replay log absent out flush
+  ! dmlw: 32 File
+  !   absent isn't 512 to 536870912 bytes long, in whole sectors of 512 bytes
+  [1]
+
+Words are judged before any file is read.
+
+  $ dmlw replay none none other what
+  ! error: <WHAT> is entries:<n>, mark:<text> or flush
+  [2]
+  $ dmlw judge none x none
+  ! error: <M> is a number of 1 to 20 digits, below 2^64
+  [2]
+
+A command line of any length is read.
+
+  $ dmlw record script nnnnnnnnnnnnnnnnnnnnnnnnnnnnnnnnnnnnnnnnnnnnnnnnnnnnnnnnnnnnnnnnnnnnnnnnnnnnnnnnnnnnnnnnnnnnnnnnnnnnnnnnnnnnnnnnnnnnnnnnnnnnnnnnnnnnnnnnnnnnnnnnnnnnnnnnnnnnnnnnnnnnnnnnnnnnnnnnnnnnnnnnnnnnnnnnnnnnnnnnnnnnnnnnnnnnnnnnnnnnnnnnnnnnnnnnnnnnnnnnnnnnnnnnnnnnnnnnnnnnnnnnnnnnnnnnnnnnnnnnnnnnnnnnnnnnnnnnnnnnnnnnnnnnnnnnnnnnnnnnnnnnnnnnnnnnnnnnnnnnnnnnnnnnnnnnnnnnnnnnnnnnnnnnnnnnnnnnnnnnnnnnnnnnnnnnnnnnnnnnnnnnnnnnnnnnnnnnnnnnnnnnnnnnnnnnnnnnnnnnnnnnnnnnnnnnnnnnnnnnnnnnnnnnnnnnnnnnnnnnnnnnnnnnnnnnnnnnnnnnnnnnnnnnnnnnnnnnnnnnnnnnnnnnnnnnnnnnnnnnnnnnnnnnnnnnnnnnnnnnnnnnnnnnnnnnnnnnnnnnnnnnnnnnnnnnnnnnnnnnnnnnnnnnnnnnnnnnnnnnnnnnnnnnnnnnnnnnnnnnnnnnnnnnnnnnnnnnnnnnnnnnnnnnnnnnnnnnnnnnnnnnnnnnnnnnnnnnnnnnnnnnnnnnnnnnnnnnnnnnnnnnnnnnnnnnnnnnnnnnnnnnnnnnnnnnnnnnnnnnnnnnnnnnnnnnnnnnnnnnnnnnnnnnnnnnnnnnnnnnnnnnnnnnnnnnnnnnnnnnnnnnnnnnnnnnnnnnnnnnnnnnnnnnnnnnnnnnnnnnnnnnnnnnnnnnnnnnnnnnnnnnnnnnnnnnnnnnnnnnnnnnnnnnnnnnnnnnnnnnnnnnnnnnnnnnnnnnnnnnnnnnnnnnnnnnnnnnnnnnnnnnnnnnnnnnnnnnnnnnnnnnnnnnnnnnnnnnnnnnnnnnnnnnnnnnnnnnnnnnnnnnnnnnnnnnnnnnnnnnnnnnnnnnnnnnnnnnnnnnnnnnnnnnnnnnnnnnnnnnnnnnnnnnnnnnnnnnnnnnnnnnnnnnnnnnnnnnnnnnnnnnnnnnnnnnnnnnnnnnnnnnnnnnnnnnnnnnnnnnnnnnnnnnnnnnnnnnnnnnnnnnnnnnnnnnnnnnnnnnnnnnnnnnnnnnnnnnnnnnnnnnnnnnnnnnnnnnnnnnnnnnnnnnnnnnnnnnnnnnnnnnnnnnnnnnnnnnnnnnnnnnnnnnnnnnnnnnnnnnnnnnnnnnnnnnnnnnnnnnnnnnnnnnnnnnnnnnnnnnnnnnnnnnnnnnnnnnnnnnnnnnnnnnnnnnnnnnnnnnnnnnnnnnnnnnnnnnnnnnnnnnnnnnnnnnnnnnnnnnnnnnnnnnnnnnnnnnnnnnnnnnnnnnnnnnnnnnnnnnnnnnnnnnnnnnnnnnnnnnnnnnnnnnnnnnnnnnnnnnnnnnnnnnnnnnnnnnnnnnnnnnnnnnnnnnnnnnnnnnnnnnnnnnnnnnnnnnnnnnnnnnnnnnnnnnnnnnnnnnnnnnnnnnnnnnnnnnnnnnnnnnnnnnnnnnnnnnnnnnnnnnnnnnnnnnnnnnnnnnnnnnnnnnnnnnnnnnnnnnnnnnnnnnnnnnnnnnnnnnnnnnnnnnnnnnnnnnnnnnnnnnnnnnnnnnnnnnnnnnnnnnnnnnnnnnnnnnnnnnnnnnnnnnnnnnnnnnnnnnnnnnnnnnnnnnnnnnnnnnnnnnnnnnnnnnnnnnnnnnnnnnnnnnnnnnnnnnnnnnnnnnnnnnnnnnnnnnnnnnnnnnnnnnnnnnnnnnnnnnnnnnnnnnnnnnnnnnnnnnnnnnnnnnnnnnnnnnnnnnnnnnnnnnnnnnnnnnnnnnnnnnnnnnnnnnnnnnnnnnnnnnnnnnnnnnnnnnnnnnnnnnnnnnnnnnnnnnnnnnnnnnnnnnnnnnnnnnnnnnnnnnnnnnnnnnnnnnnnnnnnnnnnnnnnnnnnnnnnnnnnnnnnnnnnnnnnnnnnnnnnnnnnnnnnnnnnnnnnnnnnnnnnnnnnnnnnnnnnnnnnnnnnnnnnnnnnnnnnnnnnnnnnnnnnnnnnnnnnnnnnnnnnnnnnnnnnnnnnnnnnnnnnnnnnnnnnnnnnnnnnnnnnnnnnnnnnnnnnnnnnnnnnnnnnnnnnnnnnnnnnnnnnnnnnnnnnnnnnnnnnnnnnnnnnnnnnnnnnnnnnnnnnnnnnnnnnnnnnnnnnnnnnnnnnnnnnnnnnnnnnnnnnnnnnnnnnnnnnnnnnnnnnnnnnnnnnnnnnnnnnnnnnnnnnnnnnnnnnnnnnnnnnnnnnnnnnnnnnnnnnnnnnnnnnnnnnnnnnnnnnnnnnnnnnnnnnnnnnnnnnnnnnnnnnnnnnnnnnnnnnnnnnnnnnnnnnnnnnnnnnnnnnnnnnnnnnnnnnnnnnnnnnnnnnnnnnnnnnnnnnnnnnnnnnnnnnnnnnnnnnnnnnnnnnnnnnnnnnnnnnnnnnnnnnnnnnnnnnnnnnnnnnnnnnnnnnnnnnnnnnnnnnnnnnnnnnnnnnnnnnnnnnnnnnnnnnnnnnnnnnnnnnnnnnnnnnnnnnnnnnnnnnnnnnnnnnnnnnnnnnnnnnnnnnnnnnnnnnnnnnnnnnnnnnnnnnnnnnnnnnnnnnnnnnnnnnnnnnnnnnnnnnnnnnnnnnnnnnnnnnnnnnnnnnnnnnnnnnnnnnnnnnnnnnnnnnnnnnnnnnnnnnnnnnnnnnnnnnnnnnnnnnnnnnnnnnnnnnnnnnnnnnnnnnnnnnnnnnnnnnnnnnnnnnnnnnnnnnnnnnnnnnnnnnnnnnnnnnnnnnnnnnnnnnnnnnnnnnnnnnnnnnnnnnnnnnnnnnnnnnnnnnnnnnnnnnnnnnnnnnnnnnnnnnnnnnnnnnnnnnnnnnnnnnnnnnnnnnnnnnnnnnnnnnnnnnnnnnnn --explain --explain --explain --explain --explain --explain --explain --explain --explain --explain --explain --explain --explain --explain --explain --explain --explain --explain --explain --explain --explain --explain --explain --explain --explain --explain --explain --explain --explain --explain --explain --explain --explain --explain --explain --explain --explain --explain --explain --explain --explain --explain --explain --explain --explain --explain --explain --explain --explain --explain --explain --explain --explain --explain --explain --explain --explain --explain --explain --explain
+  a ok
+  b ok
+  3 4
+
+What editors do to a script.
+
+  $ escaped script
+  > data 16\r
+  > log 32\r
+  $ dmlw --explain record script log
+  ! dmlw: line 1: 30 BadLine
+  !   line 1 of script: data 16\r
+  !   it ends with a carriage return: lines end with a line feed alone
+  !   the word `16\r` isn't <sectors>: a decimal number
+  !   the form of the line: data <sectors>
+  [1]
+  $ escaped script
+  > data\t16
+  > log 32
+  $ dmlw --explain record script log
+  ! dmlw: line 1: 30 BadLine
+  !   line 1 of script: data\t16
+  !   it has a tab: one space stands between words
+  !   no line begins with the word `data\t16`; the lines are:
+  !     data <sectors>
+  !     log <sectors>
+  !     data-layer 0 <length> <target> ..
+  !     log-layer 0 <length> <target> ..
+  !     at <ms>
+  !     w <id> <first> <count> <byte> [flush] [fua] [meta]
+  !     f <id>
+  !     d <id> <first> <count>
+  !     c <id>
+  !     r <first> <count>
+  !     turn
+  !     mark <text>
+  !     message <disk> <layer> <text>
+  !     close
+  !     crash <pick> ..
+  [1]
+  $ write script
+  > data 16
+  $ dmlw --explain record script log
+  ! dmlw: line 2: 30 BadLine
+  !   script ends before its line 2; a script begins with the lines `data` and `log`:
+  !     data <sectors>
+  !     log <sectors>
+  !     data-layer 0 <length> <target> ..
+  !     log-layer 0 <length> <target> ..
+  !     at <ms>
+  !     w <id> <first> <count> <byte> [flush] [fua] [meta]
+  !     f <id>
+  !     d <id> <first> <count>
+  !     c <id>
+  !     r <first> <count>
+  !     turn
+  !     mark <text>
+  !     message <disk> <layer> <text>
+  !     close
+  !     crash <pick> ..
+  [1]
+  $ escaped script
+  > \xef\xbb\xbfdata 16
+  > log 32
+  $ dmlw --explain record script log
+  ! dmlw: line 1: 30 BadLine
+  !   line 1 of script: \xef\xbb\xbfdata 16
+  !   it begins with a byte order mark (ef bb bf): save the script as text without one
+  !   no line begins with the word `\xef\xbb\xbfdata`; the lines are:
+  !     data <sectors>
+  !     log <sectors>
+  !     data-layer 0 <length> <target> ..
+  !     log-layer 0 <length> <target> ..
+  !     at <ms>
+  !     w <id> <first> <count> <byte> [flush] [fua] [meta]
+  !     f <id>
+  !     d <id> <first> <count>
+  !     c <id>
+  !     r <first> <count>
+  !     turn
+  !     mark <text>
+  !     message <disk> <layer> <text>
+  !     close
+  !     crash <pick> ..
+  [1]
+
+A script without a close leaves an empty log, and that is no fault. Where all is well nothing is added.
+
+  $ write script
+  > data 16
+  > log 32
+  > w a 5 1 41
+  > c a
+  $ dmlw --explain record script log
+  a ok
+  0 0
+  !   script has no line `close`: what waits isn't written to the log
+  $ write script
+  > data 16
+  > log 32
+  > w a 5 1 41
+  > c a
+  > f b
+  > c b
+  > close
+  $ dmlw --explain record script log
+  a ok
+  b ok
+  3 4
+  $ write script
+  > data 16
+  > log 2
+  > close
+  $ dmlw --explain record script log
+  0 0 logging_disabled
+  !   script: the entries don't fit the log: give it more sectors, in the script's line `log <sectors>`
+  [3]
+  $ write script
+  > data 2
+  > log 32
+  > w a 2 1 41
+  $ image image 512
+  $ dmlw --explain judge script 0 image
+  ! dmlw: line 3: 3 PastEnd
+  !   line 3 of script: w a 2 1 41
+  !   the request ends past the data disk: its first sector and its count come to more than `data` says
+  [1]
+  $ write script
+  > data 2
+  > log 32
+  $ dmlw --explain judge script 0 image
+  ! dmlw: 34 BadMoment
+  !   script: a moment is a number of the run's events, and the image has the sectors of the data disk under its layers
+  [1]
+  $ image image 100
+  $ dmlw --explain judge script 0 image
+  ! dmlw: 32 File
+  !   image isn't 512 to 536870912 bytes long, in whole sectors of 512 bytes
+  [1]
+  $ escaped image
+  > a text\
+  $ dmlw --explain list image
+  ! dmlw: 32 File
+  !   image isn't 512 to 536870912 bytes long, in whole sectors of 512 bytes
+  [1]
+  $ write script
+  > data 16
+  > log 32
+  > w a 5 1 41
+  > c a
+  > f b
+  > c b
+  > close
+  $ quiet dmlw record script log
+  $ image log 2048
+  $ dmlw --explain list log
+  super version 1 entries 3 sectorsize 512
+  0 @1 write 5+1
+  1 @3 flush
+  ! dmlw: 21 CutShort
+  !   log: the log is shorter than it says: it was cut, or wasn't written to its end; what stands before the fault is whole
+  [1]

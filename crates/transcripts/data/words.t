@@ -1,0 +1,554 @@
+Command lines and their texts.
+
+  $ dmlw --help
+  Records block requests in a log, and reads logs back
+  
+  Usage: dmlw <COMMAND>
+  
+  Commands:
+    record  Records the requests of a script in a new log
+    list    Lists the entries of a log
+    status  Tells how far a log has come
+    replay  Replays the beginning of a log on an image
+    judge   Judges whether an image could have been on the device
+    help    Print this message or the help of the given subcommand(s)
+  
+  Options:
+    -h, --help     Print help
+    -V, --version  Print version
+  
+  Exit status: 0 done, 1 refused or ruled out, 2 usage, 3 logging ended before its time.
+  A status such as 3 4 says: 3 entries, of which the last uses sector 4.
+  With --explain, in any place: what helps stands behind a fault's line.
+  dmlw help formats: the grammar of scripts, the faults and the limits.
+  $ dmlw help
+  Records block requests in a log, and reads logs back
+  
+  Usage: dmlw <COMMAND>
+  
+  Commands:
+    record  Records the requests of a script in a new log
+    list    Lists the entries of a log
+    status  Tells how far a log has come
+    replay  Replays the beginning of a log on an image
+    judge   Judges whether an image could have been on the device
+    help    Print this message or the help of the given subcommand(s)
+  
+  Options:
+    -h, --help     Print help
+    -V, --version  Print version
+  
+  Exit status: 0 done, 1 refused or ruled out, 2 usage, 3 logging ended before its time.
+  A status such as 3 4 says: 3 entries, of which the last uses sector 4.
+  With --explain, in any place: what helps stands behind a fault's line.
+  dmlw help formats: the grammar of scripts, the faults and the limits.
+  $ dmlw record --help
+  Records the requests of a script in a new log
+  
+  Usage: dmlw record <SCRIPT> <LOG>
+  
+  Arguments:
+    <SCRIPT>  The script to read
+    <LOG>     The log to write
+  
+  Options:
+    -h, --help  Print help
+  $ dmlw help
+  Records block requests in a log, and reads logs back
+  
+  Usage: dmlw <COMMAND>
+  
+  Commands:
+    record  Records the requests of a script in a new log
+    list    Lists the entries of a log
+    status  Tells how far a log has come
+    replay  Replays the beginning of a log on an image
+    judge   Judges whether an image could have been on the device
+    help    Print this message or the help of the given subcommand(s)
+  
+  Options:
+    -h, --help     Print help
+    -V, --version  Print version
+  
+  Exit status: 0 done, 1 refused or ruled out, 2 usage, 3 logging ended before its time.
+  A status such as 3 4 says: 3 entries, of which the last uses sector 4.
+  With --explain, in any place: what helps stands behind a fault's line.
+  dmlw help formats: the grammar of scripts, the faults and the limits.
+  $ dmlw help
+  Records block requests in a log, and reads logs back
+  
+  Usage: dmlw <COMMAND>
+  
+  Commands:
+    record  Records the requests of a script in a new log
+    list    Lists the entries of a log
+    status  Tells how far a log has come
+    replay  Replays the beginning of a log on an image
+    judge   Judges whether an image could have been on the device
+    help    Print this message or the help of the given subcommand(s)
+  
+  Options:
+    -h, --help     Print help
+    -V, --version  Print version
+  
+  Exit status: 0 done, 1 refused or ruled out, 2 usage, 3 logging ended before its time.
+  A status such as 3 4 says: 3 entries, of which the last uses sector 4.
+  With --explain, in any place: what helps stands behind a fault's line.
+  dmlw help formats: the grammar of scripts, the faults and the limits.
+  $ dmlw list --help
+  Lists the entries of a log
+  
+  Usage: dmlw list <LOG>
+  
+  Arguments:
+    <LOG>  The log to read
+  
+  Options:
+    -h, --help  Print help
+  $ dmlw help status
+  Tells how far a log has come
+  
+  Usage: dmlw status <LOG>
+  
+  Arguments:
+    <LOG>  The log to read
+  
+  Options:
+    -h, --help  Print help
+  $ dmlw --version
+  dmlw 0.1 (log format version 1)
+  $ dmlw --help
+  Records block requests in a log, and reads logs back
+  
+  Usage: dmlw <COMMAND>
+  
+  Commands:
+    record  Records the requests of a script in a new log
+    list    Lists the entries of a log
+    status  Tells how far a log has come
+    replay  Replays the beginning of a log on an image
+    judge   Judges whether an image could have been on the device
+    help    Print this message or the help of the given subcommand(s)
+  
+  Options:
+    -h, --help     Print help
+    -V, --version  Print version
+  
+  Exit status: 0 done, 1 refused or ruled out, 2 usage, 3 logging ended before its time.
+  A status such as 3 4 says: 3 entries, of which the last uses sector 4.
+  With --explain, in any place: what helps stands behind a fault's line.
+  dmlw help formats: the grammar of scripts, the faults and the limits.
+  $ dmlw --help
+  Records block requests in a log, and reads logs back
+  
+  Usage: dmlw <COMMAND>
+  
+  Commands:
+    record  Records the requests of a script in a new log
+    list    Lists the entries of a log
+    status  Tells how far a log has come
+    replay  Replays the beginning of a log on an image
+    judge   Judges whether an image could have been on the device
+    help    Print this message or the help of the given subcommand(s)
+  
+  Options:
+    -h, --help     Print help
+    -V, --version  Print version
+  
+  Exit status: 0 done, 1 refused or ruled out, 2 usage, 3 logging ended before its time.
+  A status such as 3 4 says: 3 entries, of which the last uses sector 4.
+  With --explain, in any place: what helps stands behind a fault's line.
+  dmlw help formats: the grammar of scripts, the faults and the limits.
+  $ dmlw --help
+  Records block requests in a log, and reads logs back
+  
+  Usage: dmlw <COMMAND>
+  
+  Commands:
+    record  Records the requests of a script in a new log
+    list    Lists the entries of a log
+    status  Tells how far a log has come
+    replay  Replays the beginning of a log on an image
+    judge   Judges whether an image could have been on the device
+    help    Print this message or the help of the given subcommand(s)
+  
+  Options:
+    -h, --help     Print help
+    -V, --version  Print version
+  
+  Exit status: 0 done, 1 refused or ruled out, 2 usage, 3 logging ended before its time.
+  A status such as 3 4 says: 3 entries, of which the last uses sector 4.
+  With --explain, in any place: what helps stands behind a fault's line.
+  dmlw help formats: the grammar of scripts, the faults and the limits.
+  $ dmlw --help
+  Records block requests in a log, and reads logs back
+  
+  Usage: dmlw <COMMAND>
+  
+  Commands:
+    record  Records the requests of a script in a new log
+    list    Lists the entries of a log
+    status  Tells how far a log has come
+    replay  Replays the beginning of a log on an image
+    judge   Judges whether an image could have been on the device
+    help    Print this message or the help of the given subcommand(s)
+  
+  Options:
+    -h, --help     Print help
+    -V, --version  Print version
+  
+  Exit status: 0 done, 1 refused or ruled out, 2 usage, 3 logging ended before its time.
+  A status such as 3 4 says: 3 entries, of which the last uses sector 4.
+  With --explain, in any place: what helps stands behind a fault's line.
+  dmlw help formats: the grammar of scripts, the faults and the limits.
+  $ dmlw --help
+  Records block requests in a log, and reads logs back
+  
+  Usage: dmlw <COMMAND>
+  
+  Commands:
+    record  Records the requests of a script in a new log
+    list    Lists the entries of a log
+    status  Tells how far a log has come
+    replay  Replays the beginning of a log on an image
+    judge   Judges whether an image could have been on the device
+    help    Print this message or the help of the given subcommand(s)
+  
+  Options:
+    -h, --help     Print help
+    -V, --version  Print version
+  
+  Exit status: 0 done, 1 refused or ruled out, 2 usage, 3 logging ended before its time.
+  A status such as 3 4 says: 3 entries, of which the last uses sector 4.
+  With --explain, in any place: what helps stands behind a fault's line.
+  dmlw help formats: the grammar of scripts, the faults and the limits.
+  $ dmlw help record
+  Records the requests of a script in a new log
+  
+  Usage: dmlw record <SCRIPT> <LOG>
+  
+  Arguments:
+    <SCRIPT>  The script to read
+    <LOG>     The log to write
+  
+  Options:
+    -h, --help  Print help
+  $ dmlw help record
+  Records the requests of a script in a new log
+  
+  Usage: dmlw record <SCRIPT> <LOG>
+  
+  Arguments:
+    <SCRIPT>  The script to read
+    <LOG>     The log to write
+  
+  Options:
+    -h, --help  Print help
+  $ dmlw help list
+  Lists the entries of a log
+  
+  Usage: dmlw list <LOG>
+  
+  Arguments:
+    <LOG>  The log to read
+  
+  Options:
+    -h, --help  Print help
+  $ dmlw help replay
+  Replays the beginning of a log on an image
+  
+  Usage: dmlw replay <LOG> <FIRST> <OUT> <WHAT>
+  
+  Arguments:
+    <LOG>    The log to read
+    <FIRST>  The image to begin with
+    <OUT>    The image to write
+    <WHAT>   entries:<n>, mark:<text> or flush
+  
+  Options:
+    -h, --help  Print help
+  $ dmlw help replay
+  Replays the beginning of a log on an image
+  
+  Usage: dmlw replay <LOG> <FIRST> <OUT> <WHAT>
+  
+  Arguments:
+    <LOG>    The log to read
+    <FIRST>  The image to begin with
+    <OUT>    The image to write
+    <WHAT>   entries:<n>, mark:<text> or flush
+  
+  Options:
+    -h, --help  Print help
+  $ dmlw help replay
+  Replays the beginning of a log on an image
+  
+  Usage: dmlw replay <LOG> <FIRST> <OUT> <WHAT>
+  
+  Arguments:
+    <LOG>    The log to read
+    <FIRST>  The image to begin with
+    <OUT>    The image to write
+    <WHAT>   entries:<n>, mark:<text> or flush
+  
+  Options:
+    -h, --help  Print help
+  $ dmlw help judge
+  Judges whether an image could have been on the device
+  
+  Usage: dmlw judge <SCRIPT> <M> <IMAGE>
+  
+  Arguments:
+    <SCRIPT>  The script to read
+    <M>       The number of events before the power failure
+    <IMAGE>   The image to judge
+  
+  Options:
+    -h, --help  Print help
+  $ dmlw help judge
+  Judges whether an image could have been on the device
+  
+  Usage: dmlw judge <SCRIPT> <M> <IMAGE>
+  
+  Arguments:
+    <SCRIPT>  The script to read
+    <M>       The number of events before the power failure
+    <IMAGE>   The image to judge
+  
+  Options:
+    -h, --help  Print help
+  $ dmlw frob
+  ! error: unrecognized subcommand 'frob'
+  ! 
+  ! Usage: dmlw <COMMAND>
+  ! 
+  ! For more information, try '--help'.
+  [2]
+  $ dmlw help frob
+  ! error: unrecognized subcommand 'frob'
+  ! 
+  ! Usage: dmlw <COMMAND>
+  ! 
+  ! For more information, try '--help'.
+  [2]
+  $ dmlw record a
+  ! error: the following required arguments were not provided:
+  !   <LOG>
+  ! 
+  ! Usage: dmlw record <SCRIPT> <LOG>
+  ! 
+  ! For more information, try '--help'.
+  [2]
+  $ dmlw record a b c
+  ! error: unexpected argument 'c' found
+  ! 
+  ! Usage: dmlw record <SCRIPT> <LOG>
+  ! 
+  ! For more information, try '--help'.
+  [2]
+  $ dmlw record a b c d e f g h i j k l m n o p
+  ! error: unexpected argument 'c' found
+  ! 
+  ! Usage: dmlw record <SCRIPT> <LOG>
+  ! 
+  ! For more information, try '--help'.
+  [2]
+  $ dmlw record -x b
+  ! error: unexpected argument '-x' found
+  ! 
+  !   tip: to pass '-x' as a value, use '-- -x'
+  ! 
+  ! Usage: dmlw record <SCRIPT> <LOG>
+  ! 
+  ! For more information, try '--help'.
+  [2]
+  $ dmlw --explain frob
+  ! error: unrecognized subcommand 'frob'
+  ! 
+  ! Usage: dmlw <COMMAND>
+  ! 
+  ! For more information, try '--help'.
+  [2]
+  $ dmlw list
+  ! error: the following required arguments were not provided:
+  !   <LOG>
+  ! 
+  ! Usage: dmlw list <LOG>
+  ! 
+  ! For more information, try '--help'.
+  [2]
+  $ dmlw status
+  ! error: the following required arguments were not provided:
+  !   <LOG>
+  ! 
+  ! Usage: dmlw status <LOG>
+  ! 
+  ! For more information, try '--help'.
+  [2]
+  $ dmlw list a b
+  ! error: unexpected argument 'b' found
+  ! 
+  ! Usage: dmlw list <LOG>
+  ! 
+  ! For more information, try '--help'.
+  [2]
+  $ dmlw help
+  Records block requests in a log, and reads logs back
+  
+  Usage: dmlw <COMMAND>
+  
+  Commands:
+    record  Records the requests of a script in a new log
+    list    Lists the entries of a log
+    status  Tells how far a log has come
+    replay  Replays the beginning of a log on an image
+    judge   Judges whether an image could have been on the device
+    help    Print this message or the help of the given subcommand(s)
+  
+  Options:
+    -h, --help     Print help
+    -V, --version  Print version
+  
+  Exit status: 0 done, 1 refused or ruled out, 2 usage, 3 logging ended before its time.
+  A status such as 3 4 says: 3 entries, of which the last uses sector 4.
+  With --explain, in any place: what helps stands behind a fault's line.
+  dmlw help formats: the grammar of scripts, the faults and the limits.
+  $ dmlw help
+  Records block requests in a log, and reads logs back
+  
+  Usage: dmlw <COMMAND>
+  
+  Commands:
+    record  Records the requests of a script in a new log
+    list    Lists the entries of a log
+    status  Tells how far a log has come
+    replay  Replays the beginning of a log on an image
+    judge   Judges whether an image could have been on the device
+    help    Print this message or the help of the given subcommand(s)
+  
+  Options:
+    -h, --help     Print help
+    -V, --version  Print version
+  
+  Exit status: 0 done, 1 refused or ruled out, 2 usage, 3 logging ended before its time.
+  A status such as 3 4 says: 3 entries, of which the last uses sector 4.
+  With --explain, in any place: what helps stands behind a fault's line.
+  dmlw help formats: the grammar of scripts, the faults and the limits.
+  $ dmlw replay --help
+  Replays the beginning of a log on an image
+  
+  Usage: dmlw replay <LOG> <FIRST> <OUT> <WHAT>
+  
+  Arguments:
+    <LOG>    The log to read
+    <FIRST>  The image to begin with
+    <OUT>    The image to write
+    <WHAT>   entries:<n>, mark:<text> or flush
+  
+  Options:
+    -h, --help  Print help
+  $ dmlw replay --help
+  Replays the beginning of a log on an image
+  
+  Usage: dmlw replay <LOG> <FIRST> <OUT> <WHAT>
+  
+  Arguments:
+    <LOG>    The log to read
+    <FIRST>  The image to begin with
+    <OUT>    The image to write
+    <WHAT>   entries:<n>, mark:<text> or flush
+  
+  Options:
+    -h, --help  Print help
+  $ dmlw judge --help
+  Judges whether an image could have been on the device
+  
+  Usage: dmlw judge <SCRIPT> <M> <IMAGE>
+  
+  Arguments:
+    <SCRIPT>  The script to read
+    <M>       The number of events before the power failure
+    <IMAGE>   The image to judge
+  
+  Options:
+    -h, --help  Print help
+  $ dmlw help judge
+  Judges whether an image could have been on the device
+  
+  Usage: dmlw judge <SCRIPT> <M> <IMAGE>
+  
+  Arguments:
+    <SCRIPT>  The script to read
+    <M>       The number of events before the power failure
+    <IMAGE>   The image to judge
+  
+  Options:
+    -h, --help  Print help
+  $ dmlw replay
+  ! error: the following required arguments were not provided:
+  !   <LOG>
+  !   <FIRST>
+  !   <OUT>
+  !   <WHAT>
+  ! 
+  ! Usage: dmlw replay <LOG> <FIRST> <OUT> <WHAT>
+  ! 
+  ! For more information, try '--help'.
+  [2]
+  $ dmlw replay a b c
+  ! error: the following required arguments were not provided:
+  !   <WHAT>
+  ! 
+  ! Usage: dmlw replay <LOG> <FIRST> <OUT> <WHAT>
+  ! 
+  ! For more information, try '--help'.
+  [2]
+  $ dmlw replay a b c flush d
+  ! error: unexpected argument 'd' found
+  ! 
+  ! Usage: dmlw replay <LOG> <FIRST> <OUT> <WHAT>
+  ! 
+  ! For more information, try '--help'.
+  [2]
+  $ dmlw replay a b -c flush
+  ! error: unexpected argument '-c' found
+  ! 
+  !   tip: to pass '-c' as a value, use '-- -c'
+  ! 
+  ! Usage: dmlw replay <LOG> <FIRST> <OUT> <WHAT>
+  ! 
+  ! For more information, try '--help'.
+  [2]
+  $ dmlw replay a b c what
+  ! error: <WHAT> is entries:<n>, mark:<text> or flush
+  [2]
+  $ dmlw replay a b c entries:18446744073709551616
+  ! error: <WHAT> is entries:<n>, mark:<text> or flush
+  [2]
+  $ dmlw judge a 1
+  ! error: the following required arguments were not provided:
+  !   <IMAGE>
+  ! 
+  ! Usage: dmlw judge <SCRIPT> <M> <IMAGE>
+  ! 
+  ! For more information, try '--help'.
+  [2]
+  $ dmlw judge a 1 b c
+  ! error: unexpected argument 'c' found
+  ! 
+  ! Usage: dmlw judge <SCRIPT> <M> <IMAGE>
+  ! 
+  ! For more information, try '--help'.
+  [2]
+  $ dmlw judge a -1 b
+  ! error: unexpected argument '-1' found
+  ! 
+  !   tip: to pass '-1' as a value, use '-- -1'
+  ! 
+  ! Usage: dmlw judge <SCRIPT> <M> <IMAGE>
+  ! 
+  ! For more information, try '--help'.
+  [2]
+  $ dmlw judge a x b
+  ! error: <M> is a number of 1 to 20 digits, below 2^64
+  [2]

@@ -1,0 +1,238 @@
+// Calls of a disk under layers, and what each tells.
+use crate::bytes::{digit, push_sectors};
+use bio::{DevError, Ms};
+use blockdev::{BlockDev, Message};
+use layer_table::Stack;
+use refusals::Refusal;
+use sector_disk::SectorDisk;
+use std::alloc::{AllocError, Global};
+use table_line::parse_line;
+
+// The most sectors that a call may name.
+const MAX_SECTORS: u64 = 4096;
+
+/// Makes the calls of these lines on a disk under the layers that `layer` lines name, the lowest first, loaded at moment 0 or, behind `layer@<ms>`, at that one. From a line `off` on
+/// the layers are taken off, and the disk itself is asked. What each call tells is appended.
+pub fn ask_stack(
+    alloc: Global,
+    disk: SectorDisk,
+    lines: &str,
+    shown: &mut String,
+) -> Result<(), AllocError> {
+    let (above, beneath) = lines.split_once("off\n").unwrap_or((lines, ""));
+    let mut disk = on_layers(alloc, disk, above, shown)?;
+    ask_disk(alloc, &mut disk, beneath, shown)
+}
+
+/// Makes the calls of these lines on a disk under no layer; `disk` shows what it holds, `crash <pick> ..` takes its power.
+pub fn ask_disk(
+    alloc: Global,
+    disk: &mut SectorDisk,
+    lines: &str,
+    shown: &mut String,
+) -> Result<(), AllocError> {
+    for line in lines.lines() {
+        match line.split_once(' ').unwrap_or((line, "")) {
+            ("disk", _) => show_disk(disk, shown)?,
+            ("crash", picks) => crash(alloc, disk, picks)?,
+            _ => ask(alloc, disk, line, shown)?,
+        }
+    }
+    Ok(())
+}
+
+// Makes the calls of these lines on a disk under their layers, and gives the disk back.
+fn on_layers(
+    alloc: Global,
+    disk: SectorDisk,
+    lines: &str,
+    shown: &mut String,
+) -> Result<SectorDisk, AllocError> {
+    let mut stack = Stack::new(disk);
+    let mut told = Ok(());
+    for line in lines.lines() {
+        stack = match layered(alloc, stack, line) {
+            Ok(higher) => higher,
+            Err((same, refusal)) => {
+                told = told.and(tell_refusal(refusal, shown));
+                same
+            }
+        };
+    }
+    let told = told.and(ask_all(alloc, &mut stack, lines, shown));
+    let disk = stack.into_disk();
+    told.map(|_| disk)
+}
+
+// Puts the layer of a line over a stack; another line puts none.
+fn layered(alloc: Global, stack: Stack, line: &str) -> Result<Stack, (Stack, Refusal)> {
+    let Some(rest) = line.strip_prefix("layer") else {
+        return Ok(stack);
+    };
+    let (load, text) = rest.split_once(' ').unwrap_or_default();
+    let load = load.trim_start_matches('@').parse::<u64>().unwrap_or(0);
+    match parse_line(text.as_bytes()) {
+        Ok(spec) => stack.over(alloc, spec, Ms::new(load)),
+        Err(error) => Err((stack, Refusal::from(error))),
+    }
+}
+
+fn tell_refusal(refusal: Refusal, shown: &mut String) -> Result<(), AllocError> {
+    writeln!(shown, "{refusal}")
+}
+
+// Makes the calls of these lines, one after another.
+fn ask_all<D: Message + Drop>(
+    alloc: Global,
+    device: &mut D,
+    lines: &str,
+    shown: &mut String,
+) -> Result<(), AllocError> {
+    for line in lines.lines() {
+        ask(alloc, device, line, shown)?;
+    }
+    Ok(())
+}
+
+// Makes the call of a line: `at <ms> <call>`, `message <layer> <text>`, `counts` for the faults and the lies, or `sectors`.
+fn ask<D: Message + Drop>(
+    alloc: Global,
+    device: &mut D,
+    line: &str,
+    shown: &mut String,
+) -> Result<(), AllocError> {
+    let (word, rest) = line.split_once(' ').unwrap_or((line, ""));
+    match word {
+        "at" => ask_at(alloc, device, rest, shown),
+        "message" => send(device, rest, shown),
+        "counts" => writeln!(shown, "faults {}, lies {}", device.faults(), device.lies()),
+        "sectors" => writeln!(shown, "{} sectors", device.sectors()),
+        _ => Ok(()),
+    }
+}
+
+// Sends a message, and tells its answer.
+fn send<D: Message + Drop>(
+    device: &mut D,
+    words: &str,
+    shown: &mut String,
+) -> Result<(), AllocError> {
+    let (layer, text) = words.split_once(' ').unwrap_or((words, ""));
+    match device.message(layer.parse::<u64>().unwrap_or(0), text) {
+        Ok(()) => Ok(shown.push_str("ok\n")?),
+        Err(error) => tell_refusal(Refusal::from(error), shown),
+    }
+}
+
+// The range of sectors that a call names, and its byte in two hexadecimal digits.
+#[derive(Drop)]
+struct Range {
+    first: u64,
+    count: u64,
+    byte: u8,
+    is_fua: bool,
+}
+
+impl Range {
+    // The numbers that stand in these words; 0 where there are fewer.
+    fn of(words: &str) -> Range {
+        let mut words = words.split(' ');
+        let first = words.next().unwrap_or_default().parse::<u64>().unwrap_or(0);
+        let count = words.next().unwrap_or_default().parse::<u64>().unwrap_or(0);
+        let byte = match words.next().unwrap_or_default().as_bytes() {
+            [high, low] => digit(*high) * 16 + digit(*low),
+            _ => 0,
+        };
+        let is_fua = words.next() == Some("fua");
+        Range {
+            first,
+            count,
+            byte,
+            is_fua,
+        }
+    }
+}
+
+// Makes a call at a moment: `write <first> <count> <byte> [fua]`, `read <first> <count>`, `discard <first> <count>` or `flush`.
+fn ask_at<D: BlockDev + Drop>(
+    alloc: Global,
+    device: &mut D,
+    words: &str,
+    shown: &mut String,
+) -> Result<(), AllocError> {
+    let (moment, call) = words.split_once(' ').unwrap_or_default();
+    let now = Ms::new(moment.parse::<u64>().unwrap_or(0));
+    let (kind, rest) = call.split_once(' ').unwrap_or((call, ""));
+    if kind == "flush" {
+        return tell_end(device.flush(now), shown);
+    }
+    let range = Range::of(rest);
+    let sectors = device.sectors();
+    if range.count == 0
+        || range.count > MAX_SECTORS
+        || range.first > sectors
+        || range.count > sectors - range.first
+    {
+        return Ok(shown.push_str("not within the device\n")?);
+    }
+    match kind {
+        "read" => read(alloc, device, now, &range, shown),
+        "discard" => tell_end(device.discard(now, range.first, range.count), shown),
+        _ => {
+            let bytes = vec![in alloc; range.byte; range.count as usize * 512]?;
+            tell_end(device.write(now, range.first, &bytes, range.is_fua), shown)
+        }
+    }
+}
+
+// Reads, and tells the end and the first byte of each sector; after an error whether the buffer stayed.
+fn read<D: BlockDev + Drop>(
+    alloc: Global,
+    device: &mut D,
+    now: Ms,
+    range: &Range,
+    shown: &mut String,
+) -> Result<(), AllocError> {
+    let mut buffer = vec![in alloc; 255; range.count as usize * 512]?;
+    match device.read(now, range.first, &mut buffer) {
+        Ok(end) => {
+            write!(shown, "ends at {}:", end.milliseconds())?;
+            for sector in buffer.chunks(512) {
+                let byte = sector.first().copied().unwrap_or(0);
+                write!(shown, " {byte:02x}")?;
+            }
+            shown.push('\n')?;
+            Ok(())
+        }
+        Err(error) => tell_end(Err(error), shown),
+    }
+}
+
+// Tells when a call ended, in milliseconds, or its error.
+fn tell_end(end: Result<Ms, DevError>, shown: &mut String) -> Result<(), AllocError> {
+    match end {
+        Ok(end) => writeln!(shown, "ends at {}", end.milliseconds()),
+        Err(DevError::Io) => Ok(shown.push_str("Io\n")?),
+        Err(DevError::Memory) => Ok(shown.push_str("Memory\n")?),
+    }
+}
+
+// Shows what the disk holds.
+fn show_disk(disk: &mut SectorDisk, shown: &mut String) -> Result<(), AllocError> {
+    match disk.bytes() {
+        Ok(bytes) => push_sectors(shown, &bytes),
+        Err(_) => Ok(shown.push_str("2 Memory\n")?),
+    }
+}
+
+// Takes the disk's power, with these picks.
+fn crash(alloc: Global, disk: &mut SectorDisk, words: &str) -> Result<(), AllocError> {
+    let mut picks = Vec::new(alloc);
+    for word in words.split(' ') {
+        if let Ok(pick) = word.parse::<u64>() {
+            picks.push(pick)?;
+        }
+    }
+    disk.crash(&picks);
+    Ok(())
+}

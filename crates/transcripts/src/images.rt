@@ -1,0 +1,67 @@
+// Images by the words of a transcript.
+use crate::bytes::digit;
+use std::alloc::AllocError;
+
+// The largest image that a word may ask for, in bytes.
+const MAX_IMAGE: usize = 536_870_912;
+
+/// Makes an image so many bytes long, and puts in it what the words say: `<byte>:=<hex>` or `<byte>:=<hex>*<count>` bytes from there on, `<byte>:<n>,<n>,..` numbers of eight bytes, little endian.
+pub fn change(image: &mut Vec<u8>, length: usize, words: &str) -> Result<(), AllocError> {
+    image.truncate(length.min(MAX_IMAGE));
+    image.resize(length.min(MAX_IMAGE), 0)?;
+    for word in words.split(' ') {
+        put_word(image, word);
+    }
+    Ok(())
+}
+
+// Puts what one word says in an image.
+fn put_word(image: &mut [u8], word: &str) {
+    let Some((place, what)) = word.split_once(':') else {
+        return;
+    };
+    let place = place.parse::<usize>().unwrap_or(usize::MAX);
+    match what.strip_prefix("=") {
+        Some(hex) => put_hex(image, place, hex),
+        None => put_numbers(image, place, what),
+    }
+}
+
+// Puts bytes so often in an image as the text says.
+fn put_hex(image: &mut [u8], place: usize, text: &str) {
+    let (hex, count) = text.split_once('*').unwrap_or((text, "1"));
+    let count = count.parse::<usize>().unwrap_or(0);
+    let digits = hex.as_bytes();
+    let length = digits.len() / 2;
+    let Some(image) = image.get_mut(place..) else {
+        return;
+    };
+    for (at, byte) in image
+        .iter_mut()
+        .enumerate()
+        .take(length.saturating_mul(count))
+    {
+        if length > 0 {
+            *byte = hex_at(digits, at % length);
+        }
+    }
+}
+
+// The byte that two hexadecimal digits give.
+fn hex_at(digits: &[u8], at: usize) -> u8 {
+    match digits.get(at.saturating_mul(2)..) {
+        Some([high, low, ..]) => digit(*high) * 16 + digit(*low),
+        _ => 0,
+    }
+}
+
+// Puts numbers in an image, one after another.
+fn put_numbers(image: &mut [u8], place: usize, text: &str) {
+    let Some(image) = image.get_mut(place..) else {
+        return;
+    };
+    for (number, bytes) in text.split(',').zip(image.chunks_exact_mut(8)) {
+        let number = number.parse::<u64>().unwrap_or(0);
+        bytes.copy_from_slice(&number.to_le_bytes());
+    }
+}

@@ -1,0 +1,65 @@
+//! Runs transcripts: commands over files in memory, each with what it shows.
+//!
+//! A transcript is a text. A line at the margin is prose; `  $ ` begins a command, `  > ` a line that is given to it, and any other line that
+//! is indented by two spaces is what it shows. Each word of this program names a transcript. It prints each command that shows something else, as it shows
+//! now, a line for each transcript, and a last line for all. With `again` as its first word it prints each transcript as it runs now.
+//! `verb` has the commands.
+#![tactic(auto)]
+
+mod bytes;
+mod calls;
+mod images;
+mod session;
+mod tally;
+mod transcript;
+
+use crate::session::Session;
+use crate::tally::Tally;
+use dmlw_files::{Files, HostFiles};
+use std::process::ExitCode;
+use std::{env, io};
+
+// The longest transcript, in bytes.
+const MAX_TRANSCRIPT: u64 = 4_194_304;
+
+fn main(rt: HostRuntime) -> io::Result<ExitCode> {
+    let words: Vec<String> = env::args(&rt)?.collect(rt.alloc())?;
+    let is_again = words.get(1).is_some_and(|word| word.as_str() == "again");
+    let first = if is_again { 2 } else { 1 };
+    let mut all = Tally::new();
+    for name in words.iter().skip(first) {
+        let text = transcript_of(&rt, name.as_str())?;
+        let shown = run(&rt, name.as_str(), &text, is_again, &mut all)?;
+        rt.print(shown.as_str())?;
+    }
+    if !is_again {
+        println!(rt; "all: {all}")?;
+    }
+    Ok(ExitCode::from(u8::from(!is_again && !all.is_good())))
+}
+
+// The text of the transcript of this name; one that can't be read is empty.
+fn transcript_of<R: std::rt::Files + AllocGlobal>(rt: &R, name: &str) -> io::Result<String> {
+    let bytes = HostFiles::new(rt)
+        .read(rt.alloc(), name, MAX_TRANSCRIPT)
+        .unwrap_or(Vec::new(rt.alloc()));
+    Ok(String::from_utf8(bytes).unwrap_or(String::new(rt.alloc())))
+}
+
+// What is to be printed of a transcript: the whole of it as it runs now, or what differs and its line.
+fn run<R: AllocGlobal>(
+    rt: &R,
+    name: &str,
+    text: &str,
+    is_again: bool,
+    all: &mut Tally,
+) -> io::Result<String> {
+    let mut session = Session::new(rt.alloc());
+    let mut here = Tally::new();
+    let mut shown = transcript::run(rt.alloc(), text, is_again, &mut session, &mut here)?;
+    if !is_again {
+        shown.push_str(format!(in rt.alloc(); "{name}: {here}\n")?.as_str())?;
+    }
+    all.add(&here);
+    Ok(shown)
+}

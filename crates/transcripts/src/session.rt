@@ -1,0 +1,350 @@
+// The commands of a transcript.
+use crate::bytes::{push_sectors, unescaped};
+use crate::calls::{ask_disk, ask_stack};
+use crate::images::change;
+use dmlw_dispatch::execute;
+use dmlw_files::Output;
+use dmlw_script::{Kind, Script, read_script};
+use refusals::Refusal;
+use script_printer::print_script;
+use sector_disk::SectorDisk;
+use std::alloc::{AllocError, Global};
+use table_line::{parse_line, push_line};
+use test_files::{Folder, Outlet};
+
+// The sectors of the largest disk.
+const MAX_SECTORS: u64 = 1_048_576;
+
+/// A folder of files, and what the last command showed.
+#[derive(Drop)]
+pub struct Session {
+    alloc: Global,
+    folder: Folder,
+    shown: String,
+}
+
+impl Session {
+    /// A folder of no files.
+    pub fn new(alloc: Global) -> Session {
+        Session {
+            alloc,
+            folder: Folder::new(alloc),
+            shown: String::new(alloc),
+        }
+    }
+
+    /// What the last command showed.
+    pub fn shown(&self) -> &str {
+        self.shown.as_str()
+    }
+
+    /// Does a command, with the lines that are given to it. A command that isn't known shows so.
+    pub fn run(&mut self, command: &str, given: &str) -> Result<(), AllocError> {
+        self.shown.clear();
+        let (verb, rest) = command.split_once(' ').unwrap_or((command, ""));
+        match verb {
+            "write" => self.put(rest, Vec::from_slice(self.alloc, given.as_bytes())?),
+            "escaped" => self.put(rest, unescaped(self.alloc, given)?),
+            "more" => self.more(rest, given),
+            "image" => self.image(rest),
+            "copy" => self.copy(rest),
+            "remove" => self.remove(rest),
+            "show" => self.show(rest),
+            "same" => self.same(rest),
+            "print" => self.print(rest, Kind::Record),
+            "print-run" => self.print(rest, Kind::Run),
+            "table" => self.table(rest),
+            "stack" => self.stack(rest, given),
+            "disk" => self.disk(rest, given),
+            "narrow" => self.narrow(rest, given),
+            _ => self.dmlw(verb, command, rest),
+        }
+    }
+
+    // `write NAME` and `escaped NAME`: makes a file of the given lines.
+    fn put(&mut self, name: &str, bytes: Vec<u8>) -> Result<(), AllocError> {
+        self.folder.put(self.alloc, name, bytes)
+    }
+
+    // `more NAME COUNT`: appends the given lines so often, with the number of the time in place of each `%`.
+    fn more(&mut self, words: &str, given: &str) -> Result<(), AllocError> {
+        let (name, count) = words.split_once(' ').unwrap_or((words, "1"));
+        let mut bytes = self.taken(name)?;
+        for number in 0..count.parse::<u32>().unwrap_or(0) {
+            push_numbered(self.alloc, &mut bytes, given, number)?;
+        }
+        self.folder.put(self.alloc, name, bytes)
+    }
+
+    // `image NAME LENGTH ..`: changes an image, or makes one of zeroes.
+    fn image(&mut self, words: &str) -> Result<(), AllocError> {
+        let (name, words) = words.split_once(' ').unwrap_or((words, ""));
+        let (length, words) = words.split_once(' ').unwrap_or((words, ""));
+        let mut bytes = self.taken(name)?;
+        change(&mut bytes, length.parse::<usize>().unwrap_or(0), words)?;
+        self.folder.put(self.alloc, name, bytes)
+    }
+
+    // `copy FROM TO`.
+    fn copy(&mut self, words: &str) -> Result<(), AllocError> {
+        let (from, to) = words.split_once(' ').unwrap_or((words, words));
+        let bytes = self.taken(from)?;
+        self.folder.put(self.alloc, to, bytes)
+    }
+
+    // `remove NAME`.
+    fn remove(&mut self, name: &str) -> Result<(), AllocError> {
+        self.folder.remove(name);
+        Ok(())
+    }
+
+    // `show NAME`: what a file holds, by its sectors that aren't zeroes.
+    fn show(&mut self, name: &str) -> Result<(), AllocError> {
+        match self.folder.bytes(name) {
+            Some(bytes) => push_sectors(&mut self.shown, bytes),
+            None => Ok(self.shown.push_str("no such file\n")?),
+        }
+    }
+
+    // `same ONE OTHER`: whether two files hold the same.
+    fn same(&mut self, words: &str) -> Result<(), AllocError> {
+        let (one, other) = words.split_once(' ').unwrap_or((words, words));
+        let is_same = self.folder.bytes(one) == self.folder.bytes(other);
+        self.shown
+            .push_str(if is_same { "same\n" } else { "different\n" })?;
+        Ok(())
+    }
+
+    // `print NAME`: a script of `record` as its one text, or its fault; `print-run NAME` one of `run`.
+    fn print(&mut self, name: &str, kind: Kind) -> Result<(), AllocError> {
+        let text = self.taken(name)?;
+        match read_script(self.alloc, &text, kind) {
+            Ok(script) => push_script(self.alloc, &mut self.shown, &script),
+            Err(fault) => writeln!(self.shown, "{fault}"),
+        }
+    }
+
+    // `table LINE`: a table's line as its one text, or its refusal.
+    fn table(&mut self, line: &str) -> Result<(), AllocError> {
+        match parse_line(line.as_bytes()) {
+            Ok(spec) => {
+                let mut text = Vec::new(self.alloc);
+                push_line(&mut text, &spec)?;
+                text.push(b'\n')?;
+                push_text(&mut self.shown, &text)
+            }
+            Err(error) => {
+                let refusal = Refusal::from(error);
+                writeln!(self.shown, "{refusal}")
+            }
+        }
+    }
+
+    // `stack SECTORS` or `stack NAME`: a disk of zeroes of so many sectors, or one that holds a file's bytes, under layers.
+    fn stack(&mut self, what: &str, given: &str) -> Result<(), AllocError> {
+        match self.disk_of(what) {
+            Some(disk) => ask_stack(self.alloc, disk, given, &mut self.shown),
+            None => Ok(self.shown.push_str("no such disk\n")?),
+        }
+    }
+
+    // `disk SECTORS` or `disk NAME`: the same under no layer.
+    fn disk(&mut self, what: &str, given: &str) -> Result<(), AllocError> {
+        match self.disk_of(what) {
+            Some(disk) => {
+                let mut disk = disk;
+                ask_disk(self.alloc, &mut disk, given, &mut self.shown)
+            }
+            None => Ok(self.shown.push_str("no such disk\n")?),
+        }
+    }
+
+    // A disk of zeroes of so many sectors, or one that holds a file's bytes.
+    fn disk_of(&self, what: &str) -> Option<SectorDisk> {
+        if let Ok(sectors) = what.parse::<u64>() {
+            if sectors == 0 || sectors > MAX_SECTORS {
+                return None;
+            }
+            return SectorDisk::new(self.alloc, sectors).ok();
+        }
+        let bytes = self.folder.bytes(what)?;
+        if bytes.is_empty() || bytes.len() % 512 != 0 || bytes.len() as u64 / 512 > MAX_SECTORS {
+            return None;
+        }
+        let bytes = Vec::from_slice(self.alloc, bytes).ok()?;
+        SectorDisk::from_bytes(self.alloc, bytes).ok()
+    }
+
+    // A command line of dmlw, perhaps behind the word of an output that fails, `deaf` for a stream of faults that can't be flushed, or `quiet`.
+    fn dmlw(&mut self, verb: &str, command: &str, rest: &str) -> Result<(), AllocError> {
+        match verb {
+            "dmlw" => self.execute(Outlet::open(self.alloc), Outlet::open(self.alloc), command),
+            "deaf" => self.execute(Outlet::open(self.alloc), Outlet::stuck(self.alloc), rest),
+            "quiet" => {
+                self.execute(Outlet::open(self.alloc), Outlet::open(self.alloc), rest)?;
+                self.shown.clear();
+                Ok(())
+            }
+            _ => match Outlet::named(self.alloc, verb) {
+                Some(outlet) => self.execute(outlet, Outlet::open(self.alloc), rest),
+                None => Ok(self.shown.push_str("no such command\n")?),
+            },
+        }
+    }
+
+    // Executes the words of a command line, and shows what it tells.
+    fn execute(&mut self, out: Outlet, err: Outlet, line: &str) -> Result<(), AllocError> {
+        let (mut out, mut err) = (out, err);
+        let words = words_of(self.alloc, line)?;
+        let ended = execute(
+            self.alloc,
+            &words,
+            &mut self.folder,
+            &mut Output::new(&mut out),
+            &mut err,
+        );
+        let is_held = out.is_held() || err.is_held();
+        push_told(&mut self.shown, out.taken(), err.taken())?;
+        push_ending(&mut self.shown, ended.exit.status(), is_held, ended.is_told)
+    }
+
+    // `narrow dmlw ..`: executes a command line, whose whole output is given, over outputs with room for no byte of it, for one and so on, up to one byte too few. It shows
+    // how many these are, and each thing that is told behind the beginning of the output, once.
+    fn narrow(&mut self, line: &str, whole: &str) -> Result<(), AllocError> {
+        let mut seen = String::new(self.alloc);
+        for room in 0..whole.len() {
+            self.shown.clear();
+            let out = Outlet::narrow(self.alloc, room);
+            self.execute(out, Outlet::open(self.alloc), line)?;
+            let beginning = whole.as_bytes().get(..room).unwrap_or_default();
+            let is_beginning = self.shown.as_bytes().starts_with(beginning);
+            note_refusal(&mut seen, self.shown.as_str(), is_beginning)?;
+        }
+        self.shown.clear();
+        writeln!(self.shown, "{} outputs", whole.len())?;
+        self.shown.push_str(seen.as_str())?;
+        Ok(())
+    }
+
+    // What the file of a name holds; nothing where it isn't there.
+    fn taken(&self, name: &str) -> Result<Vec<u8>, AllocError> {
+        Vec::from_slice(self.alloc, self.folder.bytes(name).unwrap_or_default())
+    }
+}
+
+// Notes what was told of an output that was too narrow, where that isn't noted yet.
+fn note_refusal(seen: &mut String, shown: &str, is_beginning: bool) -> Result<(), AllocError> {
+    let told = match shown.split_once("! ") {
+        Some((_, told)) => told,
+        None => shown,
+    };
+    if !is_beginning {
+        seen.push_str("not a beginning\n")?;
+    }
+    if !seen.contains(told) {
+        seen.push_str("! ")?;
+        seen.push_str(told)?;
+    }
+    Ok(())
+}
+
+// The words of a command line, parted by spaces; one that begins with `'` goes on to the next one that ends so.
+fn words_of<'a>(alloc: Global, line: &'a str) -> Result<Vec<&'a str>, AllocError> {
+    let mut words = Vec::new(alloc);
+    let mut rest = line;
+    while !rest.is_empty() {
+        let (word, behind) = next_word(rest);
+        words.push(word)?;
+        rest = behind;
+    }
+    Ok(words)
+}
+
+// The first word of a line, and what stands behind it.
+fn next_word(line: &str) -> (&str, &str) {
+    match line.strip_prefix("'") {
+        Some(quoted) => {
+            let (word, behind) = quoted.split_once('\'').unwrap_or((quoted, ""));
+            (word, behind.strip_prefix(" ").unwrap_or(behind))
+        }
+        None => line.split_once(' ').unwrap_or((line, "")),
+    }
+}
+
+// Appends lines with a number in place of each `%`.
+fn push_numbered(
+    alloc: Global,
+    bytes: &mut Vec<u8>,
+    lines: &str,
+    number: u32,
+) -> Result<(), AllocError> {
+    let digits = number.to_string(alloc)?;
+    for byte in lines.as_bytes() {
+        if *byte == b'%' {
+            bytes.extend_from_slice(digits.as_bytes())?;
+        } else {
+            bytes.push(*byte)?;
+        }
+    }
+    Ok(())
+}
+
+// Appends a script as its one text.
+fn push_script(alloc: Global, shown: &mut String, script: &Script) -> Result<(), AllocError> {
+    let text = print_script(alloc, script)?;
+    push_text(shown, &text)
+}
+
+// Appends what a command told: what it put out, and behind `! ` each line of its faults.
+fn push_told(shown: &mut String, out: &[u8], err: &[u8]) -> Result<(), AllocError> {
+    push_text(shown, out)?;
+    let faults = str::from_utf8(err).unwrap_or("no text\n");
+    if faults.is_empty() {
+        return Ok(());
+    }
+    let lines = faults.strip_suffix("\n").unwrap_or(faults);
+    for line in lines.split('\n') {
+        shown.push_str("! ")?;
+        shown.push_str(line)?;
+        shown.push('\n')?;
+    }
+    end_line(shown, faults)
+}
+
+// Appends how a command ended, where that isn't with status 0, all flushed and told.
+fn push_ending(
+    shown: &mut String,
+    status: u8,
+    is_held: bool,
+    is_told: bool,
+) -> Result<(), AllocError> {
+    if is_held {
+        shown.push_str("(held back)\n")?;
+    }
+    if !is_told {
+        shown.push_str("(not all told)\n")?;
+    }
+    if status != 0 {
+        writeln!(shown, "[{status}]")?;
+    }
+    Ok(())
+}
+
+// Appends a text, with a word where it doesn't end with a line feed.
+fn push_text(shown: &mut String, bytes: &[u8]) -> Result<(), AllocError> {
+    let text = str::from_utf8(bytes).unwrap_or("no text\n");
+    if text.is_empty() {
+        return Ok(());
+    }
+    shown.push_str(text.strip_suffix("\n").unwrap_or(text))?;
+    shown.push('\n')?;
+    end_line(shown, text)
+}
+
+// Says so where a text doesn't end with a line feed.
+fn end_line(shown: &mut String, text: &str) -> Result<(), AllocError> {
+    if !text.ends_with('\n') {
+        shown.push_str("(no line feed)\n")?;
+    }
+    Ok(())
+}

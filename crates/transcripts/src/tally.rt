@@ -1,0 +1,46 @@
+// How many commands ran, and how many of them showed something else.
+use std::fmt;
+
+/// Counts of commands.
+#[derive(Drop)]
+pub struct Tally {
+    commands: u64,
+    differ: u64,
+}
+
+impl Tally {
+    /// No command.
+    pub fn new() -> Tally {
+        Tally {
+            commands: 0,
+            differ: 0,
+        }
+    }
+
+    /// Counts a command, which showed what was wanted or didn't.
+    pub fn count(&mut self, is_same: bool) {
+        self.commands = self.commands.saturating_add(1);
+        if !is_same {
+            self.differ = self.differ.saturating_add(1);
+        }
+    }
+
+    /// Adds the counts of another one.
+    pub fn add(&mut self, other: &Tally) {
+        self.commands = self.commands.saturating_add(other.commands);
+        self.differ = self.differ.saturating_add(other.differ);
+    }
+
+    /// Whether there were commands, and all of them showed what was wanted.
+    pub fn is_good(&self) -> bool {
+        self.commands > 0 && self.differ == 0
+    }
+}
+
+impl fmt::Display for Tally {
+    fn fmt<W: fmt::Write>(&self, f: &mut fmt::Formatter<W>) -> fmt::Result {
+        let commands = self.commands;
+        let differ = self.differ;
+        write!(f, "{commands} commands, {differ} differ")
+    }
+}

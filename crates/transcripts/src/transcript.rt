@@ -1,0 +1,153 @@
+// A transcript, gone through line by line.
+use crate::session::Session;
+use crate::tally::Tally;
+use std::alloc::{AllocError, Global};
+
+// A command with the lines that are given to it, and what it is to show.
+#[derive(Drop)]
+struct Step {
+    command: String,
+    given: String,
+    wanted: String,
+}
+
+impl Step {
+    fn new(alloc: Global) -> Step {
+        Step {
+            command: String::new(alloc),
+            given: String::new(alloc),
+            wanted: String::new(alloc),
+        }
+    }
+
+    // Begins another command.
+    fn begin(&mut self, command: &str) -> Result<(), AllocError> {
+        self.command.push_str(command)?;
+        Ok(())
+    }
+
+    // Forgets the command, its given lines and what it is to show.
+    fn clear(&mut self) {
+        self.command.clear();
+        self.given.clear();
+        self.wanted.clear();
+    }
+}
+
+// The text that is printed of a transcript, and whether that is the whole of it.
+#[derive(Drop)]
+struct Report {
+    text: String,
+    is_again: bool,
+}
+
+/// Runs a transcript's commands in turn, and answers what is printed of it: all of it with what each command shows now, or the commands that show something else.
+pub fn run(
+    alloc: Global,
+    text: &str,
+    is_again: bool,
+    session: &mut Session,
+    tally: &mut Tally,
+) -> Result<String, AllocError> {
+    let mut report = Report {
+        text: String::new(alloc),
+        is_again,
+    };
+    let mut step = Step::new(alloc);
+    go_through(text, &mut step, &mut report, session, tally)?;
+    Ok(report.text)
+}
+
+fn go_through(
+    text: &str,
+    step: &mut Step,
+    report: &mut Report,
+    session: &mut Session,
+    tally: &mut Tally,
+) -> Result<(), AllocError> {
+    let text = text.strip_suffix("\n").unwrap_or(text);
+    for line in text.split('\n') {
+        take_line(line, step, report, session, tally)?;
+    }
+    end_step(step, report, session, tally)
+}
+
+// Takes one line of a transcript.
+fn take_line(
+    line: &str,
+    step: &mut Step,
+    report: &mut Report,
+    session: &mut Session,
+    tally: &mut Tally,
+) -> Result<(), AllocError> {
+    if let Some(command) = line.strip_prefix("  $ ") {
+        end_step(step, report, session, tally)?;
+        step.begin(command)?;
+        return copy_line(line, report);
+    }
+    if let Some(given) = line.strip_prefix("  >") {
+        push_line(&mut step.given, given.strip_prefix(" ").unwrap_or(given))?;
+        return copy_line(line, report);
+    }
+    if let Some(wanted) = line.strip_prefix("  ") {
+        return push_line(&mut step.wanted, wanted);
+    }
+    end_step(step, report, session, tally)?;
+    copy_line(line, report)
+}
+
+// Runs the command whose lines have all been taken, if there is one, and notes what it shows.
+fn end_step(
+    step: &mut Step,
+    report: &mut Report,
+    session: &mut Session,
+    tally: &mut Tally,
+) -> Result<(), AllocError> {
+    if step.command.is_empty() {
+        return Ok(());
+    }
+    session.run(step.command.as_str(), step.given.as_str())?;
+    let is_same = session.shown() == step.wanted.as_str();
+    tally.count(is_same);
+    if report.is_again {
+        push_indented(&mut report.text, session.shown())?;
+    } else if !is_same {
+        tell_difference(&mut report.text, step.command.as_str(), session.shown())?;
+    }
+    step.clear();
+    Ok(())
+}
+
+// Notes a command that shows something else, with what it shows.
+fn tell_difference(text: &mut String, command: &str, shown: &str) -> Result<(), AllocError> {
+    text.push_str("  $ ")?;
+    push_line(text, command)?;
+    push_indented(text, shown)
+}
+
+// Copies a line of a transcript that is printed as it runs now.
+fn copy_line(line: &str, report: &mut Report) -> Result<(), AllocError> {
+    if report.is_again {
+        push_line(&mut report.text, line)?;
+    }
+    Ok(())
+}
+
+fn push_line(text: &mut String, line: &str) -> Result<(), AllocError> {
+    text.push_str(line)?;
+    text.push('\n')?;
+    Ok(())
+}
+
+// Appends lines, each indented.
+fn push_indented(text: &mut String, lines: &str) -> Result<(), AllocError> {
+    let lines = match lines.strip_suffix("\n") {
+        Some(lines) => lines,
+        None => return Ok(()),
+    };
+    for line in lines.split('\n') {
+        text.push_str("  ")?;
+        push_line(text, line)?;
+    }
+    Ok(())
+}

@@ -2,8 +2,8 @@
 """ready: what the gate would refuse or a reader would miss, found in a minute and without a proof.
 
   bench/ready.py [--count]
-        Says which files `rt fmt` would change (the gate refuses their crate whole), which must-fail edits name a text that doesn't stand once in
-        its file, which edits have no row in docs/PLANTED.md, and where that page's counts aren't those of its rows. --count writes the counts.
+        Says which files `rt fmt` would change (the gate refuses their crate whole), which edits, of must-fail/ and of planted/, name a text that doesn't stand
+        once in its file, which edits have no row in docs/PLANTED.md, and where that page's counts aren't those of its rows. --count writes the counts.
 
 The repository's files stay as they are, but for the counts. It needs the kit's `rt` on the PATH.
 """
@@ -62,11 +62,12 @@ def rows_of(page):
 
 def main():
     edits = sorted(glob.glob(f"{root}/crates/*/must-fail/*.edit"))
+    planted = sorted(glob.glob(f"{root}/crates/*/planted/*.edit"))
     page = text_of(f"{root}/docs/PLANTED.md")
     rows = list(rows_of(page))
     by_tests = [it for it in rows if re.search(r"\btests?\b", it[2]) and "goal" not in it[2] and "check of" not in it[2]]
-    found = [*not_laid_out(), *edits_off(edits)]
-    for edit in edits:
+    found = [*not_laid_out(), *edits_off(edits + planted)]
+    for edit in edits + planted:
         crate, name = edit.split("/")[-3], os.path.basename(edit)[:-5].replace("-", " ")
         if not any(section == crate and bug.replace("`", "").split(" (")[0].lower() == name for section, bug, _ in rows):
             found.append(f"{os.path.relpath(edit, root)}: no row in docs/PLANTED.md")

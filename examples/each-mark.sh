@@ -3,7 +3,7 @@
 #
 #   examples/each-mark.sh LOG FIRST CHECK [WORD ..]
 #
-# CHECK is run with its words and then the image's name, as `fsck.ext4 -fn`. A copy of its own is made for each mark. Ends with status 1
+# CHECK is run with its words and then the image's name, as `examples/check-ext4.sh`. A copy of its own is made for each mark. Ends with status 1
 # where a check fails or a log can't be replayed.
 set -eu
 log=$1

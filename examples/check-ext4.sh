@@ -1,0 +1,11 @@
+#!/bin/sh
+# Checks an ext4 image as it would be mounted: replays its journal first, and then looks at the file system.
+#
+#   examples/check-ext4.sh IMAGE
+#
+# Without the journal's replay a healthy file system that lost power looks broken: `fsck.ext4 -fn` alone skips the recovery. The image is changed. It ends with
+# status 0 where the file system is whole.
+set -u
+e2fsck -E journal_only -y "$1" >/dev/null
+[ $? -le 1 ] || exit 1
+exec e2fsck -fn "$1"

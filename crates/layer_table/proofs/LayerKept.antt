@@ -13,8 +13,9 @@ use Rattle.layer_table.specs.declared.slot.Slot.{Slot}
 use Rattle.layer_table.specs.declared.slot.Slot.TheVariants as slots
 use Rattle.layer_table.specs.declared.stack.Stack.{Stack}
 use Rattle.layer_table.specs.Layers.{layers_with, FollowsLater, IsPut, Layer}
-use Rattle.layer_table.specs.SlotMessages.{AnswersBelow, AnswersItself, IsNoMessage, SlotAnswers}
-use Rattle.layer_table.specs.StackMessages.{DiskAnswers, StackAnswers}
+use Rattle.layer_table.specs.SlotMessages.{AnswersBelow, AnswersItself, IsNoMessage}
+use Rattle.layer_table.specs.StackMessages.{StackAnswers}
+use Rattle.layer_table.specs.ThreeLevel.{three_answers}
 
 -- ---- messages
 
@@ -31,7 +32,7 @@ layer-4 : (old new : Stack) (text : List ℕ) (result : Result (Unit {0}) Messag
 layer-4 old new text result is = (is.within (omega arith) (omega arith)).own refl
 
 layer-3 : (old new : Stack) (text : List ℕ) (result : Result (Unit {0}) MessageError) → StackAnswers old 3 text result new
-    → AnswersBelow (SlotAnswers (SlotAnswers (SlotAnswers DiskAnswers))) old.top 1 text result new.top
+    → AnswersBelow three_answers old.top 1 text result new.top
 layer-3 old new text result is = (is.within (omega arith) (omega arith)).others (omega arith)
 
 -- a message to what stands beneath leaves the layer itself

@@ -24,10 +24,14 @@ use Rattle.table_line.specs.declared.layer_spec.Target.{Target}
 use Rattle.table_line.specs.declared.layer_spec.Target.TheVariants as targets
 use Rattle.layer_table.specs.declared.any_gate.AnyGate.{AnyGate}
 use Rattle.layer_table.specs.declared.any_gate.AnyGate.TheVariants as gates
+use Rattle.layer_table.specs.declared.levels.one.One.{One}
+use Rattle.layer_table.specs.declared.levels.three.Three.{Three}
+use Rattle.layer_table.specs.declared.levels.two.Two.{Two}
 use Rattle.layer_table.specs.declared.slot.Slot.{Slot}
 use Rattle.layer_table.specs.declared.slot.Slot.TheVariants as slots
 use Rattle.layer_table.specs.declared.stack.Stack.{Stack}
 use Rattle.layer_table.specs.AnyRule.{any_after, any_may_drop, any_verdict}
+use Rattle.layer_table.specs.Levels.{disk_three}
 use Rattle.layer_table.specs.Slots.{device_of, slot_does, slot_shown}
 
 -- What a layer does with its calls: a gate decides about them, or they go block by block over a list of bad blocks, of so many sectors each.
@@ -51,23 +55,22 @@ layers_with {D} {g} beneath (slots.Decided layer) =
 layers_with {D} {g} beneath (slots.Dusted layer) =
     record { offset = layer.lower.offset; length = layer.lower.length; rule = Dusting layer.block (listed layer.bad) layer.mode; faults = layer.faults; lies = 0 } ∷ beneath layer.lower.lower
 
--- the layers of four slots, the top first, and the device beneath them
-abbrev pub layers_in : {D : Type 0} {g : Ghosts D} {h : Ghosts (Slot D g)} {i : Ghosts (Slot (Slot D g) h)}
-    {j : Ghosts (Slot (Slot (Slot D g) h) i)} →
-    Slot (Slot (Slot (Slot D g) h) i) j → List Layer
-layers_in top = layers_with (layers_with (layers_with (layers_with (λ device. [])))) top
+-- the layers of the lowest slot, of the two lowest and of the three lowest, the top first
+abbrev pub layers_one : One → List Layer
+layers_one level = layers_with (λ disk. []) level.top
 
-abbrev pub device_in : {D : Type 0} {g : Ghosts D} {h : Ghosts (Slot D g)} {i : Ghosts (Slot (Slot D g) h)}
-    {j : Ghosts (Slot (Slot (Slot D g) h) i)} →
-    Slot (Slot (Slot (Slot D g) h) i) j → D
-device_in top = device_of (device_of (device_of (device_of top)))
+abbrev pub layers_two : Two → List Layer
+layers_two level = layers_with layers_one level.top
+
+abbrev pub layers_three : Three → List Layer
+layers_three level = layers_with layers_two level.top
 
 -- the layers of a stack, the top first, and the disk beneath them
 abbrev pub layers_of : Stack → List Layer
-layers_of stack = layers_in stack.top
+layers_of stack = layers_with layers_three stack.top
 
 abbrev pub disk_of : Stack → SectorDisk
-disk_of stack = device_in stack.top
+disk_of stack = disk_three (device_of stack.top)
 
 -- the gate of a target: that of a linear one is open, and so is that of one with bad blocks, which goes block by block; a flakey device's
 -- moments count from its load

@@ -17,6 +17,10 @@ pub mod AnyLaws
 pub mod Slots
 pub mod SlotMessages
 pub mod SlotLaws
+pub mod OneLevel
+pub mod TwoLevel
+pub mod ThreeLevel
+pub mod Levels
 pub mod Layers
 pub mod LayerLaws
 pub mod TopLaws

@@ -51,11 +51,6 @@ device_of {D} {g} (slots.Dusted layer) = layer.lower.lower
 abbrev pub shape_with : {D : Type 0} {g : Ghosts D} → (D → List Bool) → Slot D g → List Bool
 shape_with {D} {g} beneath slot = has_layer slot ∷ beneath (device_of slot)
 
--- over a disk there are four
-abbrev pub shape_of : {D : Type 0} {g : Ghosts D} {h : Ghosts (Slot D g)} {i : Ghosts (Slot (Slot D g) h)} {j : Ghosts (Slot (Slot (Slot D g) h) i)} →
-    Slot (Slot (Slot (Slot D g) h) i) j → List Bool
-shape_of slot = shape_with (shape_with (shape_with (shape_with (λ disk. [])))) slot
-
 -- beneath a slot with a layer each has one
 abbrev pub has_no_gap : List Bool → Bool
 has_no_gap [] = true

@@ -1,24 +1,22 @@
 -- What becomes of a message to a layer of a stack.
-use Rattle.std.proofs.Common.{◌≡◌, ℕ, zero, suc, ◌-◌, ◌<◌, ◌≤◌, Bool, true, List, [], ◌∷◌, Result, Err, refl, ap, ◌∙◌, arith}
+use Rattle.std.proofs.Common.{◌≡◌, ℕ, zero, suc, ◌-◌, ◌<◌, ◌≤◌, Bool, true, List, [], ◌∷◌, Result, refl, ap, ◌∙◌, arith}
 use Rattle.std.specs.Prelude.{◌⊎◌}
 use Rattle.blockdev.specs.declared.device.BlockDev.{Ghosts}
 use Rattle.blockdev.specs.declared.message.MessageError.{MessageError}
-use Rattle.blockdev.specs.declared.message.MessageError.TheVariants.{BadMessage}
 use Rattle.fault_layers.specs.declared.linear.Linear.{Linear}
-use Rattle.sector_disk.specs.declared.disk.SectorDisk.{SectorDisk}
 use Rattle.layer_table.specs.declared.slot.Slot.{Slot}
 use Rattle.layer_table.specs.declared.slot.Slot.TheVariants as slots
 use Rattle.layer_table.specs.declared.stack.Stack.{Stack}
+use Rattle.layer_table.specs.Levels.{shape_of, shape_one, shape_three, shape_two}
+use Rattle.layer_table.specs.OneLevel.{one_answers, DiskAnswers}
 use Rattle.layer_table.specs.SlotMessages.{AnswersBelow, AnswersItself, IsNoMessage, SlotAnswers}
-use Rattle.layer_table.specs.Slots.{device_of, has_layer, has_no_gap, shape_of, shape_with}
-
--- a disk takes no message
-abbrev pub DiskAnswers : SectorDisk → ℕ → List ℕ → Result (Unit {0}) MessageError → SectorDisk → Type 0
-DiskAnswers old layer text result new = (result ≡ Err BadMessage) × (new ≡ old)
+use Rattle.layer_table.specs.Slots.{device_of, has_layer, has_no_gap, shape_with}
+use Rattle.layer_table.specs.ThreeLevel.{three_answers}
+use Rattle.layer_table.specs.TwoLevel.{two_answers}
 
 -- Layers count from 1, the lowest: the fourth is the top slot, and the first the slot over the disk. No other number is a layer's.
 pub record StackAnswers (old : Stack) (layer : ℕ) (text : List ℕ) (result : Result (Unit {0}) MessageError) (new : Stack) : Type 0 where
-  pub within : 1 ≤ layer → layer ≤ 4 → SlotAnswers (SlotAnswers (SlotAnswers (SlotAnswers DiskAnswers))) old.top (5 - layer) text result new.top
+  pub within : 1 ≤ layer → layer ≤ 4 → SlotAnswers three_answers old.top (5 - layer) text result new.top
   pub outside : (layer ≡ 0) ⊎ (4 < layer) → IsNoMessage result old new
 
 -- ---- a message keeps the slots that have a layer
@@ -76,14 +74,18 @@ shape_answered f below kept slot layer text result after is =
     let same = message_kept f below kept slot layer text result after is in
     ap (λ (has : Bool). has ∷ f (device_of after)) same.1 ∙ ap (λ (shape : List Bool). has_layer slot ∷ shape) same.0
 
+one_answered : KeepsByMessage one_answers shape_one
+one_answered level layer text result after is =
+    shape_answered (λ disk. []) DiskAnswers (λ disk layer text result after is. refl) level.top layer text result after.top is
+
+two_answered : KeepsByMessage two_answers shape_two
+two_answered level layer text result after is = shape_answered shape_one one_answers one_answered level.top layer text result after.top is
+
+three_answered : KeepsByMessage three_answers shape_three
+three_answered level layer text result after is = shape_answered shape_two two_answers two_answered level.top layer text result after.top is
+
 -- a message leaves no gap
 pub no_gap_answered : (old : Stack) (layer : ℕ) (text : List ℕ) (result : Result (Unit {0}) MessageError) (top : _)
-    → SlotAnswers (SlotAnswers (SlotAnswers (SlotAnswers DiskAnswers))) old.top layer text result top → has_no_gap (shape_of top) ≡ true
+    → SlotAnswers three_answers old.top layer text result top → has_no_gap (shape_of top) ≡ true
 no_gap_answered old layer text result top is =
-    ap has_no_gap
-    (shape_answered (shape_with (shape_with (shape_with (λ disk. [])))) _
-    (shape_answered (shape_with (shape_with (λ disk. []))) _
-    (shape_answered (shape_with (λ disk. [])) _
-    (shape_answered (λ disk. []) DiskAnswers (λ disk layer text result after is. refl))))
-    old.top layer text result top is)
-    ∙ old.filled
+    ap has_no_gap (shape_answered shape_three three_answers three_answered old.top layer text result top is) ∙ old.filled

@@ -1,6 +1,6 @@
 //! Stacks of layers over a disk in memory, as the lines of a table ask for them.
 //!
-//! A `Slot` is a device or one layer over it; a `Stack` is four slots one within the other over a disk, and a device
+//! A `Slot` is a device or one layer over it; a `Stack` is four slots, each over the next, over a disk, and a device
 //! itself. Contracts see the layers of a stack as a list, the top first (`specs/Layers`): what a stack shows and what its calls do
 //! follows from that list and the disk beneath (`laws`).
 #![tactic(auto)]
@@ -11,5 +11,6 @@ pub use stack::Stack;
 
 mod any_gate;
 pub mod laws;
+mod levels;
 mod slot;
 mod stack;

@@ -1,24 +1,23 @@
-ghost use Rattle.std.specs.Prelude.{◌≡◌, ◌⊎◌, ◌<◌, ◌≤◌, ◌+◌, [], ◌∷◌, List, IfErr, IfOk, IsOk, OnErr, OnOk, false, length, true};
+ghost use Rattle.std.specs.Prelude.{◌≡◌, ◌⊎◌, ◌<◌, ◌≤◌, ◌+◌, [], ◌∷◌, IfErr, IfOk, IsOk, OnErr, OnOk, false, length, true};
 ghost use Rattle.refusals.specs.declared.refusal.Refusal.TheVariants as refusals;
 ghost use Rattle.blockdev.specs.Calls.{IsRange};
 ghost use Rattle.sector_disk.specs.Shown.{shown_of};
 ghost use Rattle.table_line.specs.Ranges.{IsLayerSpec};
 ghost use Rattle.table_line.specs.Standing.{CanStand};
 ghost use Rattle.std.specs.List.{AllByRecursion};
-ghost use Rattle.layer_table.specs.Layers.{device_in, disk_of, layer_asked, layers_in, layers_of, layers_under, layers_with, stack_shown, AreOver, IsPut, IsSeenAs, Layer};
-ghost use Rattle.layer_table.specs.Slots.{device_of, has_layer, has_no_gap, shape_of, slot_shown};
+ghost use Rattle.layer_table.specs.Layers.{disk_of, layer_asked, layers_of, layers_three, layers_under, layers_with, stack_shown, AreOver, IsPut, IsSeenAs};
+ghost use Rattle.layer_table.specs.Levels.{disk_three, shape_of};
+ghost use Rattle.layer_table.specs.Slots.{device_of, has_layer, has_no_gap, slot_shown};
 
-use crate::any_gate::AnyGate;
+use crate::levels::{One, Three, Two, layer};
 use crate::slot::Slot;
-use crate::stack::{Slots, Stack};
+use crate::stack::Stack;
 use bio::Ms;
 use blockdev::BlockDev;
-use dust_layer::Dust;
-use fault_layers::{Gated, Linear};
 use refusals::Refusal;
 use sector_disk::SectorDisk;
 use std::alloc::Global;
-use table_line::{LayerSpec, Target};
+use table_line::LayerSpec;
 
 impl Stack {
     /// The disk under no layer.
@@ -28,7 +27,13 @@ impl Stack {
         ensures shown { IsSeenAs (shown_of disk) (stack_shown result) }
     {
         Stack {
-            top: Slot::Bare(Slot::Bare(Slot::Bare(Slot::Bare(disk)))),
+            top: Slot::Bare(Three {
+                top: Slot::Bare(Two {
+                    top: Slot::Bare(One {
+                        top: Slot::Bare(disk),
+                    }),
+                }),
+            }),
         }
     }
 
@@ -81,50 +86,29 @@ impl Stack {
     pub fn into_disk(self) -> SectorDisk
         ensures { result ≡ disk_of self }
     {
-        self.top
-            .into_device()
-            .into_device()
-            .into_device()
-            .into_device()
-    }
-}
-
-// The layer over the device, in a slot.
-fn layer<D: BlockDev + Drop>(alloc: Global, lower: D, spec: LayerSpec, load: Ms) -> Slot<D>
-    requires spec { IsLayerSpec spec }
-    requires fits { IsRange (D.shown lower).size spec.offset spec.length }
-    ensures has_layer { has_layer result ≡ true }
-    ensures device { device_of result ≡ lower }
-    ensures layers { (beneath : D → List Layer) → layers_with beneath result ≡ layer_asked spec load ∷ beneath lower }
-    ensures shown { IsPut spec (D.shown lower) (slot_shown result) }
-{
-    let range = Linear::new(lower, spec.offset, spec.length);
-    match spec.target {
-        Target::Dust { block_bytes } => Slot::Dusted(Dust::new(alloc, range, block_bytes)),
-        target => Slot::Decided(Gated::under(range, AnyGate::of(spec.offset, target, load))),
+        self.top.into_device().into_disk()
     }
 }
 
 // The layer in the lowest free slot.
-fn put(alloc: Global, top: Slots, spec: LayerSpec, load: Ms) -> Slots
+fn put(alloc: Global, top: Slot<Three>, spec: LayerSpec, load: Ms) -> Slot<Three>
     requires spec { IsLayerSpec spec }
     requires fits { IsRange (slot_shown top).size spec.offset spec.length }
     requires free { has_layer top ≡ false }
     requires filled { has_no_gap (shape_of top) ≡ true }
-    ensures layers { layers_in result ≡ layer_asked spec load ∷ layers_in top }
-    ensures device { device_in result ≡ device_in top }
+    ensures layers { layers_with layers_three result ≡ layer_asked spec load ∷ layers_with layers_three top }
+    ensures disk { disk_three (device_of result) ≡ disk_three (device_of top) }
     ensures shown { IsPut spec (slot_shown top) (slot_shown result) }
     ensures filled { has_no_gap (shape_of result) ≡ true }
 {
     match top {
-        Slot::Bare(Slot::Bare(Slot::Bare(Slot::Bare(disk)))) => {
-            Slot::Bare(Slot::Bare(Slot::Bare(layer(alloc, disk, spec, load))))
+        Slot::Bare(three) => {
+            if three.top.has_layer() {
+                layer(alloc, three, spec, load)
+            } else {
+                Slot::Bare(three.put(alloc, spec, load))
+            }
         }
-        Slot::Bare(Slot::Bare(Slot::Bare(one))) => Slot::Bare(Slot::Bare(layer(
-            alloc, one, spec, load,
-        ))),
-        Slot::Bare(Slot::Bare(two)) => Slot::Bare(layer(alloc, two, spec, load)),
-        Slot::Bare(three) => layer(alloc, three, spec, load),
         full => full,
     }
 }

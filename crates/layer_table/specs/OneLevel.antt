@@ -1,0 +1,33 @@
+-- The lowest slot, over the disk.
+use Rattle.std.specs.Prelude.{◌≡◌, ℕ, Err, List, Result}
+use Rattle.bio.specs.declared.outcome.DevError.{DevError}
+use Rattle.blockdev.specs.declared.message.MessageError.{MessageError}
+use Rattle.blockdev.specs.declared.message.MessageError.TheVariants.{BadMessage}
+use Rattle.blockdev.specs.Calls.{Call}
+use Rattle.blockdev.specs.View.{IsLawful, View}
+use Rattle.sector_disk.specs.declared.disk.SectorDisk.{SectorDisk}
+use Rattle.sector_disk.specs.ShownLaws.{disk_lawful}
+use Rattle.layer_table.specs.declared.levels.one.One.{One}
+use Rattle.layer_table.specs.SlotLaws.{slot_lawful}
+use Rattle.layer_table.specs.SlotMessages.{SlotAnswers}
+use Rattle.layer_table.specs.Slots.{slot_does, slot_shown}
+
+-- what is seen of it
+abbrev pub one_shown : One → View
+one_shown level = slot_shown level.top
+
+-- what its calls do
+abbrev pub one_does : One → Call → ℕ → Result ℕ DevError → One → Type 0
+one_does old call now result new = slot_does old.top call now result new.top
+
+-- it keeps the law of a device
+pub one_lawful : (level : One) → IsLawful (one_shown level)
+one_lawful level = slot_lawful disk_lawful level.top
+
+-- a disk takes no message
+abbrev pub DiskAnswers : SectorDisk → ℕ → List ℕ → Result (Unit {0}) MessageError → SectorDisk → Type 0
+DiskAnswers old layer text result new = (result ≡ Err BadMessage) × (new ≡ old)
+
+-- what it answers to a message
+abbrev pub one_answers : One → ℕ → List ℕ → Result (Unit {0}) MessageError → One → Type 0
+one_answers old layer text result new = SlotAnswers DiskAnswers old.top layer text result new.top

@@ -1,0 +1,27 @@
+-- The third slot, over the second.
+use Rattle.std.specs.Prelude.{ℕ, List, Result}
+use Rattle.bio.specs.declared.outcome.DevError.{DevError}
+use Rattle.blockdev.specs.declared.message.MessageError.{MessageError}
+use Rattle.blockdev.specs.Calls.{Call}
+use Rattle.blockdev.specs.View.{IsLawful, View}
+use Rattle.layer_table.specs.declared.levels.three.Three.{Three}
+use Rattle.layer_table.specs.TwoLevel.{two_answers, two_lawful}
+use Rattle.layer_table.specs.SlotLaws.{slot_lawful}
+use Rattle.layer_table.specs.SlotMessages.{SlotAnswers}
+use Rattle.layer_table.specs.Slots.{slot_does, slot_shown}
+
+-- what is seen of it
+abbrev pub three_shown : Three → View
+three_shown level = slot_shown level.top
+
+-- what its calls do
+abbrev pub three_does : Three → Call → ℕ → Result ℕ DevError → Three → Type 0
+three_does old call now result new = slot_does old.top call now result new.top
+
+-- it keeps the law of a device
+pub three_lawful : (level : Three) → IsLawful (three_shown level)
+three_lawful level = slot_lawful two_lawful level.top
+
+-- what it answers to a message
+abbrev pub three_answers : Three → ℕ → List ℕ → Result (Unit {0}) MessageError → Three → Type 0
+three_answers old layer text result new = SlotAnswers two_answers old.top layer text result new.top

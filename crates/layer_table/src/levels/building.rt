@@ -1,0 +1,140 @@
+ghost use Rattle.std.specs.Prelude.{◌≡◌, ◌∷◌, List, false, true};
+ghost use Rattle.blockdev.specs.Calls.{IsRange};
+ghost use Rattle.table_line.specs.Ranges.{IsLayerSpec};
+ghost use Rattle.layer_table.specs.Layers.{layer_asked, layers_one, layers_three, layers_two, layers_with, IsPut, Layer};
+ghost use Rattle.layer_table.specs.Levels.{disk_one, disk_three, disk_two, shape_one, shape_three, shape_two};
+ghost use Rattle.layer_table.specs.OneLevel.{one_shown};
+ghost use Rattle.layer_table.specs.Slots.{device_of, has_layer, has_no_gap, slot_shown};
+ghost use Rattle.layer_table.specs.ThreeLevel.{three_shown};
+ghost use Rattle.layer_table.specs.TwoLevel.{two_shown};
+
+use crate::any_gate::AnyGate;
+use crate::levels::{One, Three, Two};
+use crate::slot::Slot;
+use bio::Ms;
+use blockdev::BlockDev;
+use dust_layer::Dust;
+use fault_layers::{Gated, Linear};
+use sector_disk::SectorDisk;
+use std::alloc::Global;
+use table_line::{LayerSpec, Target};
+
+impl One {
+    // The layer in the slot, which is free.
+    pub(crate) fn put(self, alloc: Global, spec: LayerSpec, load: Ms) -> One
+        requires spec { IsLayerSpec spec }
+        requires fits { IsRange (one_shown self).size spec.offset spec.length }
+        requires free { has_layer self.top ≡ false }
+        ensures layers { layers_one result ≡ layer_asked spec load ∷ layers_one self }
+        ensures disk { disk_one result ≡ disk_one self }
+        ensures shown { IsPut spec (one_shown self) (one_shown result) }
+        ensures filled { has_no_gap (shape_one result) ≡ true }
+    {
+        match self.top {
+            Slot::Bare(disk) => One {
+                top: layer(alloc, disk, spec, load),
+            },
+            full => One { top: full },
+        }
+    }
+
+    // The disk beneath.
+    pub(crate) fn into_disk(self) -> SectorDisk
+        ensures { result ≡ disk_one self }
+    {
+        self.top.into_device()
+    }
+}
+
+impl Two {
+    // The layer in the lowest free slot.
+    pub(crate) fn put(self, alloc: Global, spec: LayerSpec, load: Ms) -> Two
+        requires spec { IsLayerSpec spec }
+        requires fits { IsRange (two_shown self).size spec.offset spec.length }
+        requires free { has_layer self.top ≡ false }
+        requires filled { has_no_gap (shape_two self) ≡ true }
+        ensures layers { layers_two result ≡ layer_asked spec load ∷ layers_two self }
+        ensures disk { disk_two result ≡ disk_two self }
+        ensures shown { IsPut spec (two_shown self) (two_shown result) }
+        ensures filled { has_no_gap (shape_two result) ≡ true }
+    {
+        match self.top {
+            Slot::Bare(one) => {
+                if one.top.has_layer() {
+                    Two {
+                        top: layer(alloc, one, spec, load),
+                    }
+                } else {
+                    Two {
+                        top: Slot::Bare(one.put(alloc, spec, load)),
+                    }
+                }
+            }
+            full => Two { top: full },
+        }
+    }
+
+    // The disk beneath.
+    pub(crate) fn into_disk(self) -> SectorDisk
+        ensures { result ≡ disk_two self }
+    {
+        self.top.into_device().into_disk()
+    }
+}
+
+impl Three {
+    // The layer in the lowest free slot.
+    pub(crate) fn put(self, alloc: Global, spec: LayerSpec, load: Ms) -> Three
+        requires spec { IsLayerSpec spec }
+        requires fits { IsRange (three_shown self).size spec.offset spec.length }
+        requires free { has_layer self.top ≡ false }
+        requires filled { has_no_gap (shape_three self) ≡ true }
+        ensures layers { layers_three result ≡ layer_asked spec load ∷ layers_three self }
+        ensures disk { disk_three result ≡ disk_three self }
+        ensures shown { IsPut spec (three_shown self) (three_shown result) }
+        ensures filled { has_no_gap (shape_three result) ≡ true }
+    {
+        match self.top {
+            Slot::Bare(two) => {
+                if two.top.has_layer() {
+                    Three {
+                        top: layer(alloc, two, spec, load),
+                    }
+                } else {
+                    Three {
+                        top: Slot::Bare(two.put(alloc, spec, load)),
+                    }
+                }
+            }
+            full => Three { top: full },
+        }
+    }
+
+    // The disk beneath.
+    pub(crate) fn into_disk(self) -> SectorDisk
+        ensures { result ≡ disk_three self }
+    {
+        self.top.into_device().into_disk()
+    }
+}
+
+// The layer over the device, in a slot.
+pub(crate) fn layer<D: BlockDev + Drop>(
+    alloc: Global,
+    lower: D,
+    spec: LayerSpec,
+    load: Ms,
+) -> Slot<D>
+    requires spec { IsLayerSpec spec }
+    requires fits { IsRange (D.shown lower).size spec.offset spec.length }
+    ensures has_layer { has_layer result ≡ true }
+    ensures device { device_of result ≡ lower }
+    ensures layers { (beneath : D → List Layer) → layers_with beneath result ≡ layer_asked spec load ∷ beneath lower }
+    ensures shown { IsPut spec (D.shown lower) (slot_shown result) }
+{
+    let range = Linear::new(lower, spec.offset, spec.length);
+    match spec.target {
+        Target::Dust { block_bytes } => Slot::Dusted(Dust::new(alloc, range, block_bytes)),
+        target => Slot::Decided(Gated::under(range, AnyGate::of(spec.offset, target, load))),
+    }
+}

@@ -1,4 +1,5 @@
 use dmlw_script::{Kind, Script, read_script};
+use run_error::RunError;
 use script_runner::*;
 use std::alloc::{AllocError, Global};
 use std::process::Abort;

@@ -3,8 +3,8 @@ use Rattle.std.specs.Io.KnownBytes.{Keeps}
 use Rattle.dmlw_commands.specs.declared.ending.Ended.{Ended}
 use Rattle.dmlw_commands.specs.declared.exit.Exit.{Exit}
 use Rattle.dmlw_commands.specs.declared.exit.Exit.TheVariants as exits
-use Rattle.script_runner.specs.declared.error.RunError.{RunError}
-use Rattle.script_runner.specs.declared.error.RunError.TheVariants as faults
+use Rattle.run_error.specs.declared.run_error.RunError.{RunError}
+use Rattle.run_error.specs.declared.run_error.RunError.TheVariants as faults
 use Rattle.script_runner.specs.OnDisks.{stack_answering, DiskRun, FailsOnDisks, file as no_file, run as no_run, unmade}
 use Rattle.script_runner.specs.Runs.{EndsRun, close, file as by_file, message}
 use Rattle.bio.specs.declared.outcome.End.{End}

@@ -18,9 +18,9 @@ use Rattle.log_reader.specs.Readings.{CountsTooMany, HasStatus, IsReading}
 use Rattle.dmlw_script.specs.Grammar.{IsTextOf}
 use Rattle.dmlw_script.specs.Plans.{Plan}
 use Rattle.dmlw_script.proofs.TextLaws.{one_script_of}
-use Rattle.script_runner.specs.declared.error.RunError.{RunError}
-use Rattle.script_runner.specs.declared.error.RunError.TheVariants as faults
-use Rattle.script_runner.specs.Errors.{IsFileError, refused_by}
+use Rattle.run_error.specs.declared.run_error.RunError.{RunError}
+use Rattle.run_error.specs.declared.run_error.RunError.TheVariants as faults
+use Rattle.run_error.specs.Errors.{IsFileError, refused_by}
 use Rattle.script_runner.specs.OnDisks.{FailsOnDisks, IsRecorded}
 use Rattle.dmlw_files.specs.Files.{Write}
 use Rattle.dmlw_files.specs.Images.{IsImage}

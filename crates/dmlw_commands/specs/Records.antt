@@ -10,10 +10,10 @@ use Rattle.dmlw_script.specs.Grammar.{IsTextOf}
 use Rattle.dmlw_script.specs.Lines.{lines_of}
 use Rattle.dmlw_script.specs.Plans.{Plan}
 use Rattle.dmlw_script.specs.Reading.{IsFirstFault}
-use Rattle.script_runner.specs.declared.error.RunError.{RunError}
+use Rattle.run_error.specs.declared.run_error.RunError.{RunError}
 use Rattle.script_runner.specs.declared.recording.Lies.{Lies}
-use Rattle.script_runner.specs.declared.error.RunError.TheVariants.{Refused}
-use Rattle.script_runner.specs.Errors.{IsFileError}
+use Rattle.run_error.specs.declared.run_error.RunError.TheVariants.{Refused}
+use Rattle.run_error.specs.Errors.{IsFileError}
 use Rattle.script_runner.specs.OnDisks.{FailsOnDisks, IsRecorded}
 use Rattle.dmlw_commands.specs.declared.exit.Exit.{Exit}
 use Rattle.dmlw_commands.specs.Exits.{exit_at}

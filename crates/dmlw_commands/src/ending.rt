@@ -6,7 +6,7 @@ ghost use Rattle.dmlw_commands.specs.Exits.{exit_after, exit_by, exit_of, fault_
 use crate::exit::Exit;
 use bio::Status;
 use refusals::Refusal;
-use script_runner::RunError;
+use run_error::RunError;
 use std::alloc::Global;
 use std::io;
 use std::io::Write;

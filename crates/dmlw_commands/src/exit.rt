@@ -2,7 +2,7 @@ ghost use Rattle.std.specs.Prelude.{◌≡◌};
 ghost use Rattle.dmlw_commands.specs.Exits.{exit_at, exit_of, status_of};
 
 use bio::End;
-use script_runner::RunError;
+use run_error::RunError;
 
 /// How a command ended.
 #[derive(Clone, Copy, Debug, PartialEq, Eq)]

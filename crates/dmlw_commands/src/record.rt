@@ -1,6 +1,6 @@
 ghost use Rattle.std.specs.Prelude.{◌≡◌, ◌≤◌, ◌⊎◌, IfErr, IfOk, OnErr, OnOk, Some, length};
 ghost use Rattle.std.specs.Io.KnownBytes.{Appends};
-ghost use Rattle.script_runner.specs.Errors.{IsFileError};
+ghost use Rattle.run_error.specs.Errors.{IsFileError};
 ghost use Rattle.dmlw_script.specs.Grammar.{IsTextOf};
 ghost use Rattle.dmlw_commands.specs.Endings.{EndsRecording, telling};
 ghost use Rattle.dmlw_commands.specs.declared.exit.Exit.{Exit};
@@ -16,7 +16,8 @@ use dmlw_files::{Files, read_text};
 use dmlw_script::{Kind, Script, read_script};
 use pending::Hazard;
 use refusals::Refusal;
-use script_runner::{Lies, Recorded, RunError};
+use run_error::RunError;
+use script_runner::{Lies, Recorded};
 use std::alloc::Global;
 use std::io::Write;
 

@@ -15,9 +15,9 @@ use Rattle.clap.specs.declared.error.kind.ErrorKind.{ErrorKind}
 use Rattle.clap.specs.declared.error.kind.ErrorKind.TheVariants.{DisplayHelp, DisplayHelpOnMissingArgumentOrSubcommand, DisplayVersion, InvalidSubcommand, MissingRequiredArgument, OutOfMemory, UnknownArgument}
 use Rattle.replay.specs.declared.upto.Upto.{Upto}
 use Rattle.replay.specs.declared.upto.Upto.TheVariants.{Count, Flush, Mark}
-use Rattle.script_runner.specs.declared.error.RunError.{RunError}
-use Rattle.script_runner.specs.declared.error.RunError.TheVariants as faults
-use Rattle.script_runner.specs.Errors.{IsFileError, memory_error}
+use Rattle.run_error.specs.declared.run_error.RunError.{RunError}
+use Rattle.run_error.specs.declared.run_error.RunError.TheVariants as faults
+use Rattle.run_error.specs.Errors.{IsFileError, memory_error}
 use Rattle.words.specs.Words.{is_number, number_value}
 use Rattle.dmlw_commands.specs.declared.ending.Ended.{Ended}
 use Rattle.dmlw_commands.specs.declared.exit.Exit.{Exit}

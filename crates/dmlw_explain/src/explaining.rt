@@ -7,7 +7,7 @@ use crate::line::{Shown, explain_line, write_forms};
 use bio::Status;
 use dmlw_files::{Files, MAX_SCRIPT_BYTES, Trouble, read_image};
 use refusals::{Fault, Refusal};
-use script_runner::RunError;
+use run_error::RunError;
 use std::alloc::Global;
 use std::fmt;
 use std::fmt::Write;

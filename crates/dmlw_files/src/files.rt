@@ -1,10 +1,10 @@
 ghost use Rattle.std.specs.Prelude.{◌≡◌, ◌≤◌, IfErr, IfOk, List, OnErr, OnOk, Option, true, vec_len, ℕ};
-ghost use Rattle.script_runner.specs.Errors.{refused_by};
+ghost use Rattle.run_error.specs.Errors.{refused_by};
 ghost use Rattle.dmlw_files.specs.Files.{IsWithin, KeepsFiles, MatchesContents, Write, one_more};
 ghost use Rattle.dmlw_files.specs.FileErrors.{file_error, file_refusal};
 
 use refusals::Refusal;
-use script_runner::RunError;
+use run_error::RunError;
 use std::alloc::Global;
 use std::io;
 use thiserror::Error;

@@ -1,11 +1,11 @@
 ghost use Rattle.std.specs.Prelude.{◌≡◌, IfErr, IfOk};
-ghost use Rattle.script_runner.specs.Errors.{IsFileError, memory_error};
+ghost use Rattle.run_error.specs.Errors.{IsFileError, memory_error};
 ghost use Rattle.dmlw_files.specs.Files.{KeepsFiles, MatchesContents};
 ghost use Rattle.dmlw_files.specs.Images.{HoldsImage, IsImage};
 
 use crate::files::Files;
 use refusals::Refusal;
-use script_runner::RunError;
+use run_error::RunError;
 use sectors::SECTOR_BYTES;
 use std::alloc::Global;
 

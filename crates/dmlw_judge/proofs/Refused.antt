@@ -15,9 +15,9 @@ use Rattle.dmlw_script.specs.Plans.{Plan, top_of}
 use Rattle.dmlw_script.proofs.TextLaws.{one_script_of}
 use Rattle.judge.specs.declared.verdict.Verdict.{Verdict}
 use Rattle.judge.specs.declared.verdict.Verdict.TheVariants as verdicts
-use Rattle.script_runner.specs.declared.error.RunError.{RunError}
-use Rattle.script_runner.specs.declared.error.RunError.TheVariants as faults
-use Rattle.script_runner.specs.Errors.{IsFileError, refused_by}
+use Rattle.run_error.specs.declared.run_error.RunError.{RunError}
+use Rattle.run_error.specs.declared.run_error.RunError.TheVariants as faults
+use Rattle.run_error.specs.Errors.{IsFileError, refused_by}
 use Rattle.script_runner.specs.OnDisks.{DiskRun, FailsOnDisks, file as disk_file, run as disk_run, stack_answering, unmade}
 use Rattle.script_runner.specs.Rehearsals.{IsRehearsed}
 use Rattle.script_runner.specs.Runs.{RunsLines, close, file as run_file, message}

@@ -13,10 +13,10 @@ use Rattle.dmlw_script.specs.Plans.{Plan, top_of}
 use Rattle.dmlw_script.specs.Reading.{IsFaultOf, is_memory}
 use Rattle.judge.specs.declared.verdict.Verdict.{Verdict}
 use Rattle.judge.specs.Verdicts.{IsVerdict}
-use Rattle.script_runner.specs.declared.error.RunError.{RunError}
-use Rattle.script_runner.specs.declared.error.RunError.TheVariants.{Refused}
+use Rattle.run_error.specs.declared.run_error.RunError.{RunError}
+use Rattle.run_error.specs.declared.run_error.RunError.TheVariants.{Refused}
 use Rattle.script_runner.specs.CallLaws.{keeps_same, keeps_twice, appends_kept}
-use Rattle.script_runner.specs.Errors.{IsFileError, memory_error, refused_by}
+use Rattle.run_error.specs.Errors.{IsFileError, memory_error, refused_by}
 use Rattle.script_runner.specs.Rehearsals.{FailsRehearsal, IsRehearsed}
 use Rattle.dmlw_commands.specs.declared.ending.Ended.{Ended}
 use Rattle.dmlw_files.specs.declared.files.FileError.{FileError}

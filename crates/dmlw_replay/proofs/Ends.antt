@@ -3,9 +3,9 @@ use Rattle.std.proofs.Common.{◌≡◌, ◌∙◌, ◌⊎◌, ℕ, List, Option
 use Rattle.std.specs.Io.KnownBytes.{Appends, Keeps}
 use Rattle.std.specs.Result.{IsErrAnd}
 use Rattle.script_runner.specs.CallLaws.{appends_kept, keeps_same, keeps_twice}
-use Rattle.script_runner.specs.declared.error.RunError.{RunError}
-use Rattle.script_runner.specs.declared.error.RunError.TheVariants as faults
-use Rattle.script_runner.specs.Errors.{IsFileError}
+use Rattle.run_error.specs.declared.run_error.RunError.{RunError}
+use Rattle.run_error.specs.declared.run_error.RunError.TheVariants as faults
+use Rattle.run_error.specs.Errors.{IsFileError}
 use Rattle.replay.specs.declared.upto.Upto.{Upto}
 use Rattle.dmlw_commands.specs.declared.ending.Ended.{Ended}
 use Rattle.dmlw_commands.specs.declared.exit.Exit.{Exit}

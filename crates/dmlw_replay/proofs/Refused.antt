@@ -21,9 +21,9 @@ use Rattle.replay.specs.declared.fault.ReplayError.TheVariants as replays
 use Rattle.replay.specs.declared.fault.ReplayFault.{ReplayFault}
 use Rattle.replay.specs.declared.upto.Upto.{Upto}
 use Rattle.replay.specs.declared.upto.Upto.TheVariants.{Count, Flush, Mark}
-use Rattle.script_runner.specs.declared.error.RunError.{RunError}
-use Rattle.script_runner.specs.declared.error.RunError.TheVariants as faults
-use Rattle.script_runner.specs.Errors.{refused_by}
+use Rattle.run_error.specs.declared.run_error.RunError.{RunError}
+use Rattle.run_error.specs.declared.run_error.RunError.TheVariants as faults
+use Rattle.run_error.specs.Errors.{refused_by}
 use Rattle.dmlw_commands.specs.declared.ending.Ended.{Ended}
 use Rattle.dmlw_commands.specs.declared.exit.Exit.TheVariants as exits
 use Rattle.dmlw_commands.specs.Endings.{Telling}

@@ -27,8 +27,8 @@ use Rattle.replay.specs.declared.fault.ReplayError.TheVariants as replays
 use Rattle.replay.specs.declared.fault.ReplayFault.{ReplayFault}
 use Rattle.replay.specs.declared.upto.Upto.{Upto}
 use Rattle.replay.specs.Replays.{AsksTooMany, EndsShort, HasReplayCause, IsApplied, IsUpto, LacksFlush, LacksMark, Leaves, LeavesBy, ReachesPast, entries_from}
-use Rattle.script_runner.specs.declared.error.RunError.{RunError}
-use Rattle.script_runner.specs.Errors.{memory_error, refused_by}
+use Rattle.run_error.specs.declared.run_error.RunError.{RunError}
+use Rattle.run_error.specs.Errors.{memory_error, refused_by}
 use Rattle.dmlw_files.specs.Images.{IsImage}
 use Rattle.dmlw_commands.specs.Lists.{RefusesImage}
 use Rattle.dmlw_files.specs.Files.{MatchesContents}

@@ -16,8 +16,8 @@ use Rattle.replay.specs.declared.fault.ReplayFault.{ReplayFault}
 use Rattle.replay.specs.declared.upto.Upto.{Upto}
 use Rattle.replay.specs.Refusals.{replay_refusal}
 use Rattle.replay.specs.Replays.{AsksTooMany, EndsShort, IsUpto, LacksFlush, LacksMark, ReachesPast, entries_from}
-use Rattle.script_runner.specs.declared.error.RunError.{RunError}
-use Rattle.script_runner.specs.Errors.{IsFileError, memory_error}
+use Rattle.run_error.specs.declared.run_error.RunError.{RunError}
+use Rattle.run_error.specs.Errors.{IsFileError, memory_error}
 use Rattle.dmlw_commands.specs.declared.ending.Ended.{Ended}
 use Rattle.dmlw_commands.specs.declared.exit.Exit.{Exit}
 use Rattle.dmlw_commands.specs.declared.exit.Exit.TheVariants.{Done, Refused}

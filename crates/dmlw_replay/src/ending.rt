@@ -5,7 +5,7 @@ ghost use Rattle.dmlw_replay.specs.Replays.{replay_exit, replay_line};
 use crate::stop::Stop;
 use dmlw_commands::{Ended, end, report_stopped};
 use refusals::Refusal;
-use script_runner::RunError;
+use run_error::RunError;
 use std::alloc::Global;
 use std::io::Write;
 

@@ -3,7 +3,7 @@ ghost use Rattle.sector_disk.specs.Shown.{shown_of};
 ghost use Rattle.sector_disk.specs.Sizes.{Begins};
 ghost use Rattle.sectors.specs.Content.{sector_of};
 ghost use Rattle.log_reader.specs.Shown.{reader_of};
-ghost use Rattle.script_runner.specs.Errors.{memory_error};
+ghost use Rattle.run_error.specs.Errors.{memory_error};
 ghost use Rattle.dmlw_files.specs.Images.{IsImage};
 ghost use Rattle.dmlw_commands.specs.Lists.{RefusesImage};
 ghost use Rattle.dmlw_replay.specs.Opened.{IsOpened, IsReplayedOn};
@@ -13,7 +13,7 @@ use crate::stop::Stop;
 use log_reader::{LogReader, OpenDeviceError};
 use refusals::Refusal;
 use replay::Upto;
-use script_runner::RunError;
+use run_error::RunError;
 use sector_disk::SectorDisk;
 use std::alloc::Global;
 

@@ -1,6 +1,6 @@
 ghost use Rattle.std.specs.Prelude.{◌≡◌, ◌⊎◌, IfErr, IfOk, OnErr, OnOk};
 ghost use Rattle.std.specs.Io.KnownBytes.{Appends};
-ghost use Rattle.script_runner.specs.Errors.{IsFileError};
+ghost use Rattle.run_error.specs.Errors.{IsFileError};
 ghost use Rattle.dmlw_commands.specs.declared.exit.Exit.{Exit};
 ghost use Rattle.dmlw_commands.specs.Endings.{telling};
 ghost use Rattle.dmlw_commands.specs.Exits.{IsRefusal};
@@ -15,7 +15,7 @@ use dmlw_explain::{ReplayNames, explain_replaying};
 use dmlw_files::{Files, read_image};
 use refusals::Refusal;
 use replay::Upto;
-use script_runner::RunError;
+use run_error::RunError;
 use std::alloc::Global;
 use std::io::Write;
 

@@ -2,7 +2,7 @@ ghost use Rattle.std.specs.Prelude.{◌≡◌};
 ghost use Rattle.dmlw_replay.specs.declared.stop.Stop.TheVariants as stops;
 
 use replay::ReplayFault;
-use script_runner::RunError;
+use run_error::RunError;
 
 /// Why a log wasn't replayed.
 #[derive(Clone, Copy, Debug, PartialEq, Eq)]

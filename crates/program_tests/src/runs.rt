@@ -1,5 +1,6 @@
 //! What `record` and `rehearse` answer, beside what a transcript shows.
 use dmlw_script::{Kind, Script, read_script};
+use run_error::RunError;
 use script_runner::*;
 use std::alloc::{AllocError, Global};
 use std::process::Abort;

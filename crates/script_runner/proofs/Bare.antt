@@ -11,8 +11,8 @@ use Rattle.sector_disk.specs.declared.disk.SectorDisk.{SectorDisk}
 use Rattle.log_format.specs.Placing.{first_sector}
 use Rattle.table_line.specs.declared.layer_spec.LayerSpec.{LayerSpec}
 use Rattle.dmlw_script.specs.Plans.{Disk}
-use Rattle.script_runner.specs.declared.error.RunError.{RunError}
-use Rattle.script_runner.specs.declared.error.RunError.TheVariants.{LoggingEnded}
+use Rattle.run_error.specs.declared.run_error.RunError.{RunError}
+use Rattle.run_error.specs.declared.run_error.RunError.TheVariants.{LoggingEnded}
 use Rattle.script_runner.specs.OnDisks.{IsUnmade}
 
 -- a disk under no layers refuses a write as out of memory alone

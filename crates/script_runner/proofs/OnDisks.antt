@@ -36,9 +36,9 @@ use Rattle.recorder.specs.Growth.{HasWholeLog, RecorderGoes}
 use Rattle.recorder.specs.Recording.{log_of}
 use Rattle.recorder.specs.Replayed.{ReplaysToWhatCouldBe}
 use Rattle.recorder.specs.Shown.{recording_of}
-use Rattle.script_runner.specs.declared.error.RunError.{RunError}
+use Rattle.run_error.specs.declared.run_error.RunError.{RunError}
 use Rattle.script_runner.specs.Begun.{IsNewOn, IsUnmadeOn}
-use Rattle.script_runner.specs.Errors.{memory_error}
+use Rattle.run_error.specs.Errors.{memory_error}
 use Rattle.script_runner.specs.OnDisks.{DiskRecorder, DiskRun, FailsOnDisks, IsCounted, IsNew, IsRecorded, IsStackOf, IsUnmade, Starts, file, left_on, on_stack, seen_on, stack_answering, unmade, zeroes}
 use Rattle.dmlw_script.specs.Plans.{top_of, Disk, IsDisk, Plan}
 use Rattle.script_runner.specs.declared.recording.Lies.{Lies}

@@ -51,14 +51,14 @@ use Rattle.recorder.specs.declared.reply.Reply.TheVariants as replies
 use Rattle.recorder.specs.Recording.{log_of}
 use Rattle.recorder.specs.Replayed.{ReplaysToWhatCouldBe}
 use Rattle.recorder.specs.Shown.{recording_of}
-use Rattle.script_runner.specs.declared.error.RunError.{RunError}
-use Rattle.script_runner.specs.declared.error.RunError.TheVariants as faults
+use Rattle.run_error.specs.declared.run_error.RunError.{RunError}
+use Rattle.run_error.specs.declared.run_error.RunError.TheVariants as faults
 use Rattle.script_runner.specs.declared.recording.Lies.{Lies}
 use Rattle.script_runner.specs.declared.request.Request.{Request}
 use Rattle.script_runner.specs.declared.request.Request.TheVariants as requests
 use Rattle.script_runner.specs.declared.running.Running.{Running}
 use Rattle.script_runner.specs.Begun.{IsNewOn, IsUnmadeOn}
-use Rattle.script_runner.specs.Errors.{IsFileError}
+use Rattle.run_error.specs.Errors.{IsFileError}
 use Rattle.script_runner.specs.Followed.{IsFollowed, StandsFor, submissions_of}
 use Rattle.script_runner.specs.HandOver.{HandsOver, ReadsSectors}
 use Rattle.script_runner.specs.Lines.{Answering, Asks, Does, EndsAsked, EndsRequest, HearsEnd, PrintsMark, RefusesMessage, RunsLine, submission_text}

@@ -10,8 +10,8 @@ use Rattle.dmlw_script.specs.declared.command.Command.TheVariants as commands
 use Rattle.dmlw_script.specs.declared.script_id.ScriptId.{ScriptId}
 use Rattle.dmlw_script.specs.Lines.{command_line}
 use Rattle.dmlw_script.specs.Plans.{head_count, top_of, CanFollow, HasName, IsPlan, Plan, submissions}
-use Rattle.script_runner.specs.declared.error.RunError.{RunError}
-use Rattle.script_runner.specs.declared.error.RunError.TheVariants.{Refused}
+use Rattle.run_error.specs.declared.run_error.RunError.{RunError}
+use Rattle.run_error.specs.declared.run_error.RunError.TheVariants.{Refused}
 use Rattle.script_runner.specs.CallLaws.{appends_kept, appends_twice}
 use Rattle.script_runner.specs.declared.running.Running.{Running}
 use Rattle.script_runner.specs.declared.step_error.StepError.TheVariants.{AtLine, Whole}

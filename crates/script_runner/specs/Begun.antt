@@ -12,8 +12,8 @@ use Rattle.log_format.specs.Placing.{first_sector}
 use Rattle.log_store.specs.Calls.{HasFaulted}
 use Rattle.pending.specs.CoreState.{new_state}
 use Rattle.recorder.specs.declared.recorder.Recorder.{Recorder}
-use Rattle.script_runner.specs.declared.error.RunError.{RunError}
-use Rattle.script_runner.specs.declared.error.RunError.TheVariants.{LoggingEnded}
+use Rattle.run_error.specs.declared.run_error.RunError.{RunError}
+use Rattle.run_error.specs.declared.run_error.RunError.TheVariants.{LoggingEnded}
 
 -- Nothing is recorded yet, and a log of no entries was made on this device: unless it lied, a crash leaves just that.
 pub record IsNewOn {L : Type 0} {l : Ghosts L} (device : L) (recorder : Recorder L l) : Type 0 where

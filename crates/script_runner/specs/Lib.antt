@@ -4,7 +4,7 @@ pub use Rattle.blockdev.specs.Calls
 pub use Rattle.dmlw_script.specs.Plans
 pub use Rattle.recorder.specs.Calls as RecorderCalls
 pub use Rattle.recorder.specs.Growth
-pub use Rattle.refusals.specs.Texts as RefusalTexts
+pub use Rattle.run_error.specs.Errors
 pub use Rattle.log_format.specs.LogOf
 pub use Rattle.layer_table.specs.Layers
 pub use Rattle.layer_table.specs.StackMessages
@@ -17,7 +17,6 @@ pub use Rattle.recorder.specs.Replayed
 pub use Rattle.sector_disk.specs.Candidates
 pub use Rattle.sector_disk.specs.Shown as DiskShown
 pub use Rattle.sector_disk.specs.Sizes
-pub mod Errors
 pub mod CallLaws
 pub mod Submitted
 pub mod HandOver

@@ -31,7 +31,7 @@ use Rattle.script_runner.specs.declared.request.Request.TheVariants as requests
 use Rattle.script_runner.specs.declared.running.Running.{Running}
 use Rattle.script_runner.specs.declared.step_error.StepError.{StepError}
 use Rattle.script_runner.specs.declared.step_error.StepError.TheVariants.{AtLine, Whole}
-use Rattle.script_runner.specs.Errors.{IsFileError}
+use Rattle.run_error.specs.Errors.{IsFileError}
 use Rattle.script_runner.specs.HandOver.{ReadsSectors, HandsOver}
 use Rattle.script_runner.specs.Submitted.{bio_of}
 use Rattle.script_runner.specs.Texts.{mark_failed, read_line, outcome_line}

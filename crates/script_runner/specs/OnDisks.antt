@@ -23,10 +23,10 @@ use Rattle.recorder.specs.declared.recorder.Recorder.{Recorder}
 use Rattle.recorder.specs.Recording.{log_of}
 use Rattle.recorder.specs.Replayed.{ReplaysToWhatCouldBe}
 use Rattle.recorder.specs.Shown.{recording_of}
-use Rattle.script_runner.specs.declared.error.RunError.{RunError}
+use Rattle.run_error.specs.declared.run_error.RunError.{RunError}
 use Rattle.script_runner.specs.Begun.{IsNewOn, IsUnmadeOn}
 use Rattle.script_runner.specs.declared.recording.Lies.{Lies}
-use Rattle.script_runner.specs.Errors.{IsFileError}
+use Rattle.run_error.specs.Errors.{IsFileError}
 use Rattle.dmlw_script.specs.Plans.{Disk, top_of}
 use Rattle.script_runner.specs.declared.running.Running.{Running}
 use Rattle.layer_table.specs.StackMessages.{StackAnswers}

@@ -2,7 +2,7 @@
 use Rattle.std.specs.Prelude.{◌≡◌, ℕ, List, None}
 use Rattle.bio.specs.declared.event.CoreEvent.{CoreEvent}
 use Rattle.dmlw_script.specs.Plans.{Plan}
-use Rattle.script_runner.specs.declared.error.RunError.{RunError}
+use Rattle.run_error.specs.declared.run_error.RunError.{RunError}
 use Rattle.script_runner.specs.OnDisks.{stack_answering, DiskRun, FailsOnDisks, Starts}
 use Rattle.script_runner.specs.Runs.{RunsLines}
 

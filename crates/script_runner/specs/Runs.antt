@@ -15,10 +15,10 @@ use Rattle.dmlw_script.specs.Plans.{head_count, Plan}
 use Rattle.recorder.specs.declared.recorder.Recorder.{Recorder}
 use Rattle.recorder.specs.declared.reply.Reply.TheVariants as replies
 use Rattle.recorder.specs.Calls.{Closes}
-use Rattle.script_runner.specs.declared.error.RunError.{RunError}
-use Rattle.script_runner.specs.declared.error.RunError.TheVariants.{Refused}
+use Rattle.run_error.specs.declared.run_error.RunError.{RunError}
+use Rattle.run_error.specs.declared.run_error.RunError.TheVariants.{Refused}
 use Rattle.script_runner.specs.declared.running.Running.{Running}
-use Rattle.script_runner.specs.Errors.{IsFileError}
+use Rattle.run_error.specs.Errors.{IsFileError}
 use Rattle.script_runner.specs.Lines.{Answering, RefusesMessage, RunsLine}
 
 -- steps one after another, from one state to another; what they print stands one after another

@@ -5,7 +5,6 @@
 //! all lines come to.
 #![tactic(auto)]
 
-pub use error::RunError;
 pub use recording::{Lies, Recorded, record};
 pub use rehearsing::{Rehearsed, rehearse};
 pub use request::Request;
@@ -14,7 +13,6 @@ pub use running::Running;
 pub use step_error::StepError;
 
 mod asking;
-mod error;
 mod handing;
 pub mod laws;
 mod print;

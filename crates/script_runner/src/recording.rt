@@ -2,13 +2,12 @@ ghost use Rattle.std.specs.Prelude.{◌≡◌, ◌≤◌, ◌*◌, ◌⊎◌, []
 ghost use Rattle.std.specs.Io.KnownBytes.{Appends};
 ghost use Rattle.sectors.specs.Content.{AgreeBelow, sector_of};
 ghost use Rattle.sector_disk.specs.Shown.{shown_of};
-ghost use Rattle.script_runner.specs.Errors.{memory_error};
+ghost use Rattle.run_error.specs.Errors.{memory_error};
 ghost use Rattle.layer_table.specs.Layers.{disk_of};
 ghost use Rattle.dmlw_script.specs.Plans.{IsDisk};
 ghost use Rattle.script_runner.specs.Begun.{IsNewOn, IsUnmadeOn};
 ghost use Rattle.script_runner.specs.OnDisks.{FailsOnDisks, IsRecorded, IsStackOf, IsUnmade, Starts, left_on};
 
-use crate::error::RunError;
 use crate::laws::{closed_runs_leave_whole_logs, lines_go_as_one_call};
 use crate::run_script::run;
 use crate::running::Running;
@@ -21,6 +20,7 @@ use pending::Hazard;
 use recorder::Recorder;
 use recorder::laws::crashed_logs_replay_to_what_could_be;
 use refusals::Refusal;
+use run_error::RunError;
 use sector_disk::SectorDisk;
 use std::alloc::{AllocError, Global};
 use std::io::Write;

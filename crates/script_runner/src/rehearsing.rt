@@ -3,13 +3,13 @@ ghost use Rattle.bio.specs.Lawful.{is_lawful};
 ghost use Rattle.dmlw_script.specs.Plans.{top_of};
 ghost use Rattle.script_runner.specs.Rehearsals.{FailsRehearsal, IsRehearsed};
 
-use crate::error::RunError;
 use crate::recording::start;
 use crate::run_script::run;
 use bio::CoreEvent;
 use dmlw_script::Script;
 use layer_table::Stack;
 use recorder::Recorder;
+use run_error::RunError;
 use std::alloc::Global;
 use std::io;
 use std::marker::Model;

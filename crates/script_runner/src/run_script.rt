@@ -3,12 +3,12 @@ ghost use Rattle.std.specs.Prelude.{◌≡◌, IfErr, OnOk, []};
 ghost use Rattle.script_runner.specs.Lines.{answering};
 ghost use Rattle.script_runner.specs.Runs.{EndsRun, PrintsLines};
 
-use crate::error::RunError;
 use crate::running::Running;
 use crate::step_error::StepError;
 use blockdev::Message;
 use dmlw_script::{Script, laws, line_of};
 use refusals::Fault;
+use run_error::RunError;
 use std::io::Write;
 
 /// Runs a script, which was read from `text`, on a data device of the size of its data disk's top, from before its first line on. What its lines print is

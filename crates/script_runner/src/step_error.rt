@@ -1,10 +1,10 @@
 ghost use Rattle.std.specs.Prelude.{◌≡◌};
 ghost use Rattle.std.specs.IoError.{error_kind};
-ghost use Rattle.script_runner.specs.Errors.{io_refusal, memory_error, refused_by};
+ghost use Rattle.run_error.specs.Errors.{io_refusal, memory_error, refused_by};
 ghost use Rattle.script_runner.specs.declared.step_error.StepError.TheVariants.{AtLine, Whole};
 
-use crate::error::RunError;
 use refusals::Refusal;
+use run_error::RunError;
 use std::alloc::{AllocError, AllocFailed};
 use std::io;
 

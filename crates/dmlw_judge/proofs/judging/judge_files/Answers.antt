@@ -1,5 +1,5 @@
 use Rattle.std.proofs.Common.{List, Option, subst, sym, ℕ}
-use Rattle.script_runner.specs.Errors.{IsFileError}
+use Rattle.run_error.specs.Errors.{IsFileError}
 use Rattle.dmlw_files.specs.Files.{MatchesContents}
 use Rattle.dmlw_judge.specs.Judgements.{file}
 use Rattle.dmlw_judge.proofs.Verdicts.{failed_file, judged_files, judged_none}

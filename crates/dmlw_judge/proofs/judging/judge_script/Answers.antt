@@ -3,7 +3,7 @@ use Rattle.bio.specs.declared.event.CoreEvent.{CoreEvent}
 use Rattle.bio.specs.Lawful.{is_lawful}
 use Rattle.dmlw_script.specs.Plans.{top_of}
 use Rattle.judge.specs.declared.verdict.Verdict.{Verdict}
-use Rattle.script_runner.specs.declared.error.RunError.{RunError}
+use Rattle.run_error.specs.declared.run_error.RunError.{RunError}
 use Rattle.script_runner.specs.CallLaws.{on_error}
 use Rattle.script_runner.specs.Rehearsals.{IsRehearsed}
 use Rattle.dmlw_judge.specs.Judgements.{HasNoVerdict, HasVerdict, question}

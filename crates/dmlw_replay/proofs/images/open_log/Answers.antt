@@ -1,7 +1,7 @@
 use Rattle.std.proofs.Common.{◌∙◌, ap, refl}
 use Rattle.log_reader.specs.Refusals.{open_device_refusal}
 use Rattle.log_reader.specs.Shown.{reader_of}
-use Rattle.script_runner.specs.Errors.{refused_by}
+use Rattle.run_error.specs.Errors.{refused_by}
 use Rattle.sector_disk.specs.Shown.{shown_of}
 use Rattle.sector_disk.specs.ShownLaws.{content_whole}
 use Rattle.dmlw_replay.proofs.Replayed.{never_failed, opened_on, unopened_on}

@@ -1,6 +1,6 @@
 use Rattle.std.proofs.Common.{◌∙◌, ap, inr}
 use Rattle.bio.specs.Causes.{end_cause}
-use Rattle.script_runner.specs.declared.error.RunError.TheVariants.{LoggingEnded}
+use Rattle.run_error.specs.declared.run_error.RunError.TheVariants.{LoggingEnded}
 use Rattle.script_runner.proofs.OnDisks.{new_log}
 use Rattle.script_runner.proofs.recording.new_recorder.Goals as goal
 

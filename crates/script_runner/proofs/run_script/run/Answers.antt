@@ -3,7 +3,7 @@ use Rattle.dmlw_script.specs.declared.command.Command.{Command}
 use Rattle.dmlw_script.specs.Lines.{command_line}
 use Rattle.dmlw_script.specs.Plans.{HasName}
 use Rattle.refusals.specs.declared.refusal.Refusal.{Refusal}
-use Rattle.script_runner.specs.declared.error.RunError.TheVariants.{Refused}
+use Rattle.run_error.specs.declared.run_error.RunError.TheVariants.{Refused}
 use Rattle.script_runner.specs.declared.step_error.StepError.TheVariants.{AtLine}
 use Rattle.script_runner.specs.Lines.{answering, EndsSubmitted, FitsDevice, HasScriptText, PrintsLine, StopsLine, count_of}
 use Rattle.script_runner.specs.Runs.{EndsRun}

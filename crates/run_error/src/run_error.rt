@@ -1,8 +1,8 @@
 ghost use Rattle.std.specs.Prelude.{◌≡◌, Some};
 ghost use Rattle.std.specs.IoError.{error_kind};
 ghost use Rattle.refusals.specs.Texts.{without_line};
-ghost use Rattle.script_runner.specs.Errors.{error_text, io_refusal, memory_error, refused_by};
-ghost use Rattle.script_runner.specs.declared.error.RunError.TheVariants.{Refused, LoggingEnded};
+ghost use Rattle.run_error.specs.Errors.{error_text, io_refusal, memory_error, refused_by};
+ghost use Rattle.run_error.specs.declared.run_error.RunError.TheVariants.{Refused, LoggingEnded};
 
 use bio::End;
 use refusals::{Fault, Refusal};

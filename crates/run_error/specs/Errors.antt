@@ -6,8 +6,8 @@ use Rattle.refusals.specs.declared.refusal.Refusal.{Refusal}
 use Rattle.refusals.specs.declared.refusal.Refusal.TheVariants as refusals
 use Rattle.refusals.specs.Texts.{fault_text, refusal_text, without_line}
 use Rattle.bio.specs.Refusals.{end_refusal}
-use Rattle.script_runner.specs.declared.error.RunError.{RunError}
-use Rattle.script_runner.specs.declared.error.RunError.TheVariants.{Refused, LoggingEnded}
+use Rattle.run_error.specs.declared.run_error.RunError.{RunError}
+use Rattle.run_error.specs.declared.run_error.RunError.TheVariants.{Refused, LoggingEnded}
 
 -- a refusal that names no line
 abbrev pub refused_by : Refusal → RunError

@@ -1,10 +1,12 @@
--- For each clause of the law, and of what a message changes, views that break it and nothing else, and are refused by it.
-use Rattle.std.proofs.Common.{◌≡◌, ℕ, zero, suc, true, false, List, [], Some, None, Ok, Err, replicate, refl, ap, ◌∙◌, inl, inr, arith}
-use Rattle.std.specs.Prelude.{◌^◌, slice_index_or}
+-- For each clause of the law, of what a message changes, and of calls in turn, what breaks it and nothing else, and is refused by it.
+use Rattle.std.proofs.Common.{◌≡◌, ℕ, zero, suc, true, false, List, [], ◌∷◌, Some, None, Ok, Err, replicate, refl, ap, ◌∙◌, inl, inr, arith}
+use Rattle.std.specs.Prelude.{Result, ◌^◌, slice_index_or}
+use Rattle.bio.specs.declared.outcome.DevError.{DevError}
 use Rattle.bio.specs.declared.outcome.DevError.TheVariants.{Io}
 use Rattle.sectors.specs.Content.{Content, Patch, put}
 use Rattle.blockdev.specs.View.{IsLawful, Place, View, last_count}
-use Rattle.blockdev.specs.Calls.{IsByteRange, IsRange}
+use Rattle.blockdev.specs.Calls.{Call, Flushes, IsByteRange, IsRange, Writes}
+use Rattle.blockdev.specs.InTurn.{DoesInTurn}
 use Rattle.blockdev.specs.Messages.{Unchanged}
 use Rattle.blockdev.specs.Law.{Goes, HasCause, Lands, NoLie, Stays, Syncs}
 
@@ -262,3 +264,65 @@ message_lies same = let is = same.lies in omega arith
 message_can_lie : Unchanged still (record still { can_lie = true }) → ⊥
 unfolding still
 message_can_lie same = let is = same.can_lie in cc
+
+-- a device whose calls begin at the moment 5, and that notes each: the first one ends well, and each later one fails
+answer : List Call → Result ℕ DevError
+answer [] = Ok 5
+answer (call ∷ calls) = Err Io
+
+notes : List Call → Call → ℕ → Result ℕ DevError → List Call → Type 0
+notes old call now result new = (now ≡ 5) × (new ≡ call ∷ old) × (result ≡ answer old)
+
+-- one that writes with FUA what no flush comes before
+put_one : Call
+put_one = Writes 0 [] true
+
+-- no call, one, and two of three, of which the second one failed
+turn_none : DoesInTurn notes 5 [] [] (Ok tt) []
+turn_none = refl
+
+turn_one : DoesInTurn notes 5 (Flushes ∷ []) [] (Ok tt) (Flushes ∷ [])
+unfolding notes answer
+turn_one = (Flushes ∷ [], (5, (refl, refl, refl)), refl)
+
+turn_two : DoesInTurn notes 5 (Flushes ∷ put_one ∷ Flushes ∷ []) [] (Err Io) (put_one ∷ Flushes ∷ [])
+unfolding notes answer
+turn_two = inr (Flushes ∷ [], (5, (refl, refl, refl)), inl (refl, refl, refl))
+
+-- not one where none is asked for, nor none where one is, nor another one
+turn_idle : DoesInTurn notes 5 [] [] (Ok tt) (Flushes ∷ []) → ⊥
+turn_idle same = cc
+
+turn_missed : DoesInTurn notes 5 (Flushes ∷ []) [] (Ok tt) [] → ⊥
+unfolding notes
+turn_missed (mid, (end, (at, noted, told)), same) = cc
+
+turn_other : DoesInTurn notes 5 (put_one ∷ []) [] (Ok tt) (Flushes ∷ []) → ⊥
+unfolding notes put_one
+turn_other (mid, (end, (at, noted, told)), same) = cc
+
+-- not at another moment, nor an error of no call
+turn_later : DoesInTurn notes 4 (Flushes ∷ []) [] (Ok tt) (Flushes ∷ []) → ⊥
+unfolding notes
+turn_later (mid, (end, (at, noted, told)), same) = omega arith
+
+turn_unasked : DoesInTurn notes 5 [] [] (Err Io) [] → ⊥
+turn_unasked none = none
+
+-- nothing after the call that failed: not the next one, nor the same again
+turn_on : DoesInTurn notes 5 (Flushes ∷ put_one ∷ []) (Flushes ∷ []) (Err Io) (put_one ∷ Flushes ∷ Flushes ∷ []) → ⊥
+unfolding notes answer
+turn_on (inl (at, noted, told)) = cc
+turn_on (inr (mid, (end, (at, noted, told)), rest)) = cc
+
+turn_again : DoesInTurn notes 5 (Flushes ∷ []) (Flushes ∷ []) (Err Io) (Flushes ∷ Flushes ∷ Flushes ∷ []) → ⊥
+unfolding notes answer
+turn_again (inl (at, noted, told)) = cc
+turn_again (inr (mid, (end, (at, noted, told)), rest)) = rest
+
+-- and not in another order
+turn_order : DoesInTurn notes 5 (Flushes ∷ put_one ∷ []) [] (Err Io) (Flushes ∷ put_one ∷ []) → ⊥
+unfolding notes answer put_one
+turn_order (inl (at, noted, told)) = cc
+turn_order (inr (mid, (end, (at, noted, told)), inl (later, noted_too, told_it))) = cc
+turn_order (inr (mid, (end, (at, noted, told)), inr (next, well, rest))) = rest

@@ -1,5 +1,7 @@
 pub mod View
 pub mod Calls
+pub mod InTurn
+pub mod InTurnLaws
 pub mod Law
 pub mod JoinLaws
 pub mod DurableLaws

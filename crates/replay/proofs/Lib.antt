@@ -1,4 +1,5 @@
 pub mod Applied
 pub mod Loops
+pub mod Calling
 pub mod Whole
 mod Refused

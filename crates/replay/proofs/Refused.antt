@@ -1,9 +1,12 @@
--- For each clause of what a replay leaves and of the cause of a refusal, what breaks it, and is refused by it.
-use Rattle.std.proofs.Common.{◌≡◌, ℕ, zero, suc, ◌<◌, ◌≤◌, true, false, Option, Some, None, List, [], ◌∷◌, replicate, slice_index_or, refl, ap, sym, ◌∙◌, inl, inr, arith}
+-- For each clause of what a replay leaves and calls, and of the cause of a refusal, what breaks it, and is refused by it.
+use Rattle.std.proofs.Common.{◌≡◌, ℕ, zero, suc, ◌<◌, ◌≤◌, true, false, Option, Some, None, Result, Ok, Err, List, [], ◌∷◌, replicate, slice_index_or, refl, ap, subst, sym, ◌∙◌, inl, inr, arith}
 use Rattle.std.specs.Prelude.{slice_get, unwrap_or}
+use Rattle.bio.specs.declared.outcome.DevError.{DevError}
 use Rattle.bio.specs.declared.outcome.DevError.TheVariants.{Io}
 use Rattle.sectors.specs.Content as contents
 use Rattle.sectors.specs.Content.{Content}
+use Rattle.blockdev.specs.Calls.{Call, Discards, Flushes, Writes}
+use Rattle.blockdev.specs.InTurn.{DoesInTurn}
 use Rattle.blockdev.specs.View.{View}
 use Rattle.log_format.specs.declared.entry.Entry.{Entry}
 use Rattle.log_format.specs.Entries.{kind_of, no_flags}
@@ -15,7 +18,8 @@ use Rattle.log_reader.specs.Reader.{Reader}
 use Rattle.replay.specs.declared.fault.ReplayError.TheVariants as replays
 use Rattle.replay.specs.declared.upto.Upto.{Upto}
 use Rattle.replay.specs.declared.upto.Upto.TheVariants.{Count, Flush, Mark}
-use Rattle.replay.specs.Replays.{AsksTooMany, HasReplayCause, IsApplied, IsAppliedInPart, IsUpto, KeepsTarget, LacksFlush, LacksMark, LeavesBy, ReachesPast}
+use Rattle.replay.specs.Calls.{CallsBy, IsCalled, IsCalledTo, entry_calls}
+use Rattle.replay.specs.Replays.{AsksTooMany, HasReplayCause, IsApplied, IsAppliedInPart, IsUpto, KeepsTarget, LacksFlush, LacksMark, LeavesBy, ReachesPast, RefusesNoMore}
 
 -- content of one value in each sector
 all : ℕ → Content
@@ -193,3 +197,91 @@ cause_failed old new upto fresh cause = let same : false ≡ true = sym fresh �
 cause_target : (old new : Reader) (upto : Upto) → HasReplayCause [] None upto old new still still 0 (replays.Target Io) → ⊥
 unfolding still
 cause_target old new upto cause = elim (cause refl) [ inl grew ↦ omega arith | inr end ↦ omega arith ]
+
+-- a reader that refuses, and did before; and one that didn't
+refuses_before : (old : Reader) → old.failed ≡ true → RefusesNoMore old old
+refuses_before old refused = λ same. same
+
+refuses_first : (old new : Reader) → old.failed ≡ false → new.failed ≡ true → RefusesNoMore old new → ⊥
+refuses_first old new fresh refused no_more = let same : false ≡ true = sym fresh ∙ no_more refused in cc
+
+-- a write of one byte to sector 5, and a discard of two sectors from sector 6 on
+small : Entry
+small = record { sector = 5; nr_sectors = 1; flags = no_flags; body = 7 ∷ [] }
+
+cut : Entry
+cut = record { sector = 6; nr_sectors = 2; flags = record no_flags { discard = true }; body = [] }
+
+-- their calls; an entry of no sectors has none, and in a log of larger sectors they are of more sectors of the target
+calls_write : entry_calls 512 small ≡ Writes 5 (7 ∷ []) false ∷ []
+unfolding small
+calls_write = refl
+
+calls_none : entry_calls 512 flush ≡ []
+unfolding flush
+calls_none = refl
+
+calls_larger : entry_calls 1024 cut ≡ Discards 12 4 ∷ []
+unfolding cut
+calls_larger = refl
+
+-- a target whose calls begin at the moment 0, and that notes each: the first one ends well, and each later one fails
+answer : List Call → Result ℕ DevError
+answer [] = Ok 5
+answer (call ∷ calls) = Err Io
+
+notes : List Call → Call → ℕ → Result ℕ DevError → List Call → Type 0
+notes old call now result new = (now ≡ 0) × (new ≡ call ∷ old) × (result ≡ answer old)
+
+put_small : Call
+put_small = Writes 5 (7 ∷ []) false
+
+-- it is called once for the write, and for nothing else
+called : IsCalled notes 512 (mark ∷ small ∷ flush ∷ []) 0 3 [] (put_small ∷ [])
+unfolding mark small flush notes answer put_small
+called = (put_small ∷ [], (5, (refl, refl, refl)), refl)
+
+-- not twice, nor to flush at the end, nor not at all
+called_twice : IsCalled notes 512 (small ∷ []) 0 1 [] (put_small ∷ put_small ∷ []) → ⊥
+unfolding small notes answer put_small
+called_twice (mid, (end, (at, noted, told)), same) = cc
+
+called_flush : IsCalled notes 512 (small ∷ []) 0 1 [] (Flushes ∷ put_small ∷ []) → ⊥
+unfolding small notes answer put_small
+called_flush (mid, (end, (at, noted, told)), same) = cc
+
+called_not : IsCalled notes 512 (small ∷ []) 0 1 [] [] → ⊥
+unfolding small notes answer
+called_not (mid, (end, (at, noted, told)), same) = cc
+
+-- the second entry's call failed
+called_to : IsCalledTo notes 512 (small ∷ cut ∷ []) 0 1 Io [] (Discards 6 2 ∷ put_small ∷ [])
+unfolding small cut notes answer put_small
+called_to = record {
+  mid = put_small ∷ [];
+  called = (put_small ∷ [], (5, (refl, refl, refl)), refl);
+  next = cut;
+  there = refl;
+  refused = inl (refl, refl, refl);
+}
+
+-- not where it is tried once more, nor where there is none
+called_again : (told : IsCalledTo notes 512 (small ∷ cut ∷ []) 0 1 Io [] (Discards 6 2 ∷ Discards 6 2 ∷ put_small ∷ [])) → told.next ≡ cut → ⊥
+unfolding small cut notes answer put_small
+called_again told is =
+    let middle : told.mid ≡ put_small ∷ [] = first told.mid told.called in
+    again told.mid middle (subst (λ (e : Entry). DoesInTurn notes 0 (entry_calls 512 e) told.mid (Err Io) (Discards 6 2 ∷ Discards 6 2 ∷ put_small ∷ [])) is told.refused)
+  where
+    first : (mid : List Call) → IsCalled notes 512 (small ∷ cut ∷ []) 0 1 [] mid → mid ≡ put_small ∷ []
+    first mid (next, (end, (at, noted, told_it)), same) = cc
+
+    again : (mid : List Call) → mid ≡ put_small ∷ [] → DoesInTurn notes 0 (Discards 6 2 ∷ []) mid (Err Io) (Discards 6 2 ∷ Discards 6 2 ∷ put_small ∷ []) → ⊥
+    again mid is (inl (at, noted, told_it)) = cc
+    again mid is (inr (next, (end, (at, noted, told_it)), never)) = never
+
+called_past : IsCalledTo notes 512 [] 0 0 Io [] [] → ⊥
+called_past told = let there = told.there in cc
+
+-- nor is anything called for an entry that isn't told of, but by a target that refused in it
+called_more : CallsBy notes 512 (small ∷ []) 0 [] (put_small ∷ []) 0 replays.PastTarget → ⊥
+called_more same = cc

@@ -1,6 +1,8 @@
+pub use Rattle.blockdev.specs.InTurn
 pub use Rattle.log_format.specs.Replay
 pub use Rattle.log_reader.specs.Reads
 pub use Rattle.sectors.specs.Content
 pub mod Refusals
 pub mod Replays
+pub mod Calls
 pub mod AlikeLaws

@@ -18,8 +18,6 @@ pub(crate) fn advice(refusal: Refusal) -> &'static str {
             "a number of the layer's line is out of range, or the layer ends past what stands beneath it",
         Refusal::BadFeature =>
             "a flakey layer's feature is `0`, or `1` and one of error_reads, error_writes and drop_writes",
-        Refusal::BadMagic =>
-            "it doesn't begin with the 8 bytes of a log, 72 68 77 66 73 6a 73 00: it isn't a log",
         Refusal::BadVersion => "the log is of another format version than 1",
         Refusal::BadSectorSize =>
             "the log's sectors aren't of 512, 1024, 2048 or 4096 bytes: its first sector is damaged",

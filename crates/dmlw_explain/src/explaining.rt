@@ -6,6 +6,7 @@ use crate::advice::advice;
 use crate::line::{Shown, explain_line, write_forms};
 use bio::Status;
 use dmlw_files::{Files, MAX_SCRIPT_BYTES, Trouble, read_image};
+use log_format::MAGIC;
 use refusals::{Fault, Refusal};
 use run_error::RunError;
 use std::alloc::Global;
@@ -345,8 +346,20 @@ fn write_line<W: Write>(
 
 // Writes what helps against a refusal of this file.
 fn write_advice<W: Write>(name: &str, refusal: Refusal, to: &mut W) -> fmt::Result {
+    if refusal == Refusal::BadMagic {
+        return write_magic(name, to);
+    }
     let advice = advice(refusal);
     writeln!(to, "  {name}: {advice}")
+}
+
+// Writes what this file should begin with, if it were a log.
+fn write_magic<W: Write>(name: &str, to: &mut W) -> fmt::Result {
+    write!(to, "  {name}: it doesn't begin with the 8 bytes of a log,")?;
+    for byte in MAGIC.to_le_bytes() {
+        write!(to, " {byte:02x}")?;
+    }
+    writeln!(to, ": it isn't a log")
 }
 
 // Writes which file of a recording can't be used, and why.

@@ -127,7 +127,7 @@ What says why a command is refused stands behind its line.
   yes
   $ dmlw --explain list zeroes
   ! dmlw: 13 BadMagic
-  !   zeroes: it doesn't begin with the 8 bytes of a log, 72 68 77 66 73 6a 73 00: it isn't a log
+  !   zeroes: it doesn't begin with the 8 bytes of a log, 72 68 73 77 66 73 6a 00: it isn't a log
   [1]
   $ dmlw list absent --explain
   ! dmlw: 32 File
@@ -135,7 +135,7 @@ What says why a command is refused stands behind its line.
   [1]
   $ dmlw status --explain zeroes
   ! dmlw: 13 BadMagic
-  !   zeroes: it doesn't begin with the 8 bytes of a log, 72 68 77 66 73 6a 73 00: it isn't a log
+  !   zeroes: it doesn't begin with the 8 bytes of a log, 72 68 73 77 66 73 6a 00: it isn't a log
   [1]
   $ dmlw status absent --explain
   ! dmlw: 32 File
@@ -152,7 +152,7 @@ What says why a command is refused stands behind its line.
   $ image first 8192
   $ dmlw --explain replay first first out flush
   ! dmlw: 13 BadMagic
-  !   first: it doesn't begin with the 8 bytes of a log, 72 68 77 66 73 6a 73 00: it isn't a log
+  !   first: it doesn't begin with the 8 bytes of a log, 72 68 73 77 66 73 6a 00: it isn't a log
   [1]
   $ image first 8192
   $ dmlw --explain replay log first log flush

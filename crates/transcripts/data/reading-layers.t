@@ -360,8 +360,7 @@ Messages.
   message log 4 addbadblock 60 1
   message data 0 
   message data 7 x  y 
-  message log 5  # no comment 
-	
+  message log 5  # no comment \r	
   message data 18446744073709551615 message log 1 clearbadblocks
   $ write script
   > data 16

@@ -330,13 +330,18 @@ fn push_ending(
     Ok(())
 }
 
-// Appends a text, with a word where it doesn't end with a line feed.
+// Appends a text, with `\r` for each carriage return, and with a word where it doesn't end with a line feed.
 fn push_text(shown: &mut String, bytes: &[u8]) -> Result<(), AllocError> {
     let text = str::from_utf8(bytes).unwrap_or("no text\n");
     if text.is_empty() {
         return Ok(());
     }
-    shown.push_str(text.strip_suffix("\n").unwrap_or(text))?;
+    for letter in text.strip_suffix("\n").unwrap_or(text).chars() {
+        match letter {
+            '\r' => shown.push_str("\\r")?,
+            other => shown.push(other)?,
+        }
+    }
     shown.push('\n')?;
     end_line(shown, text)
 }

@@ -73,6 +73,7 @@ def main():
             found.append(f"{os.path.relpath(edit, root)}: no row in docs/PLANTED.md")
     wanted = re.sub(r"\d+ bugs, of which \d+ are refused", f"{len(rows)} bugs, of which {len(by_tests)} are refused", page)
     wanted = re.sub(r"^\d+ of them stand in", f"{len(edits)} of them stand in", wanted, flags=re.M)
+    wanted = re.sub(r"\d+ more stand in", f"{len(planted)} more stand in", wanted)
     if wanted != page and "--count" in sys.argv:
         with open(f"{root}/docs/PLANTED.md", "w", encoding="utf-8") as it:
             it.write(wanted)

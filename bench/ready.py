@@ -28,26 +28,28 @@ def not_laid_out():
 
 
 def pieces_of(edit):
-    """The files of an edit, each with a text that it replaces."""
+    """The files of an edit, each with a text that it replaces and the text in its place."""
     file, old = None, None
-    for line in text_of(edit).split("\n") + ["file: "]:
+    for line in text_of(edit).split("\n"):
         word, _, rest = line.partition(": ")
-        if word in ("file", "old", "new"):
-            if old is not None:
-                yield file, "\n".join(old).rstrip("\n")
-            old = [rest] if word == "old" else None
-            file = rest.strip() if word == "file" else file
-        elif old is not None:
-            old.append(line)
+        if word == "file":
+            file = rest.strip()
+        elif word == "old":
+            old = rest
+        elif word == "new":
+            yield file, old, rest
 
 
 def edits_off(edits):
     for edit in edits:
         folder = os.path.dirname(os.path.dirname(edit))
-        for file, old in pieces_of(edit):
-            count = text_of(f"{folder}/{file}").count(old)
-            if count != 1:
-                yield f"{os.path.relpath(edit, root)}: its text stands {count} times in {file}"
+        texts = {}
+        for file, old, new in pieces_of(edit):
+            text = texts.get(file) or text_of(f"{folder}/{file}")
+            if text.count(old) != 1:
+                yield f"{os.path.relpath(edit, root)}: its text stands {text.count(old)} times in {file}"
+            # (a later pair is for what the ones before it made)
+            texts[file] = text.replace(old, new)
 
 
 def rows_of(page):

@@ -4,3 +4,4 @@ mod Dusting
 mod OnlyGood
 mod ListLaws
 mod Examples
+mod Refused

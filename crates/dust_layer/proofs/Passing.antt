@@ -24,7 +24,7 @@ use Rattle.dust_layer.specs.declared.parts.Change.{Change}
 use Rattle.dust_layer.specs.declared.parts.Change.TheVariants as changes
 use Rattle.dust_layer.specs.Bad.{Bad, IsList, left_at, with_entry, without}
 use Rattle.dust_layer.specs.Change.{call_of, fua_of}
-use Rattle.dust_layer.specs.Walk.{DoesParts, IsDone, IsStopped, FailsBelow, Passes, begin_of, block_behind, blocks_of, bytes_within, count_of, first_of, list_passed, list_struck, part_of, part_within, patch_of, reach, stops}
+use Rattle.dust_layer.specs.Walk.{DoesParts, IsDone, IsStopped, FailsBelow, Passes, begin_of, block_behind, blocks_of, bytes_within, count_of, first_of, list_passed, list_struck, KeepsRest, part_of, part_within, patch_of, reach, stops}
 
 -- ---- blocks
 
@@ -209,6 +209,10 @@ passed_next does block call bad before after count from to old now mid at new en
 pub change-first : (first count : ℕ) (change : Change) → first_of (call_of first count change) ≡ first
 change-first first count (changes.Write bytes fua) = refl
 change-first first count changes.Discard = refl
+
+rest-change : (block first count : ℕ) (change : Change) (n : ℕ) → KeepsRest block (call_of first count change) n
+rest-change block first count (changes.Write bytes fua) n = tt
+rest-change block first count changes.Discard n = tt
 
 pub begin-change : (block first count : ℕ) (change : Change) → begin_of block (call_of first count change) ≡ first / block
 begin-change block first count change = ap (λ (f : ℕ). f / block) (change-first first count change)
@@ -404,6 +408,7 @@ changes_failed does shown block first count change bad before struck done from t
           stops-change first count change (begin_of block call) done bad before so_far.passed.list
           ∙ ap (λ (b : ℕ). nat_lt 0 (left_at before (b + done))) (begin-change block first count change) ∙ sym free;
       fails = subst (λ (part : Call). does mid part at (Err error) new) (part-change block first count change done from to size so_far.passed.reached is_to) did;
+      rest = rest-change block first count change (suc done);
       list = λ b. stays b ∙ so_far.passed.list b;
     }
 
@@ -425,6 +430,7 @@ changes_stopped does shown block first count change bad before after done from o
       stopped =
           stops-change first count change (begin_of block call) done bad before so_far.passed.list
           ∙ ap (λ (b : ℕ). nat_lt 0 (left_at before (b + done))) begin ∙ sym hit;
+      rest = rest-change block first count change done;
       list = list-stop first count change (begin_of block call) done bad before after so_far.passed.list
           (subst (λ (b : ℕ). IsList after (with_entry (b + done) (Some (left_at before (b + done) - 1)) before)) (sym begin) falls);
     }
@@ -633,14 +639,19 @@ reading_step does shown block first before xs ys bad done from to old now mid at
 -- a part of it that fails below
 pub reading_failed : {D : Type 0} (does : D → Call → ℕ → Result ℕ DevError → D → Type 0) (shown : D → View) (block first : ℕ) (before xs ys : List ℕ)
     (bad : Bad) (done from to : ℕ) (old : D) (now : ℕ) (mid : D) (at : ℕ) (new : D) (error : DevError)
-    → done < (first + length before / 512 - 1) / block + 1 - first / block
+    → 0 < block → 0 < length before / 512 → done < (first + length before / 512 - 1) / block + 1 - first / block
     → to ≡ reach block first (length before / 512) (first / block + done + 1)
     → Reading does shown block first before xs bad done from old now mid at
     → is_some (bad (first / block + done)) ≡ false
     → take (512 * (from - first)) ys ≡ take (512 * (from - first)) xs
+    → drop (512 * (to - first)) ys ≡ drop (512 * (to - first)) xs
     → does mid (Reads from (bytes_within first from to xs) (bytes_within first from to ys)) at (Err error) new
     → FailsBelow does block (Reads first before ys) bad bad old now new error
-reading_failed does shown block first before xs ys bad done from to old now mid at new error within is_to so_far free same did =
+reading_failed does shown block first before xs ys bad done from to old now mid at new error positive some within is_to so_far free same behind did =
+    let part = next_read does shown block first before xs bad done from to old now mid at positive some within is_to so_far in
+    let order = part.order in
+    let ends_next : to ≡ reach block first (length before / 512) (first / block + suc done) =
+    is_to ∙ ap (reach block first (length before / 512)) (let b = first / block in omega arith) in
     let ends : to ≡ reach block first (length before / 512) (suc (first / block + done)) =
     is_to ∙ ap (reach block first (length before / 512)) (let b = first / block in omega arith) in
     let asked : does mid (Reads from (bytes_within first from to before) (bytes_within first from to ys)) at (Err error) new =
@@ -654,6 +665,8 @@ reading_failed does shown block first before xs ys bad done from to old now mid 
       fails =
           subst (λ (p : ℕ). does mid (part_within p (reach block first (length before / 512) (suc (first / block + done))) (Reads first before ys)) at (Err error) new) so_far.passed.reached
           (subst (λ (p : ℕ). does mid (part_within from p (Reads first before ys)) at (Err error) new) ends asked);
+      rest = subst (λ (p : ℕ). drop (512 * (p - first)) ys ≡ drop (512 * (p - first)) before) ends_next
+          (behind ∙ rest-further (512 * (from - first)) (512 * (to - first)) xs before (omega (arith, order)) so_far.rest);
       list = λ place. refl;
     }
 

@@ -52,11 +52,11 @@ blocks_carried does other fine f each block call bad after old now new (Ok end) 
     (record { passes = passes.0; list = is.list }, passes.1)
 blocks_carried does other fine f each block call bad after old now new (Err Struck) holds is =
     let passes = passes_carried does other fine f each block call bad is.count old now new is.end holds is.passes in
-    (record { count = is.count; end = is.end; passes = passes.0; within = is.within; stopped = is.stopped; list = is.list }, passes.1)
+    (record { count = is.count; end = is.end; passes = passes.0; within = is.within; stopped = is.stopped; rest = is.rest; list = is.list }, passes.1)
 blocks_carried does other fine f each block call bad after old now new (Err (Below error)) holds is =
     let passes = passes_carried does other fine f each block call bad is.count old now is.mid is.end holds is.passes in
     let last = each is.mid (part_of block call (begin_of block call + is.count)) is.end (Err error) new passes.1 is.fails in (
-      record { count = is.count; mid = f is.mid; end = is.end; passes = passes.0; within = is.within; free = is.free; fails = last.0; list = is.list },
+      record { count = is.count; mid = f is.mid; end = is.end; passes = passes.0; within = is.within; free = is.free; fails = last.0; rest = is.rest; list = is.list },
       last.1,
     )
 

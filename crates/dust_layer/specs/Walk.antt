@@ -104,7 +104,16 @@ pub record IsDone {D : Type 0} (does : D → Call → ℕ → Result ℕ DevErro
   pub passes : Passes does block call bad (blocks_of block call) old now new end
   pub list : IsList after (list_passed call (begin_of block call) (blocks_of block call) bad)
 
--- A bad block stops a call: the parts before it are done, and nothing else is.
+-- of a read, the bytes of its buffer behind the sectors of its first so many blocks are as they were; another call has no buffer
+abbrev pub KeepsRest : ℕ → Call → ℕ → Type 0
+KeepsRest block (Reads first before after) count =
+    drop (512 * (reach block first (length before / 512) (block_of_first block first + count) - first)) after
+    ≡ drop (512 * (reach block first (length before / 512) (block_of_first block first + count) - first)) before
+KeepsRest block (Writes first bytes fua) count = Unit {0}
+KeepsRest block (Discards first sectors) count = Unit {0}
+KeepsRest block Flushes count = Unit {0}
+
+-- A bad block stops a call: the parts before it are done, and nothing else is; a read leaves the rest of its buffer.
 pub record IsStopped {D : Type 0} (does : D → Call → ℕ → Result ℕ DevError → D → Type 0) (block : ℕ) (call : Call) (bad after : Bad)
     (old : D) (now : ℕ) (new : D) : Type 0 where
   pub count : ℕ
@@ -113,6 +122,7 @@ pub record IsStopped {D : Type 0} (does : D → Call → ℕ → Result ℕ DevE
   -- this is the block
   pub within : count < blocks_of block call
   pub stopped : stops call bad (begin_of block call + count) ≡ true
+  pub rest : KeepsRest block call count
   pub list : IsList after (list_struck call (begin_of block call + count) (list_passed call (begin_of block call) count bad))
 
 -- A part of a call fails beneath: the parts before it are done, and nothing is after it.
@@ -126,6 +136,8 @@ pub record FailsBelow {D : Type 0} (does : D → Call → ℕ → Result ℕ Dev
   pub within : count < blocks_of block call
   pub free : stops call bad (begin_of block call + count) ≡ false
   pub fails : does mid (part_of block call (begin_of block call + count)) end (Err error) new
+  -- a read leaves the rest of its buffer, behind the part that failed
+  pub rest : KeepsRest block call (suc count)
   pub list : IsList after (list_passed call (begin_of block call) count bad)
 
 -- A call that goes block by block, from one list of bad blocks to another.

@@ -1,18 +1,23 @@
 -- Layers put over a stack, one after another.
-use Rattle.std.proofs.Common.{◌≡◌, ℕ, Bool, false, ◌+◌, ◌<◌, ◌≤◌, List, [], ◌∷◌, length, refl, ap, subst, sym, ◌∙◌, inl, inr, arith}
+use Rattle.std.proofs.Common.{◌≡◌, ℕ, Bool, false, ◌+◌, ◌<◌, ◌≤◌, List, [], ◌∷◌, ◌++◌, length, refl, ap, subst, sym, ◌∙◌, inl, inr, arith}
 use Rattle.std.proofs.Math.Bool.{or-false}
 use Rattle.std.proofs.lemmas.Bool.{or_parts}
-use Rattle.std.specs.Prelude.{◌⊎◌, ◌||◌}
+use Rattle.std.proofs.lemmas.List.{append_assoc}
+use Rattle.std.specs.Prelude.{◌⊎◌, ◌||◌, Err, IfErr, IsErrAnd, Ok, Result}
 use Rattle.std.specs.List.{AllByRecursion}
 use Rattle.blockdev.specs.View.{Place}
 use Rattle.table_line.specs.declared.layer_spec.LayerSpec.{LayerSpec}
 use Rattle.table_line.specs.Ranges.{IsLayerSpec}
 use Rattle.table_line.specs.Standing.{drops_writes, some_drops, top_origin, top_sectors, CanStand}
 use Rattle.layer_table.specs.declared.stack.Stack.{Stack}
-use Rattle.layer_table.specs.Layers.{disk_of, layer_asked, layers_of, layers_under, stack_shown, AreOver, IsPut, Layer}
+use Rattle.layer_table.specs.Layers.{disk_of, layer_asked, layers_of, layers_under, stack_shown, AreOver, IsPartlyUnder, IsPut, Layer}
 
 -- of these layers all but the rest stand over what was there
 pub record AreUnder (specs rest : List LayerSpec) (load : ℕ) (old stack : Stack) : Type 0 where
+  -- these stand
+  put : List LayerSpec
+  are : specs ≡ put ++ rest
+  stands : layers_of stack ≡ layers_under put load (layers_of old)
   asked : AllByRecursion IsLayerSpec rest
   layers : layers_under rest load (layers_of stack) ≡ layers_under specs load (layers_of old)
   disk : disk_of stack ≡ disk_of old
@@ -29,6 +34,9 @@ pub record AreUnder (specs rest : List LayerSpec) (load : ℕ) (old stack : Stac
 -- at first none does
 pub none_under : (specs : List LayerSpec) (load : ℕ) (old : Stack) → AllByRecursion IsLayerSpec specs → AreUnder specs specs load old old
 none_under specs load old asked = record {
+  put = [];
+  are = refl;
+  stands = refl;
   asked = asked;
   layers = refl;
   disk = refl;
@@ -48,6 +56,12 @@ pub first_asked : (specs rest : List LayerSpec) (spec : LayerSpec) (above : List
     → AreUnder specs rest load old stack → IsLayerSpec spec
 first_asked specs rest spec above load old stack is are = (subst (λ (ls : List LayerSpec). AllByRecursion IsLayerSpec ls) is are.asked).0
 
+-- one more over layers that are put over others
+under_one_more : (put : List LayerSpec) (spec : LayerSpec) (load : ℕ) (layers : List Layer)
+    → layers_under (put ++ spec ∷ []) load layers ≡ layer_asked spec load ∷ layers_under put load layers
+under_one_more [] spec load layers = refl
+under_one_more (first ∷ put) spec load layers = under_one_more put spec load (layer_asked first load ∷ layers)
+
 -- one more is put over them
 pub one_under : (specs rest : List LayerSpec) (spec : LayerSpec) (above : List LayerSpec) (load : ℕ) (old stack next : Stack) → rest ≡ spec ∷ above
     → AreUnder specs rest load old stack → layers_of next ≡ layer_asked spec load ∷ layers_of stack → disk_of next ≡ disk_of stack
@@ -55,6 +69,9 @@ pub one_under : (specs rest : List LayerSpec) (spec : LayerSpec) (above : List L
 one_under specs rest spec above load old stack next is before layers disk put =
     let are = subst (λ (ls : List LayerSpec). AreUnder specs ls load old stack) is before in
     record {
+      put = are.put ++ spec ∷ [];
+      are = are.are ∙ sym (append_assoc are.put (spec ∷ []) above);
+      stands = layers ∙ ap (λ (ls : List Layer). layer_asked spec load ∷ ls) are.stands ∙ sym (under_one_more are.put spec load (layers_of old));
       asked = are.asked.1;
       layers = ap (λ (ls : List Layer). layers_under above load ls) layers ∙ are.layers;
       disk = disk ∙ are.disk;
@@ -96,3 +113,18 @@ none_refused specs rest spec above load old stack is before stand few (inl past)
 none_refused specs rest spec above load old stack is before stand few (inr full) =
     let are = subst (λ (ls : List LayerSpec). AreUnder specs ls load old stack) is before in
     let counted = are.count in omega arith
+
+-- where one is refused, what is handed back is under those before it
+pub partly_under : (specs rest : List LayerSpec) (spec : LayerSpec) (above : List LayerSpec) (load : ℕ) (old stack back : Stack) → rest ≡ spec ∷ above
+    → AreUnder specs rest load old stack → back ≡ stack
+    → ((stack_shown stack).size < spec.offset + spec.length) ⊎ (length (layers_of stack) ≡ 4) → IsPartlyUnder specs load old back
+partly_under specs rest spec above load old stack back is before same refused =
+    let are = subst (λ (ls : List LayerSpec). AreUnder specs ls load old stack) is before in
+    subst (IsPartlyUnder specs load old) (sym same) (
+    record { put = are.put; next = spec; above = above; are = are.are; layers = are.stands; disk = are.disk; refused = refused }
+    )
+
+-- what holds of each error that a call may answer holds of the error of its answer
+pub of_error : {T E : Type 0} {Q P : E → Type 0} (r : Result T E) → IsErrAnd r Q → ((e : E) → Q e → P e) → IfErr r P
+of_error (Ok value) is each = absurd is
+of_error (Err error) is each = each error is

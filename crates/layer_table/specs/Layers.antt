@@ -1,5 +1,5 @@
 -- The layers of a stack, and the disk beneath them.
-use Rattle.std.specs.Prelude.{◌≡◌, ◌↔◌, ℕ, zero, suc, length, ◌+◌, ◌/◌, ◌≤◌, ◌||◌, false, List, [], ◌∷◌, None, Result, Err, Ok}
+use Rattle.std.specs.Prelude.{◌≡◌, ◌↔◌, ℕ, zero, suc, length, ◌⊎◌, ◌+◌, ◌/◌, ◌<◌, ◌≤◌, ◌||◌, false, List, [], ◌∷◌, ◌++◌, None, Result, Err, Ok}
 use Rattle.bio.specs.declared.outcome.DevError.{DevError}
 use Rattle.bio.specs.declared.outcome.DevError.TheVariants.{Io}
 use Rattle.bio.specs.Moments.{later_by}
@@ -146,6 +146,17 @@ pub record AreOver (specs : List LayerSpec) (v w : View) : Type 0 where
   pub lies : w.lies ≡ v.lies
   -- where none of them may drop writes, they lie no more than what is beneath
   pub can_lie : some_drops specs ≡ false → w.can_lie ≡ v.can_lie
+
+-- some of these layers stand over a stack, from the first on, and the next one doesn't: what is handed back where that one is refused
+pub record IsPartlyUnder (specs : List LayerSpec) (load : ℕ) (old back : Stack) : Type 0 where
+  pub put : List LayerSpec
+  pub next : LayerSpec
+  pub above : List LayerSpec
+  pub are : specs ≡ put ++ next ∷ above
+  pub layers : layers_of back ≡ layers_under put load (layers_of old)
+  pub disk : disk_of back ≡ disk_of old
+  -- the next one doesn't fit there, or four layers stand
+  pub refused : ((stack_shown back).size < next.offset + next.length) ⊎ (length (layers_of back) ≡ 4)
 
 -- What shows w is a part of the disk that shows v: the sectors at its place. Whatever a crash leaves of the disk, is left of it too, as seen from there.
 pub record IsPartOf (v w : View) : Type 0 where

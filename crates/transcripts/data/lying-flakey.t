@@ -28,3 +28,21 @@ Over the log nothing is left of it: what is promised of a log asks that its devi
   $ dmlw list log
   ! dmlw: 13 BadMagic
   [1]
+
+Each call of the log's device begins at the script's moment: at 12,000 each of the three entries has its own sector, its flush and its super block dropped.
+
+  $ write script
+  > data 16
+  > log 32
+  > log-layer 0 32 flakey disk 0 10 5 1 drop_writes
+  > at 12000
+  > mark a
+  > mark b
+  > turn
+  > turn
+  > close
+  $ dmlw record script log
+  3 3
+  lies 0 9
+  $ dmlw list log
+  super version 1 entries 0 sectorsize 512

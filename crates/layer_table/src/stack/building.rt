@@ -5,7 +5,7 @@ ghost use Rattle.sector_disk.specs.Shown.{shown_of};
 ghost use Rattle.table_line.specs.Ranges.{IsLayerSpec};
 ghost use Rattle.table_line.specs.Standing.{CanStand};
 ghost use Rattle.std.specs.List.{AllByRecursion};
-ghost use Rattle.layer_table.specs.Layers.{disk_of, layer_asked, layers_of, layers_three, layers_under, layers_with, stack_shown, AreOver, IsPut, IsSeenAs};
+ghost use Rattle.layer_table.specs.Layers.{disk_of, layer_asked, layers_of, layers_three, layers_under, layers_with, stack_shown, AreOver, IsPartlyUnder, IsPut, IsSeenAs};
 ghost use Rattle.layer_table.specs.Levels.{disk_three, shape_of};
 ghost use Rattle.layer_table.specs.Slots.{device_of, has_layer, has_no_gap, slot_shown};
 
@@ -72,6 +72,7 @@ impl Stack {
         ensures shown { IfOk result (λ stack. AreOver specs.now (stack_shown self) (stack_shown stack)) }
         ensures stand { CanStand (stack_shown self).size specs.now → length (layers_of self) + length specs.now ≤ 4 → IsOk result }
         ensures refused { IfErr result (λ back. back.1 ≡ refusals.OutOfRange) }
+        ensures back { IfErr result (λ back. IsPartlyUnder specs.now load self back.0) }
     {
         let mut stack = self;
         let mut rest = specs;

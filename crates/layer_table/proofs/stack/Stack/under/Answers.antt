@@ -1,4 +1,5 @@
-use Rattle.layer_table.proofs.Under.{all_under, first_asked, none_refused, none_under, one_under}
+use Rattle.std.proofs.Common.{ap, ◌∙◌}
+use Rattle.layer_table.proofs.Under.{all_under, first_asked, none_refused, none_under, of_error, one_under, partly_under}
 use Rattle.layer_table.proofs.stack.Stack.under.Goals as goal
 
 pub loop-spec-init : goal.loop-spec-init
@@ -10,6 +11,12 @@ over-requires c = first_asked _ _ _ _ _ _ _ c.in-Some.ensures.cases.0 c.loop-spe
 pub returns-in_err-stack-clause-stand : goal.returns-in_err-stack-clause-stand
 returns-in_err-stack-clause-stand c stand few =
     absurd (none_refused _ _ _ _ _ _ _ c.in-Some.ensures.cases.0 c.loop-spec.invariant stand few c.in_err-stack.ensures.fits_not)
+
+pub returns-in_err-stack-clause-back : goal.returns-in_err-stack-clause-back
+returns-in_err-stack-clause-back c =
+    of_error c.from_residual.result c.from_residual.ensures.1 (λ back is.
+    partly_under _ _ _ _ _ _ _ _ c.in-Some.ensures.cases.0 c.loop-spec.invariant
+    (ap (λ b. b.0) is ∙ c.in_err-stack.ensures.refused.0) c.in_err-stack.ensures.fits_not)
 
 pub loop-spec-preserved : goal.loop-spec-preserved
 loop-spec-preserved c =

@@ -38,6 +38,7 @@ use Rattle.script_runner.specs.Lines.{Answering, Asks, EndsRequest, HearsEnd, Ta
 use Rattle.script_runner.specs.OnDisks.{stack_answering, DiskRun, Starts}
 use Rattle.script_runner.specs.Runs.{RunsLines}
 use Rattle.script_runner.specs.Submitted.{bio_of}
+use Rattle.script_runner.proofs.Submitting.{bio_passes}
 
 -- each request among the events passed the test of a device of so many sectors
 abbrev AreWithin : ℕ → List CoreEvent → Type 0
@@ -151,17 +152,6 @@ drained_within {L} {l} sectors answer old new drains within = by_end old.end ref
     by_end : (end : Option End) → old.end ≡ end → AreWithin sectors new.core.events
     by_end None is = by_answer answer is drains
     by_end (Some cause) is = same_within sectors old.core new.core (drains.ended cause is).1.core within
-
--- the request of a line passes the test that its line passes
-bio_passes : (sectors : ℕ) (submission : Submission) → submission_answer sectors submission ≡ Ok tt → is_ok (check_answer (bio_of submission) sectors) ≡ true
-bio_passes sectors (submits.Write first count byte options) passes = ap is_ok (whole (length (replicate (count * 512) byte)) (length-replicate (count * 512) byte) ∙ passes)
-  where
-    whole : (n : ℕ) → n ≡ count * 512 → (if n % 512 == 0 then range_answer first (n / 512) sectors else Err NotWhole) ≡ range_answer first count sectors
-    whole n is =
-        subst (λ (m : ℕ). (if m % 512 == 0 then range_answer first (m / 512) sectors else Err NotWhole) ≡ range_answer first count sectors) (sym is)
-        (rw (mul-mod_left count 512, mul-div_cancel count {n = 512} (omega arith)) refl)
-bio_passes sectors submits.Flush passes = refl
-bio_passes sectors (submits.Discard first count) passes = ap is_ok passes
 
 -- a request that is asked
 asked_within : {L : Type 0} {l : Ghosts L} (sectors : ℕ) (bio : Bio) (request : Request) (old new : Recorder L l) → Asks bio request old new

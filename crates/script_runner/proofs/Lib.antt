@@ -1,5 +1,6 @@
 mod Printing
 mod Stepping
+mod Submitting
 mod Chaining
 mod Scripts
 mod Reading

@@ -1,15 +1,12 @@
 -- The events of a script's run are lawful for a device of the size of the data disk's top.
-use Rattle.std.proofs.Common.{◌≡◌, ◌∙◌, ℕ, zero, suc, Bool, true, false, Option, Some, None, List, [], ◌∷◌, ◌++◌, Result, Ok, Err, ap, inl, inr, refl, subst, sym, arith}
-use Rattle.std.specs.Prelude.{if◌then◌else◌, is_ok, length, replicate, slice_get, ◌*◌, ◌/◌, ◌%◌, ◌==◌}
-use Rattle.std.proofs.Math.Nat.{mul-div_cancel, mul-mod_left}
-use Rattle.std.proofs.lemmas.List.{length-replicate}
+use Rattle.std.proofs.Common.{◌≡◌, ℕ, zero, suc, Bool, true, false, Option, Some, None, List, [], ◌∷◌, ◌++◌, Result, Ok, Err, inl, inr, refl, subst, sym}
+use Rattle.std.specs.Prelude.{if◌then◌else◌, is_ok, slice_get}
 use Rattle.sectors.specs.PlaceLaws.{bool_cases}
 use Rattle.bio.specs.declared.event.CoreEvent.{CoreEvent}
 use Rattle.bio.specs.declared.event.CoreEvent.TheVariants as events
 use Rattle.bio.specs.declared.outcome.End.{End}
 use Rattle.bio.specs.declared.request.Bio.{Bio}
-use Rattle.bio.specs.Check.{check_answer, range_answer}
-use Rattle.bio.specs.declared.request.BadBio.TheVariants.{NotWhole}
+use Rattle.bio.specs.Check.{check_answer}
 use Rattle.bio.specs.Events.{is_open_at}
 use Rattle.bio.specs.EventLaws.{well_formed-lawful}
 use Rattle.bio.specs.Lawful.{has_no_close, is_lawful, is_recording, is_text, is_well_formed, is_within}
@@ -20,10 +17,8 @@ use Rattle.dmlw_script.specs.declared.command.Command.TheVariants as commands
 use Rattle.dmlw_script.specs.declared.command.Step.{Step}
 use Rattle.dmlw_script.specs.declared.command.Step.TheVariants as steps
 use Rattle.dmlw_script.specs.declared.disk_name.DiskName.TheVariants as disks
-use Rattle.dmlw_script.specs.declared.command.Submission.{Submission}
-use Rattle.dmlw_script.specs.declared.command.Submission.TheVariants as submits
 use Rattle.dmlw_script.specs.declared.script_id.ScriptId.{ScriptId}
-use Rattle.dmlw_script.specs.Plans.{IsPlan, IsWellFormed, Plan, name_at, submission_answer, top_of}
+use Rattle.dmlw_script.specs.Plans.{IsPlan, IsWellFormed, Plan, name_at, top_of}
 use Rattle.pending.specs.CoreState.{CoreState, added_to, records, stopped_by}
 use Rattle.recorder.specs.declared.recorder.Recorder.{Recorder}
 use Rattle.recorder.specs.declared.reply.Reply.{Reply}

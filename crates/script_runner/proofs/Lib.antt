@@ -7,6 +7,7 @@ mod Reading
 mod Writing
 mod Logs
 mod OnDisks
+mod Plays
 mod Following
 mod Bare
 mod LawfulRuns

@@ -1,5 +1,5 @@
 -- What is read, and how it is printed.
-use Rattle.std.proofs.Common.{◌≡◌, ◌∙◌, ℕ, ◌+◌, ◌*◌, ◌<◌, ◌≤◌, List, ◌++◌, Option, Some, None, Ok, Err, add-one, append_assoc, drop, length, take, ap, arith, inl, inr, refl, subst, sym}
+use Rattle.std.proofs.Common.{◌≡◌, ◌∙◌, ℕ, ◌+◌, ◌*◌, ◌<◌, ◌≤◌, List, ◌++◌, Option, Some, None, Ok, add-one, append_assoc, drop, length, take, ap, arith, subst, sym}
 use Rattle.std.specs.Prelude.{codes, decimal, option_map, slice_index_or}
 use Rattle.std.specs.Io.KnownBytes.{Appends}
 use Rattle.std.proofs.Math.Nat.{mul-div_cancel, mul-mod_left}

@@ -1,7 +1,7 @@
 -- What one line does.
 use Rattle.std.proofs.Common.{◌≡◌, ◌∙◌, ◌<◌, ℕ, zero, suc, ◌&&◌, true, not, Some, List, [], ◌∷◌, ap, arith, length, refl, subst, sym, inl, inr}
 use Rattle.std.proofs.lemmas.Option.{slice_get-get_or}
-use Rattle.std.specs.Prelude.{◌==◌, Err, IfErr, Ok, OnOk, Result, nat_lt, slice_get, slice_index_or}
+use Rattle.std.specs.Prelude.{◌==◌, Err, IfErr, IfOk, Ok, OnOk, Result, nat_lt, slice_get, slice_index_or}
 use Rattle.sectors.specs.PlaceLaws.{bool_cases}
 use Rattle.bio.specs.declared.request.Bio.{Bio}
 use Rattle.refusals.specs.declared.refusal.Refusal.{Refusal}
@@ -112,3 +112,7 @@ on_failed A (Err error) fails = tt
 pub output_stops : (kind : ErrorKind) → IsFileError (refused_by (io_refusal kind))
 output_stops kinds.OutOfMemory = inr refl
 output_stops _ = inl refl
+
+pub if_failed : {T E : Type 0} (P : T → Type 0) (result : Result T E) → IsErr result → IfOk result P
+if_failed P (Ok value) fails = absurd (cc fails)
+if_failed P (Err error) fails = tt

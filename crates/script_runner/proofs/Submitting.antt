@@ -1,5 +1,5 @@
 -- A line that submits a request, and the requests that fit a device.
-use Rattle.std.proofs.Common.{◌≡◌, ◌∙◌, ◌≤◌, ℕ, Bool, true, false, Option, Some, None, List, [], ◌∷◌, ◌++◌, Ok, Err, ap, arith, refl, subst, sym}
+use Rattle.std.proofs.Common.{◌≡◌, ◌∙◌, ◌≤◌, ℕ, Bool, true, false, List, [], ◌∷◌, ◌++◌, Ok, Err, ap, arith, refl, subst, sym}
 use Rattle.std.specs.Prelude.{IsTrue, if◌then◌else◌, is_ok, length, replicate, ◌*◌, ◌/◌, ◌%◌, ◌==◌}
 use Rattle.std.specs.List.{list_all}
 use Rattle.std.proofs.Math.Nat.{mul-div_cancel, mul-mod_left}

@@ -1,15 +1,12 @@
 -- The events of a script's run are lawful for a device of the size of the data disk's top.
-use Rattle.std.proofs.Common.{◌≡◌, ◌∙◌, ℕ, zero, suc, Bool, true, false, Option, Some, None, List, [], ◌∷◌, ◌++◌, Result, Ok, Err, ap, inl, inr, refl, subst, sym, arith}
-use Rattle.std.specs.Prelude.{if◌then◌else◌, is_ok, length, replicate, slice_get, ◌*◌, ◌/◌, ◌%◌, ◌==◌}
-use Rattle.std.proofs.Math.Nat.{mul-div_cancel, mul-mod_left}
-use Rattle.std.proofs.lemmas.List.{length-replicate}
+use Rattle.std.proofs.Common.{◌≡◌, ℕ, zero, suc, Bool, true, false, Option, Some, None, List, [], ◌∷◌, ◌++◌, Result, Ok, Err, inl, inr, refl, subst, sym}
+use Rattle.std.specs.Prelude.{if◌then◌else◌, is_ok, slice_get}
 use Rattle.sectors.specs.PlaceLaws.{bool_cases}
 use Rattle.bio.specs.declared.event.CoreEvent.{CoreEvent}
 use Rattle.bio.specs.declared.event.CoreEvent.TheVariants as events
 use Rattle.bio.specs.declared.outcome.End.{End}
 use Rattle.bio.specs.declared.request.Bio.{Bio}
-use Rattle.bio.specs.Check.{check_answer, range_answer}
-use Rattle.bio.specs.declared.request.BadBio.TheVariants.{NotWhole}
+use Rattle.bio.specs.Check.{check_answer}
 use Rattle.bio.specs.Events.{is_open_at}
 use Rattle.bio.specs.EventLaws.{well_formed-lawful}
 use Rattle.bio.specs.Lawful.{has_no_close, is_lawful, is_recording, is_text, is_well_formed, is_within}
@@ -20,10 +17,8 @@ use Rattle.dmlw_script.specs.declared.command.Command.TheVariants as commands
 use Rattle.dmlw_script.specs.declared.command.Step.{Step}
 use Rattle.dmlw_script.specs.declared.command.Step.TheVariants as steps
 use Rattle.dmlw_script.specs.declared.disk_name.DiskName.TheVariants as disks
-use Rattle.dmlw_script.specs.declared.command.Submission.{Submission}
-use Rattle.dmlw_script.specs.declared.command.Submission.TheVariants as submits
 use Rattle.dmlw_script.specs.declared.script_id.ScriptId.{ScriptId}
-use Rattle.dmlw_script.specs.Plans.{IsPlan, IsWellFormed, Plan, name_at, submission_answer, top_of}
+use Rattle.dmlw_script.specs.Plans.{IsPlan, IsWellFormed, Plan, name_at, top_of}
 use Rattle.pending.specs.CoreState.{CoreState, added_to, records, stopped_by}
 use Rattle.recorder.specs.declared.recorder.Recorder.{Recorder}
 use Rattle.recorder.specs.declared.reply.Reply.{Reply}
@@ -38,6 +33,7 @@ use Rattle.script_runner.specs.Lines.{Answering, Asks, EndsRequest, HearsEnd, Ta
 use Rattle.script_runner.specs.OnDisks.{stack_answering, DiskRun, Starts}
 use Rattle.script_runner.specs.Runs.{RunsLines}
 use Rattle.script_runner.specs.Submitted.{bio_of}
+use Rattle.script_runner.proofs.Submitting.{bio_passes}
 
 -- each request among the events passed the test of a device of so many sectors
 abbrev AreWithin : ℕ → List CoreEvent → Type 0
@@ -151,17 +147,6 @@ drained_within {L} {l} sectors answer old new drains within = by_end old.end ref
     by_end : (end : Option End) → old.end ≡ end → AreWithin sectors new.core.events
     by_end None is = by_answer answer is drains
     by_end (Some cause) is = same_within sectors old.core new.core (drains.ended cause is).1.core within
-
--- the request of a line passes the test that its line passes
-bio_passes : (sectors : ℕ) (submission : Submission) → submission_answer sectors submission ≡ Ok tt → is_ok (check_answer (bio_of submission) sectors) ≡ true
-bio_passes sectors (submits.Write first count byte options) passes = ap is_ok (whole (length (replicate (count * 512) byte)) (length-replicate (count * 512) byte) ∙ passes)
-  where
-    whole : (n : ℕ) → n ≡ count * 512 → (if n % 512 == 0 then range_answer first (n / 512) sectors else Err NotWhole) ≡ range_answer first count sectors
-    whole n is =
-        subst (λ (m : ℕ). (if m % 512 == 0 then range_answer first (m / 512) sectors else Err NotWhole) ≡ range_answer first count sectors) (sym is)
-        (rw (mul-mod_left count 512, mul-div_cancel count {n = 512} (omega arith)) refl)
-bio_passes sectors submits.Flush passes = refl
-bio_passes sectors (submits.Discard first count) passes = ap is_ok passes
 
 -- a request that is asked
 asked_within : {L : Type 0} {l : Ghosts L} (sectors : ℕ) (bio : Bio) (request : Request) (old new : Recorder L l) → Asks bio request old new

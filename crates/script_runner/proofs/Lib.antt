@@ -1,11 +1,13 @@
 mod Printing
 mod Stepping
+mod Submitting
 mod Chaining
 mod Scripts
 mod Reading
 mod Writing
 mod Logs
 mod OnDisks
+mod Plays
 mod Following
 mod Bare
 mod LawfulRuns

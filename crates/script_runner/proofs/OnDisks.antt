@@ -1,7 +1,6 @@
 -- The start of a run on disks in memory, and what its log's disk holds at the end.
-use Rattle.std.proofs.Common.{◌≡◌, ◌∙◌, ◌⊎◌, ◌*◌, ◌+◌, ℕ, IfErr, IfOk, Result, Err, Ok, Option, None, Some, List, [], ◌∷◌, false, length, refl, sym, ap, subst, inl, inr, arith}
+use Rattle.std.proofs.Common.{◌≡◌, ◌∙◌, ◌*◌, ◌+◌, ℕ, Option, None, Some, List, [], ◌∷◌, false, length, refl, sym, ap, subst, arith}
 use Rattle.std.proofs.Math.Nat.{mul-div_cancel}
-use Rattle.script_runner.specs.CallLaws.{keeps_same}
 use Rattle.bio.specs.declared.outcome.Status.{Status}
 use Rattle.bio.specs.Lawful.{has_no_close}
 use Rattle.sectors.specs.Content.{AgreeBelow, Content, sector_of, writes}
@@ -36,10 +35,8 @@ use Rattle.recorder.specs.Growth.{HasWholeLog, RecorderGoes}
 use Rattle.recorder.specs.Recording.{log_of}
 use Rattle.recorder.specs.Replayed.{ReplaysToWhatCouldBe}
 use Rattle.recorder.specs.Shown.{recording_of}
-use Rattle.run_error.specs.declared.run_error.RunError.{RunError}
-use Rattle.script_runner.specs.Begun.{IsNewOn, IsUnmadeOn}
-use Rattle.run_error.specs.Errors.{memory_error}
-use Rattle.script_runner.specs.OnDisks.{DiskRecorder, DiskRun, FailsOnDisks, IsCounted, IsNew, IsRecorded, IsStackOf, IsUnmade, Starts, file, left_on, on_stack, seen_on, stack_answering, unmade, zeroes}
+use Rattle.script_runner.specs.Begun.{IsNewOn}
+use Rattle.script_runner.specs.OnDisks.{DiskRecorder, DiskRun, IsCounted, IsNew, IsRecorded, IsStackOf, Starts, left_on, seen_on, stack_answering, zeroes}
 use Rattle.dmlw_script.specs.Plans.{top_of, Disk, IsDisk, Plan}
 use Rattle.script_runner.specs.declared.recording.Lies.{Lies}
 use Rattle.script_runner.specs.Runs.{RunsLines}
@@ -83,7 +80,7 @@ stacked spec disk bare stack {sectors} {layers} here above blank none beneath se
     })
 
 -- the top's sectors and its place on the disk
-stack_size : (disk : Disk) (stack : Stack) → IsStackOf disk stack → (stack_shown stack).size ≡ top_of disk
+pub stack_size : (disk : Disk) (stack : Stack) → IsStackOf disk stack → (stack_shown stack).size ≡ top_of disk
 stack_size disk stack is = is.over.size ∙ ap (λ (n : ℕ). top_sectors n disk.layers) is.blank.size
 
 stack_place : (disk : Disk) (stack : Stack) → IsStackOf disk stack
@@ -103,30 +100,6 @@ new_log {L} {l} device store recorder none goes empty (core, same, end) = record
   empty = subst (λ (s : LogStore L l). (l.shown s.device).lies ≡ 0 → (left : Content) → (l.shown s.device).crash left → IsLogOf (l.shown s.device).size left 512 [])
       (sym same) empty;
 }
-
--- a run that starts on a stack for the log and one for the data
-pub starts_on : (plan : Plan) (log : Stack) (result : Result DiskRun RunError) → IsStackOf plan.log_disk log → IfOk result (λ run. IsNewOn log run.recorder)
-    → IfOk result (λ run. IsStackOf plan.data_disk run.disk × (run.requests.items ≡ []) × (run.moment ≡ 0)) → IfOk result (Starts plan)
-starts_on plan log (Err fault) blank begun rest = tt
-starts_on plan log (Ok run) blank begun (data_disk, none, moment) = record {
-  data_disk = data_disk;
-  log_disk = record { stack = log; blank = blank; begun = begun };
-  none = none;
-  moment = moment;
-}
-
--- a run that can't be started on such a stack
-pub not_on : (plan : Plan) (log : Stack) (result : Result DiskRun RunError) → IsStackOf plan.log_disk log
-    → IfErr result (λ fault. (fault ≡ memory_error) ⊎ IsUnmadeOn on_stack log fault) → IfErr result (λ fault. (fault ≡ memory_error) ⊎ IsUnmade plan.log_disk fault)
-not_on plan log (Ok run) blank fails = tt
-not_on plan log (Err fault) blank (inl memory) = inl memory
-not_on plan log (Err fault) blank (inr refused) = inr (record { stack = log; blank = blank; refused = refused })
-
--- a run that can't be started fails, and has printed nothing
-pub fails_to_start : (text : List ℕ) (plan : Plan) (known : Option (List ℕ)) (fault : RunError) → (fault ≡ memory_error) ⊎ IsUnmade plan.log_disk fault
-    → FailsOnDisks text plan known known fault
-fails_to_start text plan known fault (inl memory) = file fault (inr memory)
-fails_to_start text plan known fault (inr none) = unmade fault none (keeps_same known)
 
 -- what is on a disk a crash may leave
 may_leave : (ending : Option (List ℕ)) (disk : SectorDisk) → (shown_of disk).crash (left_on ending disk)

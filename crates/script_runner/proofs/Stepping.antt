@@ -1,7 +1,7 @@
 -- What one line does.
 use Rattle.std.proofs.Common.{◌≡◌, ◌∙◌, ◌<◌, ℕ, zero, suc, ◌&&◌, true, not, Some, List, [], ◌∷◌, ap, arith, length, refl, subst, sym, inl, inr}
 use Rattle.std.proofs.lemmas.Option.{slice_get-get_or}
-use Rattle.std.specs.Prelude.{◌==◌, Err, IfErr, Ok, OnOk, Result, nat_lt, slice_get, slice_index_or}
+use Rattle.std.specs.Prelude.{◌==◌, Err, IfErr, IfOk, Ok, OnOk, Result, nat_lt, slice_get, slice_index_or}
 use Rattle.sectors.specs.PlaceLaws.{bool_cases}
 use Rattle.bio.specs.declared.request.Bio.{Bio}
 use Rattle.refusals.specs.declared.refusal.Refusal.{Refusal}
@@ -18,9 +18,13 @@ use Rattle.recorder.specs.declared.reply.Reply.TheVariants as replies
 use Rattle.recorder.specs.Calls.{Closes, Marks, Submits}
 use Rattle.bio.specs.Lawful.{is_recording, is_text}
 use Rattle.dmlw_script.specs.Lines.{is_line_byte, is_line_text}
+use Rattle.run_error.specs.Errors.{IsFileError, io_refusal, refused_by}
 use Rattle.script_runner.specs.Lines.{PrintsMark}
 use Rattle.script_runner.specs.inside.Replies.{mark_outcome}
 use Rattle.std.proofs.lemmas.Bool.{and_from, and_parts, ltb-true}
+use Rattle.std.specs.Result.{IsErr}
+use Rattle.std.specs.declared.io.ErrorKind.{ErrorKind}
+use Rattle.std.specs.declared.io.ErrorKind.TheVariants as kinds
 use Rattle.std.specs.Str.{IsAscii}
 use Rattle.std.proofs.lemmas.Bool.Decides.{nat_tests}
 use Rattle.script_runner.specs.declared.request.Request.{Request}
@@ -98,3 +102,17 @@ on_ok (Err error) holds follows = tt
 pub if_err : {T E : Type 0} {P Q : E → Type 0} (result : Result T E) → IfErr result P → ((error : E) → P error → Q error) → IfErr result Q
 if_err (Ok value) holds follows = tt
 if_err (Err error) holds follows = follows error holds
+
+-- a call that failed promises nothing of a success
+pub on_failed : {T E : Type 0} (A : Type 0) (result : Result T E) → IsErr result → OnOk result A
+on_failed A (Ok value) fails = absurd (cc fails)
+on_failed A (Err error) fails = tt
+
+-- an output that failed stops a line for the file, or for memory
+pub output_stops : (kind : ErrorKind) → IsFileError (refused_by (io_refusal kind))
+output_stops kinds.OutOfMemory = inr refl
+output_stops _ = inl refl
+
+pub if_failed : {T E : Type 0} (P : T → Type 0) (result : Result T E) → IsErr result → IfOk result P
+if_failed P (Ok value) fails = absurd (cc fails)
+if_failed P (Err error) fails = tt

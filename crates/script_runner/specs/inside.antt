@@ -1,1 +1,2 @@
+pub mod Played
 pub mod Replies

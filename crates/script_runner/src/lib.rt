@@ -15,6 +15,7 @@ pub use step_error::StepError;
 mod asking;
 mod handing;
 pub mod laws;
+mod playing;
 mod print;
 mod recording;
 mod rehearsing;

@@ -69,15 +69,14 @@ pub(crate) fn print_read<O: Write>(
     ensures output { OnOk result (Appends (O.contents out.old) (O.contents out.new) (read_line first count (option_map (λ read. read.items) bytes.now))) }
     ensures faults { IfErr result StopsForFile }
 {
-    write!(out, "read {first}+{count} ")?;
     match bytes {
         Some(read) => {
-            write!(out, "ok ")?;
+            write!(out, "read {first}+{count} ok ")?;
             print_first_bytes(count, read.as_slice(), out)?;
+            Ok(writeln!(out)?)
         }
-        None => write!(out, "failed")?,
+        None => Ok(writeln!(out, "read {first}+{count} failed")?),
     }
-    Ok(writeln!(out)?)
 }
 
 // Prints the first byte of each of so many sectors.

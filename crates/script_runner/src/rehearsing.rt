@@ -3,8 +3,7 @@ ghost use Rattle.bio.specs.Lawful.{is_lawful};
 ghost use Rattle.dmlw_script.specs.Plans.{top_of};
 ghost use Rattle.script_runner.specs.Rehearsals.{FailsRehearsal, IsRehearsed};
 
-use crate::recording::start;
-use crate::run_script::run;
+use crate::playing::play_on_disks;
 use bio::CoreEvent;
 use dmlw_script::Script;
 use layer_table::Stack;
@@ -47,10 +46,9 @@ pub fn rehearse(alloc: Global, text: &[u8], script: &Script) -> Result<Rehearsed
     ensures faults { IfErr result (FailsRehearsal text.now script.now) }
 {
     let _commands = script.commands();
-    let mut running = start(alloc, script)?;
-    run(text, script, &mut running, &mut io::sink())?;
-    let _events = running.recorder().events();
-    let (recorder, data) = running.into_parts();
-    drop(data);
-    Ok(Rehearsed { recorder })
+    let played = play_on_disks(alloc, text, script, &mut io::sink())?;
+    let _events = played.recorder.events();
+    Ok(Rehearsed {
+        recorder: played.recorder,
+    })
 }

@@ -1,9 +1,38 @@
-use Rattle.std.proofs.Common.{inr, rules}
+use Rattle.std.proofs.Common.{◌∙◌, ap, inl, inr, refl, subst, sym}
+use Rattle.bio.specs.declared.request.Bio.{Bio}
+use Rattle.bio.specs.Requests.{has_data}
+use Rattle.recorder.specs.Calls.{Submits}
+use Rattle.refusals.specs.declared.refusal.Refusal.TheVariants.{Memory}
+use Rattle.recorder.specs.declared.reply.Reply.TheVariants as replies
 use Rattle.script_runner.proofs.Stepping.{refused-only}
+use Rattle.script_runner.proofs.Submitting.{has_some}
 use Rattle.script_runner.proofs.asking.ask.Goals as goal
+
+pub bio_of-requires : goal.bio_of-requires
+bio_of-requires g c = (1048576, c.requires)
+
+pub returns-in_default-clause-asks : goal.returns-in_default-clause-asks
+returns-in_default-clause-asks g c = inl (has_some _ c.in_default.ensures.no_data, refl)
+
+pub returns-in_default-clone-clause-asks : goal.returns-in_default-clone-clause-asks
+returns-in_default-clone-clause-asks g c = inl (ap has_data (sym c.in-Ok.ensures.made) ∙ has_some _ c.in_default-clone.ensures.no_data, refl)
+
+pub returns-in-Tracked-clause-asks : goal.returns-in-Tracked-clause-asks
+returns-in-Tracked-clause-asks g c = (
+  c.in-Ok.ensures.made,
+  subst (λ (bio : Bio). Submits bio (replies.Tracked c.in-Tracked.id) c.args.recorder.now c.event.new.self)
+      (c.in-Ok-clone.ensures.made ∙ c.in-Ok.ensures.made) c.in-Tracked.ensures.does,
+)
+
+pub returns-in-Passed-clause-asks : goal.returns-in-Passed-clause-asks
+returns-in-Passed-clause-asks g c = (
+  c.in-Ok.ensures.made,
+  subst (λ (bio : Bio). Submits bio replies.Passed c.args.recorder.now c.event.new.self) (c.in-Ok-clone.ensures.made ∙ c.in-Ok.ensures.made) c.in-Passed.ensures.does,
+)
 
 pub returns-in_default-event : goal.returns-in_default-event
 returns-in_default-event g c = record {
-  asks = inr (refused-only _ c.event.result c.args.recorder.now c.event.new.self (search rules) c.in_default-event.not-Tracked c.in_default-event.not-Passed);
+  asks = inr (subst (λ (bio : Bio). Submits bio (replies.Refused Memory) c.args.recorder.now c.event.new.self) (c.in-Ok-clone.ensures.made ∙ c.in-Ok.ensures.made)
+      (refused-only _ c.event.result c.args.recorder.now c.event.new.self c.event.ensures.does c.in_default-event.not-Tracked c.in_default-event.not-Passed));
   goes = c.event.ensures.goes;
 }

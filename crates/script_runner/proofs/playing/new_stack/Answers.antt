@@ -1,7 +1,7 @@
 use Rattle.std.proofs.Common.{◌≡◌, ℕ, subst}
 use Rattle.layer_table.specs.Layers.{layers_of, layers_under}
 use Rattle.script_runner.proofs.OnDisks.{asked, stacked, stands}
-use Rattle.script_runner.proofs.recording.new_stack.Goals as goal
+use Rattle.script_runner.proofs.playing.new_stack.Goals as goal
 
 pub under-requires : goal.under-requires
 under-requires c = asked c.sectors.result c.layers.result.now (stands c.args.disk.now _ c.layers.ensures c.sectors.ensures c.requires)

@@ -1,0 +1,77 @@
+-- What playing a script comes to, from the run of its lines up to two disks in memory.
+use Rattle.std.proofs.Common.{◌≡◌, ◌⊎◌, ℕ, List, Option, inl, inr, subst, sym}
+use Rattle.std.specs.Prelude.{Err, IfOk, Ok, Result}
+use Rattle.blockdev.specs.declared.device.BlockDev.{Ghosts}
+use Rattle.dmlw_script.specs.Plans.{Disk, Plan}
+use Rattle.layer_table.specs.declared.stack.Stack.{Stack}
+use Rattle.recorder.specs.declared.recorder.Recorder.{Recorder}
+use Rattle.run_error.specs.declared.run_error.RunError.{RunError}
+use Rattle.run_error.specs.Errors.{memory_error}
+use Rattle.script_runner.specs.CallLaws.{keeps_same}
+use Rattle.script_runner.specs.declared.playing.Played.{Played}
+use Rattle.script_runner.specs.declared.running.Running.{Running}
+use Rattle.script_runner.specs.Begun.{IsUnmadeOn}
+use Rattle.script_runner.specs.Lines.{Answering}
+use Rattle.script_runner.specs.OnDisks.{on_stack, stack_answering, DiskRun, FailsOnDisks, IsStackOf, Starts, file as no_file, run as no_run, unmade as no_log}
+use Rattle.script_runner.specs.inside.Played.{FailsPlaying, IsPlayed, StartsBeside, StartsOn, file, run, unmade}
+
+-- what was played from one kind of start was played from another, where each of the one kind is of the other
+pub played_from : {D L : Type 0} {d : Ghosts D} {l : Ghosts L} (m : Answering D L) (plan : Plan) (Start Other : Running D L d l → Type 0) (before after : Option (List ℕ)) (recorder : Recorder L l)
+    (lies : ℕ) → ((run : Running D L d l) → Start run → Other run) → IsPlayed m plan Start before after recorder lies → IsPlayed m plan Other before after recorder lies
+played_from m plan Start Other before after recorder lies follows played = record {
+  start = played.start;
+  starts = follows played.start played.starts;
+  last = played.last;
+  text = played.text;
+  ran = played.ran;
+  printed = played.printed;
+  left = played.left;
+  lied = played.lied;
+}
+
+-- and so does a failure
+pub fails_from : {D L : Type 0} {d : Ghosts D} {l : Ghosts L} (m : Answering D L) (text : List ℕ) (plan : Plan) (Unmade : RunError → Type 0) (Start Other : Running D L d l → Type 0)
+    (before after : Option (List ℕ)) (fault : RunError) → ((run : Running D L d l) → Start run → Other run) → FailsPlaying m text plan Unmade Start before after fault
+    → FailsPlaying m text plan Unmade Other before after fault
+fails_from m text plan Unmade Start Other before after fault follows (file f is) = file f is
+fails_from m text plan Unmade Start Other before after fault follows (unmade f is kept) = unmade f is kept
+fails_from m text plan Unmade Start Other before after fault follows (run start f starts ends) = run start f (follows start starts) ends
+
+-- a run that can't be started fails, and has printed nothing
+pub fails_at_start : {D L : Type 0} {d : Ghosts D} {l : Ghosts L} (m : Answering D L) (text : List ℕ) (plan : Plan) (Unmade : RunError → Type 0) (Start : Running D L d l → Type 0)
+    (known : Option (List ℕ)) (fault : RunError) → (fault ≡ memory_error) ⊎ Unmade fault → FailsPlaying m text plan Unmade Start known known fault
+fails_at_start m text plan Unmade Start known fault (inl memory) = file fault (inr memory)
+fails_at_start m text plan Unmade Start known fault (inr none) = unmade fault none (keeps_same known)
+
+-- a start on a stack is one beside it
+pub on_beside : {L : Type 0} {l : Ghosts L} (disk : Disk) (stack : Stack) (log : L) → IsStackOf disk stack → (run : Running Stack L on_stack l) → StartsOn stack log run
+    → StartsBeside disk log run
+on_beside disk stack log is now starts = record {
+  stack = subst (λ (s : Stack). IsStackOf disk s) (sym starts.disk_is) is;
+  begun = starts.begun;
+  none = starts.none;
+  moment = starts.moment;
+}
+
+-- a start beside a log's stack is one on two disks
+pub beside_starts : (plan : Plan) (log : Stack) → IsStackOf plan.log_disk log → (run : DiskRun) → StartsBeside plan.data_disk log run → Starts plan run
+beside_starts plan log is now starts = record {
+  data_disk = starts.stack;
+  log_disk = record { stack = log; blank = is; begun = starts.begun };
+  none = starts.none;
+  moment = starts.moment;
+}
+
+-- and a failure on it is one on two disks
+pub fails_on_disks : (text : List ℕ) (plan : Plan) (log : Stack) (before after : Option (List ℕ)) (fault : RunError) → IsStackOf plan.log_disk log
+    → FailsPlaying {d = on_stack} {l = on_stack} stack_answering text plan (IsUnmadeOn on_stack log) (StartsBeside plan.data_disk log) before after fault → FailsOnDisks text plan before after fault
+fails_on_disks text plan log before after fault is (file f fails) = no_file f fails
+fails_on_disks text plan log before after fault is (unmade f refused kept) = no_log f (record { stack = log; blank = is; refused = refused }) kept
+fails_on_disks text plan log before after fault is (run start f starts ends) = no_run start f (beside_starts plan log is start starts) ends
+
+-- the same of results
+pub all_played : {D L : Type 0} {d : Ghosts D} {l : Ghosts L} (m : Answering D L) (plan : Plan) (Start Other : Running D L d l → Type 0) (before after : Option (List ℕ))
+    (result : Result (Played L l) RunError) → ((run : Running D L d l) → Start run → Other run)
+    → IfOk result (λ played. IsPlayed m plan Start before after played.recorder played.data_lies) → IfOk result (λ played. IsPlayed m plan Other before after played.recorder played.data_lies)
+all_played m plan Start Other before after (Err fault) follows holds = tt
+all_played m plan Start Other before after (Ok played) follows holds = played_from m plan Start Other before after played.recorder played.data_lies follows holds

@@ -1,0 +1,35 @@
+use Rattle.std.proofs.Common.{inl, subst, sym}
+use Rattle.dmlw_script.specs.Plans.{Disk}
+use Rattle.layer_table.specs.StackMessages.{StackAnswers}
+use Rattle.script_runner.specs.CallLaws.{on_error}
+use Rattle.script_runner.specs.Lines.{answering}
+use Rattle.script_runner.specs.OnDisks.{on_stack, IsStackOf}
+use Rattle.script_runner.specs.inside.Played.{FailsPlaying}
+use Rattle.script_runner.proofs.OnDisks.{stack_size}
+use Rattle.script_runner.proofs.Plays.{all_played, fails_at_start, fails_from, on_beside}
+use Rattle.script_runner.proofs.Stepping.{if_err, if_failed}
+use Rattle.script_runner.proofs.playing.play_beside.Goals as goal
+
+pub returns-in_err-data-clause-played : goal.returns-in_err-data-clause-played
+returns-in_err-data-clause-played g c = if_failed _ c.from_residual.result c.from_residual.ensures.0
+
+pub returns-in_err-data-clause-faults : goal.returns-in_err-data-clause-faults
+returns-in_err-data-clause-faults g c =
+    on_error c.from_residual.result c.from_residual.ensures.1
+    (λ fault is. subst (FailsPlaying {d = on_stack} {l = g.L.BlockDev} _ _ _ _ _ _ _) (sym is) (fails_at_start _ _ _ _ _ _ _ (inl c.in_err-data.ensures.faults)))
+
+pub play-requires : goal.play-requires
+play-requires g c =
+    stack_size c.args.script.now.data_disk c.in_ok-data.data (subst (λ (disk : Disk). IsStackOf disk c.in_ok-data.data) c.data.ensures.disk c.in_ok-data.ensures.stack)
+
+pub returns-clause-played : goal.returns-clause-played
+returns-clause-played g c =
+    all_played {d = on_stack} {l = g.L.BlockDev} (answering StackAnswers g.L.Message.answers) c.args.script.now _ _ _ _ c.play.result
+    (on_beside c.args.script.now.data_disk c.in_ok-data.data c.args.log (subst (λ (disk : Disk). IsStackOf disk c.in_ok-data.data) c.data.ensures.disk c.in_ok-data.ensures.stack))
+    c.play.ensures.played
+
+pub returns-clause-faults : goal.returns-clause-faults
+returns-clause-faults g c = if_err c.play.result c.play.ensures.faults (λ fault fails.
+    fails_from {d = on_stack} {l = g.L.BlockDev} (answering StackAnswers g.L.Message.answers) c.args.text.now c.args.script.now _ _ _ _ _ fault
+    (on_beside c.args.script.now.data_disk c.in_ok-data.data c.args.log (subst (λ (disk : Disk). IsStackOf disk c.in_ok-data.data) c.data.ensures.disk c.in_ok-data.ensures.stack))
+    fails)

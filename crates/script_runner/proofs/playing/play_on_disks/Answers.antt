@@ -1,0 +1,25 @@
+use Rattle.std.proofs.Common.{inr, subst, sym}
+use Rattle.dmlw_script.specs.Plans.{Disk}
+use Rattle.script_runner.specs.CallLaws.{on_error}
+use Rattle.script_runner.specs.OnDisks.{on_stack, stack_answering, FailsOnDisks, IsStackOf, file}
+use Rattle.script_runner.proofs.Plays.{all_played, beside_starts, fails_on_disks}
+use Rattle.script_runner.proofs.Stepping.{if_err, if_failed}
+use Rattle.script_runner.proofs.playing.play_on_disks.Goals as goal
+
+pub returns-in_err-log-clause-played : goal.returns-in_err-log-clause-played
+returns-in_err-log-clause-played g c = if_failed _ c.from_residual.result c.from_residual.ensures.0
+
+pub returns-in_err-log-clause-faults : goal.returns-in_err-log-clause-faults
+returns-in_err-log-clause-faults g c =
+    on_error c.from_residual.result c.from_residual.ensures.1
+    (λ fault is. subst (FailsOnDisks _ _ _ _) (sym is) (file _ (inr c.in_err-log.ensures.faults)))
+
+pub returns-clause-played : goal.returns-clause-played
+returns-clause-played g c =
+    all_played {d = on_stack} {l = on_stack} stack_answering c.args.script.now _ _ _ _ c.play_beside.result
+    (beside_starts c.args.script.now c.in_ok-log.log (subst (λ (disk : Disk). IsStackOf disk c.in_ok-log.log) c.log.ensures.disk c.in_ok-log.ensures.stack))
+    c.play_beside.ensures.played
+
+pub returns-clause-faults : goal.returns-clause-faults
+returns-clause-faults g c = if_err c.play_beside.result c.play_beside.ensures.faults (λ fault fails.
+    fails_on_disks c.args.text.now c.args.script.now c.in_ok-log.log _ _ fault (subst (λ (disk : Disk). IsStackOf disk c.in_ok-log.log) c.log.ensures.disk c.in_ok-log.ensures.stack) fails)

@@ -1,0 +1,137 @@
+ghost use Rattle.std.specs.Prelude.{◌≡◌, ◌⊎◌, IfErr, IfOk};
+ghost use Rattle.dmlw_script.specs.Plans.{IsDisk, top_of};
+ghost use Rattle.layer_table.specs.StackMessages.{StackAnswers};
+ghost use Rattle.run_error.specs.Errors.{memory_error};
+ghost use Rattle.script_runner.specs.Begun.{IsNewOn, IsUnmadeOn};
+ghost use Rattle.script_runner.specs.Lines.{answering};
+ghost use Rattle.script_runner.specs.OnDisks.{FailsOnDisks, IsStackOf, Starts, stack_answering};
+ghost use Rattle.script_runner.specs.inside.Played.{FailsPlaying, IsPlayed, StartsBeside, StartsOn};
+
+use crate::run_script::run;
+use crate::running::Running;
+use bio::{End, Ms};
+use blockdev::{BlockDev, Message};
+use dmlw_script::{DiskSpec, Script};
+use layer_table::Stack;
+use log_store::LogStore;
+use recorder::Recorder;
+use refusals::Refusal;
+use run_error::RunError;
+use sector_disk::SectorDisk;
+use std::alloc::Global;
+use std::io::Write;
+
+// What a script's run left.
+#[derive(Drop)]
+pub(crate) struct Played<L: BlockDev + Drop> {
+    // The recorder, as it stands.
+    pub(crate) recorder: Recorder<L>,
+    // How often the layers over the data device have lied.
+    pub(crate) data_lies: u64,
+}
+
+// Runs a script, which was read from `text`, on two disks in memory, each under its layers.
+pub(crate) fn play_on_disks<O: Write>(
+    alloc: Global,
+    text: &[u8],
+    script: &Script,
+    out: &mut O,
+) -> Result<Played<Stack>, RunError>
+    ensures played { IfOk result (λ played. IsPlayed stack_answering script.now (Starts script.now) (O.contents out.old) (O.contents out.new) played.recorder played.data_lies) }
+    ensures faults { IfErr result (FailsOnDisks text.now script.now (O.contents out.old) (O.contents out.new)) }
+{
+    let log = new_stack(alloc, script.log())?;
+    play_beside(alloc, text, script, log, out)
+}
+
+// The same, where the log's disk stands under its layers.
+fn play_beside<L: Message + Drop, O: Write>(
+    alloc: Global,
+    text: &[u8],
+    script: &Script,
+    log: L,
+    out: &mut O,
+) -> Result<Played<L>, RunError>
+    ensures played { IfOk result (λ played. IsPlayed {l = L.BlockDev} (answering StackAnswers L.answers) script.now (StartsBeside script.now.data_disk log) (O.contents out.old) (O.contents out.new) played.recorder played.data_lies) }
+    ensures faults { IfErr result (FailsPlaying {l = L.BlockDev} (answering StackAnswers L.answers) text.now script.now (IsUnmadeOn L.BlockDev log) (StartsBeside script.now.data_disk log) (O.contents out.old) (O.contents out.new)) }
+{
+    let data = new_stack(alloc, script.data())?;
+    play(alloc, text, script, log, data, out)
+}
+
+// Runs a script on a new log on one device and on another device.
+fn play<D: Message + Drop, L: Message + Drop, O: Write>(
+    alloc: Global,
+    text: &[u8],
+    script: &Script,
+    log: L,
+    disk: D,
+    out: &mut O,
+) -> Result<Played<L>, RunError>
+    requires { (D.shown disk).size ≡ top_of script.now.data_disk }
+    ensures played { IfOk result (λ played. IsPlayed {d = D.BlockDev} {l = L.BlockDev} (answering D.answers L.answers) script.now (StartsOn disk log) (O.contents out.old) (O.contents out.new) played.recorder played.data_lies) }
+    ensures faults { IfErr result (FailsPlaying {d = D.BlockDev} {l = L.BlockDev} (answering D.answers L.answers) text.now script.now (IsUnmadeOn L.BlockDev log) (StartsOn disk log) (O.contents out.old) (O.contents out.new)) }
+{
+    let mut running = start_on(alloc, log, disk, script.names().len())?;
+    run(text, script, &mut running, out)?;
+    let (recorder, disk) = running.into_parts();
+    Ok(Played {
+        recorder,
+        data_lies: disk.lies(),
+    })
+}
+
+// A run before its first line, over a new log on one device and over another device, with room for so many requests.
+fn start_on<D: BlockDev + Drop, L: BlockDev + Drop>(
+    alloc: Global,
+    log: L,
+    disk: D,
+    requests: usize,
+) -> Result<Running<D, L>, RunError>
+    ensures starts { IfOk result (StartsOn disk log) }
+    ensures faults { IfErr result (λ fault. (fault ≡ memory_error) ⊎ IsUnmadeOn L.BlockDev log fault) }
+{
+    let recorder = new_recorder(alloc, log)?;
+    Ok(Running::new(alloc, recorder, disk, requests)?)
+}
+
+// A recorder over a new log on a device.
+fn new_recorder<L: BlockDev + Drop>(alloc: Global, device: L) -> Result<Recorder<L>, RunError>
+    ensures made { IfOk result (IsNewOn device) }
+    ensures faults { IfErr result (λ fault. (fault ≡ memory_error) ⊎ IsUnmadeOn L.BlockDev device fault) }
+{
+    match LogStore::create(device) {
+        Ok(store) => match Recorder::new(alloc, store) {
+            Ok(recorder) => Ok(recorder),
+            Err(_store) => Err(RunError::from(Refusal::Memory)),
+        },
+        Err(refused) => Err(RunError::LoggingEnded(end_of(refused))),
+    }
+}
+
+// Why a device, which goes, was refused.
+fn end_of<D: Drop>(refused: (D, End)) -> End
+    ensures { result ≡ refused.1 }
+{
+    refused.1
+}
+
+// A new disk under its layers.
+fn new_stack(alloc: Global, disk: &DiskSpec) -> Result<Stack, RunError>
+    requires { IsDisk disk.now }
+    ensures stack { IfOk result (IsStackOf disk.now) }
+    ensures faults { IfErr result (λ fault. fault ≡ memory_error) }
+{
+    let bare = SectorDisk::new(alloc, disk.sectors())?;
+    match Stack::new(bare).under(alloc, disk.layers(), Ms::new(0)) {
+        Ok(stack) => Ok(stack),
+        Err(back) => Err(RunError::from(refusal_of(back))),
+    }
+}
+
+// Why a stack, which goes, was refused.
+fn refusal_of<D: Drop>(back: (D, Refusal)) -> Refusal
+    ensures { result ≡ back.1 }
+{
+    back.1
+}

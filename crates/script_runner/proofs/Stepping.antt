@@ -1,5 +1,5 @@
 -- What one line does.
-use Rattle.std.proofs.Common.{◌≡◌, ◌∙◌, ◌<◌, ℕ, zero, suc, ◌&&◌, true, not, Some, List, [], ◌∷◌, ap, arith, length, refl, subst, sym, inl, inr}
+use Rattle.std.proofs.Common.{◌≡◌, ◌∙◌, ◌<◌, ℕ, zero, suc, ◌&&◌, true, not, None, Option, Some, List, [], ◌∷◌, ap, arith, length, refl, subst, sym, inl, inr}
 use Rattle.std.proofs.lemmas.Option.{slice_get-get_or}
 use Rattle.std.specs.Prelude.{◌==◌, Err, IfErr, IfOk, Ok, OnOk, Result, nat_lt, slice_get, slice_index_or}
 use Rattle.sectors.specs.PlaceLaws.{bool_cases}
@@ -16,10 +16,17 @@ use Rattle.recorder.specs.declared.recorder.Recorder.{Recorder}
 use Rattle.recorder.specs.declared.reply.Reply.{Reply}
 use Rattle.recorder.specs.declared.reply.Reply.TheVariants as replies
 use Rattle.recorder.specs.Calls.{Closes, Marks, Submits}
+use Rattle.recorder.specs.Growth.{RecorderGoes}
+use Rattle.recorder.specs.Shown.{recording_of}
+use Rattle.dmlw_script.specs.declared.script_id.ScriptId.{ScriptId}
+use Rattle.dmlw_script.specs.Plans.{moment_at_step}
+use Rattle.script_runner.specs.declared.running.Running.{Running}
+use Rattle.std.specs.Io.KnownBytes.{Appends}
+use Rattle.std.proofs.lemmas.List.{append-nil}
 use Rattle.bio.specs.Lawful.{is_recording, is_text}
 use Rattle.dmlw_script.specs.Lines.{is_line_byte, is_line_text}
 use Rattle.run_error.specs.Errors.{IsFileError, io_refusal, refused_by}
-use Rattle.script_runner.specs.Lines.{PrintsMark}
+use Rattle.script_runner.specs.Lines.{Answering, PrintsLine, PrintsMark, TakesStep}
 use Rattle.script_runner.specs.inside.Replies.{mark_outcome}
 use Rattle.std.proofs.lemmas.Bool.{and_from, and_parts, ltb-true}
 use Rattle.std.specs.Result.{IsErr}
@@ -116,3 +123,20 @@ output_stops _ = inl refl
 pub if_failed : {T E : Type 0} (P : T → Type 0) (result : Result T E) → IsErr result → IfOk result P
 if_failed P (Ok value) fails = absurd (cc fails)
 if_failed P (Err error) fails = tt
+
+-- what follows from a success in two parts
+pub both_ok : {T E A B C : Type 0} (result : Result T E) → OnOk result A → OnOk result B → (A → B → C) → OnOk result C
+both_ok (Ok value) one two follows = follows one two
+both_ok (Err error) one two follows = tt
+
+-- a line whose step is this one was run
+pub step_runs : {D L : Type 0} {d : Ghosts D} {l : Ghosts L} (m : Answering D L) (names : List ScriptId) (command : Command) (step : Step) (before after : Option (List ℕ)) (text : List ℕ)
+    (old new : Running D L d l) → command ≡ commands.Step step → TakesStep m step text old new → new.moment ≡ moment_at_step old.moment step
+    → RecorderGoes (recording_of old.recorder) (recording_of new.recorder) → Appends before after text → PrintsLine m names command before after old new
+step_runs m names command step before after text old new is takes moment goes printed =
+    subst (λ (c : Command). PrintsLine m names c before after old new) (sym is) (text, record { does = takes; moment = moment; goes = goes }, printed)
+
+-- a writer that does nothing holds nothing more
+pub appends_none : (known : Option (List ℕ)) → Appends known known []
+appends_none None = tt
+appends_none (Some bytes) = sym (append-nil bytes)

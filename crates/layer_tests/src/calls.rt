@@ -1,11 +1,127 @@
-// Calls of a device in words, and what each tells.
+// Calls of a device, and what each tells: the harness of all these tests. A call stands in a row, in words, or in a line of words, in letters.
 use bio::{DevError, Ms};
 use blockdev::{BlockDev, Message};
+use fault_layers::Kind;
 use refusals::Refusal;
+use sector_disk::SectorDisk;
 use std::alloc::{AllocError, Global};
 use std::io::Print;
 use std::process::Abort;
-use test_asserts::is_told;
+use std::test::Fail;
+use test_asserts::{is_same, is_told};
+
+// The bytes of 16 sectors.
+const MOST: usize = 8192;
+
+/// A call: its sectors, at most 16, and the byte that a write puts to each of them.
+#[derive(Clone, Copy, Debug)]
+pub struct Call {
+    pub kind: Kind,
+    pub first: u64,
+    pub count: u64,
+    pub byte: u8,
+    pub fua: bool,
+}
+
+/// When a call ended, or its error, and the bytes that it read, 255 where it read none.
+#[derive(Drop)]
+pub struct Answer {
+    pub end: Result<Ms, DevError>,
+    pub bytes: [u8; MOST],
+}
+
+fn read<D: BlockDev + Drop>(
+    rt: &impl Abort,
+    device: &mut D,
+    now: Ms,
+    call: Call,
+    bytes: &mut [u8; MOST],
+) -> Result<Ms, DevError> {
+    let Call { first, count, .. } = call;
+    assert!(rt; 0 < count && count <= 16 && first <= 4096 && first + count <= device.sectors());
+    device.read(now, first, &mut bytes[..count as usize * 512])
+}
+
+fn write<D: BlockDev + Drop>(
+    rt: &impl Abort,
+    device: &mut D,
+    now: Ms,
+    call: Call,
+    bytes: &[u8; MOST],
+) -> Result<Ms, DevError> {
+    let Call { first, count, .. } = call;
+    assert!(rt; 0 < count && count <= 16 && first <= 4096 && first + count <= device.sectors());
+    device.write(now, first, &bytes[..count as usize * 512], call.fua)
+}
+
+fn discard<D: BlockDev + Drop>(
+    rt: &impl Abort,
+    device: &mut D,
+    now: Ms,
+    call: Call,
+) -> Result<Ms, DevError> {
+    let Call { first, count, .. } = call;
+    assert!(rt; 0 < count && count <= 16 && first <= 4096 && first + count <= device.sectors());
+    device.discard(now, first, count)
+}
+
+/// Makes a call.
+pub fn ask<D: BlockDev + Drop>(rt: &impl Abort, device: &mut D, now: Ms, call: Call) -> Answer {
+    let mut bytes = [255; MOST];
+    let byte = call.byte;
+    let end = match call.kind {
+        Kind::Read => read(rt, device, now, call, &mut bytes),
+        Kind::Write => write(rt, device, now, call, &[byte; MOST]),
+        Kind::Discard => discard(rt, device, now, call),
+        Kind::Flush => device.flush(now),
+    };
+    Answer { end, bytes }
+}
+
+impl Answer {
+    /// The byte that the first sector is full of that was read, or 254.
+    pub fn byte(&self) -> u8 {
+        byte_of(&self.bytes[..512])
+    }
+}
+
+/// A read of one sector.
+pub fn read_of(sector: u64) -> Call {
+    Call {
+        kind: Kind::Read,
+        first: sector,
+        count: 1,
+        byte: 0,
+        fua: false,
+    }
+}
+
+/// The byte that a sector is full of, or 254.
+pub fn byte_of(sector: &[u8]) -> u8 {
+    let byte = sector.first().copied().unwrap_or(254);
+    if sector.iter().all(|other| *other == byte) {
+        byte
+    } else {
+        254
+    }
+}
+
+/// What calls on a device give, and then what becomes of the device. Only here is a device held that may be of many parts, and here it may be of any.
+pub fn asked<D, T, U, F, G>(device: D, calls: F, end: G) -> Result<(T, U), Fail>
+where
+    D: Drop,
+    T: Drop,
+    F: FnOnce(&mut D) -> Result<T, Fail>,
+    G: FnOnce(D) -> Result<U, Fail>,
+    requires calls { F.IsAlwaysCallable calls }
+    requires end { G.IsAlwaysCallable end }
+{
+    let mut device = device;
+    let given = calls(&mut device)?;
+    Ok((given, end(device)?))
+}
+
+// ---- rows
 
 // When a call ended, in milliseconds, or its error.
 fn end_text(alloc: Global, end: Result<Ms, DevError>) -> Result<String, AllocError> {
@@ -13,63 +129,6 @@ fn end_text(alloc: Global, end: Result<Ms, DevError>) -> Result<String, AllocErr
         Ok(end) => end.milliseconds().to_string(alloc),
         Err(DevError::Io) => String::from_str(alloc, "Io"),
         Err(DevError::Memory) => String::from_str(alloc, "Memory"),
-    }
-}
-
-// What a read tells: its end, and where it ended Ok the first byte of each sector.
-fn read<D: BlockDev + Drop>(
-    rt: &impl Abort,
-    alloc: Global,
-    device: &mut D,
-    now: Ms,
-    numbers: [u64; 3],
-) -> Result<String, AllocError> {
-    let [first, count, _] = numbers;
-    assert!(rt; 0 < count && count <= 16 && first <= 64 && first + count <= device.sectors());
-    let mut buffer = vec![in alloc; 255; count as usize * 512]?;
-    let end = device.read(now, first, &mut buffer);
-    let is_read = end.is_ok();
-    let mut told = end_text(alloc, end)?;
-    if is_read {
-        for sector in buffer.chunks(512) {
-            let byte = sector.first().copied().unwrap_or(0);
-            told.push_str(format!(in alloc; " {byte}")?.as_str())?;
-        }
-    }
-    Ok(told)
-}
-
-// When a write of so many sectors of a byte ended, or a discard or flush.
-fn change<D: BlockDev + Drop>(
-    rt: &impl Abort,
-    alloc: Global,
-    device: &mut D,
-    now: Ms,
-    kind: &str,
-    numbers: [u64; 3],
-) -> Result<String, AllocError> {
-    let [first, count, byte] = numbers;
-    if kind == "f" {
-        return end_text(alloc, device.flush(now));
-    }
-    assert!(rt; 0 < count && count <= 16 && first <= 64 && first + count <= device.sectors());
-    if kind == "d" {
-        return end_text(alloc, device.discard(now, first, count));
-    }
-    let bytes = vec![in alloc; u8::try_from(byte).unwrap_or(255); count as usize * 512]?;
-    end_text(alloc, device.write(now, first, &bytes, kind == "F"))
-}
-
-// The answer to a message, by its number and its name, or `ok`.
-fn answer_of<D: Message + Drop>(
-    alloc: Global,
-    device: &mut D,
-    layer: u64,
-    text: &str,
-) -> Result<String, AllocError> {
-    match device.message(layer, text) {
-        Ok(()) => String::from_str(alloc, "ok"),
-        Err(error) => format!(in alloc; "{}", Refusal::from(error)),
     }
 }
 
@@ -83,41 +142,76 @@ fn numbers_of(text: &str) -> [u64; 3] {
     ]
 }
 
-// What a call tells: `w 5 4 1` writes 1s to 4 sectors from sector 5 on, `F` does with FUA, `d 5 4` discards them, `f` flushes, `r 5 4` reads them, and `#` tells the
-// faults and the lies.
+// The call of these words: `w 5 4 1` writes 1s to 4 sectors from sector 5 on, `F` does with FUA, `d 5 4` discards them, `f` flushes, and `r 5 4` reads them.
+fn call_of(words: &str) -> Call {
+    let (kind, rest) = words.split_once(' ').unwrap_or((words, ""));
+    let [first, count, byte] = numbers_of(rest);
+    Call {
+        kind: match kind {
+            "r" => Kind::Read,
+            "d" => Kind::Discard,
+            "f" => Kind::Flush,
+            _ => Kind::Write,
+        },
+        first,
+        count,
+        byte: u8::try_from(byte).unwrap_or(255),
+        fua: kind == "F",
+    }
+}
+
+// What a call tells: its end, and where a read ended Ok the byte of each sector. `#` tells the faults and the lies.
 fn told<D: BlockDev + Drop>(
     rt: &impl Abort,
     alloc: Global,
     device: &mut D,
     now: Ms,
-    call: &str,
+    words: &str,
 ) -> Result<String, AllocError> {
-    let (kind, rest) = call.split_once(' ').unwrap_or((call, ""));
-    let numbers = numbers_of(rest);
-    match kind {
-        "#" => format!(in alloc; "{} {}", device.faults(), device.lies()),
-        "r" => read(rt, alloc, device, now, numbers),
-        _ => change(rt, alloc, device, now, kind, numbers),
+    if words == "#" {
+        return format!(in alloc; "{} {}", device.faults(), device.lies());
+    }
+    let call = call_of(words);
+    let answer = ask(rt, device, now, call);
+    let mut told = end_text(alloc, answer.end)?;
+    if call.kind == Kind::Read && answer.end.is_ok() {
+        for sector in answer.bytes.chunks(512).take(call.count as usize) {
+            told.push_str(format!(in alloc; " {}", byte_of(sector))?.as_str())?;
+        }
+    }
+    Ok(told)
+}
+
+/// The answer to a message, by its number and its name, or `ok`.
+pub fn answer_of<D: Message + Drop>(
+    alloc: Global,
+    device: &mut D,
+    layer: u64,
+    text: &str,
+) -> Result<String, AllocError> {
+    match device.message(layer, text) {
+        Ok(()) => String::from_str(alloc, "ok"),
+        Err(error) => format!(in alloc; "{}", Refusal::from(error)),
     }
 }
 
 // Makes the call of a row: a moment in milliseconds, the call, and behind `|` what it tells.
-fn call<D: BlockDev + Drop>(
+fn call_row<D: BlockDev + Drop>(
     rt: &(impl Abort + Print),
     alloc: Global,
     device: &mut D,
     row: &str,
 ) -> Result<(), AllocError> {
     let (asked, wanted) = row.split_once('|').unwrap_or_default();
-    let (moment, call) = asked.split_once(' ').unwrap_or_default();
+    let (moment, words) = asked.split_once(' ').unwrap_or_default();
     let now = Ms::new(moment.parse::<u64>().unwrap_or(0));
-    let said = told(rt, alloc, device, now, call)?;
+    let said = told(rt, alloc, device, now, words)?;
     assert!(rt; is_told(rt, said.as_str(), wanted, row));
     Ok(())
 }
 
 // Puts the message of a row: a layer, the message, and behind `|` its answer.
-fn message<D: Message + Drop>(
+fn message_row<D: Message + Drop>(
     rt: &(impl Abort + Print),
     alloc: Global,
     device: &mut D,
@@ -139,25 +233,12 @@ pub fn calls<D: BlockDev + Drop>(
     rows: &str,
 ) -> Result<(), AllocError> {
     for row in rows.lines() {
-        call(rt, alloc, device, row)?;
+        call_row(rt, alloc, device, row)?;
     }
     Ok(())
 }
 
-/// Puts the messages of these rows, one after another: a layer, the message, and behind `|` its answer.
-pub fn answers<D: Message + Drop>(
-    rt: &(impl Abort + Print),
-    alloc: Global,
-    device: &mut D,
-    rows: &str,
-) -> Result<(), AllocError> {
-    for row in rows.lines() {
-        message(rt, alloc, device, row)?;
-    }
-    Ok(())
-}
-
-/// Makes calls and puts messages, of which a row begins with `m`.
+/// Makes calls and puts messages, one after another: a row of a message has `m`, a layer, the message, and behind `|` its answer.
 pub fn talk<D: Message + Drop>(
     rt: &(impl Abort + Print),
     alloc: Global,
@@ -166,9 +247,95 @@ pub fn talk<D: Message + Drop>(
 ) -> Result<(), AllocError> {
     for row in rows.lines() {
         match row.strip_prefix("m ") {
-            Some(rest) => message(rt, alloc, device, rest)?,
-            None => call(rt, alloc, device, row)?,
+            Some(rest) => message_row(rt, alloc, device, rest)?,
+            None => call_row(rt, alloc, device, row)?,
         }
     }
     Ok(())
+}
+
+// ---- lines
+
+fn digit(byte: u8) -> u8 {
+    byte.saturating_sub(48) % 10
+}
+
+// The call of a word: `w31` writes 1s to sector 3, `F31` does with FUA, `d32` discards 2 sectors from sector 3 on, `f` flushes, `r31` reads 1s from
+// sector 3, and `r3` reads none. No other word is a call.
+fn call_in(word: &[u8]) -> Option<Call> {
+    let (kind, first, count, byte) = match word {
+        [b'w' | b'F', first, byte] => (Kind::Write, digit(*first), 1, digit(*byte)),
+        [b'd', first, count] => (Kind::Discard, digit(*first), digit(*count), 0),
+        [b'r', first, byte] => (Kind::Read, digit(*first), 1, digit(*byte)),
+        [b'r', first] => (Kind::Read, digit(*first), 1, 255),
+        [b'f'] => (Kind::Flush, 0, 0, 0),
+        _ => return None,
+    };
+    Some(Call {
+        kind,
+        first: first as u64,
+        count: count as u64,
+        byte,
+        fua: word.starts_with(b"F"),
+    })
+}
+
+/// Makes the call of a word: it ends at this moment, or fails by Io where the word has `-` behind it. `#21` says that there were 2 faults and 1 lie.
+pub fn step<D: BlockDev + Drop>(
+    rt: &(impl Abort + Print),
+    device: &mut D,
+    now: Ms,
+    word: &str,
+    line: &str,
+) {
+    if let [b'#', faults, lies] = word.as_bytes() {
+        let counts = (device.faults(), device.lies());
+        let wanted = (digit(*faults) as u64, digit(*lies) as u64);
+        assert!(rt; is_same(rt, &counts, &wanted, line));
+    }
+    if let Some(call) = call_in(word.trim_end_matches(['+', '-']).as_bytes()) {
+        let answer = ask(rt, device, now, call);
+        let fails = word.ends_with('-');
+        let wanted = if fails { Err(DevError::Io) } else { Ok(now) };
+        assert!(rt; is_same(rt, &answer.end, &wanted, line));
+        if call.kind == Kind::Read {
+            assert!(rt; is_same(rt, &answer.byte(), &call.byte, line));
+        }
+    }
+}
+
+/// Makes the calls of a line's words, one after another, the first at the moment 0. `@12` is the moment from there on, in milliseconds.
+pub fn play<D: BlockDev + Drop>(rt: &(impl Abort + Print), device: D, line: &str) -> D {
+    let mut device = device;
+    let mut now = Ms::new(0);
+    for word in line.split(' ') {
+        match word.strip_prefix('@') {
+            Some(moment) => now = Ms::new(moment.parse::<u64>().unwrap_or(0)),
+            None => step(rt, &mut device, now, word, line),
+        }
+    }
+    device
+}
+
+/// Fails the power of a disk, and looks at its sectors: `c12` fails it with the picks 1 and 2, `=` says what each sector holds, and `!` what each holds once it
+/// failed with no picks.
+pub fn look(rt: &(impl Abort + Print), disk: &mut SectorDisk, word: &str, line: &str) {
+    let bytes = word.as_bytes();
+    if let [b'c', digits @ ..] = bytes {
+        let mut picks = [0; 8];
+        for (pick, byte) in picks.iter_mut().zip(digits) {
+            *pick = digit(*byte) as u64;
+        }
+        disk.crash(&picks[..digits.len().min(8)]);
+    }
+    if bytes.starts_with(b"!") {
+        disk.crash(&[]);
+    }
+    if let [b'=' | b'!', wanted @ ..] = bytes {
+        for (sector, byte) in wanted.iter().enumerate() {
+            let answer = ask(rt, disk, Ms::new(7), read_of(sector as u64));
+            assert!(rt; is_same(rt, &answer.end, &Ok(Ms::new(7)), line));
+            assert!(rt; is_same(rt, &answer.byte(), &digit(*byte), line));
+        }
+    }
 }

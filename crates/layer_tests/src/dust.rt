@@ -2,9 +2,9 @@ use crate::calls::talk;
 use bio::{DevError, Ms};
 use blockdev::{BlockDev, Message, MessageError};
 use dust_layer::{Dust, Mode};
-use fault_layers::{Delay, Fuse};
 use sector_disk::SectorDisk;
 use std::alloc::Global;
+use std::process::Abort;
 use std::test::Fail;
 
 mod orders;
@@ -50,78 +50,33 @@ m 2 enable|6 BadMessage";
 
 #[test]
 fn bad_blocks_fail_once(rt: HostRuntime) -> Result<(), Fail> {
-    let alloc = rt.alloc();
-    let mut device = dusted(alloc)?;
+    let mut device = dusted(rt.alloc())?;
     assert!(rt; device.mode() == Mode::Bypass && device.mode().text() == "bypass");
-    talk(&rt, alloc, &mut device, ONCE)?;
+    talk(&rt, rt.alloc(), &mut device, ONCE)?;
     assert!(rt; device.mode().text() == "fail_read_on_bad_block");
     Ok(())
 }
 
-// In bypass each call passes, and the list stays; a read at a listed block fails, whatever its count; a discard mends it, and a flush passes.
-const BYPASS: &str = "m 1 addbadblock 0|ok
-0 r 0 4|0 0 0 0 0
-m 1 enable|ok
-0 r 0 4|Io
-0 r 2 4|0 0 0 0 0
-5 f|5
-m 1 disable|ok
-5 F 0 1 3|5
-m 1 enable|ok
-0 r 0 4|Io
-5 d 1 2|5
-0 r 0 4|0 3 0 0 0
-m 1 addbadblock 0 255|ok
-m 1 clearbadblocks|ok
-0 r 0 4|0 3 0 0 0
-0 #|2 0";
-
-#[test]
-fn bypass_passes(rt: HostRuntime) -> Result<(), Fail> {
-    let alloc = rt.alloc();
-    talk(&rt, alloc, &mut dusted(alloc)?, BYPASS)?;
-    Ok(())
-}
-
-// A read is delayed by 1 ms, a change by 10 and a flush by 100.
-const LATE: &str = "m 1 enable|ok
-0 w 5 4 1|30
-0 d 0 16|80
-0 r 6 2|1 0 0
-0 f|100";
-
-// The second block is written, and its write fails beneath.
-const FUSED: &str = "m 1 addbadblock 1|ok
-m 1 enable|ok
-0 w 0 4 2|Io
-m 1 removebadblock 1|ok
-0 r 0 4|2 2 2 0 0
-0 #|1 0";
-
-// Each part begins when the one before ended, so delays add up; a block whose part failed beneath stays listed.
-#[test]
-fn parts_follow_each_other(rt: HostRuntime) -> Result<(), Fail> {
-    let alloc = rt.alloc();
-    let disk = SectorDisk::new(alloc, 16)?;
-    let late = Delay::new(disk, Ms::new(1), Ms::new(10), Ms::new(100));
-    let mut device = over(alloc, late);
-    talk(&rt, alloc, &mut device, LATE)?;
-    let mut device = over(alloc, Fuse::new(device.into_lower(), 1));
-    talk(&rt, alloc, &mut device, FUSED)?;
-    Ok(())
-}
-
-// A call of 2,048 sectors over a thousand blocks that are listed, each of which leaves the list.
-#[test]
-fn many_blocks_are_listed(rt: HostRuntime) -> Result<(), Fail> {
-    let alloc = rt.alloc();
-    let disk = SectorDisk::new(alloc, 4096)?;
-    let mut device = by_sector(alloc, disk);
+// Lists every other one of the first 2,000 blocks.
+fn list_many<D: Message + Drop>(
+    rt: &impl Abort,
+    alloc: Global,
+    device: &mut D,
+) -> Result<(), Fail> {
     for number in 0..1000u64 {
         let text = format!(in alloc; "addbadblock {}", number.saturating_mul(2))?;
         assert_eq!(rt; device.message(1, &text), Ok(()));
     }
     assert_eq!(rt; device.message(1, "enable"), Ok(()));
+    Ok(())
+}
+
+// Reads the first block, then writes 2,048 sectors, and reads it again.
+fn mend_many<D: Message + Drop>(
+    rt: &impl Abort,
+    alloc: Global,
+    device: &mut D,
+) -> Result<(), Fail> {
     assert!(rt; device.sectors() == 4096);
     let now = Ms::new(9);
     let bytes = vec![in alloc; 5; 1_048_576]?;
@@ -133,4 +88,13 @@ fn many_blocks_are_listed(rt: HostRuntime) -> Result<(), Fail> {
         Err(MessageError::NotBad)
     );
     Ok(())
+}
+
+// A call of 2,048 sectors over a thousand blocks that are listed, each of which leaves the list.
+#[test]
+fn many_blocks_are_listed(rt: HostRuntime) -> Result<(), Fail> {
+    let disk = SectorDisk::new(rt.alloc(), 4096)?;
+    let mut device = by_sector(rt.alloc(), disk);
+    list_many(&rt, rt.alloc(), &mut device)?;
+    mend_many(&rt, rt.alloc(), &mut device)
 }

@@ -1,7 +1,5 @@
-ghost use Rattle.std.specs.Prelude.{◌<◌};
-
-use crate::calls::calls;
-use bio::{DevError, Ms};
+use crate::calls::{calls, look, play};
+use bio::Ms;
 use blockdev::BlockDev;
 use fault_layers::{Delay, ErrorDev, Flakey, Fuse, Linear};
 use sector_disk::SectorDisk;
@@ -9,7 +7,6 @@ use std::io::Print;
 use std::process::Abort;
 use std::test::Fail;
 use table_line::Feature;
-use test_asserts::is_same;
 
 // Layers over a disk of 8 sectors of zeroes, a line each: the layer, then its calls. `@12` is the moment from here on, in
 // milliseconds. `w31+` writes 1s to sector 3, `F31+` does with FUA, `d32+` discards 2 sectors from sector 3 on, `f+` flushes and
@@ -29,102 +26,6 @@ linear w01+ F12+ w23+ d31+ r12+ @7 f+ w04+ #00 =12423078 !12123078
 flakey-fuse w31+ w32- @10000 w33+ @15000 r31+ w34- #21 =00010000
 fuse-flakey @10000 w33+ w34- @15000 r30+ #11 =00000000
 linear-linear w01+ F02+ r02+ #00 =12325678 !12325678";
-
-fn digit(byte: u8) -> u64
-    ensures { result < 10 }
-{
-    (byte as u64).saturating_sub(48) % 10
-}
-
-fn tell(end: Result<Ms, DevError>, now: Ms) -> u8 {
-    match end {
-        Ok(end) if end == now => b'+',
-        Ok(_) => b'?',
-        Err(DevError::Io) => b'-',
-        Err(DevError::Memory) => b'm',
-    }
-}
-
-fn write<D: BlockDev + Drop>(
-    rt: &impl Abort,
-    device: &mut D,
-    now: Ms,
-    sector: u8,
-    value: u8,
-    fua: bool,
-) -> u8 {
-    let sector = digit(sector);
-    assert!(rt; sector < device.sectors());
-    let bytes = [digit(value) as u8; 512];
-    tell(device.write(now, sector, &bytes, fua), now)
-}
-
-fn discard<D: BlockDev + Drop>(
-    rt: &impl Abort,
-    device: &mut D,
-    now: Ms,
-    first: u8,
-    count: u8,
-) -> u8 {
-    let first = digit(first);
-    let count = digit(count);
-    assert!(rt; 0 < count && first + count <= device.sectors());
-    tell(device.discard(now, first, count), now)
-}
-
-// After an error the buffer is as it was.
-fn read<D: BlockDev + Drop>(
-    rt: &impl Abort,
-    device: &mut D,
-    now: Ms,
-    sector: u64,
-    value: u8,
-) -> u8 {
-    assert!(rt; sector < device.sectors());
-    let mut buffer = [9; 512];
-    let end = tell(device.read(now, sector, &mut buffer), now);
-    let wanted = digit(value) as u8;
-    assert!(rt;
-        buffer.iter().all(|byte| *byte == wanted),
-        "sector {sector}"
-    );
-    end
-}
-
-fn step<D: BlockDev + Drop>(
-    rt: &(impl Abort + Print),
-    device: &mut D,
-    now: Ms,
-    word: &[u8],
-    line: &str,
-) {
-    let (end, want) = match word {
-        [b'w', sector, value, want] => (write(rt, device, now, *sector, *value, false), *want),
-        [b'F', sector, value, want] => (write(rt, device, now, *sector, *value, true), *want),
-        [b'd', first, count, want] => (discard(rt, device, now, *first, *count), *want),
-        [b'r', sector, value, want] => (read(rt, device, now, digit(*sector), *value), *want),
-        [b'r', sector, want] => (read(rt, device, now, digit(*sector), b'9'), *want),
-        [b'f', want] => (tell(device.flush(now), now), *want),
-        _ => (0, 0),
-    };
-    assert!(rt; is_same(rt, &end, &want, line));
-    if let [b'#', faults, lies] = word {
-        let counts = (device.faults(), device.lies());
-        assert!(rt; is_same(rt, &counts, &(digit(*faults), digit(*lies)), line));
-    }
-}
-
-fn play<D: BlockDev + Drop>(rt: &(impl Abort + Print), device: D, line: &str) -> D {
-    let mut device = device;
-    let mut now = 0;
-    for word in line.split(' ').skip(1) {
-        match word.strip_prefix('@') {
-            Some(moment) => now = moment.parse::<u64>().unwrap_or(0),
-            None => step(rt, &mut device, Ms::new(now), word.as_bytes(), line),
-        }
-    }
-    device
-}
 
 // The disk after the calls of a line, its layers taken off again.
 fn played(rt: &(impl Abort + Print), disk: SectorDisk, line: &str) -> SectorDisk {
@@ -198,33 +99,19 @@ fn played_deep(rt: &(impl Abort + Print), disk: SectorDisk, line: &str) -> Secto
     }
 }
 
-fn check_disk(rt: &(impl Abort + Print), disk: &mut SectorDisk, word: &[u8], line: &str) {
-    if let [b'!', ..] = word {
-        disk.crash(&[]);
-    }
-    if let [b'=' | b'!', want @ ..] = word {
-        for (sector, value) in want.iter().enumerate() {
-            let end = read(rt, disk, Ms::new(7), sector as u64, *value);
-            assert!(rt; is_same(rt, &end, &b'+', line));
-        }
-    }
-}
-
 // What each layer passes, fails and drops was worked out by hand.
 #[test]
 fn layers_do_what_their_rules_say(rt: HostRuntime) -> Result<(), Fail> {
     for line in CALLS.lines() {
-        let mut disk = SectorDisk::new(rt.alloc(), 8)?;
-        if line.starts_with("linear") {
-            for sector in 0..8 {
-                assert_eq!(rt; disk.sectors(), 8);
-                disk.write(Ms::new(0), sector, &[sector as u8 + 1; 512], true)?;
-            }
-        }
-        let disk = played(&rt, disk, line);
-        let mut disk = played_deep(&rt, disk, line);
+        let disk = SectorDisk::new(rt.alloc(), 8)?;
+        let disk = if line.starts_with("linear") {
+            play(&rt, disk, "F01 F12 F23 F34 F45 F56 F67 F78")
+        } else {
+            disk
+        };
+        let mut disk = played_deep(&rt, played(&rt, disk, line), line);
         for word in line.split(' ') {
-            check_disk(&rt, &mut disk, word.as_bytes(), line);
+            look(&rt, &mut disk, word, line);
         }
     }
     Ok(())
@@ -245,13 +132,18 @@ const LATER: &str = "9979 f|9999
 // A delayed call ends as much later as its kind is delayed; a discard is delayed as a write is.
 #[test]
 fn delayed_calls_begin_later(rt: HostRuntime) -> Result<(), Fail> {
-    let alloc = rt.alloc();
-    let disk = SectorDisk::new(alloc, 1)?;
+    let disk = SectorDisk::new(rt.alloc(), 1)?;
     let mut device = Delay::new(disk, Ms::new(10), Ms::new(20), Ms::new(30));
-    calls(&rt, alloc, &mut device, DELAYED)?;
-    let flakey = Flakey::new(device.into_lower(), 10, 5, Feature::None, Ms::new(0));
+    calls(&rt, rt.alloc(), &mut device, DELAYED)?;
+    Ok(())
+}
+
+#[test]
+fn delays_stand_over_other_layers(rt: HostRuntime) -> Result<(), Fail> {
+    let disk = SectorDisk::new(rt.alloc(), 1)?;
+    let flakey = Flakey::new(disk, 10, 5, Feature::None, Ms::new(0));
     let mut device = Delay::new(flakey, Ms::new(0), Ms::new(0), Ms::new(20));
-    calls(&rt, alloc, &mut device, LATER)?;
+    calls(&rt, rt.alloc(), &mut device, LATER)?;
     Ok(())
 }
 

@@ -3,7 +3,8 @@ ghost use Rattle.std.specs.List.{AllByRecursion};
 ghost use Rattle.table_line.specs.declared.layer_spec.Target.TheVariants.{Linear};
 ghost use Rattle.table_line.specs.Ranges.{IsLayerSpec};
 
-use bio::{DevError, Ms};
+use crate::calls::{Call, ask, asked};
+use bio::Ms;
 use blockdev::BlockDev;
 use fault_layers::Kind;
 use layer_table::Stack;
@@ -15,9 +16,7 @@ use std::io::Print;
 use std::process::Abort;
 use std::test::Fail;
 use table_line::{LayerSpec, Target, parse_line};
-use test_asserts::{holds, is_same};
 
-mod messages;
 mod plain;
 
 // Lines for the lower layer over a disk of 16 sectors, which count from the moment 0 on, and for the upper one, which counts
@@ -67,61 +66,78 @@ fn spec_of(rt: &impl Abort, line: &str) -> LayerSpec
     }
 }
 
-// Makes calls on a disk under the layers of these lines, the lowest first, each loaded at its moment; what the calls give, and the bytes that the disk then
-// has. A line that is refused puts no layer, and the calls are told of the last refusal. No other function but `under` holds a stack by value: that is dear
-// to prove.
-fn on_stack<T: Drop, F: FnOnce(&mut Stack, Option<Refusal>) -> Result<T, Fail>>(
+// Either stack, and the refusal where one was refused.
+fn either<D: Drop>(put: Result<D, (D, Refusal)>) -> (D, Option<Refusal>) {
+    match put {
+        Ok(device) => (device, None),
+        Err((device, refusal)) => (device, Some(refusal)),
+    }
+}
+
+// The disk under the layers of these lines, the lowest first, each loaded at its moment. A line that is refused puts no layer; so the last of them ends.
+fn stack_of(
     rt: &impl Abort,
     alloc: Global,
     disk: SectorDisk,
     lines: &[(&str, u64)],
+    ends: Option<Refusal>,
+) -> Stack {
+    let mut stack = Stack::new(disk);
+    let mut refused = None;
+    for (line, load) in lines {
+        let (next, refusal) = either(stack.over(alloc, spec_of(rt, line), Ms::new(*load)));
+        stack = next;
+        refused = refusal;
+    }
+    assert_eq!(rt; refused, ends);
+    stack
+}
+
+// What calls give on a disk under the layers of these lines, and the bytes that the disk then has.
+fn on_stack<T: Drop, F: FnOnce(&mut Stack) -> Result<T, Fail>>(
+    rt: &impl Abort,
+    alloc: Global,
+    disk: SectorDisk,
+    lines: &[(&str, u64)],
+    ends: Option<Refusal>,
     calls: F,
 ) -> Result<(T, Vec<u8>), Fail>
     requires { F.IsAlwaysCallable calls }
 {
-    let mut stack = Stack::new(disk);
-    let mut refused = None;
-    for (line, load) in lines {
-        stack = match stack.over(alloc, spec_of(rt, line), Ms::new(*load)) {
-            Ok(higher) => higher,
-            Err((same, refusal)) => {
-                refused = Some(refusal);
-                same
-            }
-        };
-    }
-    let given = calls(&mut stack, refused)?;
-    let image = stack.into_disk().bytes()?;
-    Ok((given, image))
+    let stack = stack_of(rt, alloc, disk, lines, ends);
+    asked(stack, calls, |stack| Ok(stack.into_disk().into_bytes()?))
 }
 
 // What a call of one sector, or a discard of two, answers: the byte that is read or 0, or that it failed.
-fn call<D: BlockDev + Drop>(
+fn told<D: BlockDev + Drop>(
     rt: &impl Abort,
     device: &mut D,
     kind: Kind,
     now: Ms,
     first: u64,
-    value: u8,
+    byte: u8,
 ) -> Option<u8> {
-    assert!(rt; first < 4 && device.sectors() >= 8);
-    let mut buffer = [255; 512];
-    let end = match kind {
-        Kind::Read => device.read(now, first, &mut buffer),
-        Kind::Write => device.write(now, first, &[value; 512], first == 1),
-        Kind::Discard => device.discard(now, first, 2),
-        Kind::Flush => device.flush(now),
-    };
+    let count = if kind == Kind::Discard { 2 } else { 1 };
+    let fua = first == 1;
+    let answer = ask(
+        rt,
+        device,
+        now,
+        Call {
+            kind,
+            first,
+            count,
+            byte,
+            fua,
+        },
+    );
     // A delay of a millisecond may stand among the layers.
-    match (end, kind) {
-        (Ok(end), Kind::Read) if is_soon(now, end) => Some(buffer[0]),
-        (Ok(end), _) if is_soon(now, end) => Some(0),
-        _ => None,
+    match answer.end {
+        Ok(end) if end != now && end != now.later_by(Ms::new(1)) => None,
+        Ok(_) if kind == Kind::Read => Some(answer.byte()),
+        Ok(_) => Some(0),
+        Err(_) => None,
     }
-}
-
-fn is_soon(now: Ms, end: Ms) -> bool {
-    end == now || end == now.later_by(Ms::new(1))
 }
 
 // The same calls of a device and of plain layers.
@@ -143,7 +159,7 @@ fn play<D: BlockDev + Drop>(
             Kind::Read,
         ] {
             let value = place as u8 % 200 + 1;
-            let got = call(rt, device, kind, Ms::new(now), first, value);
+            let got = told(rt, device, kind, Ms::new(now), first, value);
             let wanted = plain_call(layers, disk, kind, now, first, value);
             assert_eq!(rt; got, wanted, "{kind:?} at {now}");
         }
@@ -176,8 +192,7 @@ fn play_all<D: BlockDev + Drop>(
 // Plays the calls on these layers, and looks at the counts and at the disk beneath.
 fn check(rt: &(impl Abort + Print), alloc: Global, lines: &[(&str, u64)]) -> Result<(), Fail> {
     let under = SectorDisk::new(alloc, 16)?;
-    let (disk, image) = on_stack(rt, alloc, under, lines, |stack, refused| {
-        assert_eq!(rt; refused, None);
+    let (disk, image) = on_stack(rt, alloc, under, lines, None, |stack| {
         play_all(rt, alloc, stack, lines)
     })?;
     for (sector, value) in disk.iter().enumerate() {
@@ -211,71 +226,6 @@ fn fuses_over_layers(rt: HostRuntime) -> Result<(), Fail> {
     Ok(())
 }
 
-// A line over a disk of 16 sectors that holds 1s in sector 3, and whether it is put there.
-const ROWS: &str = "0 16 linear disk 0+
-0 16 error+
-0 1 linear disk 15+
-0 13 fuse disk 3 1+
-0 16 linear disk 1-
-0 16 linear disk 8-
-0 1 linear disk 16-
-0 1 linear disk 18446744073709551615-
-0 17 error-
-0 1048576 linear disk 0-
-0 14 flakey disk 3 10 5-";
-
-// A line that is put there makes a device of its sectors, and one that isn't leaves the disk's.
-fn check_range(rt: &(impl Abort + Print), row: &str, sectors: u64, refused: Option<Refusal>) {
-    let wanted = spec_of(rt, row.trim_end_matches(['+', '-'])).length;
-    if row.ends_with('+') {
-        assert!(rt; is_same(rt, &refused, &None, row));
-        assert!(rt; is_same(rt, &sectors, &wanted, row));
-    } else {
-        assert!(rt; holds(rt, row.ends_with('-'), row));
-        assert!(rt; is_same(rt, &refused, &Some(Refusal::OutOfRange), row));
-        assert!(rt; is_same(rt, &sectors, &16, row));
-    }
-}
-
-#[test]
-fn ranges(rt: HostRuntime) -> Result<(), Fail> {
-    let alloc = rt.alloc();
-    for row in ROWS.split('\n') {
-        let line = row.trim_end_matches(['+', '-']);
-        let disk = SectorDisk::new(alloc, 16)?;
-        on_stack(&rt, alloc, disk, &[(line, 0)], |stack, refused| {
-            check_range(&rt, row, stack.sectors(), refused);
-            Ok(())
-        })?;
-    }
-    Ok(())
-}
-
-// Four layers, and one more.
-const FIVE: [(&str, u64); 5] = [
-    ("0 15 linear disk 1", 0),
-    ("0 14 linear disk 1", 0),
-    ("0 13 fuse disk 1 9", 0),
-    ("0 12 linear disk 1", 0),
-    ("0 8 linear disk 0", 0),
-];
-
-// Four of them stand and take calls; the fifth is refused, and leaves them as they are.
-#[test]
-fn a_fifth_layer_is_refused(rt: HostRuntime) -> Result<(), Fail> {
-    let alloc = rt.alloc();
-    let disk = SectorDisk::new(alloc, 16)?;
-    let ((), image) = on_stack(&rt, alloc, disk, &FIVE, |stack, refused| {
-        assert_eq!(rt; refused, Some(Refusal::OutOfRange));
-        assert_eq!(rt; stack.sectors(), 12);
-        assert_eq!(rt; call(&rt, stack, Kind::Write, Ms::new(5), 2, 7), Some(0));
-        assert_eq!(rt; call(&rt, stack, Kind::Read, Ms::new(5), 2, 0), Some(7));
-        Ok(())
-    })?;
-    assert_eq!(rt; image.get(6 * 512), Some(&7));
-    Ok(())
-}
-
 // The specs of a linear layer of so many sectors from sector `offset` on.
 fn linear(length: u64, offset: u64) -> LayerSpec
     ensures { result ≡ record { length = length; offset = offset; target = Linear } }
@@ -287,11 +237,12 @@ fn linear(length: u64, offset: u64) -> LayerSpec
     }
 }
 
-// Why a stack was refused that is handed back.
-fn refusal_of<D: Drop>(back: (D, Refusal)) -> Refusal
-    ensures { result ≡ back.1 }
-{
-    back.1
+// The sectors of what was put, or why it was refused.
+fn sectors_of<D: BlockDev + Drop>(put: Result<D, (D, Refusal)>) -> Result<u64, Refusal> {
+    match put {
+        Ok(device) => Ok(device.sectors()),
+        Err((_, refusal)) => Err(refusal),
+    }
 }
 
 // How a disk of 16 sectors takes these layers at once: the sectors of their top, or the refusal.
@@ -299,10 +250,7 @@ fn under(alloc: Global, layers: &[LayerSpec]) -> Result<Result<u64, Refusal>, Fa
     requires { AllByRecursion IsLayerSpec layers.now }
 {
     let disk = SectorDisk::new(alloc, 16)?;
-    Ok(match Stack::new(disk).under(alloc, layers, Ms::new(0)) {
-        Ok(stack) => Ok(stack.sectors()),
-        Err(back) => Err(refusal_of(back)),
-    })
+    Ok(sectors_of(Stack::new(disk).under(alloc, layers, Ms::new(0))))
 }
 
 #[test]

@@ -17,16 +17,25 @@ pub fn push_sectors(text: &mut String, bytes: &[u8]) -> Result<(), AllocError> {
 
 // Appends the runs of equal bytes.
 fn push_runs(text: &mut String, bytes: &[u8]) -> Result<(), AllocError> {
-    let mut rest = bytes;
-    while let Some((byte, _)) = rest.split_first() {
-        let count = rest.iter().take_while(|other| *other == byte).count();
-        push_run(text, *byte, count)?;
-        rest = rest.get(count.max(1)..).unwrap_or_default();
+    let mut last = None;
+    let mut count: usize = 0;
+    for byte in bytes {
+        if last == Some(*byte) {
+            count = count.saturating_add(1);
+        } else {
+            push_run(text, last, count)?;
+            last = Some(*byte);
+            count = 1;
+        }
     }
-    Ok(())
+    push_run(text, last, count)
 }
 
-fn push_run(text: &mut String, byte: u8, count: usize) -> Result<(), AllocError> {
+// Appends a run of a byte, if there is one.
+fn push_run(text: &mut String, byte: Option<u8>, count: usize) -> Result<(), AllocError> {
+    let Some(byte) = byte else {
+        return Ok(());
+    };
     write!(text, " {byte:02x}")?;
     if count > 1 {
         write!(text, "*{count}")?;
@@ -34,44 +43,58 @@ fn push_run(text: &mut String, byte: u8, count: usize) -> Result<(), AllocError>
     Ok(())
 }
 
+// How far an escape has come.
+#[derive(Clone, Copy)]
+enum Escape {
+    None,
+    Begun,
+    Hexadecimal,
+    Digit(u8),
+}
+
 /// Bytes by a text that isn't all text: `\r`, `\t`, `\0`, `\n` and `\\` stand for these bytes, `\xHH` for any, and a backslash at the end of a line takes its line feed away.
 pub fn unescaped(alloc: Global, text: &str) -> Result<Vec<u8>, AllocError> {
     let mut bytes = Vec::new(alloc);
-    let mut rest = text.as_bytes();
-    while let Some((byte, behind)) = rest.split_first() {
-        rest = if *byte == b'\\' {
-            push_escape(&mut bytes, behind)?
-        } else {
-            bytes.push(*byte)?;
-            behind
-        };
+    let mut escape = Escape::None;
+    for byte in text.as_bytes() {
+        escape = push_unescaped(&mut bytes, escape, *byte)?;
     }
     Ok(bytes)
 }
 
-// Appends the byte that an escape names, and answers what stands behind it.
-fn push_escape<'a>(bytes: &mut Vec<u8>, behind: &'a [u8]) -> Result<&'a [u8], AllocError> {
-    if let [b'x', high, low, rest @ ..] = behind {
-        let byte = digit(*high) * 16 + digit(*low);
-        bytes.push(byte)?;
-        return Ok(rest);
-    }
-    let Some((letter, rest)) = behind.split_first() else {
-        return Ok(behind);
+// Takes the next byte of a text, and answers how far an escape has come then.
+fn push_unescaped(bytes: &mut Vec<u8>, escape: Escape, byte: u8) -> Result<Escape, AllocError> {
+    let meant = match escape {
+        Escape::None if byte == b'\\' => return Ok(Escape::Begun),
+        Escape::None => byte,
+        Escape::Begun => match byte {
+            b'x' => return Ok(Escape::Hexadecimal),
+            b'\n' => return Ok(Escape::None),
+            b'r' => b'\r',
+            b't' => b'\t',
+            b'n' => b'\n',
+            b'0' => 0,
+            other => other,
+        },
+        Escape::Hexadecimal => return Ok(Escape::Digit(digit(byte))),
+        Escape::Digit(high) => byte_of(high, digit(byte)),
     };
-    match letter {
-        b'\n' => {}
-        b'r' => bytes.push(b'\r')?,
-        b't' => bytes.push(b'\t')?,
-        b'n' => bytes.push(b'\n')?,
-        b'0' => bytes.push(0)?,
-        other => bytes.push(*other)?,
-    }
-    Ok(rest)
+    bytes.push(meant)?;
+    Ok(Escape::None)
 }
 
-/// The value of a hexadecimal digit; 0 of another byte.
-pub fn digit(byte: u8) -> u8 {
+/// The byte of two hexadecimal digits.
+pub fn hex_byte(high: u8, low: u8) -> u8 {
+    byte_of(digit(high), digit(low))
+}
+
+// The byte of the values of two hexadecimal digits.
+fn byte_of(high: u8, low: u8) -> u8 {
+    (high % 16) * 16 + low % 16
+}
+
+// The value of a hexadecimal digit; 0 of another byte.
+fn digit(byte: u8) -> u8 {
     match byte {
         b'0'..=b'9' => byte - b'0',
         b'a'..=b'f' => byte - b'a' + 10,

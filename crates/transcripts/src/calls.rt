@@ -1,5 +1,5 @@
 // Calls of a disk under layers, and what each tells.
-use crate::bytes::{digit, push_sectors};
+use crate::bytes::{hex_byte, push_sectors};
 use bio::{DevError, Ms};
 use blockdev::{BlockDev, Message};
 use layer_table::Stack;
@@ -140,7 +140,7 @@ impl Range {
         let first = words.next().unwrap_or_default().parse::<u64>().unwrap_or(0);
         let count = words.next().unwrap_or_default().parse::<u64>().unwrap_or(0);
         let byte = match words.next().unwrap_or_default().as_bytes() {
-            [high, low] => digit(*high) * 16 + digit(*low),
+            [high, low] => hex_byte(*high, *low),
             _ => 0,
         };
         let is_fua = words.next() == Some("fua");
@@ -176,7 +176,11 @@ fn ask_at<D: BlockDev + Drop>(
         return Ok(shown.push_str("not within the device\n")?);
     }
     match kind {
-        "read" => read(alloc, device, now, &range, shown),
+        "read" => {
+            let mut buffer = vec![in alloc; 255; range.count as usize * 512]?;
+            let end = device.read(now, range.first, &mut buffer);
+            tell_read(end, &buffer, shown)
+        }
         "discard" => tell_end(device.discard(now, range.first, range.count), shown),
         _ => {
             let bytes = vec![in alloc; range.byte; range.count as usize * 512]?;
@@ -185,27 +189,22 @@ fn ask_at<D: BlockDev + Drop>(
     }
 }
 
-// Reads, and tells the end and the first byte of each sector; after an error whether the buffer stayed.
-fn read<D: BlockDev + Drop>(
-    alloc: Global,
-    device: &mut D,
-    now: Ms,
-    range: &Range,
+// Tells when a read ended, with the first byte of each sector, or its error.
+fn tell_read(
+    end: Result<Ms, DevError>,
+    buffer: &[u8],
     shown: &mut String,
 ) -> Result<(), AllocError> {
-    let mut buffer = vec![in alloc; 255; range.count as usize * 512]?;
-    match device.read(now, range.first, &mut buffer) {
-        Ok(end) => {
-            write!(shown, "ends at {}:", end.milliseconds())?;
-            for sector in buffer.chunks(512) {
-                let byte = sector.first().copied().unwrap_or(0);
-                write!(shown, " {byte:02x}")?;
-            }
-            shown.push('\n')?;
-            Ok(())
-        }
-        Err(error) => tell_end(Err(error), shown),
+    let Ok(moment) = end else {
+        return tell_end(end, shown);
+    };
+    write!(shown, "ends at {}:", moment.milliseconds())?;
+    for sector in buffer.chunks(512) {
+        let byte = sector.first().copied().unwrap_or(0);
+        write!(shown, " {byte:02x}")?;
     }
+    shown.push('\n')?;
+    Ok(())
 }
 
 // Tells when a call ended, in milliseconds, or its error.

@@ -1,5 +1,5 @@
 // Images by the words of a transcript.
-use crate::bytes::digit;
+use crate::bytes::hex_byte;
 use std::alloc::AllocError;
 
 // The largest image that a word may ask for, in bytes.
@@ -50,7 +50,7 @@ fn put_hex(image: &mut [u8], place: usize, text: &str) {
 // The byte that two hexadecimal digits give.
 fn hex_at(digits: &[u8], at: usize) -> u8 {
     match digits.get(at.saturating_mul(2)..) {
-        Some([high, low, ..]) => digit(*high) * 16 + digit(*low),
+        Some([high, low, ..]) => hex_byte(*high, *low),
         _ => 0,
     }
 }

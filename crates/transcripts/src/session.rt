@@ -248,27 +248,13 @@ fn note_refusal(seen: &mut String, shown: &str, is_beginning: bool) -> Result<()
     Ok(())
 }
 
-// The words of a command line, parted by spaces; one that begins with `'` goes on to the next one that ends so.
+// The words of a command line, parted by spaces.
 fn words_of<'a>(alloc: Global, line: &'a str) -> Result<Vec<&'a str>, AllocError> {
     let mut words = Vec::new(alloc);
-    let mut rest = line;
-    while !rest.is_empty() {
-        let (word, behind) = next_word(rest);
+    for word in line.split(' ') {
         words.push(word)?;
-        rest = behind;
     }
     Ok(words)
-}
-
-// The first word of a line, and what stands behind it.
-fn next_word(line: &str) -> (&str, &str) {
-    match line.strip_prefix("'") {
-        Some(quoted) => {
-            let (word, behind) = quoted.split_once('\'').unwrap_or((quoted, ""));
-            (word, behind.strip_prefix(" ").unwrap_or(behind))
-        }
-        None => line.split_once(' ').unwrap_or((line, "")),
-    }
 }
 
 // Appends lines with a number in place of each `%`.

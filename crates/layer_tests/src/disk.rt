@@ -43,12 +43,8 @@ fn images_are_given_back(rt: HostRuntime) -> Result<(), Fail> {
 
 // The disk has these bytes, and is given back as them.
 fn check_bytes(rt: &impl Abort, disk: SectorDisk, wanted: &[u8]) -> Result<(), Fail> {
-    let length = wanted.len();
-    assert!(rt; disk.bytes()?.as_slice() == wanted, "a disk of {length}");
-    assert!(rt;
-        disk.into_bytes()?.as_slice() == wanted,
-        "{length} given back"
-    );
+    assert!(rt; disk.bytes()?.as_slice() == wanted);
+    assert!(rt; disk.into_bytes()?.as_slice() == wanted);
     Ok(())
 }
 
@@ -129,10 +125,7 @@ fn put_rounds(rt: &impl Abort, disk: &mut SectorDisk, rounds: u64) -> Result<(),
 fn check_round(rt: &impl Abort, disk: &mut SectorDisk, round: u64) {
     for sector in 0..64 {
         let answer = ask(rt, disk, Ms::new(7), read_of(sector));
-        assert!(rt;
-            answer.end == Ok(Ms::new(7)) && answer.byte() == put_in_round(round, sector),
-            "sector {sector} after many calls"
-        );
+        assert!(rt; answer.end == Ok(Ms::new(7)) && answer.byte() == put_in_round(round, sector));
     }
 }
 

@@ -1,9 +1,10 @@
 use crate::calls::talk;
-use bio::{DevError, Ms};
-use blockdev::{BlockDev, Message, MessageError};
+use bio::Ms;
+use blockdev::{BlockDev, Message};
 use dust_layer::{Dust, Mode};
 use sector_disk::SectorDisk;
 use std::alloc::Global;
+use std::io::Print;
 use std::process::Abort;
 use std::test::Fail;
 
@@ -21,10 +22,21 @@ fn by_sector<D: BlockDev + Drop>(alloc: Global, lower: D) -> Dust<D> {
     Dust::new(alloc, lower, 512)
 }
 
-// A disk of 16 sectors under blocks of 1,024 bytes.
-fn dusted(alloc: Global) -> Result<Dust<SectorDisk>, Fail> {
-    let disk = SectorDisk::new(alloc, 16)?;
-    Ok(over(alloc, disk))
+// Makes the calls of these rows and puts their messages, over blocks of 1,024 bytes.
+fn talk_over<D: BlockDev + Drop>(
+    rt: &(impl Abort + Print),
+    alloc: Global,
+    lower: D,
+    rows: &str,
+) -> Result<(), Fail> {
+    let mut device = over(alloc, lower);
+    talk(rt, alloc, &mut device, rows)?;
+    Ok(())
+}
+
+// A disk of 16 sectors.
+fn disk_of_16(alloc: Global) -> Result<SectorDisk, Fail> {
+    Ok(SectorDisk::new(alloc, 16)?)
 }
 
 // The write of four sectors over blocks of two: its bad block stops it once, and leaves the list the next time.
@@ -50,7 +62,7 @@ m 2 enable|6 BadMessage";
 
 #[test]
 fn bad_blocks_fail_once(rt: HostRuntime) -> Result<(), Fail> {
-    let mut device = dusted(rt.alloc())?;
+    let mut device = over(rt.alloc(), disk_of_16(rt.alloc())?);
     assert!(rt; device.mode() == Mode::Bypass && device.mode().text() == "bypass");
     talk(&rt, rt.alloc(), &mut device, ONCE)?;
     assert!(rt; device.mode().text() == "fail_read_on_bad_block");
@@ -65,36 +77,44 @@ fn list_many<D: Message + Drop>(
 ) -> Result<(), Fail> {
     for number in 0..1000u64 {
         let text = format!(in alloc; "addbadblock {}", number.saturating_mul(2))?;
-        assert_eq!(rt; device.message(1, &text), Ok(()));
+        assert!(rt; device.message(1, &text).is_ok());
     }
-    assert_eq!(rt; device.message(1, "enable"), Ok(()));
     Ok(())
 }
 
-// Reads the first block, then writes 2,048 sectors, and reads it again.
-fn mend_many<D: Message + Drop>(
+// Writes 5s to 2,048 sectors.
+fn write_many<D: BlockDev + Drop>(
     rt: &impl Abort,
     alloc: Global,
     device: &mut D,
 ) -> Result<(), Fail> {
-    assert!(rt; device.sectors() == 4096);
-    let now = Ms::new(9);
     let bytes = vec![in alloc; 5; 1_048_576]?;
-    assert_eq!(rt; device.read(now, 0, &mut [0; 512]), Err(DevError::Io));
-    assert_eq!(rt; device.write(now, 0, &bytes, true), Ok(now));
-    assert_eq!(rt; device.read(now, 0, &mut [0; 512]), Ok(now));
-    assert_eq!(rt;
-        device.message(1, "removebadblock 1998"),
-        Err(MessageError::NotBad)
-    );
+    assert!(rt; device.sectors() == 4096);
+    assert!(rt; device.write(Ms::new(9), 0, &bytes, true) == Ok(Ms::new(9)));
     Ok(())
 }
 
-// A call of 2,048 sectors over a thousand blocks that are listed, each of which leaves the list.
+// A write of 2,048 sectors over a thousand blocks that are listed, each of which leaves the list.
+fn mend_many<D: Message + Drop>(
+    rt: &(impl Abort + Print),
+    alloc: Global,
+    device: &mut D,
+) -> Result<(), Fail> {
+    list_many(rt, alloc, device)?;
+    talk(rt, alloc, device, "m 1 enable|ok\n9 r 0 1|Io")?;
+    write_many(rt, alloc, device)?;
+    talk(
+        rt,
+        alloc,
+        device,
+        "9 r 0 1|9 5\nm 1 removebadblock 1998|8 NotBad",
+    )?;
+    Ok(())
+}
+
 #[test]
 fn many_blocks_are_listed(rt: HostRuntime) -> Result<(), Fail> {
     let disk = SectorDisk::new(rt.alloc(), 4096)?;
     let mut device = by_sector(rt.alloc(), disk);
-    list_many(&rt, rt.alloc(), &mut device)?;
     mend_many(&rt, rt.alloc(), &mut device)
 }

@@ -27,46 +27,42 @@ flakey-fuse w31+ w32- @10000 w33+ @15000 r31+ w34- #21 =00010000
 fuse-flakey @10000 w33+ w34- @15000 r30+ #11 =00000000
 linear-linear w01+ F02+ r02+ #00 =12325678 !12325678";
 
-// The disk after the calls of a line, its layers taken off again.
+// What a flakey layer of this name does while it is down, and its load.
+fn turns_of(name: &str) -> Option<(Feature, u64)> {
+    match name {
+        "none" => Some((Feature::None, 0)),
+        "loaded" => Some((Feature::None, 3000)),
+        "reads" => Some((Feature::ErrorReads, 0)),
+        "writes" => Some((Feature::ErrorWrites, 0)),
+        "drops" => Some((Feature::DropWrites, 0)),
+        _ => None,
+    }
+}
+
+// How many calls a fuse of this name passes.
+fn calls_of(name: &str) -> Option<u64> {
+    name.strip_prefix("fuse")?.parse::<u64>().ok()
+}
+
+// The disk after the calls of a line, its layer taken off again.
 fn played(rt: &(impl Abort + Print), disk: SectorDisk, line: &str) -> SectorDisk {
-    let start = Ms::new(0);
-    match line.split(' ').next().unwrap_or_default() {
-        "error" => play(rt, ErrorDev::new(disk), line).into_lower(),
-        "fuse0" => play(rt, Fuse::new(disk, 0), line).into_lower(),
-        "fuse1" => play(rt, Fuse::new(disk, 1), line).into_lower(),
-        "fuse2" => play(rt, Fuse::new(disk, 2), line).into_lower(),
-        "none" => play(rt, Flakey::new(disk, 10, 5, Feature::None, start), line).into_lower(),
-        "loaded" => play(
-            rt,
-            Flakey::new(disk, 10, 5, Feature::None, Ms::new(3000)),
-            line,
-        )
-        .into_lower(),
-        "reads" => play(
-            rt,
-            Flakey::new(disk, 10, 5, Feature::ErrorReads, start),
-            line,
-        )
-        .into_lower(),
-        "writes" => play(
-            rt,
-            Flakey::new(disk, 10, 5, Feature::ErrorWrites, start),
-            line,
-        )
-        .into_lower(),
-        "drops" => play(
-            rt,
-            Flakey::new(disk, 10, 5, Feature::DropWrites, start),
-            line,
-        )
-        .into_lower(),
-        "never" => play(
-            rt,
-            Flakey::new(disk, 0, 4_294_967_295, Feature::None, start),
-            line,
-        )
-        .into_lower(),
-        _ => disk,
+    let name = line.split(' ').next().unwrap_or_default();
+    if name == "error" {
+        return play(rt, ErrorDev::new(disk), line).into_lower();
+    }
+    if name == "never" {
+        let down = Flakey::new(disk, 0, 4_294_967_295, Feature::None, Ms::new(0));
+        return play(rt, down, line).into_lower();
+    }
+    if let Some(calls) = calls_of(name) {
+        return play(rt, Fuse::new(disk, calls), line).into_lower();
+    }
+    match turns_of(name) {
+        Some((feature, load)) => {
+            let flakey = Flakey::new(disk, 10, 5, feature, Ms::new(load));
+            play(rt, flakey, line).into_lower()
+        }
+        None => disk,
     }
 }
 

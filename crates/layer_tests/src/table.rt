@@ -8,7 +8,7 @@ use bio::Ms;
 use blockdev::BlockDev;
 use fault_layers::Kind;
 use layer_table::Stack;
-use plain::{Plain, plain_call};
+use plain::{Plain, counts, plain_call};
 use refusals::Refusal;
 use sector_disk::SectorDisk;
 use std::alloc::Global;
@@ -16,6 +16,7 @@ use std::io::Print;
 use std::process::Abort;
 use std::test::Fail;
 use table_line::{LayerSpec, Target, parse_line};
+use test_asserts::is_same;
 
 mod plain;
 
@@ -108,33 +109,36 @@ fn on_stack<T: Drop, F: FnOnce(&mut Stack) -> Result<T, Fail>>(
     asked(stack, calls, |stack| Ok(stack.into_disk().into_bytes()?))
 }
 
-// What a call of one sector, or a discard of two, answers: the byte that is read or 0, or that it failed.
-fn told<D: BlockDev + Drop>(
-    rt: &impl Abort,
-    device: &mut D,
-    kind: Kind,
-    now: Ms,
-    first: u64,
-    byte: u8,
-) -> Option<u8> {
-    let count = if kind == Kind::Discard { 2 } else { 1 };
-    let fua = first == 1;
-    let answer = ask(
-        rt,
-        device,
-        now,
-        Call {
-            kind,
-            first,
-            count,
-            byte,
-            fua,
-        },
-    );
+// The calls of a round, one after another.
+const KINDS: [Kind; 7] = [
+    Kind::Read,
+    Kind::Write,
+    Kind::Read,
+    Kind::Discard,
+    Kind::Flush,
+    Kind::Write,
+    Kind::Read,
+];
+
+// The call of this kind in a round, of one sector, or of two that are discarded.
+fn call_in(round: usize, kind: Kind) -> Call {
+    let first = round as u64 % 4;
+    Call {
+        kind,
+        first,
+        count: if kind == Kind::Discard { 2 } else { 1 },
+        byte: (round % 200) as u8 + 1,
+        fua: first == 1,
+    }
+}
+
+// What a call answers: the byte that is read or 0, or that it failed.
+fn told<D: BlockDev + Drop>(rt: &impl Abort, device: &mut D, now: Ms, call: Call) -> Option<u8> {
+    let answer = ask(rt, device, now, call);
     // A delay of a millisecond may stand among the layers.
     match answer.end {
         Ok(end) if end != now && end != now.later_by(Ms::new(1)) => None,
-        Ok(_) if kind == Kind::Read => Some(answer.byte()),
+        Ok(_) if call.kind == Kind::Read => Some(answer.byte()),
         Ok(_) => Some(0),
         Err(_) => None,
     }
@@ -147,23 +151,23 @@ fn play<D: BlockDev + Drop>(
     layers: &mut [Plain],
     disk: &mut [u8],
 ) {
-    for (place, now) in MOMENTS.into_iter().enumerate() {
-        let first = place as u64 % 4;
-        for kind in [
-            Kind::Read,
-            Kind::Write,
-            Kind::Read,
-            Kind::Discard,
-            Kind::Flush,
-            Kind::Write,
-            Kind::Read,
-        ] {
-            let value = place as u8 % 200 + 1;
-            let got = told(rt, device, kind, Ms::new(now), first, value);
-            let wanted = plain_call(layers, disk, kind, now, first, value);
-            assert_eq!(rt; got, wanted, "{kind:?} at {now}");
+    for (round, now) in MOMENTS.into_iter().enumerate() {
+        for kind in KINDS {
+            let call = call_in(round, kind);
+            let found = (now, kind, told(rt, device, Ms::new(now), call));
+            let wanted = (now, kind, plain_call(layers, disk, now, call));
+            assert!(rt; is_same(rt, &found, &wanted, "told in plain words"));
         }
     }
+}
+
+// These layers, told in plain words.
+fn plain_layers(rt: &impl Abort, alloc: Global, lines: &[(&str, u64)]) -> Result<Vec<Plain>, Fail> {
+    let mut layers = Vec::new(alloc);
+    for (line, load) in lines {
+        layers.push(Plain::new(spec_of(rt, line), *load))?;
+    }
+    Ok(layers)
 }
 
 // Plays the calls on a device and on plain layers, and looks at the counts; what the plain layers' disk then holds.
@@ -173,19 +177,11 @@ fn play_all<D: BlockDev + Drop>(
     device: &mut D,
     lines: &[(&str, u64)],
 ) -> Result<[u8; 16], Fail> {
-    let mut layers = Vec::new(alloc);
-    for (line, load) in lines {
-        layers.push(Plain::new(spec_of(rt, line), *load))?;
-    }
+    let mut layers = plain_layers(rt, alloc, lines)?;
     let mut disk = [0; 16];
     play(rt, device, &mut layers, &mut disk);
-    let faults = layers
-        .iter()
-        .fold(0, |sum: u64, layer| sum.saturating_add(layer.faults));
-    let lies = layers
-        .iter()
-        .fold(0, |sum: u64, layer| sum.saturating_add(layer.lies));
-    assert_eq!(rt; (device.faults(), device.lies()), (faults, lies));
+    let found = (device.faults(), device.lies());
+    assert!(rt; is_same(rt, &found, &counts(&layers), "faults and lies"));
     Ok(disk)
 }
 
@@ -201,27 +197,29 @@ fn check(rt: &(impl Abort + Print), alloc: Global, lines: &[(&str, u64)]) -> Res
     Ok(())
 }
 
-#[test]
-fn layers_over_layers(rt: HostRuntime) -> Result<(), Fail> {
-    let alloc = rt.alloc();
+// Plays the calls on each upper layer over each lower one, under these layers.
+fn check_each(rt: &(impl Abort + Print), alloc: Global, top: &[(&str, u64)]) -> Result<(), Fail> {
     for lower in LOWER.split('\n') {
         for upper in UPPER.split('\n') {
-            check(&rt, alloc, &[(lower, 0), (upper, 3_000)])?;
+            match top {
+                [] => check(rt, alloc, &[(lower, 0), (upper, 3_000)])?,
+                [top, ..] => check(rt, alloc, &[(lower, 0), (upper, 3_000), *top])?,
+            }
         }
     }
     Ok(())
 }
 
 #[test]
+fn layers_over_layers(rt: HostRuntime) -> Result<(), Fail> {
+    check_each(&rt, rt.alloc(), &[])
+}
+
+#[test]
 fn fuses_over_layers(rt: HostRuntime) -> Result<(), Fail> {
-    let alloc = rt.alloc();
     for calls in 0..7 {
-        let top = format!(in alloc; "0 8 fuse disk 0 {calls}")?;
-        for lower in LOWER.split('\n') {
-            for upper in UPPER.split('\n') {
-                check(&rt, alloc, &[(lower, 0), (upper, 3_000), (top.as_str(), 0)])?;
-            }
-        }
+        let top = format!(in rt.alloc(); "0 8 fuse disk 0 {calls}")?;
+        check_each(&rt, rt.alloc(), &[(top.as_str(), 0)])?;
     }
     Ok(())
 }

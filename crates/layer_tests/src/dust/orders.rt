@@ -1,5 +1,5 @@
-use super::{by_sector, over};
-use crate::calls::answer_of;
+use super::{by_sector, over, talk_over};
+use crate::calls::{answer_of, ask, read_of};
 use bio::Ms;
 use blockdev::{BlockDev, Message, MessageError};
 use dust_layer::{Dust, Mode};
@@ -31,14 +31,16 @@ addbadblock 00000000000000000007 00000000000000000255|7|255";
 fn list_block<D: Message + Drop>(rt: &(impl Abort + Print), device: &mut D, row: &str) {
     let (text, rest) = row.split_once('|').unwrap_or_default();
     let (block, writes) = rest.split_once('|').unwrap_or_default();
-    let block = block.parse::<u64>().unwrap_or(999);
+    let listed = [device.message(1, text), device.message(1, text)];
+    let failed = failed_writes(rt, device, block.parse::<u64>().unwrap_or(999));
+    let cleared = [device.message(1, text), device.message(1, "clearbadblocks")];
     let writes = writes.parse::<u64>().unwrap_or(999);
-    let listed = Err(MessageError::AlreadyBad);
-    assert!(rt; is_same(rt, &device.message(1, text), &Ok(()), row));
-    assert!(rt; is_same(rt, &device.message(1, text), &listed, row));
-    assert!(rt; is_same(rt, &failed_writes(rt, device, block), &writes, row));
-    assert!(rt; is_same(rt, &device.message(1, text), &Ok(()), row));
-    assert!(rt; is_same(rt, &device.message(1, "clearbadblocks"), &Ok(()), row));
+    let wanted = (
+        [Ok(()), Err(MessageError::AlreadyBad)],
+        writes,
+        [Ok(()), Ok(())],
+    );
+    assert!(rt; is_same(rt, &(listed, failed, cleared), &wanted, row));
 }
 
 #[test]
@@ -97,26 +99,21 @@ disable|ok|-fl
 clearbadblocks|ok|---
 removebadblock 49|8 NotBad|---";
 
-// The letter where a read of the sector fails, or a dash.
-fn mark<D: Message + Drop>(rt: &impl Abort, device: &mut D, sector: u64, letter: char) -> char {
-    assert!(rt; sector < device.sectors());
-    match device.read(Ms::new(0), sector, &mut [0; 512]) {
-        Ok(_) => '-',
-        Err(_) => letter,
-    }
+// Whether a read of the sector fails.
+fn is_bad<D: BlockDev + Drop>(rt: &impl Abort, device: &mut D, sector: u64) -> bool {
+    ask(rt, device, Ms::new(0), read_of(sector)).end.is_err()
 }
 
 // Whether the device is enabled, and lists these two blocks: while it is enabled, a read of a listed block fails. Its mode stays.
-fn state<D: BlockDev + Drop>(rt: &impl Abort, device: &mut Dust<D>) -> (char, char, char) {
-    let was = device.mode();
-    assert_eq!(rt; device.message(1, "enable"), Ok(()));
-    let first = mark(rt, device, 0, 'f');
-    let last = mark(rt, device, 98, 'l');
-    if was == Mode::Bypass {
-        assert_eq!(rt; device.message(1, "disable"), Ok(()));
-        return ('-', first, last);
+fn state<D: BlockDev + Drop>(rt: &impl Abort, device: &mut Dust<D>) -> [bool; 3] {
+    let is_enabled = device.mode() != Mode::Bypass;
+    assert!(rt; device.message(1, "enable").is_ok());
+    let has_first = is_bad(rt, device, 0);
+    let has_last = is_bad(rt, device, 98);
+    if !is_enabled {
+        assert!(rt; device.message(1, "disable").is_ok());
     }
-    ('e', first, last)
+    [is_enabled, has_first, has_last]
 }
 
 // Puts the message of a row.
@@ -126,11 +123,16 @@ fn put_message<D: BlockDev + Drop>(
     device: &mut Dust<D>,
     row: &str,
 ) -> Result<(), Fail> {
-    let (text, wanted) = row.split_once('|').unwrap_or_default();
+    let (text, rest) = row.split_once('|').unwrap_or_default();
+    let (wanted, letters) = rest.split_once('|').unwrap_or_default();
     let answer = answer_of(alloc, device, 1, text)?;
-    let (enabled, first, last) = state(rt, device);
-    let told = format!(in alloc; "{answer}|{enabled}{first}{last}")?;
-    assert!(rt; is_told(rt, told.as_str(), wanted, row));
+    assert!(rt; is_told(rt, answer.as_str(), wanted, row));
+    let wanted = [
+        letters.contains('e'),
+        letters.contains('f'),
+        letters.contains('l'),
+    ];
+    assert!(rt; is_same(rt, &state(rt, device), &wanted, row));
     Ok(())
 }
 
@@ -144,22 +146,21 @@ fn answers_of_messages(rt: HostRuntime) -> Result<(), Fail> {
     Ok(())
 }
 
-// Blocks that are within a layer of so many sectors: as many blocks as begin there.
-fn list_blocks<D: Message + Drop>(rt: &impl Abort, device: &mut D, has_second: bool) {
-    assert_eq!(rt; device.message(1, "addbadblock 0"), Ok(()));
-    assert_eq!(rt; device.message(1, "addbadblock 1").is_ok(), has_second);
-    assert_eq!(rt;
-        device.message(1, "addbadblock 2"),
-        Err(MessageError::BadMessage)
-    );
-}
+// A layer of one or two sectors has one block of two, and one of three or four has two: as many as begin there.
+const ONE: &str = "m 1 addbadblock 0|ok
+m 1 addbadblock 1|6 BadMessage
+m 1 addbadblock 2|6 BadMessage";
+
+const TWO: &str = "m 1 addbadblock 0|ok
+m 1 addbadblock 1|ok
+m 1 addbadblock 2|6 BadMessage";
 
 #[test]
 fn blocks_within_a_layer(rt: HostRuntime) -> Result<(), Fail> {
-    for sectors in [1, 2, 3, 4] {
+    for (sectors, rows) in [(1, ONE), (2, ONE), (3, TWO), (4, TWO)] {
         assert!(rt; 0 < sectors && sectors <= 4);
         let disk = SectorDisk::new(rt.alloc(), sectors)?;
-        list_blocks(&rt, &mut over(rt.alloc(), disk), sectors > 2);
+        talk_over(&rt, rt.alloc(), disk, rows)?;
     }
     Ok(())
 }

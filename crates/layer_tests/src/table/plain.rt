@@ -1,4 +1,5 @@
 // Layers over a disk, told in plain words: a list of layers, and a byte for each sector.
+use crate::calls::Call;
 use bio::Ms;
 use fault_layers::{Kind, Verdict};
 use table_line::{Feature, LayerSpec, Target};
@@ -9,8 +10,8 @@ pub(super) struct Plain {
     spec: LayerSpec,
     load: u64,
     passed: u64,
-    pub(super) faults: u64,
-    pub(super) lies: u64,
+    faults: u64,
+    lies: u64,
 }
 
 impl Plain {
@@ -57,11 +58,22 @@ fn verdict(layer: &Plain, kind: Kind, now: u64) -> Verdict {
     }
 }
 
+// How often these layers failed a call, and how often they dropped one.
+pub(super) fn counts(layers: &[Plain]) -> (u64, u64) {
+    let mut faults: u64 = 0;
+    let mut lies: u64 = 0;
+    for layer in layers {
+        faults = faults.saturating_add(layer.faults);
+        lies = lies.saturating_add(layer.lies);
+    }
+    (faults, lies)
+}
+
 // The call on the disk.
-fn on_disk(disk: &mut [u8], kind: Kind, first: usize, value: u8) -> Option<u8> {
+fn on_disk(disk: &mut [u8], kind: Kind, first: usize, byte: u8) -> Option<u8> {
     match kind {
         Kind::Read => return disk.get(first).copied(),
-        Kind::Write => put(disk, first, value),
+        Kind::Write => put(disk, first, byte),
         Kind::Discard => {
             put(disk, first, 0);
             put(disk, first.saturating_add(1), 0);
@@ -71,9 +83,9 @@ fn on_disk(disk: &mut [u8], kind: Kind, first: usize, value: u8) -> Option<u8> {
     Some(0)
 }
 
-fn put(disk: &mut [u8], sector: usize, value: u8) {
-    if let Some(byte) = disk.get_mut(sector) {
-        *byte = value;
+fn put(disk: &mut [u8], sector: usize, byte: u8) {
+    if let Some(place) = disk.get_mut(sector) {
+        *place = byte;
     }
 }
 
@@ -81,12 +93,11 @@ fn put(disk: &mut [u8], sector: usize, value: u8) {
 pub(super) fn plain_call(
     layers: &mut [Plain],
     disk: &mut [u8],
-    kind: Kind,
     now: u64,
-    first: u64,
-    value: u8,
+    call: Call,
 ) -> Option<u8> {
-    let mut sector = first;
+    let kind = call.kind;
+    let mut sector = call.first;
     let mut begun = Ms::new(now);
     for layer in layers.iter_mut().rev() {
         match verdict(layer, kind, begun.milliseconds()) {
@@ -104,5 +115,5 @@ pub(super) fn plain_call(
         sector = sector.saturating_add(layer.spec.offset);
         layer.passed = layer.passed.saturating_add(u64::from(kind != Kind::Read));
     }
-    on_disk(disk, kind, sector as usize, value)
+    on_disk(disk, kind, sector as usize, call.byte)
 }

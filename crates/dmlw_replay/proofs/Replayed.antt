@@ -1,7 +1,7 @@
 -- What replaying the log of an image on a disk comes to.
 use Rattle.std.proofs.Common.{◌≡◌, ◌∙◌, ◌⊎◌, ℕ, ◌+◌, ◌*◌, ◌/◌, ◌<◌, ◌≤◌, false, List, Option, Result, Ok, Err, IfErr, IfOk, ap, arith, inl, inr, length, refl, subst, sym}
 use Rattle.std.proofs.lemmas.Option.{slice_get_within}
-use Rattle.sectors.specs.Content.{AgreeBelow, Content, HasWholeSectors, sector_of}
+use Rattle.sectors.specs.Content.{AgreeBelow, Content, sector_of}
 use Rattle.blockdev.specs.View.{View}
 use Rattle.blockdev.specs.Law.{NoLie}
 use Rattle.bio.specs.declared.outcome.DevError.TheVariants as devices
@@ -15,18 +15,20 @@ use Rattle.log_reader.specs.declared.fault.OpenDeviceError.{OpenDeviceError}
 use Rattle.log_reader.specs.declared.fault.OpenDeviceError.TheVariants as device_opens
 use Rattle.log_reader.specs.declared.fault.OpenError.TheVariants as opens
 use Rattle.log_reader.specs.declared.fault.ReadDeviceError.TheVariants as reads
-use Rattle.log_reader.specs.AnyReading.{IsReadAs, any_reading}
-use Rattle.log_reader.specs.Devices.{HasFaulted, Undisturbed}
-use Rattle.log_reader.specs.Reader.{OpenRefuses, Reader}
+use Rattle.log_reader.specs.Devices.{HasFaulted}
+use Rattle.log_reader.specs.Reader.{OpenRefuses}
 use Rattle.log_reader.specs.Readings.{IsReading}
-use Rattle.log_reader.specs.Reads.{BeginsWith, Reads}
+use Rattle.log_reader.specs.Reads.{Reads}
 use Rattle.log_reader.specs.Refusals.{open_device_refusal}
 use Rattle.replay.specs.AlikeLaws.{reads_alike, replay_alike}
 use Rattle.replay.specs.declared.fault.ReplayError.{ReplayError}
 use Rattle.replay.specs.declared.fault.ReplayError.TheVariants as replays
 use Rattle.replay.specs.declared.fault.ReplayFault.{ReplayFault}
 use Rattle.replay.specs.declared.upto.Upto.{Upto}
-use Rattle.replay.specs.Replays.{AsksTooMany, EndsShort, HasReplayCause, IsApplied, IsUpto, LacksFlush, LacksMark, Leaves, LeavesBy, ReachesPast, entries_from}
+use Rattle.replay.specs.Replays.{HasReplayCause, IsApplied, LeavesBy, ReachesPast, entries_from}
+use Rattle.headline.specs.declared.reopening.ReopenError.{ReopenError}
+use Rattle.headline.specs.declared.reopening.ReopenError.TheVariants as reopens
+use Rattle.headline.specs.Reopened.{IsRefused, IsReplayed as IsReopened, IsStopped, first_reader}
 use Rattle.run_error.specs.declared.run_error.RunError.{RunError}
 use Rattle.run_error.specs.Errors.{memory_error, refused_by}
 use Rattle.dmlw_files.specs.Images.{IsImage}
@@ -35,8 +37,8 @@ use Rattle.dmlw_files.specs.Files.{MatchesContents}
 use Rattle.dmlw_replay.specs.declared.images.Replayed.{Replayed}
 use Rattle.dmlw_replay.specs.declared.stop.Stop.{Stop}
 use Rattle.dmlw_replay.specs.declared.stop.Stop.TheVariants as stops
-use Rattle.dmlw_replay.specs.Opened.{IsOpened, IsReplayedOn}
-use Rattle.dmlw_replay.specs.Replays.{AreImages, FailsOnImages, FailsReplay, HasStopCause, IsReplayed, IsReplayedFrom, StopsReplay, images, memory, unopened}
+use Rattle.dmlw_replay.specs.Opened.{IsReplayedOn, stop_by}
+use Rattle.dmlw_replay.specs.Replays.{AreImages, FailsOnImages, FailsReplay, HasStopCause, IsReplayed, IsReplayedFrom, StopsReplay, images, memory, stopped, unopened}
 
 -- a device that counts no faults hasn't failed
 pub never_failed : (v w : View) → v.faults ≡ 0 → w.faults ≡ 0 → HasFaulted v w → ⊥
@@ -76,26 +78,9 @@ both_images log_file first_file now log first log_read log_image first_read firs
   first_image = first_image;
 }
 
--- a disk that begins as an image, and was only read since, has the image's sectors
-same_sectors : (log : List ℕ) (v w : View) → Begins (length log / 512) (sector_of log) v → Undisturbed v w
-    → AgreeBelow (length log / 512) (sector_of log) w.content
-same_sectors log v w begins same sector below = ap (λ (c : Content). c sector) same.content ∙ begins.content sector below
-
 -- an image has a first sector
 some_sector : (log : List ℕ) → IsImage log → 0 < length log / 512
 some_sector log image = let least = image.least in omega arith
-
--- a log that is opened
-pub opened_on : (log : List ℕ) (v : View) (reader : Reader) → IsImage log → Begins (length log / 512) (sector_of log) v → Undisturbed v reader.device
-    → BeginsWith v.content reader.head → reader.next ≡ 0 → reader.failed ≡ false → HasWholeSectors reader.device.size reader.device.content → IsOpened log reader
-opened_on log v reader image begins same super_block place fresh whole = record {
-  size = same.size ∙ begins.size;
-  content = same_sectors log v reader.device begins same;
-  super_block = subst (λ (c : Content). BeginsWith c reader.head) (sym same.content) super_block;
-  place = place;
-  fresh = fresh;
-  whole = whole;
-}
 
 -- a disk that isn't opened as a log, and never fails
 pub unopened_on : (log : List ℕ) (v w : View) (error : OpenDeviceError) (fault : RunError) → IsImage log → Begins (length log / 512) (sector_of log) v
@@ -119,99 +104,81 @@ unopened_on log v w (device_opens.Log opens.CutShort) fault image begins never r
 unopened_on log v w device_opens.Device fault image begins never refuses is = absurd (never refuses)
 unopened_on log v w device_opens.Memory fault image begins never refuses is = inl is
 
--- the reading of a log that is opened
-reading_of : (log : List ℕ) (reader : Reader) → IsOpened log reader → IsReadAs reader.device.size reader.device.content reader.head
-reading_of log reader opened = any_reading reader.device.size reader.device.content reader.head opened.whole opened.super_block
-
--- is one of its image
-reading_on : (log : List ℕ) (reader : Reader) (es : List Entry) (fault : Option LogFault) → IsImage log → IsOpened log reader
-    → Reads reader.device.size reader.device.content reader.head es fault → IsReading log reader.head es fault
-reading_on log reader es fault image opened reads =
-    let R : ℕ → Type 0 = λ n. Reads n reader.device.content reader.head es fault in
-    reads_alike (length log / 512) reader.device.content (sector_of log) reader.head es fault (some_sector log image)
-    (λ s below. sym (opened.content s below)) (subst R opened.size reads)
+-- what is read of a disk that is an image is a reading of the image
+reading_on : (log : List ℕ) (v : View) (head : Super) (es : List Entry) (fault : Option LogFault) → IsImage log → Begins (length log / 512) (sector_of log) v
+    → Reads v.size v.content head es fault → IsReading log head es fault
+reading_on log v head es fault image begins reads =
+    let R : ℕ → Type 0 = λ n. Reads n v.content head es fault in
+    reads_alike (length log / 512) v.content (sector_of log) head es fault (some_sector log image) (λ s below. sym (begins.content s below))
+    (subst R begins.size reads)
 
 -- a replay that was done
-pub replayed_on : (log first : List ℕ) (upto : Upto) (count : ℕ) (reader : Reader) (v w : View) → IsImage log → IsOpened log reader
-    → Begins (length first / 512) (sector_of first) v → w.size ≡ v.size → NoLie v w
-    → ((es : List Entry) (fault : Option LogFault) → Reads reader.device.size reader.device.content reader.head es fault → NoLie v w
-    → Leaves reader.head.sectorsize es reader.next v.content w.content (Ok count))
-    → ((es : List Entry) (fault : Option LogFault) → Reads reader.device.size reader.device.content reader.head es fault → IsUpto upto es reader.next count)
-    → IsReplayedOn log first upto count w
-replayed_on log first upto count reader v w image opened begins size honest leaves named =
-    let known = reading_of log reader opened in
-    let es = known.entries in
-    let applied : IsApplied reader.head.sectorsize es reader.next count v.content w.content = leaves es known.fault known.reads honest in
-    let place = opened.place in
-    let from : entries_from es reader.next count ≡ entries_from es 0 count = ap (λ (p : ℕ). entries_from es p count) place in
-    let alike = replay_alike reader.head.sectorsize (entries_from es 0 count) (length first / 512) (sector_of first) v.content begins.content in
+pub replayed_on : (log first : List ℕ) (upto : Upto) (count : ℕ) (disk v w : View) → IsImage log → Begins (length log / 512) (sector_of log) disk
+    → Begins (length first / 512) (sector_of first) v → w.size ≡ v.size → NoLie v w → IsReopened disk upto count v w → IsReplayedOn log first upto count w
+replayed_on log first upto count disk v w image log_begins begins size honest done =
+    let applied : IsApplied done.head.sectorsize done.entries 0 count v.content w.content = done.applied honest in
+    let alike = replay_alike done.head.sectorsize (entries_from done.entries 0 count) (length first / 512) (sector_of first) v.content begins.content in
     record {
-      head = reader.head;
-      entries = es;
-      fault = known.fault;
-      reading = reading_on log reader es known.fault image opened known.reads;
-      named = subst (λ (p : ℕ). IsUpto upto es p count) place (named es known.fault known.reads);
-      within = λ some. let all = applied.some some in omega arith;
+      head = done.head;
+      entries = done.entries;
+      fault = done.fault;
+      reading = reading_on log disk done.head done.entries done.fault image log_begins done.reading;
+      named = done.named;
+      within = applied.some;
       size = size ∙ begins.size;
-      content = λ sector below.
-          ap (λ (c : Content). c sector) applied.content
-          ∙ ap (λ (xs : List Entry). replay reader.head.sectorsize xs v.content sector) from
-          ∙ alike sector below;
+      content = λ sector below. ap (λ (c : Content). c sector) applied.content ∙ alike sector below;
     }
 
 -- what stopped a replay on disks that never fail
-cause_on : (es : List Entry) (fault : Option LogFault) (upto : Upto) (old new : Reader) (v w : View) (disk applied : ℕ) (cause : ReplayError)
-    → old.next ≡ 0 → old.failed ≡ false → v.size ≡ disk → (HasFaulted old.device new.device → ⊥) → (HasFaulted v w → ⊥)
-    → HasReplayCause es fault upto old new v w applied cause → HasStopCause upto old.head es fault disk applied cause
-cause_on es fault upto old new v w disk applied replays.PastEntries place fresh size reader target (none, asks) =
-    (none, subst (AsksTooMany upto old.head.count) place asks)
-cause_on es fault upto old new v w disk applied replays.NoSuchMark place fresh size reader target (none, lacks, whole) =
-    (none, subst (LacksMark upto es) place lacks, whole)
-cause_on es fault upto old new v w disk applied replays.NoFlush place fresh size reader target (none, lacks, whole) =
-    (none, subst (LacksFlush upto es) place lacks, whole)
-cause_on es fault upto old new v w disk applied replays.PastTarget place fresh size reader target reaches =
-    let here : old.next + applied ≡ applied = omega arith in
-    subst (λ (n : ℕ). ReachesPast old.head.sectorsize es applied n) size
-    (subst (λ (p : ℕ). ReachesPast old.head.sectorsize es p v.size) here reaches)
-cause_on es fault upto old new v w disk applied (replays.Log (reads.Log found)) place fresh size reader target is =
-    (is.0, subst (λ (p : ℕ). EndsShort upto es p applied) place is.1)
-cause_on es fault upto old new v w disk applied (replays.Log reads.Device) place fresh size reader target failed = absurd (reader failed)
-cause_on es fault upto old new v w disk applied (replays.Log reads.Memory) place fresh size reader target is = tt
-cause_on es fault upto old new v w disk applied (replays.Log reads.Failed) place fresh size reader target refused = cc (fresh, refused)
-cause_on es fault upto old new v w disk applied (replays.Target devices.Io) place fresh size reader target failed = absurd (target (failed refl))
-cause_on es fault upto old new v w disk applied (replays.Target devices.Memory) place fresh size reader target is = tt
+cause_on : (es : List Entry) (fault : Option LogFault) (upto : Upto) (head : Super) (log last v w : View) (disk applied : ℕ) (cause : ReplayError)
+    → v.size ≡ disk → (HasFaulted log last → ⊥) → (HasFaulted v w → ⊥)
+    → HasReplayCause es fault upto (first_reader log head) (first_reader last head) v w applied cause → HasStopCause upto head es fault disk applied cause
+cause_on es fault upto head log last v w disk applied replays.PastEntries size reader target asks = asks
+cause_on es fault upto head log last v w disk applied replays.NoSuchMark size reader target lacks = lacks
+cause_on es fault upto head log last v w disk applied replays.NoFlush size reader target lacks = lacks
+cause_on es fault upto head log last v w disk applied replays.PastTarget size reader target reaches =
+    subst (λ (n : ℕ). ReachesPast head.sectorsize es applied n) size reaches
+cause_on es fault upto head log last v w disk applied (replays.Log (reads.Log found)) size reader target is = is
+cause_on es fault upto head log last v w disk applied (replays.Log reads.Device) size reader target failed = absurd (reader failed)
+cause_on es fault upto head log last v w disk applied (replays.Log reads.Memory) size reader target is = tt
+cause_on es fault upto head log last v w disk applied (replays.Log reads.Failed) size reader target refused = cc
+cause_on es fault upto head log last v w disk applied (replays.Target devices.Io) size reader target failed = absurd (target (failed refl))
+cause_on es fault upto head log last v w disk applied (replays.Target devices.Memory) size reader target is = tt
 
 -- as many entries as were applied when a replay stopped, there are
-applied_within : (size : ℕ) (es : List Entry) (place : ℕ) (old new : Content) (applied : ℕ) (cause : ReplayError) → place ≡ 0 → LeavesBy size es place old new applied cause
+applied_within : (size : ℕ) (es : List Entry) (old new : Content) (applied : ℕ) (cause : ReplayError) → LeavesBy size es 0 old new applied cause
     → 0 < applied → applied ≤ length es
-applied_within size es place old new applied replays.PastEntries first leaves more = let all = leaves.some more in omega arith
-applied_within size es place old new applied replays.NoSuchMark first leaves more = let all = leaves.some more in omega arith
-applied_within size es place old new applied replays.NoFlush first leaves more = let all = leaves.some more in omega arith
-applied_within size es place old new applied replays.PastTarget first leaves more = let all = leaves.some more in omega arith
-applied_within size es place old new applied (replays.Log error) first leaves more = let all = leaves.some more in omega arith
-applied_within size es place old new applied (replays.Target error) first leaves more =
-    let there = slice_get_within es (place + applied) leaves.next leaves.there in omega arith
+applied_within size es old new applied replays.PastEntries leaves more = leaves.some more
+applied_within size es old new applied replays.NoSuchMark leaves more = leaves.some more
+applied_within size es old new applied replays.NoFlush leaves more = leaves.some more
+applied_within size es old new applied replays.PastTarget leaves more = leaves.some more
+applied_within size es old new applied (replays.Log error) leaves more = leaves.some more
+applied_within size es old new applied (replays.Target error) leaves more =
+    let there = slice_get_within es applied leaves.next leaves.there in omega arith
 
 -- a replay that stopped
-pub stopped_on : (log first : List ℕ) (upto : Upto) (stop : ReplayFault) (old new : Reader) (v w : View) → IsImage log → IsOpened log old
-    → Begins (length first / 512) (sector_of first) v → (HasFaulted old.device new.device → ⊥) → (HasFaulted v w → ⊥) → NoLie v w
-    → ((es : List Entry) (fault : Option LogFault) → Reads old.device.size old.device.content old.head es fault → NoLie v w
-    → Leaves old.head.sectorsize es old.next v.content w.content (Err stop))
-    → ((es : List Entry) (fault : Option LogFault) → Reads old.device.size old.device.content old.head es fault
-    → HasReplayCause es fault upto old new v w stop.applied stop.cause)
+pub stopped_on : (log first : List ℕ) (upto : Upto) (stop : ReplayFault) (disk last v w : View) → IsImage log → Begins (length log / 512) (sector_of log) disk
+    → Begins (length first / 512) (sector_of first) v → (HasFaulted disk last → ⊥) → (HasFaulted v w → ⊥) → NoLie v w → IsStopped disk last upto v w stop
     → StopsReplay log first upto stop
-stopped_on log first upto stop old new v w image opened begins reader target honest leaves causes =
-    let known = reading_of log old opened in
-    record {
-      head = old.head;
-      entries = known.entries;
-      fault = known.fault;
-      reading = reading_on log old known.entries known.fault image opened known.reads;
-      within = applied_within old.head.sectorsize known.entries old.next v.content w.content stop.applied stop.cause opened.place
-          (leaves known.entries known.fault known.reads honest);
-      cause = cause_on known.entries known.fault upto old new v w (length first / 512) stop.applied stop.cause opened.place opened.fresh begins.size reader target
-          (causes known.entries known.fault known.reads);
-    }
+stopped_on log first upto stop disk last v w image log_begins begins reader target honest stopped = record {
+  head = stopped.head;
+  entries = stopped.entries;
+  fault = stopped.fault;
+  reading = reading_on log disk stopped.head stopped.entries stopped.fault image log_begins stopped.reading;
+  within = applied_within stopped.head.sectorsize stopped.entries v.content w.content stop.applied stop.cause (stopped.leaves honest);
+  cause = cause_on stopped.entries stopped.fault upto stopped.head disk last v w (length first / 512) stop.applied stop.cause begins.size reader target stopped.cause;
+}
+
+-- why a log isn't replayed on disks that never fail
+pub fails_on : (log first : List ℕ) (upto : Upto) (error : ReopenError) (stop : Stop) (disk last v w : View) → IsImage log
+    → Begins (length log / 512) (sector_of log) disk → Begins (length first / 512) (sector_of first) v → (HasFaulted disk last → ⊥) → (HasFaulted v w → ⊥) → NoLie v w
+    → IsRefused disk last upto v w error → stop ≡ stop_by error → FailsOnImages log first upto stop
+fails_on log first upto (reopens.Open error) stop disk last v w image log_begins begins reader target honest refused same =
+    fails_to_open log first upto (refused_by (open_device_refusal error)) stop
+    (unopened_on log disk last error (refused_by (open_device_refusal error)) image log_begins reader refused refl) same
+fails_on log first upto (reopens.Replay fault) stop disk last v w image log_begins begins reader target honest refused same =
+    subst (FailsOnImages log first upto) (sym same)
+    (stopped fault (stopped_on log first upto fault disk last v w image log_begins begins reader target honest refused))
 
 -- the image of the disk that a replay left
 pub image_of : (log first : List ℕ) (upto : Upto) (count : ℕ) (w : View) (image : List ℕ) → IsImage first → IsReplayedOn log first upto count w

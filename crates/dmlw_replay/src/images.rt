@@ -1,16 +1,14 @@
-ghost use Rattle.std.specs.Prelude.{◌≡◌, ◌⊎◌, ◌/◌, IfErr, IfOk, length};
+ghost use Rattle.std.specs.Prelude.{◌≡◌, ◌/◌, IfErr, IfOk, length};
 ghost use Rattle.sector_disk.specs.Shown.{shown_of};
 ghost use Rattle.sector_disk.specs.Sizes.{Begins};
 ghost use Rattle.sectors.specs.Content.{sector_of};
-ghost use Rattle.log_reader.specs.Shown.{reader_of};
 ghost use Rattle.run_error.specs.Errors.{memory_error};
 ghost use Rattle.dmlw_files.specs.Images.{IsImage};
-ghost use Rattle.dmlw_commands.specs.Lists.{RefusesImage};
-ghost use Rattle.dmlw_replay.specs.Opened.{IsOpened, IsReplayedOn};
+ghost use Rattle.dmlw_replay.specs.Opened.{IsReplayedOn, stop_by};
 ghost use Rattle.dmlw_replay.specs.Replays.{FailsOnImages, IsReplayed};
 
 use crate::stop::Stop;
-use log_reader::{LogReader, OpenDeviceError};
+use headline::{ReopenError, reopen_and_replay};
 use refusals::Refusal;
 use replay::Upto;
 use run_error::RunError;
@@ -45,7 +43,7 @@ pub(crate) fn replay_images(
     }
 }
 
-// Replays a log on the disk that a first image is; the log's reader is gone after it.
+// Replays a log on the disk that a first image is, by the call that carries the headline; the log's disk is gone after it.
 fn replay_on_disks(
     alloc: Global,
     log: Vec<u8>,
@@ -57,32 +55,23 @@ fn replay_on_disks(
     ensures replayed { IfOk result (λ done. IsReplayedOn log.items first.items upto.now done.0 (shown_of done.1)) }
     ensures fails { IfErr result (FailsOnImages log.items first.items upto.now) }
 {
-    let mut reader = open_log(alloc, log)?;
+    let log = disk_of(alloc, log)?;
     let mut target = disk_of(alloc, first)?;
-    match replay::replay(&mut reader, &mut target, upto) {
+    let (_log, done) = reopen_and_replay(alloc, log, &mut target, upto);
+    match done {
         Ok(count) => Ok((count, target)),
-        Err(fault) => Err(Stop::Replay(fault)),
+        Err(error) => Err(stop_of(error)),
     }
 }
 
-// Opens the log that an image holds.
-fn open_log(alloc: Global, log: Vec<u8>) -> Result<LogReader<SectorDisk>, RunError>
-    requires { IsImage log.items }
-    ensures opened { IfOk result (λ reader. IsOpened log.items (reader_of reader)) }
-    ensures fails { IfErr result (λ fault. (fault ≡ memory_error) ⊎ RefusesImage log.items fault) }
+// Why a log wasn't replayed that wasn't reopened, or of which the replay stopped.
+fn stop_of(error: ReopenError) -> Stop
+    ensures { result ≡ stop_by error }
 {
-    let disk = disk_of(alloc, log)?;
-    match LogReader::open(alloc, disk) {
-        Ok(reader) => Ok(reader),
-        Err(refused) => Err(RunError::from(Refusal::from(error_of(refused)))),
+    match error {
+        ReopenError::Open(error) => Stop::Fault(RunError::from(Refusal::from(error))),
+        ReopenError::Replay(stop) => Stop::Replay(stop),
     }
-}
-
-// Why a device, which goes, isn't opened.
-fn error_of<D: Drop>(refused: (D, OpenDeviceError)) -> OpenDeviceError
-    ensures { result ≡ refused.1 }
-{
-    refused.1
 }
 
 // The disk that an image is.

@@ -171,6 +171,10 @@ pub record IsPartOf (v w : View) : Type 0 where
 abbrev pub stack_does : Stack → Call → ℕ → Result ℕ DevError → Stack → Type 0
 stack_does old call now result new = slot_does old.top call now result new.top
 
+-- a stack, as contracts see a device
+abbrev pub on_stack : Ghosts Stack
+on_stack = record { shown = stack_shown; does = stack_does }
+
 -- What becomes of a call at a layer by its gate's verdict. `below` says of a moment that what stands beneath did it from then on, with this
 -- answer, and `same` that it was left as it was.
 pub record Decides (verdict : Verdict) (below : ℕ → Type 0) (same : Type 0) (call : Call) (now : ℕ) (result : Result ℕ DevError) (layer after : Layer) : Type 0 where

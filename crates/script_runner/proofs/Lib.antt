@@ -6,6 +6,7 @@ mod Scripts
 mod Reading
 mod Writing
 mod Logs
+mod Moments
 mod OnDisks
 mod Plays
 mod Following

@@ -89,13 +89,14 @@ stack_place disk stack is = is.over.place ∙ ap (λ (n : ℕ). record { origin 
 
 -- a recorder over a log that was made on a device is new
 pub new_log : {L : Type 0} {l : Ghosts L} (device : L) (store : LogStore L l) (recorder : Recorder L l)
-    → store.placed ≡ 0 → Goes (writes 0 (first_sector 512 0)) (l.shown device) (l.shown store.device)
+    → store.placed ≡ 0 → store.moment ≡ 0 → Goes (writes 0 (first_sector 512 0)) (l.shown device) (l.shown store.device)
     → ((l.shown store.device).lies ≡ 0 → (left : Content) → (l.shown store.device).crash left → IsLogOf (l.shown store.device).size left 512 [])
     → (recorder.core ≡ new_state) × (recorder.store ≡ store) × (recorder.end ≡ None) → IsNewOn device recorder
-new_log {L} {l} device store recorder none goes empty (core, same, end) = record {
+new_log {L} {l} device store recorder none start goes empty (core, same, end) = record {
   core = core;
   end = end;
   placed = ap (λ (s : LogStore L l). s.placed) same ∙ none;
+  moment = ap (λ (s : LogStore L l). s.moment) same ∙ start;
   made = subst (λ (s : LogStore L l). Goes (writes 0 (first_sector 512 0)) (l.shown device) (l.shown s.device)) (sym same) goes;
   empty = subst (λ (s : LogStore L l). (l.shown s.device).lies ≡ 0 → (left : Content) → (l.shown s.device).crash left → IsLogOf (l.shown s.device).size left 512 [])
       (sym same) empty;

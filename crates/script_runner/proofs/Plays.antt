@@ -12,7 +12,8 @@ use Rattle.script_runner.specs.declared.playing.Played.{Played}
 use Rattle.script_runner.specs.declared.running.Running.{Running}
 use Rattle.script_runner.specs.Begun.{IsUnmadeOn}
 use Rattle.script_runner.specs.Lines.{Answering}
-use Rattle.script_runner.specs.OnDisks.{on_stack, stack_answering, DiskRun, FailsOnDisks, IsStackOf, Starts, file as no_file, run as no_run, unmade as no_log}
+use Rattle.layer_table.specs.Layers.{on_stack}
+use Rattle.script_runner.specs.OnDisks.{stack_answering, DiskRun, FailsOnDisks, IsStackOf, Starts, file as no_file, run as no_run, unmade as no_log}
 use Rattle.script_runner.specs.inside.Played.{FailsPlaying, IsPlayed, StartsBeside, StartsOn, file, run, unmade}
 
 -- what was played from one kind of start was played from another, where each of the one kind is of the other

@@ -132,9 +132,9 @@ both_ok (Err error) one two follows = tt
 -- a line whose step is this one was run
 pub step_runs : {D L : Type 0} {d : Ghosts D} {l : Ghosts L} (m : Answering D L) (names : List ScriptId) (command : Command) (step : Step) (before after : Option (List ℕ)) (text : List ℕ)
     (old new : Running D L d l) → command ≡ commands.Step step → TakesStep m step text old new → new.moment ≡ moment_at_step old.moment step
-    → RecorderGoes (recording_of old.recorder) (recording_of new.recorder) → Appends before after text → PrintsLine m names command before after old new
-step_runs m names command step before after text old new is takes moment goes printed =
-    subst (λ (c : Command). PrintsLine m names c before after old new) (sym is) (text, record { does = takes; moment = moment; goes = goes }, printed)
+    → new.recorder.store.moment ≡ moment_at_step old.recorder.store.moment step → RecorderGoes (recording_of old.recorder) (recording_of new.recorder) → Appends before after text → PrintsLine m names command before after old new
+step_runs m names command step before after text old new is takes moment log_moment goes printed =
+    subst (λ (c : Command). PrintsLine m names c before after old new) (sym is) (text, record { does = takes; moment = moment; log_moment = log_moment; goes = goes }, printed)
 
 -- a writer that does nothing holds nothing more
 pub appends_none : (known : Option (List ℕ)) → Appends known known []

@@ -20,6 +20,7 @@ pub record IsNewOn {L : Type 0} {l : Ghosts L} (device : L) (recorder : Recorder
   pub core : recorder.core ≡ new_state
   pub end : recorder.end ≡ None
   pub placed : recorder.store.placed ≡ 0
+  pub moment : recorder.store.moment ≡ 0
   pub made : Goes (writes 0 (first_sector 512 0)) (l.shown device) (l.shown recorder.store.device)
   pub empty : (l.shown recorder.store.device).lies ≡ 0 → (left : Content) → (l.shown recorder.store.device).crash left →
       IsLogOf (l.shown recorder.store.device).size left 512 []

@@ -186,10 +186,11 @@ Does m names (commands.Complete request) text old new =
     EndsRequest (slice_get old.requests.items request) (name_at names request) text old new
 Does m names (commands.Step step) text old new = TakesStep m step text old new
 
--- A line is run: it does what its kind does, the moment is its own or stays, and the recorder goes on as by one of its calls.
+-- A line is run: it does what its kind does, the moment is its own or stays, for the log's device too, and the recorder goes on as by one of its calls.
 pub record RunsLine {D L : Type 0} {d : Ghosts D} {l : Ghosts L} (m : Answering D L) (names : List ScriptId) (command : Command) (text : List ℕ) (old new : Running D L d l) : Type 0 where
   pub does : Does m names command text old new
   pub moment : new.moment ≡ moment_at old.moment command
+  pub log_moment : new.recorder.store.moment ≡ moment_at old.recorder.store.moment command
   pub goes : RecorderGoes (recording_of old.recorder) (recording_of new.recorder)
 
 -- A line is run, and what it prints is added to what a writer holds.

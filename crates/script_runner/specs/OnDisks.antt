@@ -4,14 +4,13 @@ use Rattle.std.specs.Io.KnownBytes.{Keeps}
 use Rattle.bio.specs.declared.outcome.Status.{Status}
 use Rattle.bio.specs.Lawful.{has_no_close}
 use Rattle.sectors.specs.Content.{AgreeBelow, Content, moved, sector_of}
-use Rattle.blockdev.specs.declared.device.BlockDev.{Ghosts}
 use Rattle.sector_disk.specs.declared.disk.SectorDisk.{SectorDisk}
 use Rattle.sector_disk.specs.Candidates.{left_by}
 use Rattle.sector_disk.specs.Shown.{cache_of, shown_of}
 use Rattle.sector_disk.specs.Sizes.{Begins}
 use Rattle.log_format.specs.LogOf.{IsLogOf, status_of}
 use Rattle.layer_table.specs.declared.stack.Stack.{Stack}
-use Rattle.layer_table.specs.Layers.{disk_of, layers_of, layers_under, stack_does, stack_shown, AreOver}
+use Rattle.layer_table.specs.Layers.{disk_of, layers_of, layers_under, on_stack, stack_shown, AreOver}
 use Rattle.table_line.specs.Standing.{some_drops, top_origin}
 use Rattle.log_store.specs.Shown.{store_of}
 use Rattle.log_store.specs.Store.{entries_of}
@@ -32,10 +31,6 @@ use Rattle.script_runner.specs.declared.running.Running.{Running}
 use Rattle.layer_table.specs.StackMessages.{StackAnswers}
 use Rattle.script_runner.specs.Lines.{answering, Answering}
 use Rattle.script_runner.specs.Runs.{EndsRun, RunsLines}
-
--- a stack of layers over a disk in memory, as a device
-abbrev pub on_stack : Ghosts Stack
-on_stack = record { shown = stack_shown; does = stack_does }
 
 -- a recorder over a disk in memory, under its layers
 abbrev pub DiskRecorder : Type 0

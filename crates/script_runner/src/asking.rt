@@ -21,6 +21,7 @@ pub(crate) fn ask<L: BlockDev + Drop>(
     requires { submission_answer 1048576 submission ≡ Ok tt }
     ensures asks { Asks (bio_of submission) result recorder.old recorder.new }
     ensures goes { RecorderGoes (recording_of recorder.old) (recording_of recorder.new) }
+    ensures log_moment { recorder.new.store.moment ≡ recorder.old.store.moment }
 {
     let Ok(bio) = bio_of(alloc, submission) else {
         return Request::Failed;
@@ -39,6 +40,7 @@ pub(crate) fn ask<L: BlockDev + Drop>(
 pub(crate) fn tell_end<L: BlockDev + Drop>(recorder: &mut Recorder<L>, id: Option<Id>, ok: bool)
     ensures hears { HearsEnd id ok recorder.old recorder.new }
     ensures goes { RecorderGoes (recording_of recorder.old) (recording_of recorder.new) }
+    ensures log_moment { recorder.new.store.moment ≡ recorder.old.store.moment }
 {
     if let Some(id) = id {
         let _reply = recorder.event(Event::Complete { id, ok });

@@ -10,10 +10,10 @@ ghost use Rattle.recorder.specs.Growth.{HasWholeLog, RecorderGoes};
 ghost use Rattle.recorder.specs.Recording.{log_of};
 ghost use Rattle.recorder.specs.Replayed.{ReplaysToWhatCouldBe};
 ghost use Rattle.layer_table.specs.Layers.{stack_shown};
-ghost use Rattle.script_runner.specs.OnDisks.{DiskRecorder, IsUnmade};
+ghost use Rattle.script_runner.specs.OnDisks.{DiskRecorder, DiskRun, IsUnmade, Starts};
 ghost use Rattle.run_error.specs.declared.run_error.RunError.{RunError};
 ghost use Rattle.run_error.specs.declared.run_error.RunError.TheVariants.{LoggingEnded};
-ghost use Rattle.dmlw_script.specs.Plans.{Disk};
+ghost use Rattle.dmlw_script.specs.Plans.{Disk, Plan};
 ghost use Rattle.bio.specs.declared.outcome.End.TheVariants as ends;
 ghost use Rattle.recorder.specs.Shown.{recording_of};
 ghost use Rattle.sectors.specs.Content.{Content};
@@ -61,6 +61,15 @@ pub fn lines_go_as_one_call<D: Message + Drop, L: Message + Drop>()
 {
     recorder::laws::several_calls_go_as_one::<L>();
 }
+
+/// The calls of both devices begin at one moment: at 0 before the first line of a script, and after some lines where they did before them. So
+/// each line calls its device at the moment that the last `at` said.
+pub fn both_devices_are_called_at_one_moment<D: Message + Drop, L: Message + Drop>()
+    ensures start { (plan : Plan) (run : DiskRun) → Starts plan run → run.recorder.store.moment ≡ run.moment }
+    ensures lines { (names : List ScriptId) (body : List Command) (text : List ℕ) (old new : Running D L D.BlockDev L.BlockDev) →
+        RunsLines (answering D.answers L.answers) names body text old new → old.recorder.store.moment ≡ old.moment →
+        new.recorder.store.moment ≡ new.moment }
+{}
 
 /// Each line that submits asks the recorder of the request that it says, in the order of the lines, unless there is no memory for it. And each
 /// request that the recorder follows stands in its events, at its id, as it was asked.

@@ -134,6 +134,7 @@ impl<D: Message + Drop, L: Message + Drop> Running<D, L> {
     fn read<O: Write>(&mut self, first: u64, count: u64, out: &mut O) -> Result<(), StepError>
         requires { range_answer first count (D.shown self.old.disk).size ≡ Ok tt }
         ensures moment { self.new.moment ≡ self.old.moment }
+        ensures log_moment { self.new.recorder.store.moment ≡ self.old.recorder.store.moment }
         ensures runs { OnOk result ((text : List ℕ) × ReadsData first count text self.old self.new
             × Appends (O.contents out.old) (O.contents out.new) text) }
         ensures faults { IfErr result StopsForFile }
@@ -149,6 +150,7 @@ impl<D: Message + Drop, L: Message + Drop> Running<D, L> {
     // Gives the writer a turn.
     fn turn(&mut self)
         ensures moment { self.new.moment ≡ self.old.moment }
+        ensures log_moment { self.new.recorder.store.moment ≡ self.old.recorder.store.moment }
         ensures turns { GivesTurn [] self.old self.new }
         ensures goes { RecorderGoes (recording_of self.old.recorder) (recording_of self.new.recorder) }
         ensures size { (D.shown self.new.disk).size ≡ (D.shown self.old.disk).size }
@@ -161,6 +163,7 @@ impl<D: Message + Drop, L: Message + Drop> Running<D, L> {
     fn mark<O: Write>(&mut self, text: &Bytes, out: &mut O) -> Result<(), StepError>
         requires { is_line_text text.now ≡ true }
         ensures moment { self.new.moment ≡ self.old.moment }
+        ensures log_moment { self.new.recorder.store.moment ≡ self.old.recorder.store.moment }
         ensures runs { OnOk result ((printed : List ℕ) × TellsMark text.now printed self.old self.new
             × Appends (O.contents out.old) (O.contents out.new) printed) }
         ensures faults { IfErr result StopsForFile }
@@ -176,6 +179,7 @@ impl<D: Message + Drop, L: Message + Drop> Running<D, L> {
     fn set_moment(&mut self, moment: Ms)
         ensures sets { SetsMoment moment [] self.old self.new }
         ensures moment { self.new.moment ≡ moment }
+        ensures log_moment { self.new.recorder.store.moment ≡ moment }
         ensures goes { RecorderGoes (recording_of self.old.recorder) (recording_of self.new.recorder) }
         ensures size { (D.shown self.new.disk).size ≡ (D.shown self.old.disk).size }
         ensures count { length self.new.requests.items ≡ length self.old.requests.items }
@@ -187,6 +191,7 @@ impl<D: Message + Drop, L: Message + Drop> Running<D, L> {
     // Ends the recording, and writes the log to its end.
     fn close(&mut self) -> Result<(), StepError>
         ensures moment { self.new.moment ≡ self.old.moment }
+        ensures log_moment { self.new.recorder.store.moment ≡ self.old.recorder.store.moment }
         ensures ends { OnOk result (EndsRecording [] self.old self.new) }
         ensures goes { OnOk result (RecorderGoes (recording_of self.old.recorder) (recording_of self.new.recorder)) }
         ensures refused { IfErr result (λ stop. (refusal : Refusal) × (stop ≡ AtLine refusal)
@@ -207,6 +212,7 @@ impl<D: Message + Drop, L: Message + Drop> Running<D, L> {
     fn message(&mut self, over: DiskName, layer: u64, text: &Bytes) -> Result<(), StepError>
         requires { is_line_text text.now ≡ true }
         ensures moment { self.new.moment ≡ self.old.moment }
+        ensures log_moment { self.new.recorder.store.moment ≡ self.old.recorder.store.moment }
         ensures tells { OnOk result (TellsLayer (answering D.answers L.answers) over layer text.now [] self.old self.new) }
         ensures refused { IfErr result (λ stop. (error : MessageError) × (stop ≡ AtLine (message_refusal error))
             × RefusesMessage (answering D.answers L.answers) over layer text.now error self.old) }

@@ -10,7 +10,8 @@ use Rattle.run_error.specs.Errors.{IsFileError}
 use Rattle.script_runner.specs.declared.running.Running.{Running}
 use Rattle.script_runner.specs.Begun.{IsNewOn}
 use Rattle.script_runner.specs.Lines.{Answering}
-use Rattle.script_runner.specs.OnDisks.{on_stack, IsStackOf}
+use Rattle.layer_table.specs.Layers.{on_stack}
+use Rattle.script_runner.specs.OnDisks.{IsStackOf}
 use Rattle.script_runner.specs.Runs.{EndsRun, RunsLines}
 
 -- A script's run before its first line, at moment 0: on this data device, and on a new log on this device.

@@ -35,4 +35,5 @@ returns-in_default-event g c = record {
   asks = inr (subst (λ (bio : Bio). Submits bio (replies.Refused Memory) c.args.recorder.now c.event.new.self) (c.in-Ok-clone.ensures.made ∙ c.in-Ok.ensures.made)
       (refused-only _ c.event.result c.args.recorder.now c.event.new.self c.event.ensures.does c.in_default-event.not-Tracked c.in_default-event.not-Passed));
   goes = c.event.ensures.goes;
+  log_moment = c.event.ensures.moment;
 }

@@ -3,7 +3,8 @@ use Rattle.dmlw_script.specs.Plans.{Disk}
 use Rattle.layer_table.specs.StackMessages.{StackAnswers}
 use Rattle.script_runner.specs.CallLaws.{on_error}
 use Rattle.script_runner.specs.Lines.{answering}
-use Rattle.script_runner.specs.OnDisks.{on_stack, IsStackOf}
+use Rattle.layer_table.specs.Layers.{on_stack}
+use Rattle.script_runner.specs.OnDisks.{IsStackOf}
 use Rattle.script_runner.specs.inside.Played.{FailsPlaying}
 use Rattle.script_runner.proofs.OnDisks.{stack_size}
 use Rattle.script_runner.proofs.Plays.{all_played, fails_at_start, fails_from, on_beside}

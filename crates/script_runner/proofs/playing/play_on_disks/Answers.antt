@@ -1,7 +1,8 @@
 use Rattle.std.proofs.Common.{inr, subst, sym}
 use Rattle.dmlw_script.specs.Plans.{Disk}
 use Rattle.script_runner.specs.CallLaws.{on_error}
-use Rattle.script_runner.specs.OnDisks.{on_stack, stack_answering, FailsOnDisks, IsStackOf, file}
+use Rattle.layer_table.specs.Layers.{on_stack}
+use Rattle.script_runner.specs.OnDisks.{stack_answering, FailsOnDisks, IsStackOf, file}
 use Rattle.script_runner.proofs.Plays.{all_played, beside_starts, fails_on_disks}
 use Rattle.script_runner.proofs.Stepping.{if_err, if_failed}
 use Rattle.script_runner.proofs.playing.play_on_disks.Goals as goal

@@ -1,10 +1,11 @@
-use Rattle.std.proofs.Common.{refl}
+use Rattle.std.proofs.Common.{◌∙◌, refl}
 use Rattle.script_runner.proofs.Stepping.{closed-only}
 use Rattle.script_runner.proofs.running.Running.close.Goals as goal
 
 pub returns : goal.returns
 returns g c = record {
   moment = refl;
+  log_moment = c.drain-ended.ensures.moment ∙ c.event.ensures.moment;
   ends = record {
     keeps = record { device = refl; kept = refl; prints = refl };
     closed = c.event.new.self;

@@ -16,6 +16,7 @@ returns-in-Failed-clause-runs g c =
       record {
         does = rw here (record { device = refl; kept = refl; prints = refl }, refl);
         moment = refl;
+        log_moment = refl;
         goes = c.several_calls_go_as_one.ensures.none c.args.self.now.recorder;
       },
       search rules,
@@ -36,6 +37,7 @@ returns-in-Asked-clause-runs g c = on_ok c.print_outcome.result c.print_outcome.
           prints = refl;
         });
         moment = refl;
+        log_moment = c.tell_end.ensures.log_moment;
         goes = c.tell_end.ensures.goes;
       },
       subst (λ (n : ScriptId). Appends (g.O.Write.contents c.args.out.now) (g.O.Write.contents c.print_outcome.new.out) (outcome_line n c.hand_over-ok.result))

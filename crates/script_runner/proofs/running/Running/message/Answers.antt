@@ -126,3 +126,15 @@ returns-in-Err-clause-size g c = elim c.match-over.branch [
   | in-Data w ↦ ap (λ (run : Running g.row.D.Denot g.row.L.Denot g.D.BlockDev g.L.BlockDev). (g.D.BlockDev.shown run.disk).size) w.self-is ∙ w.message-answer.ensures.same.size
   | in-Log w ↦ ap (λ (run : Running g.row.D.Denot g.row.L.Denot g.D.BlockDev g.L.BlockDev). (g.D.BlockDev.shown run.disk).size) w.self-is
 ]
+
+pub returns-in-Ok-clause-log_moment : goal.returns-in-Ok-clause-log_moment
+returns-in-Ok-clause-log_moment g c = elim c.match-over.branch [
+  | in-Data w ↦ ap (λ (run : Running g.row.D.Denot g.row.L.Denot g.D.BlockDev g.L.BlockDev). run.recorder.store.moment) w.self-is
+  | in-Log w ↦ ap (λ (run : Running g.row.D.Denot g.row.L.Denot g.D.BlockDev g.L.BlockDev). run.recorder.store.moment) w.self-is ∙ w.message-answer-in-Log.ensures.moment
+]
+
+pub returns-in-Err-clause-log_moment : goal.returns-in-Err-clause-log_moment
+returns-in-Err-clause-log_moment g c = elim c.match-over.branch [
+  | in-Data w ↦ ap (λ (run : Running g.row.D.Denot g.row.L.Denot g.D.BlockDev g.L.BlockDev). run.recorder.store.moment) w.self-is
+  | in-Log w ↦ ap (λ (run : Running g.row.D.Denot g.row.L.Denot g.D.BlockDev g.L.BlockDev). run.recorder.store.moment) w.self-is ∙ w.message-answer-in-Log.ensures.moment
+]

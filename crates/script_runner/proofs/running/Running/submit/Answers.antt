@@ -59,6 +59,7 @@ returns-clause-runs g c =
       record {
         does = record { device = refl; request = request; asks = c.ask-request.ensures.asks; kept = c.in_ok-push.ensures.items; prints = refl };
         moment = refl;
+        log_moment = c.ask-request.ensures.log_moment;
         goes = c.ask-request.ensures.goes;
       },
       subst (λ (name : ScriptId). Appends (g.O.Write.contents c.args.out.now) (g.O.Write.contents c.print_submission.new.out) (submission_text name request))

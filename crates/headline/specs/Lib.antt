@@ -1,0 +1,7 @@
+pub use Rattle.log_reader.specs.Devices
+pub use Rattle.log_reader.specs.Reads
+pub use Rattle.recorder.specs.Shown
+pub use Rattle.replay.specs.Replays
+pub use Rattle.sectors.specs.Content
+pub mod Headline
+pub mod Reopened

@@ -6,14 +6,17 @@ pub mod Counts
 pub mod OneStep
 pub mod Waiting
 pub mod Releasing
+pub mod Walk
 pub mod Meaning
 pub mod CoreSteps
 pub mod Readable
 pub mod Order
 pub mod Lengths
+pub mod Ends
 pub mod Standing
 pub mod Results
 pub mod LastValue
 pub mod Durable
+pub mod Words
 pub mod Possibles
 pub mod Refused

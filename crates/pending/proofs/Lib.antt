@@ -7,6 +7,7 @@ pub mod OneStep
 pub mod Waiting
 pub mod Releasing
 pub mod Walk
+pub mod Rooms
 pub mod Meaning
 pub mod CoreSteps
 pub mod Readable

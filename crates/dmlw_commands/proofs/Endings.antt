@@ -52,7 +52,6 @@ prints_kept contents log writes_old writes_new old middle new status (bytes, out
     text = output.text;
     script = output.script;
     lines = output.lines;
-    hazard = output.hazard;
     lies = output.lies;
     read = output.read;
     spelled = output.spelled;
@@ -133,7 +132,6 @@ log_kept contents exit exit_new before middle after mid new name log quiet kept 
     text = log.printed.text;
     script = log.printed.script;
     lines = log.printed.lines;
-    hazard = log.printed.hazard;
     lies = log.printed.lies;
     read = log.printed.read;
     spelled = log.printed.spelled;

@@ -6,7 +6,6 @@ use Rattle.std.specs.declared.io.ErrorKind.{ErrorKind}
 use Rattle.std.specs.declared.io.ErrorKind.TheVariants as kinds
 use Rattle.script_runner.specs.CallLaws.{appends_twice, keeps_same}
 use Rattle.bio.specs.declared.outcome.Status.{Status}
-use Rattle.pending.specs.declared.hazard.Hazard.{Hazard}
 use Rattle.refusals.specs.declared.fault.Fault.{Fault}
 use Rattle.dmlw_script.specs.Grammar.{IsTextOf}
 use Rattle.dmlw_script.specs.Plans.{Plan}
@@ -80,19 +79,18 @@ fails_of_file contents before after text fault is (run_fails bytes plan f same s
     run_fails bytes plan f (subst (MatchesContents contents) (sym same) is) spells ends
 
 -- a script was recorded, and then the lines at the end were printed
-pub printed : (text : List ℕ) (plan : Plan) (before ran now : Option (List ℕ)) (hazard : Option Hazard) (status : Status) (lies : Lies) (image : List ℕ) → IsTextOf text plan
-    → (lines : List ℕ) × IsRecorded plan lines hazard status lies image × Appends before ran lines → Appends ran now (end_lines hazard status lies)
+pub printed : (text : List ℕ) (plan : Plan) (before ran now : Option (List ℕ)) (status : Status) (lies : Lies) (image : List ℕ) → IsTextOf text plan
+    → (lines : List ℕ) × IsRecorded plan lines status lies image × Appends before ran lines → Appends ran now (end_lines status lies)
     → IsPrintedLog (Some text) status image before now
-printed text plan before ran now hazard status lies image spells (lines, recorded, first) second = record {
+printed text plan before ran now status lies image spells (lines, recorded, first) second = record {
   text = text;
   script = plan;
   lines = lines;
-  hazard = hazard;
   lies = lies;
   read = refl;
   spelled = spells;
   recorded = recorded;
-  output = appends_twice before ran now lines (end_lines hazard status lies) first second;
+  output = appends_twice before ran now lines (end_lines status lies) first second;
 }
 
 -- what was printed of a text that is a file's was printed of the file's script
@@ -103,7 +101,6 @@ printed_of_text contents items text before after (Ok recorded) is same log = rec
   text = log.text;
   script = log.script;
   lines = log.lines;
-  hazard = log.hazard;
   lies = log.lies;
   read = subst (MatchesContents contents) (sym same ∙ sym log.read) is;
   spelled = log.spelled;

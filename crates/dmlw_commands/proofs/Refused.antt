@@ -30,7 +30,7 @@ use Rattle.dmlw_commands.specs.declared.exit.Exit.TheVariants as exits
 use Rattle.dmlw_commands.specs.Endings.{EndsRecording, EndsShowing, Telling, TellsLine, telling}
 use Rattle.dmlw_commands.specs.Exits.{IsRefusal, exit_after, exit_at, exit_by, fault_line, status_of, stopped_line}
 use Rattle.dmlw_commands.specs.Lists.{IsUnopened, ListsImage, Shows, ShowsContents, ShowsFile, ShowsStatus, list_text}
-use Rattle.dmlw_commands.specs.Records.{FailsRecording, HoldsLog, IsPrintedLog, Records, WritesLog, end_lines, file, log_lines, run as ran, text as unread}
+use Rattle.dmlw_commands.specs.Records.{FailsRecording, HoldsLog, IsPrintedLog, Records, WritesLog, end_lines, file, run as ran, status_line, text as unread}
 
 -- ---- exits
 
@@ -189,22 +189,22 @@ abbrev so_far : Status
 so_far = record { entries = 3; sector = 7; end = None }
 
 -- the lines at the end: of the log, and of the lies of each disk where there are any
-lines_honest : end_lines None so_far (record { data_disk = 0; log_disk = 0 }) ≡ ((decimal 3 ++ codes " " ++ decimal 7 ++ []) ++ codes "\n") ++ []
+lines_honest : end_lines so_far (record { data_disk = 0; log_disk = 0 }) ≡ ((decimal 3 ++ codes " " ++ decimal 7 ++ []) ++ codes "\n") ++ []
 lines_honest = refl
 
-lines_lies : end_lines None so_far (record { data_disk = 1; log_disk = 2 }) ≡ ((decimal 3 ++ codes " " ++ decimal 7 ++ []) ++ codes "\n") ++ (codes "lies " ++ (decimal 1 ++ (codes " " ++ (decimal 2 ++ codes "\n"))))
+lines_lies : end_lines so_far (record { data_disk = 1; log_disk = 2 }) ≡ ((decimal 3 ++ codes " " ++ decimal 7 ++ []) ++ codes "\n") ++ (codes "lies " ++ (decimal 1 ++ (codes " " ++ (decimal 2 ++ codes "\n"))))
 lines_lies = refl
 
-lines_data : end_lines None so_far (record { data_disk = 1; log_disk = 0 }) ≡ ((decimal 3 ++ codes " " ++ decimal 7 ++ []) ++ codes "\n") ++ (codes "lies " ++ (decimal 1 ++ (codes " " ++ (decimal 0 ++ codes "\n"))))
+lines_data : end_lines so_far (record { data_disk = 1; log_disk = 0 }) ≡ ((decimal 3 ++ codes " " ++ decimal 7 ++ []) ++ codes "\n") ++ (codes "lies " ++ (decimal 1 ++ (codes " " ++ (decimal 0 ++ codes "\n"))))
 lines_data = refl
 
-lines_ended : log_lines None (record { entries = 0; sector = 0; end = Some Full }) ≡ (decimal 0 ++ codes " " ++ decimal 0 ++ codes " logging_disabled") ++ codes "\n"
+lines_ended : status_line (record { entries = 0; sector = 0; end = Some Full }) ≡ (decimal 0 ++ codes " " ++ decimal 0 ++ codes " logging_disabled") ++ codes "\n"
 lines_ended = refl
 
 -- what was printed is of the script that the file spells
 printed_of : (text : List ℕ) (status : Status) (bytes : List ℕ) (before after : Option (List ℕ)) → (told : IsPrintedLog (Some text) status bytes before after)
-    → (told.text ≡ text) × IsTextOf text told.script × IsRecorded told.script told.lines told.hazard status told.lies bytes
-    × Appends before after (told.lines ++ end_lines told.hazard status told.lies)
+    → (told.text ≡ text) × IsTextOf text told.script × IsRecorded told.script told.lines status told.lies bytes
+    × Appends before after (told.lines ++ end_lines status told.lies)
 printed_of text status bytes before after told =
     (told.read, subst (λ (t : List ℕ). IsTextOf t told.script) told.read told.spelled, told.recorded, told.output)
 

@@ -4,8 +4,6 @@ use Rattle.std.specs.Io.KnownBytes.{Appends, Keeps}
 use Rattle.bio.specs.Texts.{status_text}
 use Rattle.bio.specs.declared.outcome.Status.{Status}
 use Rattle.refusals.specs.declared.refusal.Refusal.{Refusal}
-use Rattle.pending.specs.declared.hazard.Hazard.{Hazard}
-use Rattle.pending.specs.Hazards.{hazard_text}
 use Rattle.dmlw_script.specs.Grammar.{IsTextOf}
 use Rattle.dmlw_script.specs.Lines.{lines_of}
 use Rattle.dmlw_script.specs.Plans.{Plan}
@@ -23,11 +21,6 @@ use Rattle.dmlw_files.specs.Files.{MatchesContents, Write, one_more}
 abbrev pub status_line : Status → List ℕ
 status_line status = status_text status ++ codes "\n"
 
--- the lines of the first hazard, if there is one, and of how far the log has come
-abbrev pub log_lines : Option Hazard → Status → List ℕ
-log_lines None status = status_line status
-log_lines (Some hazard) status = codes "hazard " ++ (hazard_text hazard ++ (codes "\n" ++ status_line status))
-
 -- no layer has lied
 abbrev pub is_honest : Lies → Bool
 is_honest lies = nat_eq lies.data_disk 0 && nat_eq lies.log_disk 0
@@ -38,8 +31,8 @@ lies_line lies =
     if is_honest lies then [] else codes "lies " ++ (decimal lies.data_disk ++ (codes " " ++ (decimal lies.log_disk ++ codes "\n")))
 
 -- the lines at the end of a recording
-abbrev pub end_lines : Option Hazard → Status → Lies → List ℕ
-end_lines hazard status lies = log_lines hazard status ++ lies_line lies
+abbrev pub end_lines : Status → Lies → List ℕ
+end_lines status lies = status_line status ++ lies_line lies
 
 -- The script that a file's bytes spell was recorded, its log has come so far, and these are the bytes of the log's disk. Known bytes grew by
 -- what its lines print and by the lines at the end.
@@ -47,12 +40,11 @@ pub record IsPrintedLog (contents : Option (List ℕ)) (status : Status) (bytes 
   pub text : List ℕ
   pub script : Plan
   pub lines : List ℕ
-  pub hazard : Option Hazard
   pub lies : Lies
   pub read : MatchesContents contents text
   pub spelled : IsTextOf text script
-  pub recorded : IsRecorded script lines hazard status lies bytes
-  pub output : Appends before after (lines ++ end_lines hazard status lies)
+  pub recorded : IsRecorded script lines status lies bytes
+  pub output : Appends before after (lines ++ end_lines status lies)
 
 -- one more write was asked for, of the file of this name, which is to hold the log of that script; and what happened was printed
 abbrev pub PrintsLog : Option (List ℕ) → List ℕ → Option (List Write) → Option (List Write) → Option (List ℕ) → Option (List ℕ) → Status → Type 0

@@ -7,14 +7,13 @@ ghost use Rattle.dmlw_commands.specs.declared.exit.Exit.{Exit};
 ghost use Rattle.dmlw_commands.specs.Exits.{IsRefusal, exit_after, exit_at, exit_of};
 ghost use Rattle.std.specs.Result.{IsErrAnd};
 ghost use Rattle.dmlw_files.specs.Files.{AsksFor, IsTooLong, KeepsFiles};
-ghost use Rattle.dmlw_commands.specs.Records.{FailsRecording, HoldsLog, IsPrintedLog, WritesLog, end_lines, lies_line, log_lines};
+ghost use Rattle.dmlw_commands.specs.Records.{FailsRecording, HoldsLog, IsPrintedLog, WritesLog, end_lines, lies_line, status_line};
 
 use crate::ending::{Ended, end_recording};
 use bio::Status;
 use dmlw_explain::explain_recording;
 use dmlw_files::{Files, read_text};
 use dmlw_script::{Kind, Script, read_script};
-use pending::Hazard;
 use refusals::Refusal;
 use run_error::RunError;
 use script_runner::{Lies, Recorded};
@@ -123,35 +122,27 @@ fn run_script<O: Write>(
     ensures faults { IfErr result (FailsRecording (Some text.now) (O.contents out.old) (O.contents out.new)) }
 {
     let recorded = script_runner::record(alloc, text, script, out)?;
-    print_end(recorded.hazard, recorded.status, recorded.lies, out)?;
+    print_end(recorded.status, recorded.lies, out)?;
     Ok(recorded)
 }
 
-// Prints the first hazard, if there is one, how far a log has come, and how often the layers lied, if they did.
-fn print_end<O: Write>(
-    hazard: Option<Hazard>,
-    status: Status,
-    lies: Lies,
-    out: &mut O,
-) -> Result<(), RunError>
-    ensures printed { OnOk result (Appends (O.contents out.old) (O.contents out.new) (end_lines hazard status lies)) }
+// Prints how far a log has come, and how often the layers lied, if they did.
+fn print_end<O: Write>(status: Status, lies: Lies, out: &mut O) -> Result<(), RunError>
+    ensures printed { OnOk result (Appends (O.contents out.old) (O.contents out.new) (end_lines status lies)) }
     ensures faults { IfErr result IsFileError }
 {
-    print_log(hazard, status, out)?;
+    print_status(status, out)?;
     print_lies(lies, out)?;
     out.flush()?;
     Ok(())
 }
 
-// Prints the first hazard, if there is one, and how far a log has come.
-fn print_log<O: Write>(hazard: Option<Hazard>, status: Status, out: &mut O) -> Result<(), RunError>
-    ensures printed { OnOk result (Appends (O.contents out.old) (O.contents out.new) (log_lines hazard status)) }
+// Prints how far a log has come.
+fn print_status<O: Write>(status: Status, out: &mut O) -> Result<(), RunError>
+    ensures printed { OnOk result (Appends (O.contents out.old) (O.contents out.new) (status_line status)) }
     ensures faults { IfErr result IsFileError }
 {
-    match hazard {
-        Some(hazard) => writeln!(out, "hazard {hazard}\n{status}")?,
-        None => writeln!(out, "{status}")?,
-    }
+    writeln!(out, "{status}")?;
     Ok(())
 }
 

@@ -10,8 +10,7 @@ use Rattle.bio.specs.Possible.{Possible, PossibleAt, has_kept, is_replaced, valu
 use Rattle.log_format.specs.Replay.{replay}
 use Rattle.pending.specs.Beginnings.{BelongsTo, entries_of}
 use Rattle.pending.specs.CompletionList.{completion_list, dm_log_writes}
-use Rattle.pending.specs.Hazards.{safe_moment}
-use Rattle.pending.specs.QueueEvent.{recorded}
+use Rattle.pending.specs.Moments.{last_moment}
 use Rattle.dmlw_script.specs.Plans.{Plan, top_of}
 use Rattle.judge.specs.declared.verdict.Verdict.{Verdict}
 use Rattle.judge.specs.declared.verdict.Verdict.TheVariants.{Yes, No}
@@ -19,10 +18,10 @@ use Rattle.judge.specs.Verdicts.{IsVerdict}
 use Rattle.dmlw_judge.specs.Beginnings.{BeginsLog, IsReplayedTo, replayed_first}
 use Rattle.dmlw_judge.specs.Judgements.{HasVerdict, IsJudged, Question, blank}
 
--- a beginning of the log that belongs to a moment before the first hazard replays to what the device could hold there
+-- a beginning of the log that belongs to a moment replays to what the device could hold there
 abbrev pub BeginningsArePossible : Type 0
 BeginningsArePossible = (events : List CoreEvent) (first : Content) (moment count : ℕ) → is_well_formed events ≡ true
-    → moment ≤ safe_moment recorded events → BelongsTo (dm_log_writes 512) events moment count
+    → moment ≤ last_moment events → BelongsTo (dm_log_writes 512) events moment count
     → Possible (take moment events) first (replay 512 (entries_of (take count (completion_list (dm_log_writes 512) events))) first)
 
 -- its content is judged possible

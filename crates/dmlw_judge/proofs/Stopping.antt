@@ -6,7 +6,7 @@ use Rattle.sectors.specs.Places.{first_below, or_here}
 use Rattle.sectors.specs.PlaceLaws.{first_below-none, is_first_below}
 use Rattle.bio.specs.declared.event.CoreEvent.{CoreEvent}
 use Rattle.bio.specs.Events.{is_stop}
-use Rattle.pending.specs.Hazards.{last_moment}
+use Rattle.pending.specs.Moments.{last_moment}
 
 -- an element that was read stands there
 pub stands_there : {A : Type 0} (xs : List A) (k : ℕ) (x : A) → k < length xs → x ≡ get_or xs k x → slice_get xs k ≡ Some x

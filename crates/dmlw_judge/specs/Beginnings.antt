@@ -5,17 +5,16 @@ use Rattle.bio.specs.declared.event.CoreEvent.{CoreEvent}
 use Rattle.log_format.specs.Replay.{replay}
 use Rattle.pending.specs.Beginnings.{BelongsTo, entries_of}
 use Rattle.pending.specs.CompletionList.{completion_list, dm_log_writes}
-use Rattle.pending.specs.Hazards.{safe_moment}
-use Rattle.pending.specs.QueueEvent.{recorded}
+use Rattle.pending.specs.Moments.{last_moment}
 use Rattle.dmlw_judge.specs.Judgements.{blank}
 
 -- what replaying so many first entries of the log of these events leaves of an image of so many zero bytes
 abbrev pub replayed_first : List CoreEvent → ℕ → ℕ → Content
 replayed_first events count bytes = replay 512 (entries_of (take count (completion_list (dm_log_writes 512) events))) (blank bytes)
 
--- So many first entries of the log of these events belong to the moment, and no hazard is before it.
+-- So many first entries of the log of these events belong to the moment, and logging goes on up to it.
 pub record BeginsLog (events : List CoreEvent) (moment count : ℕ) : Type 0 where
-  pub safe : moment ≤ safe_moment recorded events
+  pub safe : moment ≤ last_moment events
   pub belongs : BelongsTo (dm_log_writes 512) events moment count
 
 -- The image is what replaying them leaves of zeroes.

@@ -6,7 +6,7 @@ use Rattle.bio.specs.declared.event.CoreEvent.{CoreEvent}
 use Rattle.bio.specs.Lawful.{is_lawful}
 use Rattle.refusals.specs.declared.refusal.Refusal.{Refusal}
 use Rattle.refusals.specs.declared.refusal.Refusal.TheVariants as refusals
-use Rattle.pending.specs.Hazards.{last_moment}
+use Rattle.pending.specs.Moments.{last_moment}
 use Rattle.dmlw_script.specs.Grammar.{IsTextOf}
 use Rattle.dmlw_script.specs.Lines.{lines_of}
 use Rattle.dmlw_script.specs.Plans.{Plan, top_of}

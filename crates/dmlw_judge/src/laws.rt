@@ -10,9 +10,9 @@ ghost use Rattle.dmlw_judge.specs.Judgements.{HasVerdict, IsJudged, Question, bl
 
 use pending::laws::beginnings_are_possible;
 
-/// What replaying a beginning of a script's log over zeroes leaves is judged possible: each number of entries that belongs to a moment, where no
-/// hazard is before that, leaves a content on which the verdict at that moment is yes; and whoever judges an image of that content, by those
-/// events and at that moment, gets yes and never no. The log has sectors of 512 bytes.
+/// What replaying a beginning of a script's log over zeroes leaves is judged possible: each number of entries that belongs to a moment up
+/// to which logging goes on leaves a content on which the verdict at that moment is yes; and whoever judges an image of that content, by
+/// those events and at that moment, gets yes and never no. The log has sectors of 512 bytes.
 pub fn replayed_beginnings_are_judged_possible()
     ensures content { (events : List CoreEvent) (moment count bytes : ℕ) → is_well_formed events ≡ true → BeginsLog events moment count →
         IsVerdict (bytes / 512) (take moment events) (blank bytes) (replayed_first events count bytes) Yes }

@@ -1,6 +1,6 @@
 ghost use Rattle.std.specs.Prelude.{◌≡◌, ◌≤◌, Some, length};
 ghost use Rattle.bio.specs.Events.{is_stop};
-ghost use Rattle.pending.specs.Hazards.{last_moment};
+ghost use Rattle.pending.specs.Moments.{last_moment};
 
 use bio::CoreEvent;
 

@@ -1,34 +1,31 @@
--- Up to the first hazard: a durable request is in the list, and what it replaced is there before it.
-use Rattle.std.proofs.Common.{◌≡◌, ℕ, suc, ◌<◌, ◌≤◌, Bool, true, false, ◌&&◌, ◌||◌, Some, None, List, [], ◌∷◌, ◌++◌, length, take, drop, refl, ap, sym, ◌∙◌, inl, inr, arith, append-nil, append_assoc, length-append}
+-- What was durable at a moment is queued by then, and what a request finds ended before it, where they overlap or it has a flush, is queued first.
+use Rattle.std.proofs.Common.{◌≡◌, ℕ, ◌<◌, ◌≤◌, Bool, true, false, not, ◌&&◌, ◌||◌, Option, Some, None, List, [], ◌∷◌, ◌++◌, length, take, drop, refl, ap, sym, ◌∙◌, subst, inl, inr, arith, append-nil, append_assoc, length-append}
+use Rattle.std.proofs.Math.Nat.{eq-or-lt_of_le}
 use Rattle.std.proofs.lemmas.Bool.{and_parts, cases_lt, eq-eqb, lt-ltb, ltb-true}
 use Rattle.std.proofs.lemmas.List.{take-append-drop}
-use Rattle.std.specs.Prelude.{◌⊎◌, slice_get, is_none, nat_lt, if◌then◌else◌}
+use Rattle.std.specs.Prelude.{◌⊎◌, slice_get, nat_lt, if◌then◌else◌}
 use Rattle.bio.specs.declared.request.Bio.{Bio}
-use Rattle.bio.specs.declared.request.Bio.TheVariants as bios
 use Rattle.bio.specs.declared.event.CoreEvent.{CoreEvent}
 use Rattle.bio.specs.declared.event.CoreEvent.TheVariants.{Submit}
-use Rattle.sectors.specs.PlaceLaws.{bool_cases, option_cases, first_below-found, first_below-none, none_first_below}
-use Rattle.bio.specs.Requests.{covers, has_flush, has_fua, is_change, overlaps}
-use Rattle.bio.specs.RequestLaws.{covers-parts, overlaps-common}
-use Rattle.bio.specs.Events.{end_of, first_place, flush_after, is_close, is_flush_submit, is_stop, submits}
-use Rattle.bio.specs.Lawful.{has_no_stop, is_well_formed}
-use Rattle.bio.specs.EventLaws.{length-beginning, slice_get-take, well_formed-end}
-use Rattle.pending.specs.QueueEvent.{first_need, is_at, queue_event, queue_of, recorded, unless_stopped}
-use Rattle.pending.specs.Hazards.{has_late, hazard_at, hazard_by, hazard_here, hazard_of, is_late}
-use Rattle.pending.specs.declared.hazard.HazardKind.TheVariants as kinds
-use Rattle.pending.proofs.Passing.{found-any_below}
+use Rattle.sectors.specs.PlaceLaws.{bool_cases, option_cases, first_below-found, first_below-none}
+use Rattle.bio.specs.Requests.{covers, has_flush, has_fua, overlaps}
+use Rattle.bio.specs.Events.{end_of, first_place, is_flush_submit, is_stop}
+use Rattle.bio.specs.Lawful.{is_well_formed}
+use Rattle.bio.specs.EventLaws.{length-beginning}
+use Rattle.log_format.specs.declared.entry.Entry.{Entry}
+use Rattle.pending.specs.QueueEvent.{first_need, is_at, is_needed_by, queue_event, queue_of, recorded, unless_stopped, waits_for_flush}
+use Rattle.pending.specs.CompletionList.{IsListedAt, Item, completion_list, dm_log_writes, entry_at, own_end}
+use Rattle.pending.proofs.Ends.{ends-there, flush_submit-some, open-queue_event, own-queue_event, plain-queue_event, queued-within}
+use Rattle.pending.proofs.Linked.{linked-here, needed-flush, needed-linked, needing-recorded, recorded-earlier}
+use Rattle.pending.proofs.OneStep.{is_at-some}
+use Rattle.pending.proofs.Order.{listed-queued, listed-sorted, queued-listed, unstopped}
 use Rattle.pending.proofs.Prefix.{queue_event_same, recorded_stable}
-use Rattle.pending.proofs.OneStep.{flush_submitted, is_at-some, recorded-need}
-use Rattle.pending.proofs.Order.{unstopped}
-use Rattle.pending.proofs.PlainQueue.{close-needs, open-queue_event, own-queue_event}
-use Rattle.pending.proofs.HazardWords.{end-event, ends-there, queued-within}
 
--- A moment before which logging goes on and there is no hazard.
-pub record IsSafe (events : List CoreEvent) (moment : ℕ) : Type 0 where
+-- A moment up to which logging goes on.
+pub record IsMoment (events : List CoreEvent) (moment : ℕ) : Type 0 where
   pub well_formed : is_well_formed events ≡ true
   pub within : moment ≤ length events
   pub going : (stop : ℕ) → first_place is_stop events ≡ Some stop → moment ≤ stop
-  pub unhazardous : (p : ℕ) → p < moment → hazard_at recorded events p ≡ None
 
 -- the queue event of anything, in a longer list
 same-longer : (events more : List CoreEvent) (id p : ℕ) → p < length events
@@ -61,29 +58,24 @@ queued-shorter events m id p within less queued =
     ∙ eq-eqb p p refl)
 
 -- what comes before the moment comes before the Stop
-in-time : (events : List CoreEvent) (moment p : ℕ) → IsSafe events moment → p < moment
+going-on : (events : List CoreEvent) (moment p : ℕ) → IsMoment events moment → p < moment
     → unless_stopped (first_place is_stop events) (Some p) ≡ Some p
-in-time events moment p safe less = elim (option_cases (first_place is_stop events)) [
+going-on events moment p safe less = elim (option_cases (first_place is_stop events)) [
   | inl none ↦ ap (λ stop. unless_stopped stop (Some p)) none
   | inr some ↦
       ap (λ stop. unless_stopped stop (Some p)) some.1
       ∙ ap (λ b. if b then Some p else None) (lt-ltb p some.0 (let later = safe.going some.0 some.1 in omega arith))
 ]
 
--- no Stop stands up to an event before the moment
-logging-up_to : (events : List CoreEvent) (moment p : ℕ) → IsSafe events moment → p < moment → has_no_stop (take (suc p) events) ≡ true
-logging-up_to events moment p safe less =
-    let long = length-beginning events (suc p) (let within = safe.within in omega arith) in
-    ap is_none (none_first_below (λ k. is_stop (slice_get (take (suc p) events) k)) (length (take (suc p) events)) (λ k h.
-    ap is_stop (slice_get-take events (suc p) k (omega arith)) ∙ no_stop k (omega arith)))
+-- what comes no later than what comes before the Stop comes before it
+in-time : (stop : Option ℕ) (first event : ℕ) → unless_stopped stop (Some event) ≡ Some event → first ≤ event
+    → unless_stopped stop (Some first) ≡ Some first
+in-time None first event e less = refl
+in-time (Some stop) first event e less = by_test (nat_lt event stop) refl e
   where
-    no_stop : (k : ℕ) → k < moment → is_stop (slice_get events k) ≡ false
-    no_stop k less = elim (option_cases (first_place is_stop events)) [
-      | inl none ↦ first_below-none (λ q. is_stop (slice_get events q)) (length events) none k (let within = safe.within in omega arith)
-      | inr some ↦
-          let later = safe.going some.0 some.1 in
-          (first_below-found (λ q. is_stop (slice_get events q)) (length events) some.0 some.1).before k (omega arith)
-    ]
+    by_test : (b : Bool) → nat_lt event stop ≡ b → (if b then Some event else None) ≡ Some event → (if nat_lt first stop then Some first else None) ≡ Some first
+    by_test true f e = ap (λ b. if b then Some first else None) (lt-ltb first stop (let before = ltb-true event stop f in omega arith))
+    by_test false f e = cc
 
 -- The end of a request before the moment, and the request.
 pub record EndsBefore (events : List CoreEvent) (moment id end : ℕ) : Type 0 where
@@ -91,64 +83,6 @@ pub record EndsBefore (events : List CoreEvent) (moment id end : ℕ) : Type 0 w
   pub submitted : slice_get events id ≡ Some (Submit bio)
   pub ends : end_of events id ≡ Some end
   pub before : end < moment
-
--- no test of a hazard holds where there is none
-two-tests : (h1 h2 : Bool) (event : ℕ) → (if h1 then hazard_here kinds.Overlap event else if h2 then hazard_here kinds.Flush event else None) ≡ None
-    → (h1 ≡ false) × (h2 ≡ false)
-two-tests true h2 event e = cc
-two-tests false true event e = cc
-two-tests false false event e = (refl, refl)
-
-not-both : (a b : Bool) → (a && b) ≡ false → a ≡ true → b ≡ false
-not-both true b e t = e
-not-both false b e t = cc
-
--- at the end of a request before the moment nothing is late
-tests-fail : (events : List CoreEvent) (moment id end : ℕ) → IsSafe events moment → (there : EndsBefore events moment id end)
-    → (((has_flush there.bio || has_fua there.bio) && has_late recorded (take (suc end) events) (overlaps there.bio) id) ≡ false)
-    × ((has_flush there.bio && has_late recorded (take (suc end) events) is_change id) ≡ false)
-tests-fail events moment id end safe there =
-    let front = take (suc end) events in
-    let at = ends-there events id end there.ends in
-    let bio = there.bio in
-    two-tests ((has_flush bio || has_fua bio) && has_late recorded front (overlaps bio) id) (has_flush bio && has_late recorded front is_change id) end (
-    sym (
-    ap (hazard_by recorded front end) at.2.1
-    ∙ ap (λ b. if b then hazard_of recorded front end id (slice_get front id) else None) (logging-up_to events moment end safe there.before)
-    ∙ ap (hazard_of recorded front end id) (slice_get-take events (suc end) id (let less = at.1 in omega arith) ∙ there.submitted))
-    ∙ safe.unhazardous end there.before)
-
--- what ended before a request was submitted at whose end it isn't late is queued by then
-queued-unless-late : (events : List CoreEvent) (test : Bio → Bool) (id end earlier before : ℕ) → end < length events → id ≤ end
-    → has_late recorded (take (suc end) events) test id ≡ false
-    → end_of events earlier ≡ Some before → before < id → submits test (slice_get events earlier) ≡ true
-    → (event : ℕ) × (queue_event recorded events earlier ≡ Some event) × (event ≤ end)
-queued-unless-late events test id end earlier before within inside late ended less passes =
-    let front = take (suc end) events in
-    let at = ends-there events earlier before ended in
-    let long = length-beginning events (suc end) (omega arith) in
-    elim (option_cases (queue_event recorded front earlier)) [
-      | inl none ↦
-          let found : has_late recorded front test id ≡ true =
-          found-any_below (λ k. is_late recorded front test (slice_get front k)) id before less (
-          ap (is_late recorded front test) (slice_get-take events (suc end) before (omega arith) ∙ at.2.1)
-          ∙ ap (λ found. is_none found && submits test (slice_get front earlier)) none
-          ∙ ap (submits test) (slice_get-take events (suc end) earlier (let sooner = at.1 in omega arith))
-          ∙ passes) in
-          cc
-      | inr some ↦ (
-        some.0,
-        queued-longer events (suc end) earlier some.0 some.1,
-        (let inside_front = queued-within front earlier some.0 some.1 in omega arith),
-      )
-    ]
-
--- a request that puts a value in a sector is a write or a discard
-pub covers-change : (bio : Bio) (sector : ℕ) → covers bio sector ≡ true → is_change bio ≡ true
-covers-change (bios.Write first bytes flush fua meta) sector h = refl
-covers-change bios.Flush sector h = absurd (let parts = covers-parts bios.Flush sector h in let low = parts.1 in let high = parts.2 in omega arith)
-covers-change (bios.Discard first count) sector h = refl
-covers-change (bios.Read first count) sector h = cc
 
 -- A durable request over a sector, of the events before the moment: it ended, and it is FUA, or ended before the submission of a flush that ended.
 pub record IsDurableBefore (events : List CoreEvent) (moment sector id : ℕ) : Type 0 where
@@ -158,88 +92,8 @@ pub record IsDurableBefore (events : List CoreEvent) (moment sector id : ℕ) : 
   pub durable : (has_fua there.bio ≡ true)
       ⊎ ((flush : ℕ) × (flush_end : ℕ) × EndsBefore events moment flush flush_end × (is_flush_submit (slice_get events flush) ≡ true) × (end < flush))
 
--- the submission of a flush
-flush-there : (events : List CoreEvent) (flush : ℕ) (bio : Bio) → slice_get events flush ≡ Some (Submit bio) → is_flush_submit (slice_get events flush) ≡ true
-    → has_flush bio ≡ true
-flush-there events flush bio is h = sym (ap is_flush_submit is) ∙ h
-
--- a durable request is queued before the moment
-pub durable-queued : (events : List CoreEvent) (moment sector id : ℕ) → IsSafe events moment → IsDurableBefore events moment sector id
-    → (event : ℕ) × (queue_event recorded events id ≡ Some event) × (event < moment)
-durable-queued events moment sector id safe durable =
-    let there = durable.there in
-    let bio = there.bio in
-    elim (bool_cases (has_flush bio || has_fua bio)) [
-      | inl own ↦ (
-        durable.end,
-        own-queue_event events id bio there.submitted own
-            ∙ ap (unless_stopped (first_place is_stop events)) there.ends
-            ∙ in-time events moment durable.end safe there.before,
-        there.before,
-      )
-      | inr plain ↦ elim durable.durable [
-        | inl fua ↦ absurd (let either = second_holds (has_flush bio) (has_fua bio) fua in cc)
-        | inr flushed ↦
-            let flush = flushed.0 in
-            let at = flushed.2 in
-            let ended = ends-there events flush flushed.1 at.ends in
-            let late = not-both (has_flush at.bio) (has_late recorded (take (suc flushed.1) events) is_change flush) (tests-fail events moment flush flushed.1 safe at).1
-            (flush-there events flush at.bio at.submitted flushed.3) in
-            let queued = queued-unless-late events is_change flush flushed.1 id durable.end ended.0 (let less = ended.1 in omega arith) late there.ends flushed.4
-            (ap (submits is_change) there.submitted ∙ covers-change bio sector durable.over) in
-            (queued.0, queued.1, (let before = at.before in let upper = queued.2 in omega arith))
-      ]
-    ]
-  where
-    second_holds : (a b : Bool) → b ≡ true → (a || b) ≡ true
-    second_holds true b h = refl
-    second_holds false b h = h
-
--- One request over a sector ended before another over it was submitted, which is queued before the moment.
-pub record IsReplacedBy (events : List CoreEvent) (moment sector earlier later : ℕ) : Type 0 where
-  pub first : Bio
-  pub second : Bio
-  pub first_is : slice_get events earlier ≡ Some (Submit first)
-  pub second_is : slice_get events later ≡ Some (Submit second)
-  pub first_over : covers first sector ≡ true
-  pub second_over : covers second sector ≡ true
-  pub end : ℕ
-  pub ends : end_of events earlier ≡ Some end
-  pub before : end < later
-  pub event : ℕ
-  pub queued : queue_event recorded events later ≡ Some event
-  pub in_time : event < moment
-
--- The earlier one is queued before the later one: by an earlier event, or by the same, and it ended earlier.
-pub record IsQueuedFirst (events : List CoreEvent) (earlier end event : ℕ) : Type 0 where
-  pub first_event : ℕ
-  pub queued : queue_event recorded events earlier ≡ Some first_event
-  pub order : first_event ≤ event
-
--- a FUA write, or a write with flush, queues itself at its end, and what it replaced is queued by then
-own-first : (events : List CoreEvent) (moment sector earlier later end : ℕ) → IsSafe events moment → (both : IsReplacedBy events moment sector earlier later)
-    → end_of events later ≡ Some end → (has_flush both.second || has_fua both.second) ≡ true → IsQueuedFirst events earlier both.end both.event
-own-first events moment sector earlier later end safe both ends own =
-    let found = unstopped (first_place is_stop events) (queue_of recorded events later (slice_get events later)) both.event both.queued in
-    let same : end ≡ both.event =
-    let h = ap (queue_of recorded events later) (sym both.second_is) ∙ found in
-    let k = sym (ap (λ b. if b then end_of events later else first_need recorded events later (end_of events later)) own) ∙ h in
-    cc in
-    let at : EndsBefore events moment later end = record {
-      bio = both.second;
-      submitted = both.second_is;
-      ends = ends;
-      before = let t = both.in_time in omega arith;
-    } in
-    let ended = ends-there events later end ends in
-    let late = not-both (has_flush both.second || has_fua both.second) (has_late recorded (take (suc end) events) (overlaps both.second) later)
-    (tests-fail events moment later end safe at).0 own in
-    let queued = queued-unless-late events (overlaps both.second) later end earlier both.end ended.0 (let less = ended.1 in omega arith) late both.ends both.before
-    (ap (submits (overlaps both.second)) both.first_is ∙ (overlaps-common both.second both.first).1 (sector, both.second_over, both.first_over)) in
-    record { first_event = queued.0; queued = queued.1; order = let upper = queued.2 in omega arith }
-
 -- a need that holds at an event is first found no later
-need-found : (events : List CoreEvent) (id end event : ℕ) → event < length events → end < event
+pub need-found : (events : List CoreEvent) (id end event : ℕ) → event < length events → end < event
     → recorded events end (slice_get events id) event (slice_get events event) ≡ true
     → (first : ℕ) × (first_need recorded events id (Some end) ≡ Some first) × (first ≤ event)
 need-found events id end event within less needed =
@@ -258,74 +112,214 @@ need-found events id end event within less needed =
           )
     ]
 
--- what a Close queues comes after all else
-close-first : (events : List CoreEvent) (moment sector earlier later : ℕ) → IsSafe events moment → (both : IsReplacedBy events moment sector earlier later)
-    → both.event < length events → both.end < both.event → is_close (slice_get events both.event) ≡ true → IsQueuedFirst events earlier both.end both.event
-close-first events moment sector earlier later safe both within less closes =
-    elim (bool_cases (has_flush both.first || has_fua both.first)) [
+-- A request is queued by an event, or by an earlier one.
+pub record IsQueuedBy (events : List CoreEvent) (id event : ℕ) : Type 0 where
+  pub first_event : ℕ
+  pub queued : queue_event recorded events id ≡ Some first_event
+  pub order : first_event ≤ event
+
+-- what an event needs is queued by then, where logging goes on up to that event
+pub queued-by : (events : List CoreEvent) (id end event : ℕ) (bio : Bio) → slice_get events id ≡ Some (Submit bio) → end_of events id ≡ Some end
+    → end < event → event < length events → recorded events end (Some (Submit bio)) event (slice_get events event) ≡ true
+    → unless_stopped (first_place is_stop events) (Some event) ≡ Some event → IsQueuedBy events id event
+queued-by events id end event bio is ends after within needed logging =
+    let stop = first_place is_stop events in
+    elim (bool_cases (has_flush bio || has_fua bio)) [
       | inl own ↦ record {
-        first_event = both.end;
-        queued = own-queue_event events earlier both.first both.first_is own
-            ∙ ap (unless_stopped (first_place is_stop events)) both.ends
-            ∙ in-time events moment both.end safe (let t = both.in_time in omega arith);
+        first_event = end;
+        queued = own-queue_event events id bio is own ∙ ap (unless_stopped stop) ends ∙ in-time stop end event logging (omega arith);
         order = omega arith;
       }
       | inr plain ↦
-          let found = need-found events earlier both.end both.event within less (close-needs events both.end (slice_get events earlier) both.event (slice_get events both.event) closes) in record {
+          let found = need-found events id end event within after (ap (λ there. recorded events end there event (slice_get events event)) is ∙ needed) in record {
             first_event = found.0;
-            queued = ap (unless_stopped (first_place is_stop events)) (
-                ap (queue_of recorded events earlier) both.first_is
-                ∙ ap (λ b. if b then end_of events earlier else first_need recorded events earlier (end_of events earlier)) plain
-                ∙ ap (first_need recorded events earlier) both.ends
-                ∙ found.1)
-                ∙ in-time events moment found.0 safe (let t = both.in_time in let upper = found.2 in omega arith);
+            queued = plain-queue_event events id end bio is plain ends ∙ ap (unless_stopped stop) found.1 ∙ in-time stop found.0 event logging found.2;
             order = found.2;
           }
     ]
 
--- a plain request is queued with a flush or the Close, and what it replaced is queued by then
-plain-first : (events : List CoreEvent) (moment sector earlier later end : ℕ) → IsSafe events moment → (both : IsReplacedBy events moment sector earlier later)
-    → end_of events later ≡ Some end → (has_flush both.second || has_fua both.second) ≡ false → IsQueuedFirst events earlier both.end both.event
-plain-first events moment sector earlier later end safe both ends plain =
-    let found = unstopped (first_place is_stop events) (queue_of recorded events later (slice_get events later)) both.event both.queued in
-    let need : first_need recorded events later (Some end) ≡ Some both.event =
-    sym (ap (first_need recorded events later) ends)
-    ∙ sym (ap (λ b. if b then end_of events later else first_need recorded events later (end_of events later)) plain)
-    ∙ ap (queue_of recorded events later) (sym both.second_is)
-    ∙ found in
-    let first = first_below-found (λ p. nat_lt end p && recorded events end (slice_get events later) p (slice_get events p)) (length events) both.event need in
-    let parts = and_parts (nat_lt end both.event) (recorded events end (slice_get events later) both.event (slice_get events both.event)) first.here in
-    let after = ltb-true end both.event parts.0 in
-    let own_end = ends-there events later end ends in
-    elim (recorded-need events end (slice_get events later) both.event (slice_get events both.event) parts.1) [
-      | inl closes ↦ close-first events moment sector earlier later safe both first.within (let a = both.before in let b = own_end.1 in omega arith) closes
-      | inr flushed ↦
-          let flush = flushed.0 in
-          let awaited = is_at-some flush (flush_after events end) flushed.3 in
-          let stands = flush_submitted events end flush awaited in
-          let ended = end-event flush (slice_get events both.event) flushed.1 in
-          let there = well_formed-end events both.event flush ended.0 safe.well_formed ended.1 in
-          let at : EndsBefore events moment flush both.event = record {
-            bio = there.bio;
-            submitted = there.submitted;
-            ends = there.ends;
-            before = both.in_time;
-          } in
-          let late = not-both (has_flush there.bio) (has_late recorded (take (suc both.event) events) is_change flush) (tests-fail events moment flush both.event safe at).1
-          (flush-there events flush there.bio there.submitted stands.2) in
-          let queued = queued-unless-late events is_change flush both.event earlier both.end first.within (let less = flushed.2 in omega arith) late both.ends
-          (let a = both.before in let b = own_end.1 in let c = stands.0 in omega arith)
-          (ap (submits is_change) both.first_is ∙ covers-change both.first sector both.first_over) in
-          record { first_event = queued.0; queued = queued.1; order = queued.2 }
-    ]
+-- the end of a flush needs what ended before its submission
+flush-needs : (events : List CoreEvent) (flush flush_end end : ℕ) (bio last : Bio) → slice_get events flush ≡ Some (Submit last) → has_flush last ≡ true
+    → end_of events flush ≡ Some flush_end → end < flush → recorded events end (Some (Submit bio)) flush_end (slice_get events flush_end) ≡ true
+flush-needs events flush flush_end end bio last is has ends less =
+    let there = ends-there events flush flush_end ends in
+    needing-recorded events end bio flush_end (slice_get events flush_end) (record {
+      id = flush;
+      ok = there.2.0;
+      last = last;
+      is = there.2.1;
+      earlier = there.1;
+      submitted = is;
+      needed = needed-flush events end bio flush_end flush last has less;
+    })
 
--- What a queued request replaced is queued by the same event or before it.
-pub replaced-first : (events : List CoreEvent) (moment sector earlier later : ℕ) → IsSafe events moment → (both : IsReplacedBy events moment sector earlier later)
-    → IsQueuedFirst events earlier both.end both.event
-replaced-first events moment sector earlier later safe both = elim (option_cases (end_of events later)) [
-  | inl endless ↦ absurd (let none = open-queue_event events later both.second both.second_is endless in let some = both.queued in cc)
-  | inr some ↦ elim (bool_cases (has_flush both.second || has_fua both.second)) [
-    | inl own ↦ own-first events moment sector earlier later some.0 safe both some.1 own
-    | inr plain ↦ plain-first events moment sector earlier later some.0 safe both some.1 plain
+-- a durable request is queued before the moment
+pub durable-queued : (events : List CoreEvent) (moment sector id : ℕ) → IsMoment events moment → IsDurableBefore events moment sector id
+    → (event : ℕ) × (queue_event recorded events id ≡ Some event) × (event < moment)
+durable-queued events moment sector id safe durable =
+    let there = durable.there in
+    let bio = there.bio in
+    elim (bool_cases (has_flush bio || has_fua bio)) [
+      | inl own ↦ (
+        durable.end,
+        own-queue_event events id bio there.submitted own
+            ∙ ap (unless_stopped (first_place is_stop events)) there.ends
+            ∙ going-on events moment durable.end safe there.before,
+        there.before,
+      )
+      | inr plain ↦ elim durable.durable [
+        | inl fua ↦ absurd (let either = second_holds (has_flush bio) (has_fua bio) fua in cc)
+        | inr flushed ↦
+            let flush = flushed.0 in
+            let at = flushed.2 in
+            let ended = ends-there events flush flushed.1 at.ends in
+            let has = flush_submit-some (slice_get events flush) flushed.3 in
+            let queued = queued-by events id durable.end flushed.1 bio there.submitted there.ends
+            (let a = flushed.4 in let b = ended.1 in omega arith) ended.0
+            (flush-needs events flush flushed.1 durable.end bio has.0 has.1 has.2 at.ends flushed.4)
+            (going-on events moment flushed.1 safe at.before) in
+            (queued.first_event, queued.queued, (let before = at.before in let upper = queued.order in omega arith))
+      ]
+    ]
+  where
+    second_holds : (a b : Bool) → b ≡ true → (a || b) ≡ true
+    second_holds true b h = refl
+    second_holds false b h = h
+
+-- One request ended before another was submitted, and the other has a flush or the two overlap.
+pub record IsFound (events : List CoreEvent) (earlier later : ℕ) : Type 0 where
+  pub first : Bio
+  pub second : Bio
+  pub first_is : slice_get events earlier ≡ Some (Submit first)
+  pub second_is : slice_get events later ≡ Some (Submit second)
+  pub end : ℕ
+  pub ends : end_of events earlier ≡ Some end
+  pub before : end < later
+  pub why : (overlaps first second ≡ true) ⊎ (has_flush second ≡ true)
+
+-- the own end of a request needs what it finds
+own-needs : (events : List CoreEvent) (earlier later event : ℕ) → (found : IsFound events earlier later) → (has_flush found.second || has_fua found.second) ≡ true
+    → is_needed_by events found.end found.first event later found.second ≡ true
+own-needs events earlier later event found own = elim found.why [
+  | inr flush ↦ needed-flush events found.end found.first event later found.second flush found.before
+  | inl overlap ↦ elim (bool_cases (has_flush found.second)) [
+    | inl flush ↦ needed-flush events found.end found.first event later found.second flush found.before
+    | inr other ↦
+        let fua = ap (λ b. b || has_fua found.second) (sym other) ∙ own in
+        needed-linked events found.end found.first event later found.second fua (linked-here events found.second event event found.end found.first overlap)
   ]
 ]
+
+-- what a request finds is needed by the event that queues it
+found-needed : (events : List CoreEvent) (earlier later end event : ℕ) → (found : IsFound events earlier later) → end_of events later ≡ Some end
+    → queue_of recorded events later (slice_get events later) ≡ Some event
+    → (recorded events found.end (Some (Submit found.first)) event (slice_get events event) ≡ true) × (found.end < event)
+found-needed events earlier later end event found ends queued =
+    let second = found.second in
+    let there = ends-there events later end ends in
+    let of_second = ap (queue_of recorded events later) (sym found.second_is) ∙ queued in
+    elim (bool_cases (has_flush second || has_fua second)) [
+      | inl own ↦
+          let by_own : Some end ≡ Some event =
+          sym ends ∙ sym (ap (λ b. if b then end_of events later else first_need recorded events later (end_of events later)) own) ∙ of_second in
+          let same : end ≡ event = cc in
+          let P : ℕ → Type 0 = λ e. (recorded events found.end (Some (Submit found.first)) e (slice_get events e) ≡ true) × (found.end < e) in
+          subst P same (
+            needing-recorded events found.end found.first end (slice_get events end) (record {
+              id = later;
+              ok = there.2.0;
+              last = second;
+              is = there.2.1;
+              earlier = there.1;
+              submitted = found.second_is;
+              needed = own-needs events earlier later end found own;
+            }),
+            (let a = found.before in let b = there.1 in omega arith),
+          )
+      | inr plain ↦
+          let need : first_need recorded events later (Some end) ≡ Some event =
+          sym (ap (first_need recorded events later) ends)
+          ∙ sym (ap (λ b. if b then end_of events later else first_need recorded events later (end_of events later)) plain)
+          ∙ of_second in
+          let first = first_below-found (λ p. nat_lt end p && recorded events end (slice_get events later) p (slice_get events p)) (length events) event need in
+          let parts = and_parts (nat_lt end event) (recorded events end (slice_get events later) event (slice_get events event)) first.here in
+          let after = ltb-true end event parts.0 in
+          let rises : found.end < end = let a = found.before in let b = there.1 in omega arith in (
+            recorded-earlier events found.end end later event found.first second (slice_get events event)
+                (record {
+                  ok = there.2.0;
+                  ends = there.2.1;
+                  earlier = there.1;
+                  submitted = found.second_is;
+                  plain = ap (λ b. not b) plain;
+                })
+                rises after (meets plain found.why)
+                (ap (λ s. recorded events end s event (slice_get events event)) (sym found.second_is) ∙ parts.1),
+            omega arith,
+          )
+    ]
+  where
+    meets : (has_flush found.second || has_fua found.second) ≡ false → (overlaps found.first found.second ≡ true) ⊎ (has_flush found.second ≡ true)
+        → overlaps found.first found.second ≡ true
+    meets plain (inl overlap) = overlap
+    meets plain (inr flush) = absurd (let own = ap (λ b. b || has_fua found.second) flush in let contra : true ≡ false = sym own ∙ plain in cc)
+
+-- What a queued request finds is queued by the same event or before it.
+pub found-queued : (events : List CoreEvent) (earlier later event : ℕ) → (found : IsFound events earlier later) → queue_event recorded events later ≡ Some event
+    → IsQueuedBy events earlier event
+found-queued events earlier later event found queued = elim (option_cases (end_of events later)) [
+  | inl endless ↦ absurd (let none = open-queue_event events later found.second found.second_is endless in cc)
+  | inr some ↦
+      let stop = first_place is_stop events in
+      let at = unstopped stop (queue_of recorded events later (slice_get events later)) event queued in
+      let needed = found-needed events earlier later some.0 event found some.1 at in
+      queued-by events earlier found.end event found.first found.first_is found.ends needed.1 (queued-within events later event queued) needed.0
+      (ap (unless_stopped stop) (sym at) ∙ queued)
+]
+
+-- of a request and one that it finds the latter stands first
+pub found-first : (size : ℕ) (events : List CoreEvent) (earlier later i j : ℕ) (x y : Entry) → is_well_formed events ≡ true → IsFound events earlier later
+    → slice_get (completion_list (dm_log_writes size) events) i ≡ Some (earlier, x)
+    → slice_get (completion_list (dm_log_writes size) events) j ≡ Some (later, y) → i < j
+found-first size events earlier later i j x y well_formed found first second =
+    let profile = dm_log_writes size in
+    let queues = listed-queued profile events j (later, y) well_formed second in
+    let event = queues.1.0 in
+    let queued = found-queued events earlier later event found queues.1.2.queues in
+    let own = ends-there events earlier found.end found.ends in
+    elim (cases_lt i j) [
+      | inl less ↦ less
+      | inr no_less ↦ elim (eq-or-lt_of_le no_less) [
+        | inl same ↦
+            let items = completion_list profile events in
+            let of_later : Item = (later, y) in
+            let of_earlier : Item = (earlier, x) in
+            let both_there : Some of_later ≡ Some of_earlier = sym second ∙ ap (slice_get items) same ∙ first in
+            let pair : of_later ≡ of_earlier = cc in
+            let one : later ≡ earlier = ap (λ (item : Item). item.0) pair in
+            absurd (let a = own.1 in let b = found.before in omega arith)
+        | inr swapped ↦
+            let sorted = listed-sorted profile events j i (later, y) (earlier, x) well_formed swapped second first in
+            let first_same : sorted.first_event ≡ event = let a = sorted.first_queued.queues in let b = queues.1.2.queues in cc in
+            let second_same : sorted.second_event ≡ queued.first_event = let a = sorted.second_queued.queues in let b = queued.queued in cc in
+            let early_end : own_end events earlier (slice_get events earlier) ≡ Some found.end = ap (own_end events earlier) found.first_is ∙ found.ends in
+            let ends_same : sorted.second_end ≡ found.end = let a = sorted.second_queued.ends in cc in
+            let late_end : end_of events later ≡ Some sorted.first_end = sym (ap (own_end events later) found.second_is) ∙ sorted.first_queued.ends in
+            let after = (ends-there events later sorted.first_end late_end).1 in
+            elim sorted.earlier [
+              | inl sooner ↦ absurd (let a = queued.order in omega arith)
+              | inr twice ↦ absurd (let a = twice.1 in let b = found.before in omega arith)
+            ]
+      ]
+    ]
+
+-- What a request that stands in the list finds stands there before it.
+pub found-stands : (size : ℕ) (events : List CoreEvent) (earlier later j : ℕ) → is_well_formed events ≡ true → IsFound events earlier later
+    → IsListedAt (completion_list (dm_log_writes size) events) later j
+    → (i : ℕ) × IsListedAt (completion_list (dm_log_writes size) events) earlier i × (i < j)
+found-stands size events earlier later j well_formed found listed =
+    let queues = listed-queued (dm_log_writes size) events j (later, listed.0) well_formed listed.1 in
+    let queued = found-queued events earlier later queues.1.0 found queues.1.2.queues in
+    let stands = queued-listed (dm_log_writes size) events earlier queued.first_event queued.queued in
+    let entry = entry_at size (slice_get events earlier) in
+    (stands.0, (entry, stands.1), found-first size events earlier later stands.0 j entry listed.0 well_formed found stands.1 listed.1)

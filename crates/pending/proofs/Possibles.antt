@@ -1,103 +1,51 @@
--- Replaying a beginning of the log, up to the first hazard, gives what the device could hold.
+-- Replaying a beginning of the log gives what the device could hold.
 use Rattle.std.proofs.Common.{◌≡◌, ℕ, suc, ◌+◌, ◌-◌, ◌/◌, ◌<◌, ◌≤◌, Bool, true, false, ◌&&◌, ◌||◌, Option, Some, None, List, length, take, drop, replicate, refl, ap, sym, ◌∙◌, inl, inr, arith}
-use Rattle.std.proofs.Math.Nat.{eq-or-lt_of_le}
-use Rattle.std.proofs.lemmas.Bool.{and_parts, cases_lt}
+use Rattle.std.proofs.lemmas.Bool.{and_parts}
 use Rattle.std.proofs.lemmas.List.{length-take, take-append-drop}
-use Rattle.std.specs.Prelude.{slice_get, unwrap_or, if◌then◌else◌}
+use Rattle.std.specs.Prelude.{slice_get, unwrap_or}
 use Rattle.sectors.specs.Content.{Content, over, sector_of}
 use Rattle.sectors.specs.ContentLaws.{over-in, over_cases}
-use Rattle.sectors.specs.PlaceLaws.{bool_cases, option_cases, first_below-found, first_below-none, slice_get-append_front, slice_get-within}
+use Rattle.sectors.specs.PlaceLaws.{bool_cases, option_cases, first_below-found, slice_get-append_front, slice_get-within}
 use Rattle.bio.specs.declared.request.Bio.{Bio}
 use Rattle.bio.specs.declared.request.Bio.TheVariants as bios
 use Rattle.bio.specs.declared.event.CoreEvent.{CoreEvent}
 use Rattle.bio.specs.declared.event.CoreEvent.TheVariants.{Submit, Complete, Mark, Stop, Close}
 use Rattle.bio.specs.Requests.{covers, has_fua}
-use Rattle.bio.specs.RequestLaws.{covers-parts, covers-within, is_before-end}
+use Rattle.bio.specs.RequestLaws.{covers-parts, covers-within, is_before-end, overlaps-common}
 use Rattle.bio.specs.Events.{end_of, first_place, is_before, is_end_of, is_flush_submit, is_stop, submits}
-use Rattle.bio.specs.Lawful.{has_no_stop, is_well_formed}
-use Rattle.bio.specs.EventLaws.{is_none-none, length-beginning, slice_get-take}
+use Rattle.bio.specs.Lawful.{is_well_formed}
+use Rattle.bio.specs.EventLaws.{length-beginning, slice_get-take}
 use Rattle.bio.specs.Possible.{PossibleAt, covers_at, ended_ok, has_kept, is_durable, is_flushed, is_kept, is_replaced, is_success_at, values_at, values_of}
 use Rattle.log_format.specs.declared.entry.Entry.{Entry}
 use Rattle.log_format.specs.Replay.{replay}
-use Rattle.pending.specs.QueueEvent.{Needs, queue_event, recorded}
-use Rattle.pending.specs.CompletionList.{Item, completion_list, dm_log_writes, entry_at, own_end}
-use Rattle.pending.specs.Hazards.{first_hazard, hazard_by, hazard_of, hazard_or_last, last_moment, safe_moment}
+use Rattle.pending.specs.QueueEvent.{queue_event, recorded}
+use Rattle.pending.specs.CompletionList.{Item, completion_list, dm_log_writes, entry_at}
+use Rattle.pending.specs.Moments.{last_moment}
 use Rattle.pending.specs.Beginnings.{BelongsTo, entries_of}
-use Rattle.pending.specs.declared.hazard.Hazard.{Hazard}
-use Rattle.pending.proofs.Durable.{IsDurableBefore, IsReplacedBy, IsSafe, durable-queued, queued-longer, queued-shorter, replaced-first}
-use Rattle.pending.proofs.HazardWords.{ends-there, first-hazardous, none-hazardous, queued-after, queued-within}
+use Rattle.pending.proofs.Durable.{IsDurableBefore, IsFound, IsMoment, durable-queued, found-first, queued-longer, queued-shorter}
+use Rattle.pending.proofs.Ends.{ends-there, flush_submit-some, open-queue_event, queued-after, queued-within}
 use Rattle.pending.proofs.LastValue.{LastAt, NoneAt, entry-item, entry-values, entry_values, item-entry, last-value}
-use Rattle.pending.proofs.Lateness.{flush_submit-some}
-use Rattle.pending.proofs.Order.{listed-queued, listed-sorted, queued-listed}
+use Rattle.pending.proofs.Order.{listed-queued, queued-listed}
 use Rattle.pending.proofs.Passing.{any_below-found, or_cases}
-use Rattle.pending.proofs.PlainQueue.{open-queue_event}
 use Rattle.pending.proofs.Prefix.{recorded_list_grows}
 use Rattle.pending.proofs.Standing.{found-longer, well_formed-beginning}
 
--- at a hazard logging goes on
-hazard-logging : (needs : Needs) (front : List CoreEvent) (place : ℕ) (there : Option CoreEvent) (hazard : Hazard)
-    → hazard_by needs front place there ≡ Some hazard → has_no_stop front ≡ true
-hazard-logging needs front place (Some (Complete id ok)) hazard e = by_stop (has_no_stop front) e
-  where
-    by_stop : (b : Bool) → (if b then hazard_of needs front place id (slice_get front id) else None) ≡ Some hazard → b ≡ true
-    by_stop true e = refl
-    by_stop false e = cc
-hazard-logging needs front place (Some (Submit bio)) hazard e = cc
-hazard-logging needs front place (Some (Mark text)) hazard e = cc
-hazard-logging needs front place (Some (Stop cause)) hazard e = cc
-hazard-logging needs front place (Some Close) hazard e = cc
-hazard-logging needs front place None hazard e = cc
-
--- no Stop comes before the end of such a front
-stop-after : (events : List CoreEvent) (n stop : ℕ) → n ≤ length events → has_no_stop (take n events) ≡ true → first_place is_stop events ≡ Some stop → n ≤ stop
-stop-after events n stop within going found = elim (cases_lt stop n) [
-  | inl before ↦
-      let first = first_below-found (λ k. is_stop (slice_get events k)) (length events) stop found in
-      let none = first_below-none (λ k. is_stop (slice_get (take n events) k)) (length (take n events)) (is_none-none (first_place is_stop (take n events)) going) stop
-      (let long = length-beginning events n within in omega arith) in
-      let here = ap is_stop (slice_get-take events n stop before) ∙ first.here in
-      cc
-  | inr after ↦ after
-]
-
--- a moment that is no later than the last safe one is safe
-pub safe-from : (events : List CoreEvent) (moment : ℕ) → is_well_formed events ≡ true → moment ≤ safe_moment recorded events → IsSafe events moment
-safe-from events moment well_formed until = elim (option_cases (first_hazard recorded events)) [
-  | inl none ↦
-      let last : moment ≤ last_moment events = let same = ap (hazard_or_last events) none in omega arith in
-      let both = until-last last in record {
-        well_formed = well_formed;
-        within = both.0;
-        going = both.1;
-        unhazardous = λ p less. none-hazardous recorded events (length events) none p (let within = both.0 in omega arith);
-      }
+-- a moment that is no later than the last one
+pub moment-from : (events : List CoreEvent) (moment : ℕ) → is_well_formed events ≡ true → moment ≤ last_moment events → IsMoment events moment
+moment-from events moment well_formed last = elim (option_cases (first_place is_stop events)) [
+  | inl none ↦ record {
+    well_formed = well_formed;
+    within = let same = ap (λ found. unwrap_or found (length events)) none in omega arith;
+    going = λ stop found. cc;
+  }
   | inr some ↦
-      let hazard = some.0 in
-      let last : moment ≤ hazard.event = let same = ap (hazard_or_last events) some.1 in omega arith in
-      let first = first-hazardous recorded events (length events) hazard some.1 in record {
+      let same : last_moment events ≡ some.0 = ap (λ found. unwrap_or found (length events)) some.1 in
+      let inside = (first_below-found (λ k. is_stop (slice_get events k)) (length events) some.0 some.1).within in record {
         well_formed = well_formed;
-        within = let within = first.0 in omega arith;
-        going = λ stop found.
-            let after = stop-after events (suc hazard.event) stop first.0
-            (hazard-logging recorded (take (suc hazard.event) events) hazard.event (slice_get events hazard.event) hazard first.1) found in
-            omega arith;
-        unhazardous = λ p less. first.2 p (omega arith);
+        within = omega arith;
+        going = λ stop found. let one : some.0 ≡ stop = let a = some.1 in cc in omega arith;
       }
 ]
-  where
-    until-last : moment ≤ last_moment events → (moment ≤ length events) × ((stop : ℕ) → first_place is_stop events ≡ Some stop → moment ≤ stop)
-    until-last last = elim (option_cases (first_place is_stop events)) [
-      | inl none ↦ (
-        (let same = ap (λ found. unwrap_or found (length events)) none in omega arith),
-        λ stop found. cc,
-      )
-      | inr some ↦
-          let same : last_moment events ≡ some.0 = ap (λ found. unwrap_or found (length events)) some.1 in
-          let within = (first_below-found (λ k. is_stop (slice_get events k)) (length events) some.0 some.1).within in (
-            omega arith,
-            λ stop found. let one : some.0 ≡ stop = let a = some.1 in cc in omega arith,
-          )
-    ]
 
 -- an event that puts a value in a sector
 covers-some : (there : Option CoreEvent) (sector : ℕ) → covers_at sector there ≡ true
@@ -264,7 +212,7 @@ value-some (Some Close) sector now e = cc
 value-some None sector now e = cc
 
 -- a durable request over a sector has an entry with a value there, among those queued by the moment
-durable-entry : (events : List CoreEvent) (moment count sector id : ℕ) → IsSafe events moment → BelongsTo (dm_log_writes 512) events moment count
+durable-entry : (events : List CoreEvent) (moment count sector id : ℕ) → IsMoment events moment → BelongsTo (dm_log_writes 512) events moment count
     → (durable : IsDurableBefore events moment sector id)
     → (k : ℕ) × (entry : Entry) × (slice_get (completion_list (dm_log_writes 512) events) k ≡ Some (id, entry)) × (k < count)
     × (slice_get (entries_of (take count (completion_list (dm_log_writes 512) events))) k ≡ Some entry) × (entry_values entry sector ≡ None → ⊥)
@@ -288,7 +236,7 @@ durable-entry events moment count sector id safe belongs durable =
     )
 
 -- where no entry has a value for the sector, nothing durable covers it
-none-kept : (events : List CoreEvent) (moment count sector : ℕ) → IsSafe events moment → BelongsTo (dm_log_writes 512) events moment count
+none-kept : (events : List CoreEvent) (moment count sector : ℕ) → IsMoment events moment → BelongsTo (dm_log_writes 512) events moment count
     → NoneAt (entries_of (take count (completion_list (dm_log_writes 512) events))) sector → has_kept (take moment events) sector ≡ false
 none-kept events moment count sector safe belongs none = elim (bool_cases (has_kept (take moment events) sector)) [
   | inl some ↦
@@ -298,42 +246,8 @@ none-kept events moment count sector safe belongs none = elim (bool_cases (has_k
   | inr other ↦ other
 ]
 
--- what is queued first stands first
-order-of : (events : List CoreEvent) (moment sector earlier later i j : ℕ) (x y : Entry) → IsSafe events moment
-    → (both : IsReplacedBy events moment sector earlier later)
-    → slice_get (completion_list (dm_log_writes 512) events) i ≡ Some (earlier, x)
-    → slice_get (completion_list (dm_log_writes 512) events) j ≡ Some (later, y) → i < j
-order-of events moment sector earlier later i j x y safe both first second =
-    let queued = replaced-first events moment sector earlier later safe both in
-    let own = ends-there events earlier both.end both.ends in
-    elim (cases_lt i j) [
-      | inl less ↦ less
-      | inr no_less ↦ elim (eq-or-lt_of_le no_less) [
-        | inl same ↦
-            let items = completion_list (dm_log_writes 512) events in
-            let of_later : Item = (later, y) in
-            let of_earlier : Item = (earlier, x) in
-            let both_there : Some of_later ≡ Some of_earlier = sym second ∙ ap (slice_get items) same ∙ first in
-            let pair : of_later ≡ of_earlier = cc in
-            let one : later ≡ earlier = ap (λ (item : Item). item.0) pair in
-            absurd (let a = own.1 in let b = both.before in omega arith)
-        | inr swapped ↦
-            let sorted = listed-sorted (dm_log_writes 512) events j i (later, y) (earlier, x) safe.well_formed swapped second first in
-            let first_same : sorted.first_event ≡ both.event = let a = sorted.first_queued.queues in let b = both.queued in cc in
-            let second_same : sorted.second_event ≡ queued.first_event = let a = sorted.second_queued.queues in let b = queued.queued in cc in
-            let early_end : own_end events earlier (slice_get events earlier) ≡ Some both.end = ap (own_end events earlier) both.first_is ∙ both.ends in
-            let ends_same : sorted.second_end ≡ both.end = let a = sorted.second_queued.ends in cc in
-            let late_end : end_of events later ≡ Some sorted.first_end = sym (ap (own_end events later) both.second_is) ∙ sorted.first_queued.ends in
-            let after = (ends-there events later sorted.first_end late_end).1 in
-            elim sorted.earlier [
-              | inl sooner ↦ absurd (let a = queued.order in omega arith)
-              | inr twice ↦ absurd (let a = twice.1 in let b = both.before in omega arith)
-            ]
-      ]
-    ]
-
 -- the request whose value is last is replaced by none that is durable
-last-unreplaced : (events : List CoreEvent) (moment count sector id place : ℕ) (now : List ℕ) (entry : Entry) → IsSafe events moment
+last-unreplaced : (events : List CoreEvent) (moment count sector id place : ℕ) (now : List ℕ) (entry : Entry) → IsMoment events moment
     → BelongsTo (dm_log_writes 512) events moment count
     → (last : LastAt (entries_of (take count (completion_list (dm_log_writes 512) events))) sector now)
     → slice_get (completion_list (dm_log_writes 512) events) last.place ≡ Some (id, entry)
@@ -347,34 +261,30 @@ last-unreplaced events moment count sector id place now entry safe belongs last 
           let later = found.0 in
           let parts = and_parts (is_kept front sector later) (is_before front id later) found.2 in
           let durable = durable-of events moment sector later safe.within found.1 parts.0 in
-          let queued = durable-queued events moment sector later safe durable in
           let before = (is_before-end front id later).0 parts.1 in
-          let both : IsReplacedBy events moment sector id later = record {
+          let second = durable.there.bio in
+          let both : IsFound events id later = record {
             first = bio;
-            second = durable.there.bio;
+            second = second;
             first_is = submitted;
             second_is = durable.there.submitted;
-            first_over = over;
-            second_over = durable.over;
             end = before.0;
             ends = (end-longer events moment id before.0 safe.within before.1).0;
             before = before.2;
-            event = queued.0;
-            queued = queued.1;
-            in_time = queued.2;
+            why = inl ((overlaps-common bio second).1 (sector, over, durable.over));
           } in
           let there = durable-entry events moment count sector later safe belongs durable in
-          let less = order-of events moment sector id later last.place there.0 entry there.1 safe both stands there.2 in
+          let less = found-first 512 events id later last.place there.0 entry there.1 safe.well_formed both stands there.2 in
           absurd (there.5 (last.after there.0 there.1 less there.4))
       | inr other ↦ other
     ]
 
--- Each sector of what is replayed up to the first hazard is possible.
+-- Each sector of what is replayed is possible.
 pub possible-at : (events : List CoreEvent) (first : Content) (moment count sector : ℕ) → is_well_formed events ≡ true
-    → moment ≤ safe_moment recorded events → BelongsTo (dm_log_writes 512) events moment count
+    → moment ≤ last_moment events → BelongsTo (dm_log_writes 512) events moment count
     → PossibleAt (take moment events) first (replay 512 (entries_of (take count (completion_list (dm_log_writes 512) events))) first) sector
 possible-at events first moment count sector well_formed until belongs =
-    let safe = safe-from events moment well_formed until in
+    let safe = moment-from events moment well_formed until in
     let items = completion_list (dm_log_writes 512) events in
     let es = entries_of (take count items) in
     elim (last-value es sector first) [

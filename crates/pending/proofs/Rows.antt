@@ -1,6 +1,6 @@
 -- Event lists of logs that are known, and their completion lists by computation: each entry with the place of its submission.
-use Rattle.std.specs.Prelude.{◌≡◌, ℕ, true, false, List, [], ◌∷◌, map, replicate, Some}
-use Rattle.std.proofs.Common.{refl, ap}
+use Rattle.std.specs.Prelude.{◌≡◌, ℕ, true, false, List, [], ◌∷◌, map, replicate, Some, slice_get}
+use Rattle.std.proofs.Common.{refl, ap, arith}
 use Rattle.bio.specs.declared.event.CoreEvent.{CoreEvent}
 use Rattle.bio.specs.declared.event.CoreEvent.TheVariants.{Submit, Complete, Mark, Stop, Close}
 use Rattle.bio.specs.declared.outcome.End.TheVariants.{Full}
@@ -8,7 +8,8 @@ use Rattle.bio.specs.declared.request.Bio.{Bio}
 use Rattle.bio.specs.declared.request.Bio.TheVariants.{Write, Flush, Discard}
 use Rattle.bio.specs.Lawful.{is_lawful}
 use Rattle.log_format.specs.Entries.{entry_of, mark_entry, end_mark, no_flags}
-use Rattle.pending.specs.QueueEvent.{recorded, queue_event}
+use Rattle.pending.specs.Chains.{AtFua, Chain, Direct, IsNeed, Through}
+use Rattle.pending.specs.QueueEvent.{is_linked, recorded, queue_event}
 use Rattle.pending.specs.CompletionList.{dm_log_writes, completion_list}
 
 -- a write of one sector of a byte
@@ -50,9 +51,9 @@ abbrev fua_overtakes : List CoreEvent
 fua_overtakes =
     Submit (write 5 97) ∷ Complete 0 true ∷ Submit (fua_write 5 98) ∷ Complete 2 true ∷ Submit Flush ∷ Complete 4 true ∷ Close ∷ []
 
--- a FUA write is queued at its own end, before an earlier plain write
+-- a FUA write is queued at its own end, after an earlier plain write of its sector
 pub fua_overtakes-list : completion_list (dm_log_writes 512) fua_overtakes
-    ≡ (2, entry_of 512 (fua_write 5 98)) ∷ (0, entry_of 512 (write 5 97)) ∷ (4, entry_of 512 Flush) ∷ (6, end_mark) ∷ []
+    ≡ (0, entry_of 512 (write 5 97)) ∷ (2, entry_of 512 (fua_write 5 98)) ∷ (4, entry_of 512 Flush) ∷ (6, end_mark) ∷ []
 fua_overtakes-list = refl
 
 abbrev flush_overtakes : List CoreEvent
@@ -60,13 +61,55 @@ flush_overtakes =
     Submit (write 5 97) ∷ Complete 0 true ∷ Submit Flush ∷ Submit Flush ∷ Complete 3 true ∷ Submit (fua_write 9 99) ∷ Complete 5 true
     ∷ Complete 2 true ∷ Close ∷ []
 
--- the write goes with the first flush, which ends after the second
+-- the write goes with the flush that ends first, though another was submitted before it
 pub flush_overtakes-list : completion_list (dm_log_writes 512) flush_overtakes
-    ≡ (3, entry_of 512 Flush) ∷ (5, entry_of 512 (fua_write 9 99)) ∷ (0, entry_of 512 (write 5 97)) ∷ (2, entry_of 512 Flush) ∷ (8, end_mark) ∷ []
+    ≡ (0, entry_of 512 (write 5 97)) ∷ (3, entry_of 512 Flush) ∷ (5, entry_of 512 (fua_write 9 99)) ∷ (2, entry_of 512 Flush) ∷ (8, end_mark) ∷ []
 flush_overtakes-list = refl
 
-pub flush_overtakes-event : queue_event recorded flush_overtakes 0 ≡ Some 7
+pub flush_overtakes-event : queue_event recorded flush_overtakes 0 ≡ Some 4
 flush_overtakes-event = refl
+
+abbrev linked_writes : List CoreEvent
+linked_writes =
+    Submit (write 9 68) ∷ Complete 0 true ∷ Submit (Write 5 (replicate 1024 17) false false false) ∷ Complete 2 true
+    ∷ Submit (Write 6 (replicate 1024 34) false false false) ∷ Complete 4 true ∷ Submit (fua_write 7 51) ∷ Complete 6 true ∷ Close ∷ []
+
+-- a FUA write takes what it overlaps, and what that overlaps; what it isn't linked to waits
+pub linked_writes-places : map (λ item. item.0) (completion_list (dm_log_writes 512) linked_writes) ≡ 2 ∷ 4 ∷ 6 ∷ 0 ∷ 8 ∷ []
+linked_writes-places = refl
+
+pub linked-by-another : is_linked linked_writes (fua_write 7 51) 7 7 3 (Write 5 (replicate 1024 17) false false false) ≡ true
+linked-by-another = refl
+
+-- not with no other between them, nor by one that ended before it
+pub linked-directly : is_linked linked_writes (fua_write 7 51) 7 0 3 (Write 5 (replicate 1024 17) false false false) ≡ false
+linked-directly = refl
+
+pub linked-backwards : is_linked linked_writes (fua_write 7 51) 7 7 6 (Write 5 (replicate 1024 17) false false false) ≡ false
+linked-backwards = refl
+
+-- the same chain in the subject's words
+pub linked-chain : Chain linked_writes (fua_write 7 51) 7 3 (Write 5 (replicate 1024 17) false false false)
+linked-chain =
+    Through 3 (Write 5 (replicate 1024 17) false false false) 5 4 (Write 6 (replicate 1024 34) false false false)
+    (record { ok = true; ends = refl; earlier = omega arith; submitted = refl; plain = refl }) (omega arith) (omega arith) refl
+    (Direct 5 (Write 6 (replicate 1024 34) false false false) refl)
+
+-- so the FUA write's end needs it; no event needs it before that
+pub linked-need : IsNeed linked_writes 3 (Write 5 (replicate 1024 17) false false false) 7
+linked-need = AtFua 6 true (fua_write 7 51) refl (omega arith) refl refl linked-chain
+
+pub linked-unneeded : recorded linked_writes 3 (slice_get linked_writes 2) 5 (slice_get linked_writes 5) ≡ false
+linked-unneeded = refl
+
+-- a write with flush and FUA takes what ended before its submission, and what it overlaps
+abbrev both_kinds : List CoreEvent
+both_kinds =
+    Submit (write 1 65) ∷ Complete 0 true ∷ Submit (Write 5 (replicate 512 66) true true false) ∷ Submit (write 5 67) ∷ Submit (write 9 68)
+    ∷ Complete 3 true ∷ Complete 4 true ∷ Complete 2 true ∷ Close ∷ []
+
+pub both_kinds-places : map (λ item. item.0) (completion_list (dm_log_writes 512) both_kinds) ≡ 0 ∷ 3 ∷ 2 ∷ 4 ∷ 8 ∷ []
+both_kinds-places = refl
 
 abbrev discard_zeroes : List CoreEvent
 discard_zeroes =
@@ -122,7 +165,7 @@ places events = map (λ item. item.0) (completion_list (dm_log_writes 512) event
 pub crossed-differ : completion_list (dm_log_writes 512) ends_in_order ≡ completion_list (dm_log_writes 512) ends_crossed → ⊥
 crossed-differ same = let order : places ends_in_order ≡ places ends_crossed = ap (map (λ item. item.0)) same in cc
 
--- a FUA write overtakes a plain one that ended before it, unless a flush ended between them
+-- a FUA write overtakes a plain one of another sector that ended before it, unless a flush ended between them
 abbrev no_flush : List CoreEvent
 no_flush = Submit (write 1 65) ∷ Complete 0 true ∷ Submit (fua_write 2 66) ∷ Complete 2 true ∷ Close ∷ []
 

@@ -7,8 +7,9 @@ pub use Rattle.log_format.specs.Entries
 pub use Rattle.log_format.specs.Replay
 pub use Rattle.sectors.specs.Content
 pub mod QueueEvent
+pub mod Moments
+pub mod Chains
 pub mod CompletionList
-pub mod Hazards
 pub mod Beginnings
 pub mod Results
 pub mod CoreState

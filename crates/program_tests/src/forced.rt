@@ -1,4 +1,4 @@
-// Generated scripts under layers, crashed at each of their lines: the log that is found lists with no fault, and where no hazard was told each beginning
+// Generated scripts under layers, crashed at each of their lines: the log that is found lists with no fault, and each beginning
 // of it replays to an image of which the verdict is yes at one of the moments at least.
 use crate::commands::output_of;
 use std::alloc::{AllocError, Global};
@@ -122,9 +122,6 @@ fn force(rt: &impl Abort, alloc: Global, script: &str, seen: &mut Seen) -> Resul
     let listed = output_of(alloc, "list log", &mut folder)?;
     assert!(rt; listed.ends_with(";|"), "{script}{recorded}{listed}");
     seen.logs = seen.logs.saturating_add(1);
-    if recorded.contains("hazard") {
-        return Ok(());
-    }
     let entries = listed.matches(';').count().saturating_sub(1);
     for count in 0..=entries {
         let line = format!(in alloc; "replay log zeroes image entries:{count}")?;

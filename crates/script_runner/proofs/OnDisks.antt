@@ -27,9 +27,6 @@ use Rattle.log_store.specs.declared.store.LogStore.{LogStore}
 use Rattle.log_store.specs.Shown.{store_of}
 use Rattle.log_store.specs.Store.{entries_of}
 use Rattle.pending.specs.CoreState.{CoreState, new_state}
-use Rattle.pending.specs.declared.hazard.Hazard.{Hazard}
-use Rattle.pending.specs.Hazards.{first_hazard}
-use Rattle.pending.specs.QueueEvent.{recorded}
 use Rattle.recorder.specs.declared.recorder.Recorder.{Recorder}
 use Rattle.recorder.specs.Growth.{HasWholeLog, RecorderGoes}
 use Rattle.recorder.specs.Recording.{log_of}
@@ -135,10 +132,9 @@ new_written : (disk : Disk) (recorder : DiskRecorder) → IsNew disk recorder �
 new_written disk recorder new = λ closed on. absurd (let recording = ap (λ (c : CoreState). has_no_close c.events) new.begun.core in cc)
 
 -- what a script's recording leaves
-pub is_recorded : (plan : Plan) (text : List ℕ) (start last : DiskRun) (log : Stack) (hazard : Option Hazard) (status : Status) (lies : Lies) (image : List ℕ) (picks : Option (List ℕ))
+pub is_recorded : (plan : Plan) (text : List ℕ) (start last : DiskRun) (log : Stack) (status : Status) (lies : Lies) (image : List ℕ) (picks : Option (List ℕ))
     → Starts plan start → RunsLines stack_answering plan.names plan.commands text start last
     → RecorderGoes (recording_of start.recorder) (recording_of last.recorder)
-    → hazard ≡ first_hazard recorded last.recorder.core.events
     → IsCounted status last.recorder
     → ((stack_shown last.recorder.store.device).lies ≡ 0 → status ≡ status_of 512 (entries_of (store_of last.recorder.store)) last.recorder.end)
     → log ≡ last.recorder.store.device
@@ -150,8 +146,8 @@ pub is_recorded : (plan : Plan) (text : List ℕ) (start last : DiskRun) (log : 
     → ReplaysToWhatCouldBe (recording_of last.recorder) (recording_of last.recorder) left)
     → (IsWritten start.recorder → last.recorder.end ≡ None → has_no_close last.recorder.core.events ≡ false → (stack_shown last.recorder.store.device).lies ≡ 0
     → HasWholeLog (recording_of last.recorder))
-    → IsRecorded plan text hazard status lies image
-is_recorded plan text start last log hazard status lies image picks starts ran goes first counted tells same lied count ending bytes reopens whole =
+    → IsRecorded plan text status lies image
+is_recorded plan text start last log status lies image picks starts ran goes counted tells same lied count ending bytes reopens whole =
     let device = last.recorder.store.device in
     let new = starts.log_disk in
     let size : (stack_shown device).size ≡ top_of plan.log_disk = goes.size ∙ new.begun.made.size ∙ stack_size plan.log_disk new.stack new.blank in
@@ -173,7 +169,6 @@ is_recorded plan text start last log hazard status lies image picks starts ran g
       starts = starts;
       last = last;
       ran = ran;
-      first = first;
       counted = counted;
       tells = λ none. tells (honest none);
       lied = told;

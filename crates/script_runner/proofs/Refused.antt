@@ -30,9 +30,7 @@ use Rattle.log_format.specs.Placing.{first_sector}
 use Rattle.log_store.specs.Calls.{HasFaulted}
 use Rattle.log_store.specs.Shown.{store_of}
 use Rattle.log_store.specs.Store.{entries_of}
-use Rattle.pending.specs.declared.hazard.Hazard.{Hazard}
 use Rattle.pending.specs.CoreState.{CoreState, added_to, new_state, records}
-use Rattle.pending.specs.Hazards.{first_hazard}
 use Rattle.pending.specs.QueueEvent.{recorded}
 use Rattle.dmlw_script.specs.declared.command.Command.{Command}
 use Rattle.dmlw_script.specs.declared.command.Command.TheVariants as commands
@@ -513,17 +511,16 @@ status_counts : (status : Status) (recorder : DiskRecorder) → IsCounted status
     → (status.entries ≡ recorder.store.placed) × (status.end ≡ recorder.end) × (0 < recorder.store.placed → status.sector + 1 ≡ recorder.store.next)
 status_counts status recorder told = (told.entries, told.end, told.last)
 
--- a script of no lines prints nothing; of it there is no hazard, no entry, no end of logging and no lie of the data disk's layers
-nothing_recorded : (plan : Plan) (text : List ℕ) (hazard : Option Hazard) (status : Status) (lies : Lies) (image : List ℕ) → plan.commands ≡ []
-    → IsRecorded plan text hazard status lies image
-    → (text ≡ []) × (hazard ≡ None) × (status.entries ≡ 0) × (status.sector ≡ 0) × (status.end ≡ None) × (lies.data_disk ≡ 0)
-nothing_recorded plan text hazard status lies image none told =
+-- a script of no lines prints nothing; of it there is no entry, no end of logging and no lie of the data disk's layers
+nothing_recorded : (plan : Plan) (text : List ℕ) (status : Status) (lies : Lies) (image : List ℕ) → plan.commands ≡ []
+    → IsRecorded plan text status lies image
+    → (text ≡ []) × (status.entries ≡ 0) × (status.sector ≡ 0) × (status.end ≡ None) × (lies.data_disk ≡ 0)
+nothing_recorded plan text status lies image none told =
     let ran = subst (λ (body : List Command). RunsLines stack_answering plan.names body text told.start told.last) none told.ran in
     let same : told.last ≡ told.start = ran.1 in
     let begun = told.starts.log_disk.begun in
     let placed : told.last.recorder.store.placed ≡ 0 = ap (λ (run : DiskRun). run.recorder.store.placed) same ∙ begun.placed in (
       ran.0,
-      told.first ∙ ap (λ (run : DiskRun). first_hazard recorded run.recorder.core.events) same ∙ ap (λ (c : CoreState). first_hazard recorded c.events) begun.core,
       told.counted.entries ∙ placed,
       told.counted.none placed,
       told.counted.end ∙ ap (λ (run : DiskRun). run.recorder.end) same ∙ begun.end,
@@ -531,38 +528,38 @@ nothing_recorded plan text hazard status lies image none told =
     )
 
 -- the lies of each disk are those of its layers, and the log's are none where none of its layers may drop writes
-lies_of_each : (plan : Plan) (text : List ℕ) (hazard : Option Hazard) (status : Status) (lies : Lies) (image : List ℕ)
-    → (told : IsRecorded plan text hazard status lies image)
+lies_of_each : (plan : Plan) (text : List ℕ) (status : Status) (lies : Lies) (image : List ℕ)
+    → (told : IsRecorded plan text status lies image)
     → (lies.data_disk ≡ (stack_shown told.last.disk).lies) × (lies.log_disk ≡ (stack_shown told.last.recorder.store.device).lies)
     × (some_drops plan.log_disk.layers ≡ false → lies.log_disk ≡ 0)
-lies_of_each plan text hazard status lies image told =
+lies_of_each plan text status lies image told =
     (ap (λ (l : Lies). l.data_disk) told.lied, ap (λ (l : Lies). l.log_disk) told.lied, told.honest)
 
 -- the image is of the log's disk: its content, or where the script ends by a crash what its picks leave
-image_whole : (plan : Plan) (text : List ℕ) (hazard : Option Hazard) (status : Status) (lies : Lies) (image : List ℕ) → plan.ending ≡ None
-    → (told : IsRecorded plan text hazard status lies image)
+image_whole : (plan : Plan) (text : List ℕ) (status : Status) (lies : Lies) (image : List ℕ) → plan.ending ≡ None
+    → (told : IsRecorded plan text status lies image)
     → AgreeBelow plan.log_disk.sectors (shown_of (disk_of told.last.recorder.store.device)).content (sector_of image)
-image_whole plan text hazard status lies image none told =
+image_whole plan text status lies image none told =
     subst (λ (ending : Option (List ℕ)). AgreeBelow plan.log_disk.sectors (left_on ending (disk_of told.last.recorder.store.device)) (sector_of image)) none told.bytes
 
-image_left : (plan : Plan) (text : List ℕ) (hazard : Option Hazard) (status : Status) (lies : Lies) (image picks : List ℕ) → plan.ending ≡ Some picks
-    → (told : IsRecorded plan text hazard status lies image)
+image_left : (plan : Plan) (text : List ℕ) (status : Status) (lies : Lies) (image picks : List ℕ) → plan.ending ≡ Some picks
+    → (told : IsRecorded plan text status lies image)
     → AgreeBelow plan.log_disk.sectors (left_by (cache_of (disk_of told.last.recorder.store.device)) picks) (sector_of image)
-image_left plan text hazard status lies image picks some told =
+image_left plan text status lies image picks some told =
     subst (λ (ending : Option (List ℕ)). AgreeBelow plan.log_disk.sectors (left_on ending (disk_of told.last.recorder.store.device)) (sector_of image)) some told.bytes
 
-image_size : (plan : Plan) (text : List ℕ) (hazard : Option Hazard) (status : Status) (lies : Lies) → plan.log_disk.sectors ≡ 1
-    → IsRecorded plan text hazard status lies [] → ⊥
-image_size plan text hazard status lies one told = let size = told.size in let count = one in omega arith
+image_size : (plan : Plan) (text : List ℕ) (status : Status) (lies : Lies) → plan.log_disk.sectors ≡ 1
+    → IsRecorded plan text status lies [] → ⊥
+image_size plan text status lies one told = let size = told.size in let count = one in omega arith
 
 -- where the log's device told no lie, the status is that of what is placed, and the image has a log of what could be; the whole list where the script closed
-honest_log : (plan : Plan) (text : List ℕ) (hazard : Option Hazard) (status : Status) (lies : Lies) (image : List ℕ) → lies.log_disk ≡ 0
-    → (told : IsRecorded plan text hazard status lies image)
+honest_log : (plan : Plan) (text : List ℕ) (status : Status) (lies : Lies) (image : List ℕ) → lies.log_disk ≡ 0
+    → (told : IsRecorded plan text status lies image)
     → (status ≡ status_of 512 (entries_of (store_of told.last.recorder.store)) told.last.recorder.end)
     × ReplaysToWhatCouldBe (recording_of told.last.recorder) (recording_of told.last.recorder) (moved (top_origin 0 plan.log_disk.layers) (sector_of image))
     × (has_no_close told.last.recorder.core.events ≡ false → told.last.recorder.end ≡ None
     → IsLogOf (top_of plan.log_disk) (moved (top_origin 0 plan.log_disk.layers) (sector_of image)) 512 (log_of told.last.recorder.core))
-honest_log plan text hazard status lies image honest told = (told.tells honest, told.beginning honest, told.whole honest)
+honest_log plan text status lies image honest told = (told.tells honest, told.beginning honest, told.whole honest)
 
 -- a recording ends by the end of logging only where its log can't be made, and then it has printed nothing
 abbrev is_end : RunError → Bool

@@ -10,7 +10,7 @@ pub use Rattle.layer_table.specs.Layers
 pub use Rattle.layer_table.specs.StackMessages
 pub use Rattle.blockdev.specs.Messages
 pub use Rattle.table_line.specs.Standing
-pub use Rattle.pending.specs.Hazards
+pub use Rattle.pending.specs.Moments
 pub use Rattle.recorder.specs.Acknowledged
 pub use Rattle.recorder.specs.Recording
 pub use Rattle.recorder.specs.Replayed

@@ -14,9 +14,6 @@ use Rattle.layer_table.specs.Layers.{disk_of, layers_of, layers_under, on_stack,
 use Rattle.table_line.specs.Standing.{some_drops, top_origin}
 use Rattle.log_store.specs.Shown.{store_of}
 use Rattle.log_store.specs.Store.{entries_of}
-use Rattle.pending.specs.declared.hazard.Hazard.{Hazard}
-use Rattle.pending.specs.Hazards.{first_hazard}
-use Rattle.pending.specs.QueueEvent.{recorded}
 use Rattle.dmlw_script.specs.Plans.{Plan}
 use Rattle.recorder.specs.declared.recorder.Recorder.{Recorder}
 use Rattle.recorder.specs.Recording.{log_of}
@@ -89,14 +86,13 @@ pub record IsCounted (status : Status) (recorder : DiskRecorder) : Type 0 where
 abbrev pub seen_on : Disk → List ℕ → Content
 seen_on disk image = moved (top_origin 0 disk.layers) (sector_of image)
 
--- A script was recorded: its lines ran and printed this, its events have this first hazard, the log has come so far, so many calls were dropped
+-- A script was recorded: its lines ran and printed this, the log has come so far, so many calls were dropped
 -- and told as done, and the bytes are those of the log's disk; where the script ends by a crash, those that its picks leave.
-pub record IsRecorded (plan : Plan) (text : List ℕ) (hazard : Option Hazard) (status : Status) (lies : Lies) (image : List ℕ) : Type 0 where
+pub record IsRecorded (plan : Plan) (text : List ℕ) (status : Status) (lies : Lies) (image : List ℕ) : Type 0 where
   pub start : DiskRun
   pub starts : Starts plan start
   pub last : DiskRun
   pub ran : RunsLines stack_answering plan.names plan.commands text start last
-  pub first : hazard ≡ first_hazard recorded last.recorder.core.events
   pub counted : IsCounted status last.recorder
   pub lied : lies ≡ record { data_disk = (stack_shown last.disk).lies; log_disk = (stack_shown last.recorder.store.device).lies }
   pub size : length image ≡ 512 * plan.log_disk.sectors
@@ -106,8 +102,7 @@ pub record IsRecorded (plan : Plan) (text : List ℕ) (hazard : Option Hazard) (
   -- unless the log's device lied, the status is that of what is placed
   pub tells : lies.log_disk ≡ 0 → status ≡ status_of 512 (entries_of (store_of last.recorder.store)) last.recorder.end
   -- unless it lied, the bytes have a log, as seen through its layers, which is a beginning of the completion list of the recorder's
-  -- events with all that is settled and all that is acknowledged; up to the first hazard each beginning of it replays to what the recorded
-  -- device could hold
+  -- events with all that is settled and all that is acknowledged; each beginning of it replays to what the recorded device could hold
   pub beginning : lies.log_disk ≡ 0 →
       ReplaysToWhatCouldBe (recording_of last.recorder) (recording_of last.recorder) (seen_on plan.log_disk image)
   -- where the script closed and logging goes on, it is the whole list

@@ -30,8 +30,7 @@ use layer_table::Stack;
 
 /// After any list of submissions, completions, marks and writer's turns, whatever calls the layers fail, and a crash at any moment,
 /// inside a log write too, the reopened log is a beginning of the completion list and holds every mark and FUA write acknowledged as
-/// logged; replaying any beginning of it before the first hazard gives a content that the recorded device could hold had power
-/// failed there.
+/// logged; replaying any beginning of it gives a content that the recorded device could hold had power failed there.
 ///
 /// `old` is the recorder over a stack of layers before some of its calls, and `new` after them: `RecorderGoes` holds of each call and of
 /// several (`recorder::laws::several_calls_go_as_one`). `left` is what a crash at any moment since `old` may have left of the log's

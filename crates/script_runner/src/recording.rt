@@ -11,7 +11,6 @@ use bio::Status;
 use blockdev::BlockDev;
 use dmlw_script::Script;
 use layer_table::Stack;
-use pending::Hazard;
 use recorder::laws::crashed_logs_replay_to_what_could_be;
 use run_error::RunError;
 use std::alloc::{AllocError, Global};
@@ -33,8 +32,6 @@ pub struct Recorded {
     pub image: Vec<u8>,
     /// How far the log has come.
     pub status: Status,
-    /// The first hazard of the recorder's events, if there is one.
-    pub hazard: Option<Hazard>,
     /// How often the layers have lied.
     pub lies: Lies,
 }
@@ -50,7 +47,7 @@ pub fn record<O: Write>(
     out: &mut O,
 ) -> Result<Recorded, RunError>
     ensures recorded { IfOk result (λ recorded. (printed : List ℕ)
-        × IsRecorded script.now printed recorded.hazard recorded.status recorded.lies recorded.image.items
+        × IsRecorded script.now printed recorded.status recorded.lies recorded.image.items
         × Appends (O.contents out.old) (O.contents out.new) printed) }
     ensures faults { IfErr result (FailsOnDisks text.now script.now (O.contents out.old) (O.contents out.new)) }
 {
@@ -60,7 +57,6 @@ pub fn record<O: Write>(
     let played = play_on_disks(alloc, text, script, out)?;
     let _events = played.recorder.events();
     let status = played.recorder.status();
-    let hazard = played.recorder.hazard();
     let data_lies = played.data_lies;
     let log = played.recorder.into_device();
     let lies = Lies {
@@ -71,7 +67,6 @@ pub fn record<O: Write>(
     Ok(Recorded {
         image,
         status,
-        hazard,
         lies,
     })
 }

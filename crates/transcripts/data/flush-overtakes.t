@@ -1,4 +1,4 @@
-Of two open flushes the later one ends first. The write that it made sure waits for the earlier one, so the later flush's end, event 4, is a hazard.
+Of two open flushes the later one ends first. The write that it made sure is logged with it, before its end, event 4, and doesn't wait for the earlier one.
 
   $ write script
   > data 16
@@ -17,18 +17,16 @@ Of two open flushes the later one ends first. The write that it made sure waits 
   f1 ok
   x ok
   f0 ok
-  hazard H2 at event 4
   5 7
   $ dmlw list log
   super version 1 entries 5 sectorsize 512
-  0 @1 flush
-  1 @2 write 9+1 fua
-  2 @4 write 5+1
+  0 @1 write 5+1
+  1 @3 flush
+  2 @4 write 9+1 fua
   3 @6 flush
   4 @7 mark dm-log-writes-end
   $ image zeroes 8192
   $ dmlw replay log zeroes image entries:1
   replayed 1
   $ dmlw judge script 5 image
-  no sector 5 ruled out by event 0
-  [1]
+  yes

@@ -1,4 +1,4 @@
-A FUA write is logged at its own end, before an older write of the same sector that waits for a flush. Event 3, its end, is the first hazard: a beginning behind it may be none that a disk could hold.
+A FUA write is logged at its own end, and an older write of the same sector that waits for a flush is logged before it: replaying both leaves what the later one wrote.
 
   $ write script
   > data 16
@@ -14,12 +14,11 @@ A FUA write is logged at its own end, before an older write of the same sector t
   a ok
   b ok
   g ok
-  hazard H1 at event 3
   4 6
   $ dmlw list log
   super version 1 entries 4 sectorsize 512
-  0 @1 write 5+1 fua
-  1 @3 write 5+1
+  0 @1 write 5+1
+  1 @3 write 5+1 fua
   2 @5 flush
   3 @6 mark dm-log-writes-end
   $ image zeroes 8192
@@ -27,7 +26,6 @@ A FUA write is logged at its own end, before an older write of the same sector t
   replayed 4
   $ show image
   8192 bytes
-  5: 61*512
+  5: 62*512
   $ dmlw judge script 7 image
-  no sector 5 ruled out by event 2
-  [1]
+  yes

@@ -14,12 +14,11 @@ What lines leave in a log, as it is listed.
   a ok
   b ok
   g ok
-  hazard H1 at event 3
   4 6
   $ dmlw list log
   super version 1 entries 4 sectorsize 512
-  0 @1 write 5+1 fua
-  1 @3 write 5+1
+  0 @1 write 5+1
+  1 @3 write 5+1 fua
   2 @5 flush
   3 @6 mark dm-log-writes-end
   $ write script
@@ -39,15 +38,39 @@ What lines leave in a log, as it is listed.
   f1 ok
   x ok
   f0 ok
-  hazard H2 at event 4
   5 7
   $ dmlw list log
   super version 1 entries 5 sectorsize 512
-  0 @1 flush
-  1 @2 write 9+1 fua
-  2 @4 write 5+1
+  0 @1 write 5+1
+  1 @3 flush
+  2 @4 write 9+1 fua
   3 @6 flush
   4 @7 mark dm-log-writes-end
+  $ write script
+  > data 16
+  > log 32
+  > w q 9 1 44
+  > c q
+  > w a 5 2 11
+  > c a
+  > w b 6 2 22
+  > c b
+  > w x 7 1 33 fua
+  > c x
+  > close
+  $ dmlw record script log
+  q ok
+  a ok
+  b ok
+  x ok
+  5 11
+  $ dmlw list log
+  super version 1 entries 5 sectorsize 512
+  0 @1 write 5+2
+  1 @4 write 6+2
+  2 @7 write 7+1 fua
+  3 @9 write 9+1
+  4 @11 mark dm-log-writes-end
   $ write script
   > data 16
   > log 32

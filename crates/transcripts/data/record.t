@@ -170,7 +170,6 @@ Scripts that are recorded: what each prints, and whether a log is written.
   a ok
   c ok
   b ok
-  hazard H2 at event 4
   4 5
   $ write script
   > data 16

@@ -142,7 +142,6 @@ Scripts that are run.
   a ok
   b ok
   g ok
-  hazard H1 at event 3
   4 6
   $ write script
   > data 16
@@ -161,7 +160,6 @@ Scripts that are run.
   f1 ok
   x ok
   f0 ok
-  hazard H2 at event 4
   5 7
   $ write script
   > data 16

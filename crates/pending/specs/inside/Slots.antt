@@ -1,8 +1,7 @@
-use Rattle.std.specs.Prelude.{Some, None}
-use Rattle.pending.specs.declared.slot.SlotState.{SlotState}
-use Rattle.pending.specs.declared.slot.SlotState.TheVariants.{Vacant}
+use Rattle.std.specs.Prelude.{Option, Some, None}
+use Rattle.log_format.specs.declared.entry.Entry.{Entry}
 use Rattle.pending.specs.declared.slot.Slot.TheInside.{Inside}
 
--- what is kept for a place, wherever it lies in memory
-abbrev pub slot_state : Inside → SlotState
-slot_state slot = elim slot.kept [ None ↦ Vacant | Some kept ↦ kept.value ]
+-- the entry that is kept for a place, wherever it lies in memory
+abbrev pub slot_entry : Inside → Option Entry
+slot_entry slot = elim slot.kept [ None ↦ None | Some kept ↦ Some kept.value ]

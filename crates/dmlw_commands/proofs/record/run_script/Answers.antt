@@ -4,7 +4,7 @@ use Rattle.dmlw_commands.proofs.record.run_script.Goals as goal
 
 pub returns-clause-printed : goal.returns-clause-printed
 returns-clause-printed g c =
-    printed c.args.text.now c.args.script.now _ _ _ c.in_ok-recorded.recorded.hazard c.in_ok-recorded.recorded.status c.in_ok-recorded.recorded.lies
+    printed c.args.text.now c.args.script.now _ _ _ c.in_ok-recorded.recorded.status c.in_ok-recorded.recorded.lies
     c.in_ok-recorded.recorded.image.items c.requires
     c.in_ok-recorded.ensures.recorded c.in_ok-print_end.ensures.printed
 

@@ -5,8 +5,6 @@ use Rattle.log_format.specs.LogOf.{status_of}
 use Rattle.log_store.specs.Shown.{store_of}
 use Rattle.log_store.specs.Store.{entries_of}
 use Rattle.pending.specs.CoreState.{IsSound}
-use Rattle.pending.specs.Hazards.{first_hazard}
-use Rattle.pending.specs.QueueEvent.{recorded}
 use Rattle.recorder.specs.Replayed.{ReplaysToWhatCouldBe}
 use Rattle.recorder.specs.Shown.{recording_of}
 use Rattle.layer_table.specs.Layers.{stack_shown}
@@ -40,7 +38,6 @@ returns-clause-recorded g c =
     let says = c.status-status.ensures in
     let counted = subst (λ (r : DiskRecorder). IsCounted c.status-status.result r) played.left
     (record { entries = says.counts; end = says.end; none = says.none; last = says.last }) in
-    let first = subst (λ (r : DiskRecorder). c.hazard-hazard.result ≡ first_hazard recorded r.core.events) played.left c.hazard-hazard.ensures in
     let replays : (stack_shown last.recorder.store.device).lies ≡ 0 → (left : Content) → (stack_shown last.recorder.store.device).crash left → ReplaysToWhatCouldBe (recording_of last.recorder) (recording_of last.recorder) left =
     λ honest left may. c.crashed_logs_replay_to_what_could_be.ensures.between last.recorder left honest may in
     let sound = subst (λ (r : DiskRecorder). IsSound r.core) played.left c.events-events.ensures.core in
@@ -48,9 +45,9 @@ returns-clause-recorded g c =
     let lied = same_lies (record { data_disk = c.in_ok-played.played.data_lies; log_disk = c.lies.result }) (stack_shown last.disk).lies (stack_shown c.into_device-log.result).lies
     played.lied c.lies.ensures in (
       played.text,
-      is_recorded script played.text played.start last c.into_device-log.result c.hazard-hazard.result c.status-status.result _ c.in_ok-image.image.items _ played.starts played.ran
+      is_recorded script played.text played.start last c.into_device-log.result c.status-status.result _ c.in_ok-image.image.items _ played.starts played.ran
           (c.lines_go_as_one_call.ensures script.names script.commands played.text played.start last played.ran)
-          first counted told same lied c.in_ok-image.ensures.size c.crash.ensures.picks c.in_ok-image.ensures.bytes replays
+          counted told same lied c.in_ok-image.ensures.size c.crash.ensures.picks c.in_ok-image.ensures.bytes replays
           (λ written on closed honest. c.closed_runs_leave_whole_logs.ensures.whole script.names script.commands played.text played.start last played.ran written sound on closed honest),
       played.printed,
     )

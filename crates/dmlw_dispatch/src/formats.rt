@@ -64,7 +64,7 @@ takes is refused as 6 BadMessage at its line, a listed block that is added as 7 
 
 | Command | Prints |
 |---|---|
-| `record` | at `c`: `<id> ok` or `<id> failed`; `<id> failed` at a submission that found no memory, and `mark failed` at such a mark; at `r`: `read <first>+<count> ok ` and the first byte of each sector as two digits, joined, or `read <first>+<count> failed`; at the end `hazard H1 at event <n>` or `hazard H2 at event <n>` where there is one, the status, with ` logging_disabled` behind it where logging ended before its time, and `lies <data> <log>` where a layer has lied: how often those of the data disk did, and those of the log's |
+| `record` | at `c`: `<id> ok` or `<id> failed`; `<id> failed` at a submission that found no memory, and `mark failed` at such a mark; at `r`: `read <first>+<count> ok ` and the first byte of each sector as two digits, joined, or `read <first>+<count> failed`; at the end the status, with ` logging_disabled` behind it where logging ended before its time, and `lies <data> <log>` where a layer has lied: how often those of the data disk did, and those of the log's |
 | `list` | `super version 1 entries <n> sectorsize <S>`, then a line of each entry: `<number> @<log sector>`, and `mark <text>`, `discard <sector>+<sectors>`, `flush` or `write <sector>+<sectors>`, the last two with ` flush` (of a write), ` fua`, ` meta` where set |
 | `status` | `<entries> <sector>`: how many entries the log counts, and the highest sector of 512 bytes that they use; `0 0` of an empty log |
 | `replay` | `replayed <n>`: how many entries of the log were applied to the image FIRST. Then the image is written as OUT |
@@ -82,10 +82,8 @@ counted from 0, and where logging ends before its time that.
 
 M, and n of `entries:<n>`, are 1 to 20 decimal digits of a value below 2^64. Another M, or a WHAT of no such form, is a usage fault, told before a file is read.
 
-A hazard is the first end of a request, among the submissions, ends, marks and the close counted from 0, at which the log's order gives up what a disk
-promises: H1 where a FUA write or a write with flush overtakes a write over one of its sectors, H2 where a flush overtakes a write that it made
-sure. Up to it each beginning of the log replays to a content that flush, FUA and completion allow a disk to hold, to which these requests were
-sent, had power failed there.
+Each beginning of a recorded log replays to a content that flush, FUA and completion allow a disk to hold, to which these requests were sent, had power failed
+there.
 
 `3 4` is a status: three entries, of which the last uses sector 4. A mark's bytes outside 20 to 7e, and the backslash, stand as a backslash
 and two lower case hexadecimal digits.

@@ -13,7 +13,7 @@ use Rattle.bio.specs.Events.{end_of, first_place, is_flush_submit, is_stop}
 use Rattle.bio.specs.Lawful.{is_well_formed}
 use Rattle.bio.specs.EventLaws.{length-beginning}
 use Rattle.log_format.specs.declared.entry.Entry.{Entry}
-use Rattle.pending.specs.QueueEvent.{first_need, is_at, is_needed_by, queue_event, queue_of, recorded, unless_stopped, waits_for_flush}
+use Rattle.pending.specs.QueueEvent.{first_need, is_at, is_needed_by, queue_event, queue_of, recorded, unless_stopped}
 use Rattle.pending.specs.CompletionList.{IsListedAt, Item, completion_list, dm_log_writes, entry_at, own_end}
 use Rattle.pending.proofs.Ends.{ends-there, flush_submit-some, open-queue_event, own-queue_event, plain-queue_event, queued-within}
 use Rattle.pending.proofs.Linked.{linked-here, needed-flush, needed-linked, needing-recorded, recorded-earlier}

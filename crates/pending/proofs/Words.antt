@@ -1,7 +1,7 @@
 -- The queue rule in the words of chains and needs.
-use Rattle.std.proofs.Common.{◌≡◌, ℕ, zero, suc, ◌<◌, Bool, true, false, ◌&&◌, ◌||◌, Some, None, List, length, refl, ap, sym, ◌∙◌, inl, inr, arith}
+use Rattle.std.proofs.Common.{◌≡◌, ℕ, zero, suc, ◌<◌, true, false, ◌&&◌, ◌||◌, Some, None, List, length, ap, sym, ◌∙◌, inl, inr}
 use Rattle.std.proofs.lemmas.Bool.{and_parts, lt-ltb, ltb-true}
-use Rattle.std.specs.Prelude.{◌⊎◌, slice_get, nat_lt}
+use Rattle.std.specs.Prelude.{slice_get, nat_lt}
 use Rattle.bio.specs.declared.request.Bio.{Bio}
 use Rattle.bio.specs.declared.event.CoreEvent.{CoreEvent}
 use Rattle.bio.specs.declared.event.CoreEvent.TheVariants.{Submit}
@@ -11,9 +11,9 @@ use Rattle.bio.specs.Events.{end_of, first_place, is_before, is_flush_submit, is
 use Rattle.bio.specs.Lawful.{is_well_formed}
 use Rattle.bio.specs.EventLaws.{well_formed-end}
 use Rattle.bio.specs.RequestLaws.{is_before-end}
-use Rattle.pending.specs.Chains.{AtClose, AtFlush, AtFua, Chain, Direct, EndsPlain, IsFirstNeed, IsNeed, Through}
+use Rattle.pending.specs.Chains.{AtClose, AtFlush, AtFua, Chain, Direct, IsFirstNeed, IsNeed, Through}
 use Rattle.pending.specs.CompletionList.{IsListedAt, completion_list, dm_log_writes}
-use Rattle.pending.specs.QueueEvent.{first_need, is_linked, queue_event, recorded, unless_stopped}
+use Rattle.pending.specs.QueueEvent.{is_linked, queue_event, recorded, unless_stopped}
 use Rattle.pending.proofs.Durable.{found-stands}
 use Rattle.pending.proofs.Ends.{ends-there, flush_submit-some, plain-queue_event}
 use Rattle.pending.proofs.Linked.{linked-cases, linked-here, linked-step, needed-flush, needed-linked, needing-recorded, recorded-cases}

@@ -1,6 +1,6 @@
 pub mod Slots
-pub mod Waiting
 pub mod Releasing
+pub mod Waiting
 pub mod Steps
 pub mod Represents
 pub mod CoreInvariant

@@ -1,0 +1,3 @@
+pub mod Rings
+pub mod Changes
+pub mod Steps

@@ -1,3 +1,6 @@
 pub mod ListLaws
 pub mod RingLaws
 pub mod HoldsLaws
+pub mod FoundLaws
+pub mod ValueLaws
+pub mod TableLaws

@@ -1,3 +1,4 @@
 pub mod Rings
 pub mod Changes
 pub mod Steps
+pub mod Tables

@@ -4,5 +4,9 @@
 //! few links, and no value is moved. A row that was taken out is used again.
 #![tactic(auto)]
 
+pub use table::Chains;
+
 mod links;
 mod rings;
+mod table;
+mod walk;

@@ -1,11 +1,24 @@
 -- What each way to write links makes of the chains that they hold.
-use Rattle.std.proofs.Common.{◌≡◌, ◌≢◌, ℕ, ◌+◌, ◌<◌, ◌≤◌, List, [], ◌∷◌, ◌++◌, length, set, drop, Option, Some, None, refl, ap, sym, ◌∙◌, subst, inl, inr, arith, length-append, length-set}
+use Rattle.std.proofs.lemmas.List.Sums.{sum_by_push}
+use Rattle.std.specs.List.{sum_by}
+use Rattle.std.proofs.Common.{zero, suc, get_or, ◌≡◌, ◌≢◌, ℕ, ◌+◌, ◌<◌, ◌≤◌, List, [], ◌∷◌, ◌++◌, length, set, drop, Option, Some, None, refl, ap, sym, ◌∙◌, subst, inl, inr, arith, length-append, length-set}
 use Rattle.std.proofs.lemmas.Bool.{cases_eq, cases_lt}
 use Rattle.std.proofs.lemmas.List.{get_or-set_same, get_or-set_other, get_or_past, set-set, set-get_or, append-nil, append_assoc}
 use Rattle.chains.specs.Edits.{chain_in, fronted, joined, lengthened, preceded, shortened}
 use Rattle.chains.specs.inside.Rings.{after, last_in, times, times_in, Leads, IsRing, IsChain, Holds}
 use Rattle.chains.proofs.ListLaws.{one-of, two-of, sum-put, in-put, in-other}
-use Rattle.chains.proofs.RingLaws.{times-same, times-other, times-append, leads-append, leads-kept, leads-end, same-but-one, same-but-two, chain-kept, ring-parts, ring-turned, sources-none, sources-end, last-counts}
+use Rattle.chains.proofs.RingLaws.{SameBut, times-same, times-other, times-append, leads-append, leads-kept, leads-end, same-but-one, same-but-two, chain-kept, ring-parts, ring-turned, sources-none, sources-end, last-counts}
+
+-- what is read of a list that got its default at the end
+pub default-grown : {X : Type 0} (xs : List X) (i : ℕ) (d : X) → get_or (xs ++ d ∷ []) i d ≡ get_or xs i d
+default-grown [] zero d = refl
+default-grown [] (suc i) d = refl
+default-grown (x ∷ xs) zero d = refl
+default-grown (x ∷ xs) (suc i) d = default-grown xs i d
+
+-- a link that is added leads to row 0, as one past the end does
+pub after-grown : (next : List ℕ) (row : ℕ) → after (next ++ 0 ∷ []) row ≡ after next row
+after-grown next row = default-grown next row 0
 
 -- a chain with the same last row and the same rows
 pub chain-at : (next : List ℕ) (last other : Option ℕ) (rows same : List ℕ) → last ≡ other → rows ≡ same → IsChain next last rows
@@ -444,3 +457,46 @@ holds-same {lasts} {loose} {chains} next new noted e d h =
 -- a ring in equal links
 pub ring-same : (next new : List ℕ) (last : ℕ) (rows : List ℕ) → new ≡ next → IsRing next last rows → IsRing new last rows
 ring-same next new last rows e ring = let P : List ℕ → Type 0 = λ n. IsRing n last rows in subst P (sym e) ring
+
+-- one more row, in no chain
+pub holds-grown : {next : List ℕ} {lasts : List (Option ℕ)} {chains : List (List ℕ)} → Holds next lasts [] chains
+    → Holds (next ++ 0 ∷ []) lasts (length next ∷ []) chains
+holds-grown {next} {lasts} {chains} h =
+    let same : SameBut next (next ++ 0 ∷ []) (length next) (length next) = record { at = λ row _ _. after-grown next row } in
+    record {
+      size = h.size;
+      each = λ chain.
+        let none : times (length next) (chain_in chains chain) ≡ 0 =
+            let part = one-of (times (length next)) chains chain [] refl in
+            let past = h.within (length next) (omega arith) in
+            omega arith in
+        chain-kept next (next ++ 0 ∷ []) (last_in lasts chain) (chain_in chains chain) (length next) (length next) (h.each chain) same none none;
+      once = λ row less. elim (cases_eq (length next) row) [
+        | inl is ↦
+            let one = times-same row (length next) [] is in
+            let past = h.within row (omega arith) in
+            omega arith
+        | inr apart ↦
+            let none = times-other row (length next) [] apart in
+            let here = h.once row (omega (arith, length-append next (0 ∷ []))) in
+            omega arith
+      ];
+      within = λ row past.
+        let long = length-append next (0 ∷ []) in
+        let none = times-other row (length next) [] (λ e. absurd (omega arith)) in
+        let beyond = h.within row (omega arith) in
+        omega arith;
+      all = let e = h.all in omega (arith, length-append next (0 ∷ []));
+    }
+
+-- one more chain, with no rows
+pub holds-more : {next : List ℕ} {lasts : List (Option ℕ)} {loose : List ℕ} {chains : List (List ℕ)} → Holds next lasts loose chains
+    → Holds next (lasts ++ None ∷ []) loose (chains ++ [] ∷ [])
+holds-more {next} {lasts} {loose} {chains} h = record {
+  size = let e = h.size in omega (arith, length-append lasts (None ∷ []), length-append chains ([] ∷ []));
+  each = λ chain. chain-at next (last_in lasts chain) (last_in (lasts ++ None ∷ []) chain) (chain_in chains chain) (chain_in (chains ++ [] ∷ []) chain)
+      (sym (default-grown lasts chain None)) (sym (default-grown chains chain [])) (h.each chain);
+  once = λ row less. let e = h.once row less in omega (arith, sum_by_push (times row) chains []);
+  within = λ row past. let e = h.within row past in omega (arith, sum_by_push (times row) chains []);
+  all = let e = h.all in omega (arith, sum_by_push length chains []);
+}

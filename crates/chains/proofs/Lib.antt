@@ -4,3 +4,4 @@ pub mod HoldsLaws
 pub mod FoundLaws
 pub mod ValueLaws
 pub mod TableLaws
+pub mod OpenLaws

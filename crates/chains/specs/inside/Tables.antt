@@ -67,6 +67,13 @@ module _ {T : Type 0} where
     pub free : 0 < length lasts
     pub full : (row : ℕ) → row < length rows → filled (value_at rows row) + times row (chain_in chains 0) ≡ 1
 
+  -- The same while one row is loose, which has no value.
+  pub record IsOpen (next : List ℕ) (lasts : List (Option ℕ)) (rows : List (Option T)) (row : ℕ) (chains : List (List ℕ)) : Type 0 where
+    pub holds : Holds next lasts (row ∷ []) chains
+    pub sized : length rows ≡ length next
+    pub free : 0 < length lasts
+    pub full : (r : ℕ) → r < length rows → filled (value_at rows r) + times r (row ∷ []) + times r (chain_in chains 0) ≡ 1
+
   -- what holds of the table between calls
   pub record IsSound (links : Links) (rows : List (Option T)) (walk : Option Walk) : Type 0 where
     pub table : IsTable links.next.items (seen_lasts links.lasts.items walk) rows (seen_chains links walk)

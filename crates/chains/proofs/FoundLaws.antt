@@ -1,5 +1,5 @@
 -- The chains that links hold are just those that are found by following them.
-use Rattle.std.proofs.Common.{◌≡◌, ◌≢◌, ℕ, zero, suc, ◌+◌, ◌<◌, ◌≤◌, List, [], ◌∷◌, ◌++◌, length, map, get_or, Option, Some, None, refl, ap, sym, ◌∙◌, arith, cond}
+use Rattle.std.proofs.Common.{◌≡◌, ◌≢◌, ℕ, zero, suc, ◌<◌, ◌≤◌, List, [], ◌∷◌, length, Option, Some, None, refl, ap, sym, ◌∙◌, arith, cond}
 use Rattle.std.proofs.lemmas.Bool.{eq-eqb, ne_eqb}
 use Rattle.std.proofs.lemmas.List.{ext_get_or, length-map, get_or-map}
 use Rattle.chains.specs.Edits.{chain_in}
@@ -7,7 +7,7 @@ use Rattle.chains.specs.inside.Rings.{after, last_in, times, Leads, IsRing, IsCh
 use Rattle.chains.specs.inside.Tables.{chain_of, chains_of, rows_from}
 use Rattle.chains.proofs.ListLaws.{one-of}
 use Rattle.chains.proofs.RingLaws.{leads-end, times-same, times-append}
-use Rattle.chains.proofs.HoldsLaws.{holds-few, few-in}
+use Rattle.chains.proofs.HoldsLaws.{few-in}
 
 -- where a way ends on its last row and passes it just once, it is found
 pub way-found : (next : List ℕ) (from row : ℕ) (rows : List ℕ) (last steps : ℕ) → Leads next from (row ∷ rows) last
@@ -24,8 +24,8 @@ way-found next from row (other ∷ rows) last (suc steps) leads few long =
     let one = times-same last last [] refl in
     let counts = ap (times last) end.1 in
     let apart : after next from ≢ last = λ e.
-        let front = times-same last row (other ∷ rows) (sym here ∙ e) in
-        absurd (omega (arith, times-append last end.0 (last ∷ []))) in
+    let front = times-same last row (other ∷ rows) (sym here ∙ e) in
+    absurd (omega (arith, times-append last end.0 (last ∷ []))) in
     let on = ne_eqb (after next from) last apart in
     let rest = way-found next row other rows last steps leads.1 (omega arith) (omega arith) in
     ap (λ rs. row ∷ rs) rest
@@ -50,8 +50,8 @@ pub chains-found : {next : List ℕ} {lasts : List (Option ℕ)} {loose : List �
 chains-found {next} {lasts} {loose} {chains} h =
     ext_get_or [] chains (chains_of next lasts) (h.size ∙ sym (length-map lasts (chain_of next)))
     (λ i less.
-        let small : i < length lasts = let e = h.size in omega arith in
-        let long : length (chain_in chains i) ≤ length next =
-            let part = one-of length chains i [] refl in let all = h.all in omega arith in
-        chain-found next (last_in lasts i) (chain_in chains i) (h.each i) (λ row. let few = few-in h i row in omega arith) long
-        ∙ sym (get_or-map (chain_of next) lasts i None [] small))
+    let small : i < length lasts = let e = h.size in omega arith in
+    let long : length (chain_in chains i) ≤ length next =
+    let part = one-of length chains i [] refl in let all = h.all in omega arith in
+    chain-found next (last_in lasts i) (chain_in chains i) (h.each i) (λ row. let few = few-in h i row in omega arith) long
+    ∙ sym (get_or-map (chain_of next) lasts i None [] small))

@@ -1,6 +1,5 @@
 -- What each way to write links makes of the chains that they hold.
 use Rattle.std.proofs.lemmas.List.Sums.{sum_by_push}
-use Rattle.std.specs.List.{sum_by}
 use Rattle.std.proofs.Common.{zero, suc, get_or, ◌≡◌, ◌≢◌, ℕ, ◌+◌, ◌<◌, ◌≤◌, List, [], ◌∷◌, ◌++◌, length, set, drop, Option, Some, None, refl, ap, sym, ◌∙◌, subst, inl, inr, arith, length-append, length-set}
 use Rattle.std.proofs.lemmas.Bool.{cases_eq, cases_lt}
 use Rattle.std.proofs.lemmas.List.{get_or-set_same, get_or-set_other, get_or_past, set-set, set-get_or, append-nil, append_assoc}
@@ -466,11 +465,11 @@ holds-grown {next} {lasts} {chains} h =
     record {
       size = h.size;
       each = λ chain.
-        let none : times (length next) (chain_in chains chain) ≡ 0 =
-            let part = one-of (times (length next)) chains chain [] refl in
-            let past = h.within (length next) (omega arith) in
-            omega arith in
-        chain-kept next (next ++ 0 ∷ []) (last_in lasts chain) (chain_in chains chain) (length next) (length next) (h.each chain) same none none;
+          let none : times (length next) (chain_in chains chain) ≡ 0 =
+          let part = one-of (times (length next)) chains chain [] refl in
+          let past = h.within (length next) (omega arith) in
+          omega arith in
+          chain-kept next (next ++ 0 ∷ []) (last_in lasts chain) (chain_in chains chain) (length next) (length next) (h.each chain) same none none;
       once = λ row less. elim (cases_eq (length next) row) [
         | inl is ↦
             let one = times-same row (length next) [] is in
@@ -482,10 +481,10 @@ holds-grown {next} {lasts} {chains} h =
             omega arith
       ];
       within = λ row past.
-        let long = length-append next (0 ∷ []) in
-        let none = times-other row (length next) [] (λ e. absurd (omega arith)) in
-        let beyond = h.within row (omega arith) in
-        omega arith;
+          let long = length-append next (0 ∷ []) in
+          let none = times-other row (length next) [] (λ e. absurd (omega arith)) in
+          let beyond = h.within row (omega arith) in
+          omega arith;
       all = let e = h.all in omega (arith, length-append next (0 ∷ []));
     }
 

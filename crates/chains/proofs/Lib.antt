@@ -5,3 +5,4 @@ pub mod FoundLaws
 pub mod ValueLaws
 pub mod TableLaws
 pub mod OpenLaws
+pub mod CallLaws

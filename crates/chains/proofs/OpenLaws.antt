@@ -1,10 +1,9 @@
 -- A row is taken out of the table, or put in: one row is loose between.
-use Rattle.std.proofs.Common.{◌≡◌, ◌≢◌, ℕ, zero, suc, ◌+◌, ◌-◌, ◌<◌, ◌≤◌, List, [], ◌∷◌, ◌++◌, length, map, get_or, set, drop, Option, Some, None, refl, ap, sym, ◌∙◌, subst, inl, inr, arith, length-append, length-set, append-nil}
-use Rattle.std.proofs.lemmas.Bool.{cases_eq, cases_lt}
-use Rattle.std.proofs.lemmas.List.{get_or-set_same, get_or-set_other, get_or_append_left, get_or_at, set-get_or, ext_get_or, get_or_past, length-map, map-set}
-use Rattle.std.specs.Prelude.{◌⊎◌}
-use Rattle.chains.specs.Edits.{chain_in, lengthened, preceded, shortened, with_first}
-use Rattle.chains.specs.inside.Rings.{times, times_in, Holds}
+use Rattle.std.proofs.Common.{◌≡◌, ℕ, ◌<◌, List, [], ◌∷◌, ◌++◌, length, map, set, drop, Option, Some, None, refl, ap, sym, ◌∙◌, subst, inl, inr, arith, length-append, length-set}
+use Rattle.std.proofs.lemmas.Bool.{cases_eq}
+use Rattle.std.proofs.lemmas.List.{get_or-set_same, get_or-set_other, set-get_or, ext_get_or, get_or_past, length-map, map-set}
+use Rattle.chains.specs.Edits.{chain_in, lengthened, preceded, shortened}
+use Rattle.chains.specs.inside.Rings.{times, Holds}
 use Rattle.chains.specs.inside.Tables.{filled, value_at, values_of, with_value, IsOpen, IsTable}
 use Rattle.chains.proofs.ListLaws.{in-put, in-other, one-of, there}
 use Rattle.chains.proofs.RingLaws.{times-same, times-other}
@@ -32,7 +31,7 @@ shown-put rows chains chain other same =
     ∙ set-get_or (map (values_of rows) chains) chain []
 
 -- a chain with nothing, cut, is as it is
-pub nothing-cut : (chains : List (List ℕ)) (chain : ℕ) → chain_in chains chain ≡ [] → shortened chains chain ≡ chains
+pub nothing-cut : {X : Type 0} (chains : List (List X)) (chain : ℕ) → chain_in chains chain ≡ [] → shortened chains chain ≡ chains
 nothing-cut chains chain is =
     ap (λ rs. set chains chain rs) (ap (λ rs. drop 1 rs) is ∙ sym is) ∙ set-get_or chains chain []
 
@@ -74,10 +73,10 @@ module _ {T : Type 0} where
         sized = t.sized ∙ sym long;
         free = let f = t.free in omega arith;
         full = λ r less.
-          let f = t.full r less in
-          let e = ap (times r) is in
-          let d = ap (times r) (in-put chains 0 (drop 1 (chain_in chains 0)) within ∙ ap (λ rs. drop 1 rs) is) in
-          omega arith;
+            let f = t.full r less in
+            let e = ap (times r) is in
+            let d = ap (times r) (in-put chains 0 (drop 1 (chain_in chains 0)) within ∙ ap (λ rs. drop 1 rs) is) in
+            omega arith;
       }
 
   -- what is shown then
@@ -100,20 +99,20 @@ module _ {T : Type 0} where
         sized = let e = t.sized in omega (arith, length-append next (0 ∷ []), length-append rows (None ∷ []));
         free = t.free;
         full = λ r less.
-          let grown = ap filled (default-grown rows r None) in
-          elim (cases_eq (length rows) r) [
-            | inl is ↦
-                let one = times-same r (length rows) [] is in
-                let few = few-in t.holds 0 r in
-                let past = (t.holds).within r (let e = t.sized in omega arith) in
-                let beyond = ap filled (get_or_past rows r None (omega arith)) in
-                let none : times r (chain_in chains 0) ≡ 0 = let part = one-of (times r) chains 0 [] refl in omega arith in
-                omega arith
-            | inr apart ↦
-                let none = times-other r (length rows) [] apart in
-                let full = t.full r (omega (arith, length-append rows (None ∷ []))) in
-                omega arith
-          ];
+            let grown = ap filled (default-grown rows r None) in
+            elim (cases_eq (length rows) r) [
+              | inl is ↦
+                  let one = times-same r (length rows) [] is in
+                  let few = few-in t.holds 0 r in
+                  let past = (t.holds).within r (let e = t.sized in omega arith) in
+                  let beyond = ap filled (get_or_past rows r None (omega arith)) in
+                  let none : times r (chain_in chains 0) ≡ 0 = let part = one-of (times r) chains 0 [] refl in omega arith in
+                  omega arith
+              | inr apart ↦
+                  let none = times-other r (length rows) [] apart in
+                  let full = t.full r (omega (arith, length-append rows (None ∷ []))) in
+                  omega arith
+            ];
       }
 
   -- all is shown as before
@@ -121,9 +120,9 @@ module _ {T : Type 0} where
       → map (values_of (rows ++ None ∷ [])) chains ≡ map (values_of rows) chains
   shown-grown {next} {lasts} {rows} {chains} t =
       shown-by (rows ++ None ∷ []) chains (map (values_of rows) chains) (sym (length-map chains (values_of rows))) (λ chain.
-          values-grown rows (None ∷ []) (chain_in chains chain)
-              (λ row some. let small = is-row t.holds chain row (omega arith) in let sized = t.sized in omega arith)
-          ∙ sym (chain-map (values_of rows) chains chain refl))
+      values-grown rows (None ∷ []) (chain_in chains chain)
+      (λ row some. let small = is-row t.holds chain row (omega arith) in let sized = t.sized in omega arith)
+      ∙ sym (chain-map (values_of rows) chains chain refl))
 
   -- the first row of a chain and its value are taken: the row is loose
   pub open-taken : {next : List ℕ} {lasts : List (Option ℕ)} {rows : List (Option T)} {chains : List (List ℕ)} → IsTable next lasts rows chains
@@ -139,20 +138,20 @@ module _ {T : Type 0} where
         sized = length-set rows row None ∙ t.sized ∙ sym long;
         free = let f = t.free in omega arith;
         full = λ r less.
-          let kept = ap (times r) (in-other chains chain 0 (drop 1 (chain_in chains chain)) (λ e. absurd (omega arith))) in
-          elim (cases_eq row r) [
-            | inl same ↦
-                let one = times-same r row [] same in
-                let few = few-in-two t.holds chain 0 r (λ e. absurd (omega arith)) in
-                let here = ap (λ x. times x (chain_in chains chain)) same in
-                let none = ap filled (ap (λ x. value_at (set rows row None) x) (sym same) ∙ get_or-set_same rows row None None small) in
-                omega arith
-            | inr apart ↦
-                let none = times-other r row [] apart in
-                let full = t.full r (omega (arith, length-set rows row None)) in
-                let other = ap filled (get_or-set_other rows row r None None (λ e. apart (sym e))) in
-                omega arith
-          ];
+            let kept = ap (times r) (in-other chains chain 0 (drop 1 (chain_in chains chain)) (λ e. absurd (omega arith))) in
+            elim (cases_eq row r) [
+              | inl same ↦
+                  let one = times-same r row [] same in
+                  let few = few-in-two t.holds chain 0 r (λ e. absurd (omega arith)) in
+                  let here = ap (λ x. times x (chain_in chains chain)) same in
+                  let none = ap filled (ap (λ x. value_at (set rows row None) x) (sym same) ∙ get_or-set_same rows row None None small) in
+                  omega arith
+              | inr apart ↦
+                  let none = times-other r row [] apart in
+                  let full = t.full r (omega (arith, length-set rows row None)) in
+                  let other = ap filled (get_or-set_other rows row r None None (λ e. apart (sym e))) in
+                  omega arith
+            ];
       }
 
   -- what is shown then: the chain without its first
@@ -196,9 +195,9 @@ module _ {T : Type 0} where
         sized = o.sized ∙ sym long;
         free = let f = o.free in omega arith;
         full = λ r less.
-          let f = o.full r less in
-          let e = ap (times r) (in-put chains 0 (row ∷ chain_in chains 0) within) in
-          omega arith;
+            let f = o.full r less in
+            let e = ap (times r) (in-put chains 0 (row ∷ chain_in chains 0) within) in
+            omega arith;
       }
 
   -- all is shown as before
@@ -223,18 +222,18 @@ module _ {T : Type 0} where
         sized = length-set rows row (Some value) ∙ o.sized ∙ sym long;
         free = let f = o.free in omega arith;
         full = λ r less.
-          let kept = ap (times r) (in-other chains chain 0 (chain_in chains chain ++ row ∷ []) (λ e. absurd (omega arith))) in
-          let full = o.full r (omega (arith, length-set rows row (Some value))) in
-          elim (cases_eq row r) [
-            | inl same ↦
-                let one = times-same r row [] same in
-                let found = ap filled (ap (λ x. value_at (set rows row (Some value)) x) (sym same) ∙ get_or-set_same rows row (Some value) None small) in
-                omega arith
-            | inr apart ↦
-                let none = times-other r row [] apart in
-                let other = ap filled (get_or-set_other rows row r (Some value) None (λ e. apart (sym e))) in
-                omega arith
-          ];
+            let kept = ap (times r) (in-other chains chain 0 (chain_in chains chain ++ row ∷ []) (λ e. absurd (omega arith))) in
+            let full = o.full r (omega (arith, length-set rows row (Some value))) in
+            elim (cases_eq row r) [
+              | inl same ↦
+                  let one = times-same r row [] same in
+                  let found = ap filled (ap (λ x. value_at (set rows row (Some value)) x) (sym same) ∙ get_or-set_same rows row (Some value) None small) in
+                  omega arith
+              | inr apart ↦
+                  let none = times-other r row [] apart in
+                  let other = ap filled (get_or-set_other rows row r (Some value) None (λ e. apart (sym e))) in
+                  omega arith
+            ];
       }
 
   -- what is shown then: the chain with the value behind its last
@@ -251,20 +250,20 @@ module _ {T : Type 0} where
       shown-by new (lengthened chains chain row) (lengthened seen chain value)
       (length-set chains chain longer ∙ sym (length-set seen chain (chain_in seen chain ++ value ∷ []) ∙ length-map chains (values_of rows)))
       (λ other.
-          let few = few-in o.holds other row in
-          let kept = values-kept rows row (Some value) (chain_in chains other) (omega arith) in
-          elim (cases_eq other chain) [
-            | inl same ↦
-                ap (λ c. values_of new (chain_in (lengthened chains chain row) c)) same
-                ∙ ap (λ rs. values_of new rs) (in-put chains chain longer within)
-                ∙ values-append new (chain_in chains chain) (row ∷ [])
-                ∙ ap (λ vs. vs ++ values_of new (row ∷ [])) (ap (λ c. values_of new (chain_in chains c)) (sym same) ∙ kept ∙ ap (λ c. values_of rows (chain_in chains c)) same)
-                ∙ ap (λ vs. values_of rows (chain_in chains chain) ++ vs) (values-first new row [] value (get_or-set_same rows row (Some value) None small))
-                ∙ sym (in-put seen chain (chain_in seen chain ++ value ∷ []) there_too ∙ ap (λ vs. vs ++ value ∷ []) (chain-map (values_of rows) chains chain refl))
-                ∙ ap (λ c. chain_in (lengthened seen chain value) c) (sym same)
-            | inr apart ↦
-                ap (λ rs. values_of new rs) (in-other chains chain other longer apart)
-                ∙ kept
-                ∙ sym (chain-map (values_of rows) chains other refl)
-                ∙ sym (in-other seen chain other (chain_in seen chain ++ value ∷ []) apart)
-          ])
+      let few = few-in o.holds other row in
+      let kept = values-kept rows row (Some value) (chain_in chains other) (omega arith) in
+      elim (cases_eq other chain) [
+        | inl same ↦
+            ap (λ c. values_of new (chain_in (lengthened chains chain row) c)) same
+            ∙ ap (λ rs. values_of new rs) (in-put chains chain longer within)
+            ∙ values-append new (chain_in chains chain) (row ∷ [])
+            ∙ ap (λ vs. vs ++ values_of new (row ∷ [])) (ap (λ c. values_of new (chain_in chains c)) (sym same) ∙ kept ∙ ap (λ c. values_of rows (chain_in chains c)) same)
+            ∙ ap (λ vs. values_of rows (chain_in chains chain) ++ vs) (values-first new row [] value (get_or-set_same rows row (Some value) None small))
+            ∙ sym (in-put seen chain (chain_in seen chain ++ value ∷ []) there_too ∙ ap (λ vs. vs ++ value ∷ []) (chain-map (values_of rows) chains chain refl))
+            ∙ ap (λ c. chain_in (lengthened seen chain value) c) (sym same)
+        | inr apart ↦
+            ap (λ rs. values_of new rs) (in-other chains chain other longer apart)
+            ∙ kept
+            ∙ sym (chain-map (values_of rows) chains other refl)
+            ∙ sym (in-other seen chain other (chain_in seen chain ++ value ∷ []) apart)
+      ])

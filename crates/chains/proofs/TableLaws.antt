@@ -1,16 +1,13 @@
 -- What the calls make of the table.
-use Rattle.std.proofs.Common.{◌≡◌, ◌≢◌, ℕ, zero, suc, ◌+◌, ◌-◌, ◌<◌, ◌≤◌, min, List, [], ◌∷◌, ◌++◌, length, map, get_or, set, drop, Option, Some, None, refl, ap, sym, ◌∙◌, subst, inl, inr, arith, length-append, length-set, vec_capacity}
-use Rattle.std.proofs.lemmas.Bool.{cases_eq, cases_lt}
-use Rattle.std.proofs.lemmas.List.{get_or-set_same, get_or-set_other}
-use Rattle.std.specs.Prelude.{◌⊎◌}
+use Rattle.std.proofs.Common.{◌≡◌, ℕ, ◌<◌, List, [], length, set, Option, Some, None, refl, ap, sym, ◌∙◌, subst, arith}
 use Rattle.chains.specs.declared.links.Links.{Links}
 use Rattle.chains.specs.declared.walk.Walk.{Walk}
-use Rattle.chains.specs.Edits.{chain_in, fronted, joined, lengthened, lifted, preceded, shortened, turned}
-use Rattle.chains.specs.Shown.{Shown, ChangesFew, KeepsRoom}
-use Rattle.chains.specs.inside.Rings.{after, last_in, times, Holds}
+use Rattle.chains.specs.Edits.{chain_in}
+use Rattle.chains.specs.Shown.{KeepsRoom}
+use Rattle.chains.specs.inside.Rings.{times, Holds}
 use Rattle.chains.specs.inside.Steps.{Changes}
-use Rattle.chains.specs.inside.Tables.{chains_of, filled, seen_chains, seen_lasts, shown_of, value_at, values_of, walked_in, IsSound, IsTable, IsWalk}
-use Rattle.chains.proofs.ListLaws.{in-put, in-other}
+use Rattle.chains.specs.inside.Tables.{seen_chains, seen_lasts, shown_of, walked_in, IsSound, IsTable, IsWalk}
+use Rattle.chains.proofs.ListLaws.{in-other}
 use Rattle.chains.proofs.FoundLaws.{chains-found}
 
 -- between walks the last rows are seen as they are noted

@@ -1,11 +1,7 @@
 -- The values in the rows of chains.
-use Rattle.std.proofs.Common.{◌≡◌, ◌≢◌, ℕ, zero, suc, ◌+◌, ◌<◌, ◌≤◌, List, [], ◌∷◌, ◌++◌, length, map, get_or, set, drop, Option, Some, None, refl, ap, sym, ◌∙◌, inl, inr, arith, length-append}
-use Rattle.std.proofs.lemmas.Bool.{cases_eq, cases_lt}
-use Rattle.std.proofs.lemmas.List.{get_or-set_same, get_or-set_other, get_or_append_left, get_or_past, map-set}
-use Rattle.std.proofs.lemmas.List.Sums.{sum_by-cons}
-use Rattle.std.specs.List.{sum_by}
-use Rattle.std.specs.Prelude.{◌⊎◌}
-use Rattle.chains.specs.Edits.{chain_in, fronted, joined, lengthened, lifted, preceded, shortened, turned}
+use Rattle.std.proofs.Common.{◌≡◌, ◌≢◌, ℕ, zero, suc, ◌<◌, List, [], ◌∷◌, ◌++◌, length, map, set, Option, Some, None, refl, ap, sym, ◌∙◌, arith}
+use Rattle.std.proofs.lemmas.List.{get_or-set_other, get_or_append_left, map-set}
+use Rattle.chains.specs.Edits.{chain_in, fronted, joined}
 use Rattle.chains.specs.inside.Rings.{times}
 use Rattle.chains.specs.inside.Tables.{filled, value_at, values_of, with_value}
 use Rattle.chains.proofs.RingLaws.{times-same, times-other, not-first}
@@ -43,7 +39,7 @@ pub values-grown : {T : Type 0} (rows more : List (Option T)) (chain : List ℕ)
 values-grown rows more [] within = refl
 values-grown rows more (row ∷ chain) within =
     ap (λ found. with_value found (values_of (rows ++ more) chain))
-        (get_or_append_left rows more None row (within row (omega (arith, times-same row row chain refl))))
+    (get_or_append_left rows more None row (within row (omega (arith, times-same row row chain refl))))
     ∙ ap (λ vs. with_value (value_at rows row) vs) (values-grown rows more chain (λ r some. within r (omega arith)))
 
 -- rows that all have values have as many
@@ -94,9 +90,9 @@ map-joined rows chains from onto =
     map-set f (set chains from []) onto (chain_in chains onto ++ chain_in chains from)
     ∙ ap (λ cs. set cs onto (f (chain_in chains onto ++ chain_in chains from))) (map-set f chains from [])
     ∙ ap (λ vs. set (set (map f chains) from []) onto vs)
-        (values-append rows (chain_in chains onto) (chain_in chains from)
-        ∙ ap (λ vs. vs ++ f (chain_in chains from)) (sym (chain-map f chains onto refl))
-        ∙ ap (λ vs. chain_in (map f chains) onto ++ vs) (sym (chain-map f chains from refl)))
+    (values-append rows (chain_in chains onto) (chain_in chains from)
+    ∙ ap (λ vs. vs ++ f (chain_in chains from)) (sym (chain-map f chains onto refl))
+    ∙ ap (λ vs. chain_in (map f chains) onto ++ vs) (sym (chain-map f chains from refl)))
 
 -- the values of chains of which one was put before another
 pub map-fronted : {T : Type 0} (rows : List (Option T)) (chains : List (List ℕ)) (from onto : ℕ)
@@ -106,6 +102,6 @@ map-fronted rows chains from onto =
     map-set f (set chains from []) onto (chain_in chains from ++ chain_in chains onto)
     ∙ ap (λ cs. set cs onto (f (chain_in chains from ++ chain_in chains onto))) (map-set f chains from [])
     ∙ ap (λ vs. set (set (map f chains) from []) onto vs)
-        (values-append rows (chain_in chains from) (chain_in chains onto)
-        ∙ ap (λ vs. vs ++ f (chain_in chains onto)) (sym (chain-map f chains from refl))
-        ∙ ap (λ vs. chain_in (map f chains) from ++ vs) (sym (chain-map f chains onto refl)))
+    (values-append rows (chain_in chains from) (chain_in chains onto)
+    ∙ ap (λ vs. vs ++ f (chain_in chains onto)) (sym (chain-map f chains from refl))
+    ∙ ap (λ vs. chain_in (map f chains) from ++ vs) (sym (chain-map f chains onto refl)))

@@ -8,5 +8,6 @@ pub use table::Chains;
 
 mod links;
 mod rings;
+mod rows;
 mod table;
 mod walk;

@@ -1,10 +1,11 @@
 //! Chains of values, and the calls that change them.
-ghost use Rattle.std.specs.Prelude.{◌≡◌, ◌≢◌, ℕ, ◌+◌, ◌<◌, ◌≤◌, ◌==◌, None, Some, Option, List, [], ◌∷◌, ◌++◌, length, replicate, max, IfOk, OnOk, OnErr, IfSome};
+ghost use Rattle.std.specs.Prelude.{◌≡◌, ◌≢◌, ℕ, ◌+◌, ◌<◌, ◌≤◌, ◌==◌, None, Some, Option, List, [], ◌∷◌, ◌++◌, length, replicate, max, IfOk, OnOk, OnErr, IfSome, OnSome, slice_get};
 ghost use Rattle.chains.specs.Edits.{chain_in, fronted, joined, lengthened, preceded, shortened};
 ghost use Rattle.chains.specs.Shown.{ChangesFew, KeepsRoom, count_in};
 
 use crate::links::Links;
 use crate::rings;
+use crate::rows::{FREE, open_row, put_value, take_value};
 use crate::walk::Walk;
 use std::alloc::{AllocError, Global};
 use std::marker::Model;
@@ -34,6 +35,99 @@ impl<T> Model for Chains<T> {
 }
 
 impl<T: Drop> Chains<T> {
+    /// So many empty chains, numbered from 1 on.
+    ///
+    /// # Errors
+    ///
+    /// There was no memory.
+    pub fn new(alloc: Global, chains: usize) -> Result<Chains<T>, AllocError>
+        ensures chains { IfOk result (λ table. table.chains ≡ replicate (chains + 1) []) }
+        ensures changed { IfOk result (λ table. table.changed ≡ 0) }
+        ensures walked { IfOk result (λ table. table.walked ≡ None) }
+        ensures rows { IfOk result (λ table. table.rows ≡ 0) }
+    {
+        Ok(Chains {
+            links: Links::new(alloc, chains)?,
+            rows: Vec::new(alloc),
+            walk: None,
+        })
+    }
+
+    /// Makes room for so many more chains to be begun without memory.
+    ///
+    /// # Errors
+    ///
+    /// There was no memory. All is as before.
+    pub fn reserve(&mut self, more: usize) -> Result<(), AllocError>
+        ensures same { self.new ≡ record self.old { room = self.new.room } }
+        ensures room { OnOk result (more ≤ self.new.room) }
+        ensures kept { self.old.room ≤ self.new.room }
+    {
+        self.links.reserve_chains(more)
+    }
+
+    /// Makes room for so many more values to be put in without memory.
+    ///
+    /// # Errors
+    ///
+    /// There was no memory. All is as before.
+    pub fn reserve_rows(&mut self, more: usize) -> Result<(), AllocError>
+        ensures same { self.new ≡ record self.old { spare = self.new.spare } }
+        ensures spare { OnOk result (more ≤ self.new.spare) }
+        ensures kept { self.old.spare ≤ self.new.spare }
+    {
+        self.links.reserve_rows(more)?;
+        self.rows.reserve(more)
+    }
+
+    /// Makes room for one more value, where no row is free.
+    ///
+    /// # Errors
+    ///
+    /// There was no memory. All is as before.
+    pub fn reserve_row(&mut self) -> Result<(), AllocError>
+        requires rests { self.old.walked ≡ None }
+        ensures same { self.new ≡ record self.old { spare = self.new.spare } }
+        ensures spare { OnOk result (0 < self.new.spare) }
+        ensures kept { self.old.spare ≤ self.new.spare }
+    {
+        if self.links.last(FREE).is_some() {
+            return Ok(());
+        }
+        self.reserve_rows(1)
+    }
+
+    /// Begins a chain with no values. Takes no memory.
+    pub fn begin(&mut self)
+        requires rests { self.old.walked ≡ None }
+        requires room { 0 < self.old.room }
+        ensures chains { self.new.chains ≡ self.old.chains ++ [] ∷ [] }
+        ensures changed { self.new.changed ≡ self.old.changed }
+        ensures walked { self.new.walked ≡ None }
+        ensures rows { self.new.rows ≡ self.old.rows }
+        ensures room { self.new.room + 1 ≡ self.old.room }
+        ensures spare { self.new.spare ≡ self.old.spare }
+    {
+        self.links.begin();
+    }
+
+    /// Puts a value behind the last of a chain, into a free row, where there is one. At most 4 links are changed. Takes no memory.
+    pub fn add_reserved(&mut self, chain: usize, value: T)
+        requires rests { self.old.walked ≡ None }
+        requires chain { 0 < chain × chain < length self.old.chains }
+        requires spare { 0 < self.old.spare }
+        ensures chains { self.new.chains ≡ lengthened self.old.chains chain value }
+        ensures changed { ChangesFew self.old self.new 4 }
+        ensures walked { self.new.walked ≡ None }
+        ensures rows { self.new.rows ≡ max self.old.rows (count_in self.new.chains) }
+        ensures room { self.new.room ≡ self.old.room }
+        ensures spare { self.new.spare + 1 ≡ self.old.spare }
+    {
+        let row = open_row(&mut self.links, &mut self.rows);
+        put_value(&mut self.rows, row, value);
+        rings::put_last(&mut self.links, chain, row);
+    }
+
     /// Puts all of one chain behind the last of another: at most 4 links are changed, and no value is moved.
     pub fn join(&mut self, from: usize, onto: usize)
         requires rests { self.old.walked ≡ None }
@@ -46,5 +140,45 @@ impl<T: Drop> Chains<T> {
         ensures room { KeepsRoom self.old self.new }
     {
         rings::join(&mut self.links, from, onto);
+    }
+
+    /// Puts all of one chain before the first of another: at most 3 links are changed, and no value is moved.
+    pub fn put_before(&mut self, from: usize, onto: usize)
+        requires rests { self.old.walked ≡ None }
+        requires from { 0 < from × from < length self.old.chains }
+        requires onto { 0 < onto × onto < length self.old.chains }
+        requires apart { from ≢ onto }
+        ensures chains { self.new.chains ≡ fronted self.old.chains from onto }
+        ensures changed { ChangesFew self.old self.new 3 }
+        ensures walked { self.new.walked ≡ None }
+        ensures room { KeepsRoom self.old self.new }
+    {
+        rings::put_before(&mut self.links, from, onto);
+    }
+
+    /// Takes the first value out of a chain; its row is free then. At most 3 links are changed.
+    pub fn take_first(&mut self, chain: usize) -> Option<T>
+        requires rests { self.old.walked ≡ None }
+        requires chain { 0 < chain × chain < length self.old.chains }
+        ensures taken { result ≡ slice_get (chain_in self.old.chains chain) 0 }
+        ensures chains { self.new.chains ≡ shortened self.old.chains chain }
+        ensures changed { ChangesFew self.old self.new 3 }
+        ensures walked { self.new.walked ≡ None }
+        ensures rows { self.new.rows ≡ self.old.rows }
+        ensures room { self.new.room ≡ self.old.room }
+        ensures spare { OnSome result (self.new.spare ≡ self.old.spare + 1) }
+        ensures none { result ≡ None → self.new ≡ self.old }
+    {
+        let row = rings::take_first(&mut self.links, chain)?;
+        let value = take_value(&mut self.rows, row);
+        rings::put_first(&mut self.links, FREE, row);
+        value
+    }
+
+    /// How many links were changed; more than 2^64 - 1 are told as that.
+    pub fn links_changed(&self) -> u64
+        ensures { result ≡ self.now.changed }
+    {
+        self.links.changed()
     }
 }

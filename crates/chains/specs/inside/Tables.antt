@@ -79,6 +79,11 @@ module _ {T : Type 0} where
     pub table : IsTable links.next.items (seen_lasts links.lasts.items walk) rows (seen_chains links walk)
     pub walks : IsWalk links.lasts.items walk
 
+  -- how many values can be put in without memory: one in each free row, and in new rows
+  abbrev pub spare_in : Links → List (Option T) → ℕ → List (List ℕ) → ℕ
+  spare_in links rows capacity chains =
+      length (chain_in chains 0) + min (vec_capacity links.next - length links.next.items) (capacity - length rows)
+
   -- what contracts see
   abbrev pub shown_of : Links → List (Option T) → ℕ → Option Walk → Shown T
   shown_of links rows capacity walk = record {
@@ -87,6 +92,11 @@ module _ {T : Type 0} where
     walked = walked_in walk;
     rows = length rows;
     room = vec_capacity links.lasts - length links.lasts.items;
-    spare = length (chain_in (seen_chains links walk) 0)
-        + min (vec_capacity links.next - length links.next.items) (capacity - length rows);
+    spare = spare_in links rows capacity (seen_chains links walk);
   }
+
+  -- there is a row for one more value, without memory
+  pub record HasRow (links : Links) (rows : List (Option T)) (capacity : ℕ) : Type 0 where
+    pub chains : List (List ℕ)
+    pub table : IsTable links.next.items links.lasts.items rows chains
+    pub spare : 0 < spare_in links rows capacity chains

@@ -1,6 +1,5 @@
-use Rattle.std.proofs.Common.{◌≡◌, ℕ, ◌<◌, List, Option, None, map, ap, sym, ◌∙◌, set, [], ◌++◌, arith, vec_capacity}
+use Rattle.std.proofs.Common.{◌≡◌, None, map, ap, ◌∙◌, [], ◌++◌, vec_capacity}
 use Rattle.chains.specs.Edits.{chain_in, joined}
-use Rattle.chains.specs.inside.Rings.{Holds}
 use Rattle.chains.specs.inside.Tables.{seen_chains, seen_lasts, values_of, walked_in, IsTable}
 use Rattle.chains.proofs.ValueLaws.{map-joined}
 use Rattle.chains.proofs.TableLaws.{in-neither, keeps-room, seen-of, sound-of, table-moved, walk-rest}
@@ -14,7 +13,7 @@ rests g c = rw (← c.self.view_is) at c.requires.rests
 -- the table after the call
 table : (g : given.Over) (c : goal.After-join g)
     → IsTable c.join.new.links.next.items (seen_lasts c.join.new.links.lasts.items c.self.inside.walk) c.self.inside.rows.items
-        (joined (seen_chains c.self.inside.links c.self.inside.walk) c.args.from c.args.onto)
+    (joined (seen_chains c.self.inside.links c.self.inside.walk) c.args.from c.args.onto)
 table g c =
     let chains = seen_chains c.self.inside.links c.self.inside.walk in
     table-moved c.self.invariant (rests g c) c.join.new.links 4 c.join.ensures.changes (joined chains c.args.from c.args.onto)
@@ -37,5 +36,5 @@ returns-clause-room g c =
     let chains = seen_chains c.self.inside.links c.self.inside.walk in
     rw (← c.self.view_is)
     (keeps-room c.self.inside.links c.join.new.links c.self.inside.rows.items (vec_capacity c.self.inside.rows) 4 c.self.inside.walk c.self.inside.walk c.join.ensures.changes
-        (ap (λ cs. chain_in cs 0) (seen-of c.join.new.links c.self.inside.rows.items c.self.inside.walk _ (table g c))
-        ∙ in-neither chains c.args.from c.args.onto [] (chain_in chains c.args.onto ++ chain_in chains c.args.from) c.requires.from.0 c.requires.onto.0))
+    (ap (λ cs. chain_in cs 0) (seen-of c.join.new.links c.self.inside.rows.items c.self.inside.walk _ (table g c))
+    ∙ in-neither chains c.args.from c.args.onto [] (chain_in chains c.args.onto ++ chain_in chains c.args.from) c.requires.from.0 c.requires.onto.0))

@@ -3,7 +3,9 @@ use Rattle.std.proofs.Common.{◌≡◌, ℕ, zero, suc, ◌+◌, ◌-◌, ◌<�
 use Rattle.std.proofs.lemmas.List.{length-map, length-replicate}
 use Rattle.std.proofs.lemmas.List.Sums.{sum_by-cons}
 use Rattle.std.specs.List.{sum_by}
-use Rattle.std.specs.Prelude.{slice_get, OnSome}
+use Rattle.std.specs.Prelude.{slice_get, OnSome, Bool, true, false, not, is_some, ◌==◌}
+use Rattle.std.proofs.lemmas.Bool.{ne_eqb}
+use Rattle.std.proofs.lemmas.List.{get_or_at, set_at}
 use Rattle.chains.specs.declared.links.Links.{Links}
 use Rattle.chains.specs.declared.walk.Walk.{Walk}
 use Rattle.chains.specs.Edits.{chain_in, lengthened, preceded, shortened}
@@ -13,7 +15,7 @@ use Rattle.chains.specs.inside.Steps.{Changes, IsLoose}
 use Rattle.chains.specs.inside.Tables.{chains_of, seen_chains, seen_lasts, value_at, values_of, walked_in, IsOpen, IsSound, IsTable, IsWalk}
 use Rattle.chains.proofs.ListLaws.{in-put, in-other, there}
 use Rattle.chains.proofs.RingLaws.{times-same}
-use Rattle.chains.proofs.HoldsLaws.{chain-at, default-grown, first-of, holds-more, holds-same, is-row, ring-at}
+use Rattle.chains.proofs.HoldsLaws.{none-at, chain-at, default-grown, first-of, holds-more, holds-same, is-row, ring-at}
 use Rattle.chains.proofs.ValueLaws.{chain-map, value-there, values-first}
 use Rattle.chains.proofs.TableLaws.{table-rest}
 use Rattle.chains.proofs.OpenLaws.{chain-full, chain-length, closed-filled, closed-free, free-none, nothing-cut, open-taken}
@@ -22,6 +24,13 @@ use Rattle.chains.proofs.OpenLaws.{chain-full, chain-length, closed-filled, clos
 pub on-some : {A : Type 0} (found : Option A) (P : Type 0) → P → OnSome found P
 on-some None P p = tt
 on-some (Some x) P p = p
+
+-- a value put into the chain that was begun last
+pub begun-filled : {X : Type 0} (chains : List (List X)) (chain : ℕ) (x : X) → chain ≡ length chains
+    → lengthened (chains ++ [] ∷ []) chain x ≡ chains ++ (x ∷ []) ∷ []
+begun-filled chains chain x is =
+    ap (λ xs. set (chains ++ [] ∷ []) chain (xs ++ x ∷ [])) (get_or_at chains [] [] [] chain (sym is))
+    ∙ set_at chains [] [] (x ∷ []) chain (sym is)
 
 -- what is read of a list of defaults
 pub default-in : {X : Type 0} (n i : ℕ) (d : X) → get_or (replicate n d) i d ≡ d
@@ -228,3 +237,17 @@ module _ {T : Type 0} where
   pub map-none : (rows : List (Option T)) (more : ℕ) → map (values_of rows) (replicate more []) ≡ replicate more []
   map-none rows zero = refl
   map-none rows (suc more) = ap (λ vs. [] ∷ vs) (map-none rows more)
+
+  -- a chain has no values just where it has no last row
+  pub empty-is : {next : List ℕ} {lasts : List (Option ℕ)} {rows : List (Option T)} {chains : List (List ℕ)} → IsTable next lasts rows chains
+      → (chain : ℕ) (last : Option ℕ) (empty : Bool) → 0 < chain → last ≡ last_in lasts chain → is_some last ≡ not empty
+      → empty ≡ (length (values_of rows (chain_in chains chain)) == 0)
+  empty-is {next} {lasts} {rows} {chains} t chain None true shown noted there =
+      sym (ap (λ rs. length (values_of rows rs) == 0) (none-at t.holds chain (sym noted)))
+  empty-is {next} {lasts} {rows} {chains} t chain None false shown noted there = cc
+  empty-is {next} {lasts} {rows} {chains} t chain (Some last) true shown noted there = cc
+  empty-is {next} {lasts} {rows} {chains} t chain (Some last) false shown noted there =
+      let ring = ring-at t.holds chain last (sym noted) in
+      let long = chain-length t chain shown in
+      let some = ring.some in
+      sym (ne_eqb (length (values_of rows (chain_in chains chain))) 0 (λ e. absurd (omega arith)))

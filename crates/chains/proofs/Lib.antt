@@ -6,3 +6,4 @@ pub mod ValueLaws
 pub mod TableLaws
 pub mod OpenLaws
 pub mod CallLaws
+pub mod WalkLaws

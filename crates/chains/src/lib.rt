@@ -11,3 +11,4 @@ mod rings;
 mod rows;
 mod table;
 mod walk;
+mod walking;

@@ -1,22 +1,23 @@
 //! Chains of values, and the calls that change them.
 ghost use Rattle.std.specs.Prelude.{◌≡◌, ◌≢◌, ℕ, ◌+◌, ◌<◌, ◌≤◌, ◌==◌, None, Some, Option, List, [], ◌∷◌, ◌++◌, length, replicate, max, IfOk, OnOk, OnErr, IfSome, OnSome, slice_get};
-ghost use Rattle.chains.specs.Edits.{chain_in, fronted, joined, lengthened, preceded, shortened};
+ghost use Rattle.std.specs.Option.{option_copied};
+ghost use Rattle.chains.specs.Edits.{chain_in, fronted, joined, lengthened, preceded, shortened, with_first};
 ghost use Rattle.chains.specs.Shown.{ChangesFew, KeepsRoom, count_in};
 
 use crate::links::Links;
 use crate::rings;
 use crate::rows::{FREE, open_row, put_value, take_value};
-use crate::walk::Walk;
+use crate::walk::{Walk, seen_last};
 use std::alloc::{AllocError, Global};
 use std::marker::Model;
 
 /// Chains of values. A chain is told by its number, from 1 on.
 #[derive(Debug, Drop)]
 pub struct Chains<T> {
-    links: Links,
+    pub(crate) links: Links,
     // The value in each row; a free row has none.
-    rows: Vec<Option<T>>,
-    walk: Option<Walk>,
+    pub(crate) rows: Vec<Option<T>>,
+    pub(crate) walk: Option<Walk>,
 }
 
 impl<T> Model for Chains<T> {
@@ -173,6 +174,85 @@ impl<T: Drop> Chains<T> {
         let value = take_value(&mut self.rows, row);
         rings::put_first(&mut self.links, FREE, row);
         value
+    }
+
+    /// Puts a value behind the last of a chain, into a free row, where there is one. At most 4 links are changed.
+    ///
+    /// # Errors
+    ///
+    /// There was no memory. All is as before, and the value is let go.
+    pub fn add(&mut self, chain: usize, value: T) -> Result<(), AllocError>
+        requires rests { self.old.walked ≡ None }
+        requires chain { 0 < chain × chain < length self.old.chains }
+        ensures chains { OnOk result (self.new.chains ≡ lengthened self.old.chains chain value) }
+        ensures changed { ChangesFew self.old self.new 4 }
+        ensures walked { self.new.walked ≡ None }
+        ensures rows { OnOk result (self.new.rows ≡ max self.old.rows (count_in self.new.chains)) }
+        ensures room { self.new.room ≡ self.old.room }
+        ensures err { OnErr result (self.new ≡ record self.old { spare = self.new.spare }) }
+    {
+        self.reserve_row()?;
+        self.add_reserved(chain, value);
+        Ok(())
+    }
+
+    /// Begins a chain with one value, in a free row, where there is one. At most 4 links are changed.
+    ///
+    /// # Errors
+    ///
+    /// There was no memory. All is as before, and the value is let go.
+    pub fn begin_with(&mut self, value: T) -> Result<(), AllocError>
+        requires rests { self.old.walked ≡ None }
+        ensures chains { OnOk result (self.new.chains ≡ self.old.chains ++ (value ∷ []) ∷ []) }
+        ensures changed { ChangesFew self.old self.new 4 }
+        ensures walked { self.new.walked ≡ None }
+        ensures rows { OnOk result (self.new.rows ≡ max self.old.rows (count_in self.new.chains)) }
+        ensures err { OnErr result (self.new ≡ record self.old { room = self.new.room; spare = self.new.spare }) }
+    {
+        self.reserve(1)?;
+        self.reserve_row()?;
+        let chain = self.chains();
+        self.begin();
+        self.add_reserved(chain, value);
+        Ok(())
+    }
+
+    /// How many chains there are, with chain 0: the number of the next one that is begun.
+    pub fn chains(&self) -> usize
+        ensures count { result ≡ length self.now.chains }
+        ensures some { 0 < result }
+    {
+        self.links.chains()
+    }
+
+    /// The first value of a chain. Of the chain that is being walked, the one that the walk is at.
+    pub fn first(&self, chain: usize) -> Option<&T>
+        requires { 0 < chain × chain < length self.now.chains }
+        ensures { option_copied result ≡ slice_get (chain_in self.now.chains chain) 0 }
+    {
+        let last = seen_last(&self.links, self.walk, chain)?;
+        self.rows[self.links.next(last)].as_ref()
+    }
+
+    /// Whether a chain has no values.
+    pub fn is_empty(&self, chain: usize) -> bool
+        requires { 0 < chain × chain < length self.now.chains }
+        ensures { result ≡ (length (chain_in self.now.chains chain) == 0) }
+    {
+        seen_last(&self.links, self.walk, chain).is_none()
+    }
+
+    /// Puts a value in place of the first of a chain, and answers that one; no link is changed. Where the chain has none, the value is let go.
+    pub fn replace_first(&mut self, chain: usize, value: T) -> Option<T>
+        requires { 0 < chain × chain < length self.old.chains }
+        ensures replaced { result ≡ slice_get (chain_in self.old.chains chain) 0 }
+        ensures chains { OnSome result (self.new.chains ≡ with_first self.old.chains chain value) }
+        ensures rest { self.new ≡ record self.old { chains = self.new.chains } }
+        ensures none { result ≡ None → self.new ≡ self.old }
+    {
+        let last = seen_last(&self.links, self.walk, chain)?;
+        let row = self.links.next(last);
+        put_value(&mut self.rows, row, value)
     }
 
     /// How many links were changed; more than 2^64 - 1 are told as that.

@@ -7,3 +7,4 @@ pub mod TableLaws
 pub mod OpenLaws
 pub mod CallLaws
 pub mod WalkLaws
+pub mod LookLaws

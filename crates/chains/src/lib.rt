@@ -4,8 +4,10 @@
 //! few links, and no value is moved. A row that was taken out is used again.
 #![tactic(auto)]
 
+pub use iter::Iter;
 pub use table::Chains;
 
+mod iter;
 mod links;
 mod rings;
 mod rows;

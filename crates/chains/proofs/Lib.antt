@@ -8,3 +8,4 @@ pub mod OpenLaws
 pub mod CallLaws
 pub mod WalkLaws
 pub mod LookLaws
+mod Examples

@@ -5,10 +5,12 @@ use Rattle.std.proofs.Common.{inl, inr}
 use Rattle.std.proofs.lemmas.List.{get_or-set_same, get_or-set_other, length-map, map-set, set-get_or, set-set, set_comm}
 use Rattle.chains.specs.declared.links.Links.{Links}
 use Rattle.chains.specs.declared.walk.Walk.{Walk}
+use Rattle.std.proofs.Common.{vec_capacity, min, ◌-◌, ◌+◌}
+use Rattle.chains.specs.Lends.{with_value}
 use Rattle.chains.specs.Edits.{chain_in, lifted, preceded, shortened, turned, with_first}
 use Rattle.chains.specs.inside.Rings.{after, last_in, times, Holds}
 use Rattle.chains.specs.inside.Steps.{Changes, IsLoose}
-use Rattle.chains.specs.inside.Tables.{filled, seen_chains, seen_lasts, value_at, values_of, walked_in, IsSound, IsTable}
+use Rattle.chains.specs.inside.Tables.{filled, seen_chains, seen_lasts, value_at, values_of, walked_in, shown_of, IsSound, IsTable}
 use Rattle.chains.proofs.ListLaws.{in-put, in-other, there}
 use Rattle.chains.proofs.RingLaws.{times-same}
 use Rattle.chains.proofs.HoldsLaws.{few-in, few-in-two, first-of, holds-at, holds-turned, last-again, ring-at}
@@ -314,3 +316,15 @@ module _ {T : Type 0} where
       by_walk : (k : Option Walk) → chain < length (seen_lasts links.lasts.items k) → chain < length links.lasts.items
       by_walk None there = there
       by_walk (Some w) there = omega (arith, length-set links.lasts.items w.chain w.at)
+
+  -- what is seen after the first value of a chain was replaced
+  pub seen-replaced : (links : Links) (rows : List (Option T)) (capacity : ℕ) (walk : Option Walk) → IsSound links rows walk
+      → (chain row : ℕ) (rest : List ℕ) (value : T) → 0 < chain → chain_in (seen_chains links walk) chain ≡ row ∷ rest
+      → shown_of links (set rows row (Some value)) capacity walk ≡ with_value (shown_of links rows capacity walk) chain value
+  seen-replaced links rows capacity walk s chain row rest value shown is =
+      let old = shown_of links rows capacity walk in
+      let free = length (chain_in (seen_chains links walk) 0) in
+      let more = vec_capacity links.next - length links.next.items in
+      let with = λ (chains : List (List T)) (n : ℕ). record old { chains = chains; rows = n; spare = free + min more (capacity - n) } in
+      ap (λ cs. with cs (length (set rows row (Some value)))) (shown-replaced s.table chain row rest value shown is)
+      ∙ ap (λ n. with (with_first old.chains chain value) n) (length-set rows row (Some value))

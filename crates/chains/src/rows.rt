@@ -1,5 +1,7 @@
 //! The rows of a table: one is got for a value, and a value is put into it or taken out.
-ghost use Rattle.std.specs.Prelude.{◌≡◌, ℕ, ◌+◌, ◌-◌, ◌<◌, ◌≤◌, None, Some, List, length, map, max, slice_set, vec_capacity};
+ghost use Rattle.std.specs.Prelude.{◌≡◌, ℕ, IsSome, ◌+◌, ◌-◌, ◌<◌, ◌≤◌, None, Some, List, length, map, max, slice_set, vec_capacity};
+ghost use Rattle.std.specs.Borrow.{Lends, sem};
+ghost use Rattle.std.specs.contracts.option.Option.{the_row};
 ghost use Rattle.chains.specs.Edits.{chain_in, shortened};
 ghost use Rattle.chains.specs.inside.Tables.{HasRow, IsOpen, IsTable, spare_in, value_at, values_of};
 
@@ -56,4 +58,16 @@ pub fn put_value<T>(rows: &mut Vec<Option<T>>, row: usize, value: T) -> Option<T
     ensures room { vec_capacity rows.new ≡ vec_capacity rows.old }
 {
     mem::replace(&mut rows[row], Some(value))
+}
+
+/// The value in a row that has one, to be changed.
+pub fn value_mut<T>(slot: &mut Option<T>) -> &mut T
+    requires { IsSome slot.old }
+    ensures* lends { sem 𝓛 (Lends (the_row T.row) T.row slot.entry result Some) }
+    ensures value { slot.old ≡ Some result.now }
+{
+    match slot {
+        Some(value) => value,
+        None => unreachable!(),
+    }
 }

@@ -6,8 +6,8 @@ ghost use Rattle.chains.specs.Shown.{ChangesFew, KeepsRoom, count_in};
 
 use crate::links::Links;
 use crate::rings;
-use crate::rows::{FREE, open_row, put_value, take_value};
-use crate::walk::{Walk, seen_last};
+use crate::rows::{FREE, open_row, put_value, take_value, value_mut};
+use crate::walk::{Walk, first_row, seen_last};
 use std::alloc::{AllocError, Global};
 use std::marker::Model;
 
@@ -36,6 +36,9 @@ impl<T> Model for Chains<T> {
 }
 
 impl<T: Drop> Chains<T> {
+    ghost use Rattle.std.specs.Borrow.{sem};
+    ghost use Rattle.chains.specs.Lends.{lends_first};
+
     /// So many empty chains, numbered from 1 on.
     ///
     /// # Errors
@@ -253,6 +256,17 @@ impl<T: Drop> Chains<T> {
         let last = seen_last(&self.links, self.walk, chain)?;
         let row = self.links.next(last);
         put_value(&mut self.rows, row, value)
+    }
+
+    /// The first value of a chain that has some, to be changed; no link is changed.
+    pub fn first_mut(&mut self, chain: usize) -> &mut T
+        requires chain { 0 < chain × chain < length self.old.chains }
+        requires some { 0 < length (chain_in self.old.chains chain) }
+        ensures* writes_back { sem 𝓛 (lends_first T.row self.entry chain result) }
+        ensures value { slice_get (chain_in self.old.chains chain) 0 ≡ Some result.now }
+    {
+        let row = first_row(&self.links, self.walk, chain);
+        value_mut(&mut self.rows[row])
     }
 
     /// How many links were changed; more than 2^64 - 1 are told as that.

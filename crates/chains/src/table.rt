@@ -269,6 +269,13 @@ impl<T: Drop> Chains<T> {
         value_mut(&mut self.rows[row])
     }
 
+    /// Which chain is being walked, if one is.
+    pub fn walked(&self) -> Option<usize>
+        ensures { result ≡ self.now.walked }
+    {
+        Some(self.walk?.chain)
+    }
+
     /// How many links were changed; more than 2^64 - 1 are told as that.
     pub fn links_changed(&self) -> u64
         ensures { result ≡ self.now.changed }

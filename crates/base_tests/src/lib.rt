@@ -1,7 +1,9 @@
-//! Tests of `refusals`, `words`, `bio` and `judge`, through what these make public. They stand apart from the crates that they test, so that these aren't proved a
+//! Tests of `refusals`, `words`, `bio`, `judge` and `chains`, through what these make public. They stand apart from the crates that they test, so that these aren't proved a
 //! second time with their tests.
 #![tactic(auto)]
 
+#[cfg(test)]
+mod chains_of_values;
 #[cfg(test)]
 mod refusals_shown;
 #[cfg(test)]

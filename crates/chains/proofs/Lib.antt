@@ -1,0 +1,11 @@
+pub mod ListLaws
+pub mod RingLaws
+pub mod HoldsLaws
+pub mod FoundLaws
+pub mod ValueLaws
+pub mod TableLaws
+pub mod OpenLaws
+pub mod CallLaws
+pub mod WalkLaws
+pub mod LookLaws
+mod Examples

@@ -1,0 +1,4 @@
+pub mod Edits
+pub mod Shown
+pub mod Lends
+pub mod inside

@@ -1,0 +1,139 @@
+//! The links between rows, and the one call that changes them.
+ghost use Rattle.std.specs.Prelude.{◌≡◌, ℕ, ◌+◌, ◌-◌, ◌^◌, ◌<◌, ◌≤◌, min, None, [], ◌∷◌, ◌++◌, length, replicate, IfOk, OnOk, OnErr, vec_len, vec_capacity};
+ghost use Rattle.chains.specs.inside.Rings.{after, last_in};
+ghost use Rattle.chains.specs.inside.Changes.{IsWithin, lasts_after, next_after};
+
+use std::alloc::{AllocError, Global};
+
+/// A change of one link.
+#[derive(Clone, Copy, Debug)]
+pub enum Change {
+    /// The last row of this chain is now that one, or it has none.
+    Last(usize, Option<usize>),
+    /// The link of this row leads to that one.
+    Next(usize, usize),
+}
+
+/// Where the link of each row leads, and which row is the last of each chain.
+#[derive(Debug, Drop)]
+pub struct Links {
+    next: Vec<usize>,
+    lasts: Vec<Option<usize>>,
+    // How many links were changed, or 2^64 - 1 where there were more.
+    changed: u64,
+}
+
+impl Links {
+    /// No rows, so many chains, and one more: chain 0.
+    pub fn new(alloc: Global, chains: usize) -> Result<Links, AllocError>
+        ensures next { IfOk result (λ links. links.next.items ≡ []) }
+        ensures lasts { IfOk result (λ links. links.lasts.items ≡ replicate (chains + 1) None) }
+        ensures changed { IfOk result (λ links. links.changed ≡ 0) }
+    {
+        let mut lasts = vec![in alloc; None; chains]?;
+        lasts.push(None)?;
+        Ok(Links {
+            next: Vec::new(alloc),
+            lasts,
+            changed: 0,
+        })
+    }
+
+    /// The row to which the link of this row leads.
+    pub fn next(&self, row: usize) -> usize
+        requires { row < length self.now.next.items }
+        ensures { result ≡ after self.now.next.items row }
+    {
+        self.next[row]
+    }
+
+    /// The last row of a chain, if it has rows.
+    pub fn last(&self, chain: usize) -> Option<usize>
+        requires { chain < length self.now.lasts.items }
+        ensures { result ≡ last_in self.now.lasts.items chain }
+    {
+        self.lasts[chain]
+    }
+
+    /// How many links were changed; more than 2^64 - 1 are told as that.
+    pub fn changed(&self) -> u64
+        ensures { result ≡ self.now.changed }
+    {
+        self.changed
+    }
+
+    /// Changes one link, and counts it.
+    pub fn write(&mut self, change: Change)
+        requires { IsWithin self.old.next.items self.old.lasts.items change }
+        ensures next { self.new.next.items ≡ next_after self.old.next.items change }
+        ensures lasts { self.new.lasts.items ≡ lasts_after self.old.lasts.items change }
+        ensures changed { self.new.changed ≡ min (self.old.changed + 1) (2 ^ 64 - 1) }
+        ensures rises { self.old.changed ≤ self.new.changed }
+        ensures row_room { vec_capacity self.new.next ≡ vec_capacity self.old.next }
+        ensures chain_room { vec_capacity self.new.lasts ≡ vec_capacity self.old.lasts }
+    {
+        match change {
+            Change::Last(chain, row) => self.lasts[chain] = row,
+            Change::Next(row, to) => self.next[row] = to,
+        }
+        self.changed = self.changed.saturating_add(1);
+    }
+
+    /// Makes room for so many more chains.
+    pub fn reserve_chains(&mut self, more: usize) -> Result<(), AllocError>
+        ensures next { self.new.next ≡ self.old.next }
+        ensures lasts { self.new.lasts.items ≡ self.old.lasts.items }
+        ensures changed { self.new.changed ≡ self.old.changed }
+        ensures ok { OnOk result (length self.new.lasts.items + more ≤ vec_capacity self.new.lasts) }
+        ensures room { vec_capacity self.old.lasts ≤ vec_capacity self.new.lasts }
+    {
+        self.lasts.reserve(more)
+    }
+
+    /// Makes room for so many more rows.
+    pub fn reserve_rows(&mut self, more: usize) -> Result<(), AllocError>
+        ensures next { self.new.next.items ≡ self.old.next.items }
+        ensures lasts { self.new.lasts ≡ self.old.lasts }
+        ensures changed { self.new.changed ≡ self.old.changed }
+        ensures ok { OnOk result (length self.new.next.items + more ≤ vec_capacity self.new.next) }
+        ensures room { vec_capacity self.old.next ≤ vec_capacity self.new.next }
+    {
+        self.next.reserve(more)
+    }
+
+    /// One more chain, with no rows.
+    pub fn begin(&mut self)
+        requires { vec_len self.old.lasts < vec_capacity self.old.lasts }
+        ensures next { self.new.next ≡ self.old.next }
+        ensures lasts { self.new.lasts.items ≡ self.old.lasts.items ++ None ∷ [] }
+        ensures changed { self.new.changed ≡ self.old.changed }
+        ensures room { vec_capacity self.new.lasts ≡ vec_capacity self.old.lasts }
+    {
+        self.lasts.push_reserved(None);
+    }
+
+    /// One more row, in no chain.
+    pub fn add_row(&mut self)
+        requires { vec_len self.old.next < vec_capacity self.old.next }
+        ensures next { self.new.next.items ≡ self.old.next.items ++ 0 ∷ [] }
+        ensures lasts { self.new.lasts ≡ self.old.lasts }
+        ensures changed { self.new.changed ≡ self.old.changed }
+        ensures room { vec_capacity self.new.next ≡ vec_capacity self.old.next }
+    {
+        self.next.push_reserved(0);
+    }
+
+    /// How many chains there are, with chain 0.
+    pub fn chains(&self) -> usize
+        ensures { result ≡ length self.now.lasts.items }
+    {
+        self.lasts.len()
+    }
+
+    /// How many rows there are.
+    pub fn rows(&self) -> usize
+        ensures { result ≡ length self.now.next.items }
+    {
+        self.next.len()
+    }
+}

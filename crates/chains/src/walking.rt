@@ -1,0 +1,82 @@
+//! The walk over a chain, by which values are taken out of its middle.
+//!
+//! A ring is the same ring seen from any of its rows, so going past a value writes no link: only where the walk is changes, and that row is seen as
+//! the chain's last. The links are told of it when the walk ends.
+ghost use Rattle.std.specs.Prelude.{◌≡◌, ◌≢◌, ℕ, ◌<◌, None, Some, length};
+ghost use Rattle.chains.specs.Edits.{lifted, turned};
+ghost use Rattle.chains.specs.Shown.{ChangesFew, KeepsRoom};
+
+use crate::links::Change;
+use crate::rings;
+use crate::table::Chains;
+use crate::walk::Walk;
+
+impl<T: Drop> Chains<T> {
+    /// Begins a walk over a chain, at its first value. No link is changed.
+    pub fn walk(&mut self, chain: usize)
+        requires rests { self.old.walked ≡ None }
+        requires chain { 0 < chain × chain < length self.old.chains }
+        ensures walked { self.new ≡ record self.old { walked = Some chain } }
+    {
+        let at = self.links.last(chain);
+        self.walk = Some(Walk { chain, at });
+    }
+
+    /// Goes past the first value of the chain that is being walked: it's the last then. No link is changed.
+    pub fn turn(&mut self)
+        ensures chains { (chain : ℕ) → self.old.walked ≡ Some chain → self.new.chains ≡ turned self.old.chains chain }
+        ensures rest { self.new ≡ record self.old { chains = self.new.chains } }
+        ensures none { self.old.walked ≡ None → self.new ≡ self.old }
+    {
+        let Some(walk) = self.walk else {
+            return;
+        };
+        let Some(at) = walk.at else {
+            return;
+        };
+        let first = self.links.next(at);
+        self.walk = Some(Walk {
+            chain: walk.chain,
+            at: Some(first),
+        });
+    }
+
+    /// Puts the first value of the chain that is being walked before the first of another: at most 3 links are changed, and no value is moved.
+    pub fn lift(&mut self, onto: usize)
+        requires onto { 0 < onto × onto < length self.old.chains }
+        requires apart { self.old.walked ≢ Some onto }
+        ensures chains { (chain : ℕ) → self.old.walked ≡ Some chain → self.new.chains ≡ lifted self.old.chains chain onto }
+        ensures changed { ChangesFew self.old self.new 3 }
+        ensures walked { self.new.walked ≡ self.old.walked }
+        ensures room { KeepsRoom self.old self.new }
+        ensures none { self.old.walked ≡ None → self.new ≡ self.old }
+    {
+        let Some(walk) = self.walk else {
+            return;
+        };
+        let Some(at) = walk.at else {
+            return;
+        };
+        let row = self.links.next(at);
+        let left = rings::cut(&mut self.links, at);
+        rings::put_first(&mut self.links, onto, row);
+        self.walk = Some(Walk {
+            chain: walk.chain,
+            at: left,
+        });
+    }
+
+    /// Ends the walk: 1 link is changed, where there was one. The chain stays as it is seen.
+    pub fn rest(&mut self)
+        ensures chains { self.new.chains ≡ self.old.chains }
+        ensures changed { ChangesFew self.old self.new 1 }
+        ensures walked { self.new.walked ≡ None }
+        ensures room { KeepsRoom self.old self.new }
+    {
+        let Some(walk) = self.walk else {
+            return;
+        };
+        self.links.write(Change::Last(walk.chain, walk.at));
+        self.walk = None;
+    }
+}

@@ -1,8 +1,9 @@
 use bio::{Bio, Bytes, End, Id};
 use pending::*;
 use std::alloc::{AllocError, Global};
+use std::process::Abort;
 use std::test::Fail;
-use test_asserts::is_same;
+use test_asserts::rows_are_told;
 
 // A write of so many bytes; the number has a bit each for flush, FUA and meta.
 fn write(alloc: Global, first: u64, length: usize, flags: u64) -> Result<Bio, AllocError> {
@@ -99,18 +100,21 @@ fn play(alloc: Global, core: &mut Core, word: &str, number: u64) -> Result<Strin
     Ok(String::new(alloc))
 }
 
-// What is shown of a row's steps, and how many events were recorded.
-fn played(alloc: Global, steps: &str) -> Result<String, AllocError> {
-    let mut core = Core::new(alloc)?;
+// What is shown of these steps.
+fn play_all(alloc: Global, core: &mut Core, steps: &str) -> Result<String, AllocError> {
     let mut shown = String::new(alloc);
-    for step in steps.split(",") {
-        let mut words = step.split(" ");
-        let word = words.next().unwrap_or_default();
-        let number = words.next().unwrap_or_default().parse::<u64>().unwrap_or(0);
-        shown.push_str(play(alloc, &mut core, word, number)?.as_str())?;
+    for step in steps.split(',') {
+        let (word, number) = step.split_once(' ').unwrap_or((step, ""));
+        let told = play(alloc, core, word, number.parse::<u64>().unwrap_or(0))?;
+        shown.push_str(told.as_str())?;
     }
-    shown.push_str(format!(in alloc; "{}", core.events().len())?.as_str())?;
     Ok(shown)
+}
+
+// What is shown of a row's steps, and how many events were recorded.
+fn played(alloc: Global, core: &mut Core, steps: &str) -> Result<String, AllocError> {
+    let shown = play_all(alloc, core, steps)?;
+    format!(in alloc; "{shown}{}", core.events().len())
 }
 
 // Steps, and what is shown of them: a flush takes what ended before it; a FUA write is queued at its end,
@@ -128,23 +132,20 @@ mark 0,stop,mark 1,zero 2,take=passed;a mark's text has a zero byte;2";
 
 #[test]
 fn steps_are_answered(rt: HostRuntime) -> Result<(), Fail> {
-    for row in ROWS.split("\n") {
-        let mut parts = row.split("=");
-        let shown = played(rt.alloc(), parts.next().unwrap_or_default())?;
-        assert!(rt; is_same(&rt, &Some(shown.as_str()), &parts.next(), row));
-    }
+    let alloc = rt.alloc();
+    assert!(rt;
+        rows_are_told(
+            &rt,
+            ROWS,
+            |steps| played(alloc, &mut Core::new(alloc)?, steps)
+        )?
+    );
     Ok(())
 }
 
 // The first hazard after a row's steps.
-fn hazard_of(alloc: Global, steps: &str) -> Result<String, AllocError> {
-    let mut core = Core::new(alloc)?;
-    for step in steps.split(",") {
-        let mut words = step.split(" ");
-        let word = words.next().unwrap_or_default();
-        let number = words.next().unwrap_or_default().parse::<u64>().unwrap_or(0);
-        play(alloc, &mut core, word, number)?;
-    }
+fn hazard_of(alloc: Global, core: &mut Core, steps: &str) -> Result<String, AllocError> {
+    play_all(alloc, core, steps)?;
     match core.hazard() {
         Some(hazard) => hazard.to_string(alloc),
         None => String::from_str(alloc, "none"),
@@ -172,36 +173,43 @@ write 5,end 0,fua 5,end 2,stop,close=H1 at event 3";
 
 #[test]
 fn hazards_are_found(rt: HostRuntime) -> Result<(), Fail> {
-    for row in HAZARDS.split("\n") {
-        let mut parts = row.split("=");
-        let shown = hazard_of(rt.alloc(), parts.next().unwrap_or_default())?;
-        assert!(rt; is_same(&rt, &Some(shown.as_str()), &parts.next(), row));
-    }
+    let alloc = rt.alloc();
+    assert!(rt;
+        rows_are_told(
+            &rt,
+            HAZARDS,
+            |steps| hazard_of(alloc, &mut Core::new(alloc)?, steps)
+        )?
+    );
+    Ok(())
+}
+
+// Submits a write of this sector, and ends it.
+fn write_one(alloc: Global, core: &mut Core, sector: u64, flags: u64) -> Result<(), AllocError> {
+    let place = place_of(core.submit(&write(alloc, sector, 512, flags)?)?);
+    end(core, place, true);
     Ok(())
 }
 
 // A FUA write over the sector of one of 8,192 writes that wait is a hazard; over another sector it is none.
+fn check_many(rt: &impl Abort, alloc: Global, core: &mut Core) -> Result<(), Fail> {
+    for sector in 0..8192 {
+        write_one(alloc, core, sector, 0)?;
+    }
+    write_one(alloc, core, 8192, 2)?;
+    assert!(rt; core.hazard().is_none());
+    write_one(alloc, core, 8191, 2)?;
+    let wanted = Hazard {
+        kind: HazardKind::Overlap,
+        event: 16_387,
+    };
+    assert!(rt; core.hazard() == Some(wanted));
+    Ok(())
+}
+
 #[test]
 fn hazards_are_found_among_many(rt: HostRuntime) -> Result<(), Fail> {
-    let alloc = rt.alloc();
-    let mut core = Core::new(alloc)?;
-    for sector in 0..8192 {
-        let place = place_of(core.submit(&write(alloc, sector, 512, 0)?)?);
-        end(&mut core, place, true);
-    }
-    let place = place_of(core.submit(&write(alloc, 8192, 512, 2)?)?);
-    end(&mut core, place, true);
-    assert!(rt; core.hazard().is_none());
-    let place = place_of(core.submit(&write(alloc, 8191, 512, 2)?)?);
-    end(&mut core, place, true);
-    assert_eq!(rt;
-        core.hazard(),
-        Some(Hazard {
-            kind: HazardKind::Overlap,
-            event: 16_387,
-        })
-    );
-    Ok(())
+    check_many(&rt, rt.alloc(), &mut Core::new(rt.alloc())?)
 }
 
 // A request of the mix: flushes, and writes with flush, only where they are asked for.
@@ -241,29 +249,43 @@ fn submit_mixed(
     Ok(())
 }
 
-// No request of a long mix is refused, with 200 open at a time and many waiting, and all are taken.
-#[test]
-fn a_long_mix_is_recorded(rt: HostRuntime) -> Result<(), Fail> {
-    let alloc = rt.alloc();
-    let mut core = Core::new(alloc)?;
+// Records requests of the mix, some without flushes and some with them, and marks; and ends and closes it all.
+fn record_mix(alloc: Global, core: &mut Core) -> Result<(), Fail> {
     let mut open = Vec::new(alloc);
-    submit_mixed(alloc, &mut core, &mut open, 20_000, false)?;
-    submit_mixed(alloc, &mut core, &mut open, 20_000, true)?;
-    submit_mixed(alloc, &mut core, &mut open, 20_000, false)?;
+    submit_mixed(alloc, core, &mut open, 20_000, false)?;
+    submit_mixed(alloc, core, &mut open, 20_000, true)?;
+    submit_mixed(alloc, core, &mut open, 20_000, false)?;
+    mark_often(alloc, core)?;
+    for place in open {
+        end(core, place, false);
+    }
+    core.close()?;
+    Ok(())
+}
+
+// Sets ten thousand marks.
+fn mark_often(alloc: Global, core: &mut Core) -> Result<(), Fail> {
     let text = Bytes::from_vec(vec![in alloc; 65; 512]?);
     for _ in 0..10_000 {
         core.mark(&text)?;
     }
-    for place in open {
-        end(&mut core, place, false);
-    }
-    core.close()?;
-    assert_eq!(rt; core.events().len(), 130_001);
-    for at in 0..70_001 {
-        assert!(rt; core.take().is_some(), "{at}");
+    Ok(())
+}
+
+// No request of a long mix is refused, with 200 open at a time and many waiting, and all are taken.
+fn check_mix(rt: &impl Abort, alloc: Global, core: &mut Core) -> Result<(), Fail> {
+    record_mix(alloc, core)?;
+    assert!(rt; core.events().len() == 130_001);
+    for _ in 0..70_001 {
+        assert!(rt; core.take().is_some());
     }
     assert!(rt; core.take().is_none());
     Ok(())
+}
+
+#[test]
+fn a_long_mix_is_recorded(rt: HostRuntime) -> Result<(), Fail> {
+    check_mix(&rt, rt.alloc(), &mut Core::new(rt.alloc())?)
 }
 
 #[test]

@@ -2,17 +2,23 @@
 
 use refusals::{Fault, Refusal};
 use std::test::Fail;
+use test_asserts::is_told;
+
+// A fault without a line, or at one.
+fn fault(line: Option<u64>, refusal: Refusal) -> Fault {
+    Fault { line, refusal }
+}
 
 #[test]
 fn faults_are_shown(rt: HostRuntime) -> Result<(), Fail> {
-    for (line, refusal, want) in [
-        (None, Refusal::Io, "1 Io"),
-        (None, Refusal::EndMemory, "20 Memory"),
-        (None, Refusal::NoThread, "38 NoThread"),
-        (Some(4), Refusal::Busy, "line 4: 24 Busy"),
-    ] {
-        let shown = format!(in rt.alloc(); "{}", Fault { line, refusal })?;
-        assert_eq!(rt; shown.as_str(), want);
-    }
+    let shown = format!(in rt.alloc();
+        "{}, {}, {}, {}",
+        fault(None, Refusal::Io),
+        fault(None, Refusal::EndMemory),
+        fault(None, Refusal::NoThread),
+        fault(Some(4), Refusal::Busy)
+    )?;
+    let wanted = "1 Io, 20 Memory, 38 NoThread, line 4: 24 Busy";
+    assert!(rt; is_told(&rt, shown.as_str(), wanted, "faults"));
     Ok(())
 }

@@ -3,7 +3,9 @@
 use bio::{Bio, Bytes, CoreEvent, End, Id};
 use judge::{Verdict, could_hold, is_lawful};
 use std::alloc::{AllocError, Global};
+use std::process::Abort;
 use std::test::Fail;
+use test_asserts::{holds, rows_are_told};
 
 // A write of so many bytes, each this one, with no flush.
 fn write(
@@ -175,11 +177,8 @@ const ROWS: &str = "16|w 3 1,w 3 2,c 0,c 1,f,c 4|4||=yes
 
 #[test]
 fn images_are_judged(rt: HostRuntime) -> Result<(), Fail> {
-    for row in ROWS.split("\n") {
-        let mut parts = row.split("=");
-        let verdict = judged(rt.alloc(), parts.next().unwrap_or_default())?;
-        assert_eq!(rt; Some(verdict.as_str()), parts.next(), "{row}");
-    }
+    let alloc = rt.alloc();
+    assert!(rt; rows_are_told(&rt, ROWS, |row| judged(alloc, row))?);
     Ok(())
 }
 
@@ -222,7 +221,7 @@ fn lawful_lists_are_told_apart(rt: HostRuntime) -> Result<(), Fail> {
     for line in LISTS.split("\n") {
         let steps = line.trim_start_matches(|c| c == '=' || c == '!');
         let events = events_of(rt.alloc(), steps)?;
-        assert_eq!(rt; is_lawful(&events, 8), !line.starts_with("!"), "{line}");
+        assert!(rt; holds(&rt, is_lawful(&events, 8) != line.starts_with("!"), line));
     }
     Ok(())
 }
@@ -256,25 +255,30 @@ fn many_sectors(alloc: Global, count: u64) -> Result<Vec<u8>, AllocError> {
     Ok(image)
 }
 
+// The verdict on the image that so many writes leave, after the events.
+fn verdict_on_many(
+    rt: &impl Abort,
+    alloc: Global,
+    events: &[CoreEvent],
+    count: u64,
+) -> Result<Verdict, AllocError> {
+    let first = many_sectors(alloc, 0)?;
+    let image = many_sectors(alloc, count)?;
+    assert!(rt; image.len() % 512 == 0 && first.len() == image.len());
+    assert!(rt; is_lawful(events, (image.len() / 512) as u64));
+    could_hold(alloc, events, 20_000, &first, &image)
+}
+
 // Of 20,000 events over 4,096 sectors the last values are possible, and an earlier one in the last sector isn't.
 #[test]
 fn long_lists_are_judged(rt: HostRuntime) -> Result<(), Fail> {
     let alloc = rt.alloc();
     let events = many_writes(alloc, 9999)?;
-    assert_eq!(rt; events.len(), 20_000);
-    let first = vec![in alloc; 0; 4096 * 512]?;
-    let image = many_sectors(alloc, 9999)?;
-    let old = many_sectors(alloc, 9998)?;
-    assert_eq!(rt; image.len() % 512, 0);
-    assert_eq!(rt; first.len(), image.len());
-    assert_eq!(rt; first.len(), old.len());
-    assert!(rt; is_lawful(&events, (first.len() / 512) as u64));
-    let verdict = could_hold(alloc, &events, 20_000, &first, &image)?;
-    assert!(rt; verdict == Verdict::Yes);
-    let verdict = could_hold(alloc, &events, 20_000, &first, &old)?;
+    assert!(rt; events.len() == 20_000);
+    assert!(rt; verdict_on_many(&rt, alloc, &events, 9999)? == Verdict::Yes);
     let by = Some(Id::new(19_996));
     let ruled_out = Verdict::No { sector: 1806, by };
-    assert!(rt; verdict == ruled_out);
+    assert!(rt; verdict_on_many(&rt, alloc, &events, 9998)? == ruled_out);
     Ok(())
 }
 

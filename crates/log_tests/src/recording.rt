@@ -1,8 +1,9 @@
 use bio::{Bio, Bytes, End, Id};
 use pending::*;
 use std::alloc::{AllocError, Global};
+use std::process::Abort;
 use std::test::Fail;
-use test_asserts::is_same;
+use test_asserts::rows_are_told;
 
 // A write of so many bytes; the number has a bit each for flush, FUA and meta.
 fn write(alloc: Global, first: u64, length: usize, flags: u64) -> Result<Bio, AllocError> {
@@ -99,18 +100,21 @@ fn play(alloc: Global, core: &mut Core, word: &str, number: u64) -> Result<Strin
     Ok(String::new(alloc))
 }
 
-// What is shown of a row's steps, and how many events were recorded.
-fn played(alloc: Global, steps: &str) -> Result<String, AllocError> {
-    let mut core = Core::new(alloc)?;
+// What is shown of these steps.
+fn play_all(alloc: Global, core: &mut Core, steps: &str) -> Result<String, AllocError> {
     let mut shown = String::new(alloc);
-    for step in steps.split(",") {
-        let mut words = step.split(" ");
-        let word = words.next().unwrap_or_default();
-        let number = words.next().unwrap_or_default().parse::<u64>().unwrap_or(0);
-        shown.push_str(play(alloc, &mut core, word, number)?.as_str())?;
+    for step in steps.split(',') {
+        let (word, number) = step.split_once(' ').unwrap_or((step, ""));
+        let told = play(alloc, core, word, number.parse::<u64>().unwrap_or(0))?;
+        shown.push_str(told.as_str())?;
     }
-    shown.push_str(format!(in alloc; "{}", core.events().len())?.as_str())?;
     Ok(shown)
+}
+
+// What is shown of a row's steps, and how many events were recorded.
+fn played(alloc: Global, core: &mut Core, steps: &str) -> Result<String, AllocError> {
+    let shown = play_all(alloc, core, steps)?;
+    format!(in alloc; "{shown}{}", core.events().len())
 }
 
 // Steps, and what is shown of them: a flush takes what ended before it; a FUA write is queued at its end,
@@ -132,11 +136,14 @@ write 5,end 0,flush,both 6,end 3,take,end 2,take=0 5+1 0;3 6+2 1;2 0+0 1;6";
 
 #[test]
 fn steps_are_answered(rt: HostRuntime) -> Result<(), Fail> {
-    for row in ROWS.split("\n") {
-        let mut parts = row.split("=");
-        let shown = played(rt.alloc(), parts.next().unwrap_or_default())?;
-        assert!(rt; is_same(&rt, &Some(shown.as_str()), &parts.next(), row));
-    }
+    let alloc = rt.alloc();
+    assert!(rt;
+        rows_are_told(
+            &rt,
+            ROWS,
+            |steps| played(alloc, &mut Core::new(alloc)?, steps)
+        )?
+    );
     Ok(())
 }
 
@@ -146,24 +153,30 @@ fn next_place(core: &mut Core) -> Option<u64> {
     Some(id.place())
 }
 
+// Submits a write of this sector, and ends it.
+fn write_one(alloc: Global, core: &mut Core, sector: u64, flags: u64) -> Result<(), AllocError> {
+    let place = place_of(core.submit(&write(alloc, sector, 512, flags)?)?);
+    end(core, place, true);
+    Ok(())
+}
+
 // Of 8,192 writes that wait a FUA write takes the one of its sector; over another sector it takes none.
-#[test]
-fn one_of_many_is_taken(rt: HostRuntime) -> Result<(), Fail> {
-    let alloc = rt.alloc();
-    let mut core = Core::new(alloc)?;
+fn check_many(rt: &impl Abort, alloc: Global, core: &mut Core) -> Result<(), Fail> {
     for sector in 0..8192 {
-        let place = place_of(core.submit(&write(alloc, sector, 512, 0)?)?);
-        end(&mut core, place, true);
+        write_one(alloc, core, sector, 0)?;
     }
-    let place = place_of(core.submit(&write(alloc, 8192, 512, 2)?)?);
-    end(&mut core, place, true);
-    assert_eq!(rt; next_place(&mut core), Some(16_384));
-    let place = place_of(core.submit(&write(alloc, 8191, 512, 2)?)?);
-    end(&mut core, place, true);
-    assert_eq!(rt; next_place(&mut core), Some(16_382));
-    assert_eq!(rt; next_place(&mut core), Some(16_386));
+    write_one(alloc, core, 8192, 2)?;
+    assert!(rt; next_place(core) == Some(16_384));
+    write_one(alloc, core, 8191, 2)?;
+    assert!(rt; next_place(core) == Some(16_382));
+    assert!(rt; next_place(core) == Some(16_386));
     assert!(rt; core.hazard().is_none());
     Ok(())
+}
+
+#[test]
+fn one_of_many_is_taken(rt: HostRuntime) -> Result<(), Fail> {
+    check_many(&rt, rt.alloc(), &mut Core::new(rt.alloc())?)
 }
 
 // A request of the mix: flushes, and writes with flush, only where they are asked for.
@@ -203,29 +216,43 @@ fn submit_mixed(
     Ok(())
 }
 
-// No request of a long mix is refused, with 200 open at a time and many waiting, and all are taken.
-#[test]
-fn a_long_mix_is_recorded(rt: HostRuntime) -> Result<(), Fail> {
-    let alloc = rt.alloc();
-    let mut core = Core::new(alloc)?;
+// Records requests of the mix, some without flushes and some with them, and marks; and ends and closes it all.
+fn record_mix(alloc: Global, core: &mut Core) -> Result<(), Fail> {
     let mut open = Vec::new(alloc);
-    submit_mixed(alloc, &mut core, &mut open, 2_000, false)?;
-    submit_mixed(alloc, &mut core, &mut open, 20_000, true)?;
-    submit_mixed(alloc, &mut core, &mut open, 2_000, false)?;
+    submit_mixed(alloc, core, &mut open, 2_000, false)?;
+    submit_mixed(alloc, core, &mut open, 20_000, true)?;
+    submit_mixed(alloc, core, &mut open, 2_000, false)?;
+    mark_often(alloc, core)?;
+    for place in open {
+        end(core, place, false);
+    }
+    core.close()?;
+    Ok(())
+}
+
+// Sets ten thousand marks.
+fn mark_often(alloc: Global, core: &mut Core) -> Result<(), Fail> {
     let text = Bytes::from_vec(vec![in alloc; 65; 512]?);
     for _ in 0..10_000 {
         core.mark(&text)?;
     }
-    for place in open {
-        end(&mut core, place, false);
-    }
-    core.close()?;
-    assert_eq!(rt; core.events().len(), 58_001);
-    for at in 0..34_001 {
-        assert!(rt; core.take().is_some(), "{at}");
+    Ok(())
+}
+
+// No request of a long mix is refused, with 200 open at a time and many waiting, and all are taken.
+fn check_mix(rt: &impl Abort, alloc: Global, core: &mut Core) -> Result<(), Fail> {
+    record_mix(alloc, core)?;
+    assert!(rt; core.events().len() == 58_001);
+    for _ in 0..34_001 {
+        assert!(rt; core.take().is_some());
     }
     assert!(rt; core.take().is_none());
     Ok(())
+}
+
+#[test]
+fn a_long_mix_is_recorded(rt: HostRuntime) -> Result<(), Fail> {
+    check_mix(&rt, rt.alloc(), &mut Core::new(rt.alloc())?)
 }
 
 #[test]

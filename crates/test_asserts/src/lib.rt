@@ -33,3 +33,21 @@ pub fn holds(rt: &impl Print, test: bool, row: &str) -> bool
     }
     test
 }
+
+/// Whether what is told of each row is what stands behind its first `=`, where what stands before that is handed on. It prints each row of which it isn't.
+pub fn rows_are_told<E, F: FnMut(&str) -> Result<String, E>>(
+    rt: &impl Print,
+    rows: &str,
+    tell: F,
+) -> Result<bool, E>
+    requires { F.IsAlwaysCallable tell }
+{
+    let mut tell = tell;
+    let mut are_told = true;
+    for row in rows.split('\n') {
+        let (asked, wanted) = row.split_once('=').unwrap_or_default();
+        let told = tell(asked)?;
+        are_told &= is_told(rt, told.as_str(), wanted, row);
+    }
+    Ok(are_told)
+}

@@ -89,24 +89,46 @@ fn image_named(alloc: Global, name: &str) -> Result<Vec<u8>, AllocError> {
     }
 }
 
-// Each row is an image, the calls that its device passes, how many sectors the target has, and the calls that it passes; then the replays, one after another, each as
-// what is asked for and what is shown.
+// The pair of a row: the name of an image, the calls that its device passes, how many sectors the target has, and the calls that it passes.
+fn pair_in(rt: &impl Abort, alloc: Global, row: &str) -> Result<Pair, Fail> {
+    let mut words = row.split(' ');
+    let image = image_named(alloc, words.next().unwrap_or_default())?;
+    let log_passes = number_of(words.next());
+    let sectors = number_of(words.next());
+    pair_of(
+        rt,
+        alloc,
+        image,
+        log_passes,
+        sectors,
+        number_of(words.next()),
+    )
+}
+
+// Makes the replays of a row, one after another, each as what is asked for and what is shown.
+fn assert_steps(
+    rt: &(impl Abort + Print),
+    alloc: Global,
+    pair: &mut Pair,
+    replays: &str,
+    row: &str,
+) -> Result<(), Fail> {
+    for replay in replays.split(';') {
+        let (asked, wanted) = replay.split_once('=').unwrap_or_default();
+        let found = step(alloc, pair, &upto_of(asked))?;
+        assert!(rt; is_told(rt, found.as_str(), wanted, row));
+    }
+    Ok(())
+}
+
+// Makes the replays of each row on its pair. Each call of the log's device is at the moment 0.
 fn assert_replays(rt: &(impl Abort + Print), alloc: Global, rows: &str) -> Result<(), Fail> {
     for row in rows.lines() {
-        let mut parts = row.split(';');
-        let mut words = parts.next().unwrap_or_default().split(' ');
-        let image = image_named(alloc, words.next().unwrap_or_default())?;
-        let log_passes = number_of(words.next());
-        let sectors = number_of(words.next());
-        let passes = number_of(words.next());
-        let mut pair = pair_of(rt, alloc, image, log_passes, sectors, passes)?;
-        for part in parts {
-            let (asked, wanted) = part.split_once('=').unwrap_or_default();
-            let found = step(alloc, &mut pair, &upto_of(asked))?;
-            assert!(rt; is_told(rt, found.as_str(), wanted, row));
-        }
-        // Each call of the log's device is at the moment 0.
-        assert!(rt; holds(rt, !pair.log.into_device().seen.as_str().contains('@'), row));
+        let (made, replays) = row.split_once(';').unwrap_or_default();
+        let mut pair = pair_in(rt, alloc, made)?;
+        assert_steps(rt, alloc, &mut pair, replays, row)?;
+        let seen = pair.log.into_device().seen;
+        assert!(rt; holds(rt, !seen.as_str().contains('@'), row));
     }
     Ok(())
 }
@@ -128,21 +150,38 @@ wide - 131072 -;1=27 PastTarget after 0:",
     )
 }
 
+// Appends an entry of the log of thousands, and the call that is wanted of it.
+fn push_discard(
+    alloc: Global,
+    number: u64,
+    text: &mut String,
+    wanted: &mut String,
+) -> Result<(), AllocError> {
+    let at = number.saturating_mul(512).saturating_add(512);
+    let sector = number % 16;
+    text.push_str(format!(in alloc; " {at} {sector} 1 4 0")?.as_str())?;
+    wanted.push_str(format!(in alloc; "d{sector}+1 ")?.as_str())?;
+    Ok(())
+}
+
+// What is shown of the replay of a log of this text, up to its first flush.
+fn long_text(rt: &impl Abort, alloc: Global, text: &str) -> Result<String, Fail> {
+    let image = image_of(alloc, text, 15_361_024)?;
+    let mut pair = pair_of(rt, alloc, image, u64::MAX, 16, u64::MAX)?;
+    Ok(step(alloc, &mut pair, &Upto::Flush)?)
+}
+
 // Each of thousands of discards is one call, in their order; where the time of each grew with its place, the test would not end in time.
 #[test]
 fn thousands_of_entries_are_replayed(rt: HostRuntime) -> Result<(), Fail> {
     let alloc = rt.alloc();
     let mut text = String::from_str(alloc, "8 1 30001 512 0")?;
     let mut wanted = String::from_str(alloc, "30001:")?;
-    for number in 0..30_000_u64 {
-        let (at, sector) = (number * 512 + 512, number % 16);
-        text.push_str(format!(in alloc; " {at} {sector} 1 4 0")?.as_str())?;
-        wanted.push_str(format!(in alloc; "d{sector}+1 ")?.as_str())?;
+    for number in 0..30_000 {
+        push_discard(alloc, number, &mut text, &mut wanted)?;
     }
     text.push_str(" 15360512 0 0 1 0")?;
-    let image = image_of(alloc, text.as_str(), 15_361_024)?;
-    let mut pair = pair_of(&rt, alloc, image, u64::MAX, 16, u64::MAX)?;
-    let found = step(alloc, &mut pair, &Upto::Flush)?;
+    let found = long_text(&rt, alloc, text.as_str())?;
     assert!(rt; found.as_str() == wanted.as_str().trim_end());
     Ok(())
 }
@@ -180,6 +219,20 @@ calls 1 16 -;0=0:",
     )
 }
 
+// A replay up to the first mark of just these bytes shows so.
+fn check_mark(
+    rt: &(impl Abort + Print),
+    alloc: Global,
+    mark: &[u8],
+    wanted: &str,
+) -> Result<(), Fail> {
+    let image = image_named(alloc, "marks")?;
+    let mut pair = pair_of(rt, alloc, image, u64::MAX, 16, u64::MAX)?;
+    let found = step(alloc, &mut pair, &Upto::Mark(mark))?;
+    assert!(rt; is_told(rt, found.as_str(), wanted, "a mark"));
+    Ok(())
+}
+
 // The first mark of just the text is taken, whatever its bytes; none that begins with it.
 #[test]
 fn marks_are_found_by_all_their_bytes(rt: HostRuntime) -> Result<(), Fail> {
@@ -192,18 +245,9 @@ marks - 16 -;ma=2:
 marks - 16 -;m=3:
 marks - 16 -;mb=25 NoSuchMark after 0:",
     )?;
-    let rows: [(&[u8], &str); 3] = [
-        (&[0, 255], "4:"),
-        (&[0; 480], "6:"),
-        (&[0; 479], "25 NoSuchMark after 0:"),
-    ];
-    for (mark, wanted) in rows {
-        let image = image_named(alloc, "marks")?;
-        let mut pair = pair_of(&rt, alloc, image, u64::MAX, 16, u64::MAX)?;
-        let found = step(alloc, &mut pair, &Upto::Mark(mark))?;
-        assert_eq!(rt; found.as_str(), wanted);
-    }
-    Ok(())
+    check_mark(&rt, alloc, &[0, 255], "4:")?;
+    check_mark(&rt, alloc, &[0; 480], "6:")?;
+    check_mark(&rt, alloc, &[0; 479], "25 NoSuchMark after 0:")
 }
 
 // A replay goes on where the one before it ended.

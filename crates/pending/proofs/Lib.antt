@@ -21,4 +21,5 @@ pub mod LastValue
 pub mod Durable
 pub mod Words
 pub mod Possibles
+pub mod OrderedRows
 pub mod Refused

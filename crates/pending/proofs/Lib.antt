@@ -6,6 +6,7 @@ pub mod Counts
 pub mod OneStep
 pub mod Waiting
 pub mod Releasing
+pub mod Between
 pub mod Walk
 pub mod Rooms
 pub mod Meaning
@@ -20,4 +21,5 @@ pub mod LastValue
 pub mod Durable
 pub mod Words
 pub mod Possibles
+pub mod OrderedRows
 pub mod Refused

@@ -1,6 +1,6 @@
 -- Event lists of logs that are known, and their completion lists by computation: each entry with the place of its submission.
-use Rattle.std.specs.Prelude.{◌≡◌, ℕ, true, false, List, [], ◌∷◌, map, replicate, Some, slice_get}
-use Rattle.std.proofs.Common.{refl, ap, arith}
+use Rattle.std.specs.Prelude.{◌≡◌, ℕ, true, false, List, [], ◌∷◌, map, replicate, Some}
+use Rattle.std.proofs.Common.{refl, ap}
 use Rattle.bio.specs.declared.event.CoreEvent.{CoreEvent}
 use Rattle.bio.specs.declared.event.CoreEvent.TheVariants.{Submit, Complete, Mark, Stop, Close}
 use Rattle.bio.specs.declared.outcome.End.TheVariants.{Full}
@@ -8,7 +8,6 @@ use Rattle.bio.specs.declared.request.Bio.{Bio}
 use Rattle.bio.specs.declared.request.Bio.TheVariants.{Write, Flush, Discard}
 use Rattle.bio.specs.Lawful.{is_lawful}
 use Rattle.log_format.specs.Entries.{entry_of, mark_entry, end_mark, no_flags}
-use Rattle.pending.specs.Chains.{AtFua, Chain, Direct, IsNeed, Through}
 use Rattle.pending.specs.QueueEvent.{is_linked, recorded, queue_event}
 use Rattle.pending.specs.CompletionList.{dm_log_writes, completion_list}
 
@@ -87,20 +86,6 @@ linked-directly = refl
 
 pub linked-backwards : is_linked linked_writes (fua_write 7 51) 7 7 6 (Write 5 (replicate 1024 17) false false false) ≡ false
 linked-backwards = refl
-
--- the same chain in the subject's words
-pub linked-chain : Chain linked_writes (fua_write 7 51) 7 3 (Write 5 (replicate 1024 17) false false false)
-linked-chain =
-    Through 3 (Write 5 (replicate 1024 17) false false false) 5 4 (Write 6 (replicate 1024 34) false false false)
-    (record { ok = true; ends = refl; earlier = omega arith; submitted = refl; plain = refl }) (omega arith) (omega arith) refl
-    (Direct 5 (Write 6 (replicate 1024 34) false false false) refl)
-
--- so the FUA write's end needs it; no event needs it before that
-pub linked-need : IsNeed linked_writes 3 (Write 5 (replicate 1024 17) false false false) 7
-linked-need = AtFua 6 true (fua_write 7 51) refl (omega arith) refl refl linked-chain
-
-pub linked-unneeded : recorded linked_writes 3 (slice_get linked_writes 2) 5 (slice_get linked_writes 5) ≡ false
-linked-unneeded = refl
 
 -- a write with flush and FUA takes what ended before its submission, and what it overlaps
 abbrev both_kinds : List CoreEvent

@@ -21,7 +21,7 @@ use Rattle.pending.proofs.Passing.{or_cases}
 use Rattle.pending.proofs.Prefix.{unless_stopped-none}
 
 -- what a chain leads from is linked
-chain-linked : (events : List CoreEvent) (last : Bio) (place end : ℕ) (bio : Bio) → Chain events last place end bio → is_linked events last place place end bio ≡ true
+pub chain-linked : (events : List CoreEvent) (last : Bio) (place end : ℕ) (bio : Bio) → Chain events last place end bio → is_linked events last place place end bio ≡ true
 chain-linked events last place end bio (Direct _ _ overlap) = linked-here events last place place end bio overlap
 chain-linked events last place end bio (Through _ _ later id next ended rises within meets rest) =
     linked-step events last place end bio (record {
@@ -44,7 +44,7 @@ linked-chain events last place (suc n) end bio h = elim (linked-cases events las
 ]
 
 -- an event that needs a request, by the rule
-need-recorded : (events : List CoreEvent) (end : ℕ) (bio : Bio) (place : ℕ) → IsNeed events end bio place
+pub need-recorded : (events : List CoreEvent) (end : ℕ) (bio : Bio) (place : ℕ) → IsNeed events end bio place
     → recorded events end (Some (Submit bio)) place (slice_get events place) ≡ true
 need-recorded events end bio place (AtClose is) = ap (recorded events end (Some (Submit bio)) place) is
 need-recorded events end bio place (AtFlush id ok last is earlier submitted has rises) =

@@ -394,12 +394,6 @@ holds-at {next} {loose} lasts other chains same e d h =
 pub last-again : (lasts : List (Option ℕ)) (chain : ℕ) (last : Option ℕ) → last_in lasts chain ≡ last → set lasts chain last ≡ lasts
 last-again lasts chain last is = ap (λ l. set lasts chain l) (sym is) ∙ set-get_or lasts chain None
 
--- a chain that has nothing, put before another or behind it, changes nothing
-pub nothing-moved : (chains : List (List ℕ)) (from onto : ℕ) → chain_in chains from ≡ [] → set (set chains from []) onto (chain_in chains onto) ≡ chains
-nothing-moved chains from onto is =
-    let first : set chains from [] ≡ chains = ap (λ c. set chains from c) (sym is) ∙ set-get_or chains from [] in
-    ap (λ cs. set cs onto (chain_in chains onto)) first ∙ set-get_or chains onto []
-
 -- one chain put before another that has rows
 pub holds-fronted : {next : List ℕ} {lasts : List (Option ℕ)} {loose : List ℕ} {chains : List (List ℕ)} → Holds next lasts loose chains
     → (from onto : ℕ) → from ≢ onto → from < length lasts → (new : List ℕ) (noted : List (Option ℕ))

@@ -1,5 +1,5 @@
 -- Laws of lists of lists: what stands in a chain after a write, and sums over all chains.
-use Rattle.std.proofs.Common.{◌≡◌, ◌≢◌, ℕ, zero, suc, ◌+◌, ◌<◌, ◌≤◌, List, [], ◌∷◌, length, get_or, set, refl, ap, sym, inl, inr, arith, length-set}
+use Rattle.std.proofs.Common.{◌≡◌, ◌≢◌, ℕ, zero, suc, ◌+◌, ◌<◌, ◌≤◌, List, [], ◌∷◌, length, get_or, set, refl, ap, inl, inr, arith}
 use Rattle.std.proofs.lemmas.Bool.{cases_lt}
 use Rattle.std.proofs.lemmas.List.{get_or-set_same, get_or-set_other, get_or_past}
 use Rattle.std.proofs.lemmas.List.Sums.{sum_by-cons, sum_by-set}
@@ -33,18 +33,6 @@ pub sum-put : {X : Type 0} (f : List X → ℕ) (chains : List (List X)) (chain 
     → sum_by f (set chains chain xs) + f (chain_in chains chain) ≡ sum_by f chains + f xs
 sum-put f chains chain xs less = sum_by-set f chains chain xs [] less
 
--- what is added to one chain and taken from another leaves the sum
-pub sum-merged : {X : Type 0} (f : List X → ℕ) (chains : List (List X)) (from onto : ℕ) (left all : List X) → from ≢ onto
-    → from < length chains → onto < length chains → f left + f all ≡ f (chain_in chains from) + f (chain_in chains onto)
-    → sum_by f (set (set chains from left) onto all) ≡ sum_by f chains
-sum-merged f chains from onto left all apart less below same =
-    let other : onto ≢ from = λ e. apart (sym e) in
-    let first = sum-put f chains from left less in
-    let within : onto < length (set chains from left) = omega (arith, length-set chains from left) in
-    let second = sum-put f (set chains from left) onto all within in
-    let kept = ap f (get_or-set_other chains from onto left [] other) in
-    omega arith
-
 -- the chain that was written
 pub in-put : {X : Type 0} (chains : List (List X)) (chain : ℕ) (xs : List X) → chain < length chains → chain_in (set chains chain xs) chain ≡ xs
 in-put chains chain xs less = get_or-set_same chains chain xs [] less
@@ -53,7 +41,3 @@ in-put chains chain xs less = get_or-set_same chains chain xs [] less
 pub in-other : {X : Type 0} (chains : List (List X)) (chain other : ℕ) (xs : List X) → other ≢ chain
     → chain_in (set chains chain xs) other ≡ chain_in chains other
 in-other chains chain other xs apart = get_or-set_other chains chain other xs [] apart
-
--- a list that isn't empty has a last
-pub length-some : {X : Type 0} (x : X) (xs : List X) → 0 < length (x ∷ xs)
-length-some x xs = omega arith

@@ -79,16 +79,6 @@ module _ {T : Type 0} where
             omega arith;
       }
 
-  -- what is shown then
-  pub shown-free : {next : List ℕ} {lasts : List (Option ℕ)} {rows : List (Option T)} {chains : List (List ℕ)} → IsTable next lasts rows chains
-      → map (values_of rows) (shortened chains 0) ≡ map (values_of rows) chains
-  shown-free {next} {lasts} {rows} {chains} t =
-      shown-put rows chains 0 (drop 1 (chain_in chains 0)) (by_chain (chain_in chains 0) (free-none t) ∙ sym (free-none t))
-    where
-      by_chain : (chain : List ℕ) → values_of rows chain ≡ [] → values_of rows (drop 1 chain) ≡ []
-      by_chain [] none = refl
-      by_chain (row ∷ chain) none = with-none (value_at rows row) (values_of rows chain) none
-
   -- a new row, which is loose
   pub open-grown : {next : List ℕ} {lasts : List (Option ℕ)} {rows : List (Option T)} {chains : List (List ℕ)} → IsTable next lasts rows chains
       → IsOpen (next ++ 0 ∷ []) lasts (rows ++ None ∷ []) (length rows) chains

@@ -14,10 +14,6 @@ pub times-other : (row other : ℕ) (rows : List ℕ) → other ≢ row → time
 times-other row other rows apart =
     let e = ap (λ b. cond b 1 0 + times row rows) (ne_eqb other row apart) in omega arith
 
--- a row counts at most once at the front
-pub times-front : (row other : ℕ) (rows : List ℕ) → times row (other ∷ rows) ≡ times row (other ∷ []) + times row rows
-times-front row other rows = omega arith
-
 -- the rows of two lists, one after the other
 pub times-append : (row : ℕ) (xs ys : List ℕ) → times row (xs ++ ys) ≡ times row xs + times row ys
 times-append row [] ys = omega arith
@@ -26,10 +22,6 @@ times-append row (x ∷ xs) ys = omega (arith, times-append row xs ys)
 -- a row that isn't in a list isn't its first
 pub not-first : (row other : ℕ) (rows : List ℕ) → times row (other ∷ rows) ≡ 0 → other ≢ row
 not-first row other rows none same = absurd (let e = times-same row other rows same in omega arith)
-
--- a list without rows has none
-pub times-none : (row : ℕ) (rows : List ℕ) → rows ≡ [] → times row rows ≡ 0
-times-none row rows e = ap (times row) e
 
 -- two ways, one after the other
 pub leads-append : (next : List ℕ) (from : ℕ) (xs : List ℕ) (by : ℕ) (ys : List ℕ) (to : ℕ) → Leads next from xs by → Leads next by ys to
@@ -125,10 +117,6 @@ last-counts next last (row ∷ rows) ring =
     let one = times-same last last [] refl in
     let e = ap (times last) end.1 in
     omega (arith, times-append last end.0 (last ∷ []))
-
--- the same but from the same two rows
-pub same-swapped : {next new : List ℕ} {one two : ℕ} → SameBut next new one two → SameBut next new two one
-same-swapped same = record { at = λ row away apart. same.at row apart away }
 
 -- a ring as its first row and the others
 pub ring-parts : (next : List ℕ) (last : ℕ) (rows : List ℕ) → IsRing next last rows

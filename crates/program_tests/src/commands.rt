@@ -1,11 +1,12 @@
 //! What `execute` and `refuse` do, where a transcript can't show it.
 use dmlw_dispatch::{execute, refuse};
 use dmlw_files::{Files, HostFiles};
-use std::alloc::Global;
+use std::alloc::{AllocError, Global};
 use std::io;
-use std::io::Write;
+use std::io::{Print, Write};
+use std::process::Abort;
 use std::test::Fail;
-use test_asserts::holds;
+use test_asserts::{holds, is_told};
 use test_files::{Folder, OneFile};
 
 // A script of a write, a flush and a close.
@@ -13,24 +14,32 @@ const FIRST: &str = "data 16\nlog 32\nw a 5 1 41\nc a\nf b\nc b\nclose\n";
 
 /// What a command line after the program's name tells of a folder's files: its status, its output and its faults, parted by `|`. A line feed is shown as `;`.
 pub fn output_of<F: Files>(alloc: Global, line: &str, files: &mut F) -> Result<String, Fail> {
+    let words = words_of(alloc, line)?;
+    let mut out = Vec::new(alloc);
+    let mut err = Vec::new(alloc);
+    let ended = execute(alloc, &words, files, &mut out, &mut err);
+    told(alloc, ended.exit.status(), &out, &err)
+}
+
+// The program's name, and the words of a command line after it.
+fn words_of<'a>(alloc: Global, line: &'a str) -> Result<Vec<&'a str>, AllocError> {
     let mut words = vec![in alloc; "dmlw"]?;
     for word in line.split(' ') {
         words.push(word)?;
     }
-    let mut out = Vec::new(alloc);
-    let mut err = Vec::new(alloc);
-    let ended = execute(alloc, &words, files, &mut out, &mut err);
-    let told = format!(in alloc;
-        "{}|{}|{}",
-        ended.exit.status(),
-        str::from_utf8(&out).unwrap_or_default(),
-        str::from_utf8(&err).unwrap_or_default()
-    )?;
+    Ok(words)
+}
+
+// A status, an output and faults as one text.
+fn told(alloc: Global, status: u8, out: &[u8], err: &[u8]) -> Result<String, Fail> {
+    let out = str::from_utf8(out).unwrap_or_default();
+    let err = str::from_utf8(err).unwrap_or_default();
+    let told = format!(in alloc; "{status}|{out}|{err}")?;
     with_semicolons(alloc, told.as_str())
 }
 
-// A text with `;` for each line feed.
-fn with_semicolons(alloc: Global, text: &str) -> Result<String, Fail> {
+/// A text with `;` for each line feed.
+pub fn with_semicolons(alloc: Global, text: &str) -> Result<String, Fail> {
     let mut shown = String::new(alloc);
     for letter in text.chars() {
         shown.push(if letter == '\n' { ';' } else { letter })?;
@@ -38,47 +47,100 @@ fn with_semicolons(alloc: Global, text: &str) -> Result<String, Fail> {
     Ok(shown)
 }
 
+/// A folder with a script.
+pub fn folder_of(alloc: Global, script: &str) -> Result<Folder, AllocError> {
+    let mut folder = Folder::new(alloc);
+    let script = Vec::from_slice(alloc, script.as_bytes())?;
+    folder.put(alloc, "script", script)?;
+    Ok(folder)
+}
+
+// Command lines over a script of a write, a flush and a close, and what each puts out.
+const OUTPUTS: &str = "record script log=a ok;b ok;3 4;
+list log=super version 1 entries 3 sectorsize 512;0 @1 write 5+1;1 @3 flush;2 @4 mark dm-log-writes-end;
+status log=3 4;";
+
+// A command line puts this out, or tells that memory is wanted.
+fn check_output<F: Files>(
+    rt: &(impl Abort + Print),
+    alloc: Global,
+    files: &mut F,
+    line: &str,
+    wanted: &str,
+) -> Result<(), Fail> {
+    let told = output_of(alloc, line, files)?;
+    let (status, told) = told.as_str().split_once('|').unwrap_or_default();
+    let (out, err) = told.split_once('|').unwrap_or_default();
+    let is_whole = status == "0" && out == wanted && err.is_empty();
+    let is_told = matches!(
+        err,
+        "" | "dmlw: 2 Memory;" | "dmlw: 20 Memory;" | "dmlw: 32 File;"
+    );
+    assert!(rt; holds(rt, is_whole || status != "0" && is_told, line));
+    Ok(())
+}
+
+// So does each of these.
+fn check_outputs<F: Files>(
+    rt: &(impl Abort + Print),
+    alloc: Global,
+    files: &mut F,
+) -> Result<(), Fail> {
+    for row in OUTPUTS.split('\n') {
+        let (line, wanted) = row.split_once('=').unwrap_or_default();
+        check_output(rt, alloc, files, line, wanted)?;
+    }
+    Ok(())
+}
+
 // Where an allocation is refused (`rt try --test --fail-alloc N`) that is what is shown, in place of an answer.
 #[test]
 fn shows_want_of_memory(rt: HostRuntime) -> Result<(), Fail> {
-    let alloc = rt.alloc();
-    let mut folder = Folder::new(alloc);
-    folder.put(alloc, "script", Vec::from_slice(alloc, FIRST.as_bytes())?)?;
-    let whole =
-        "super version 1 entries 3 sectorsize 512;0 @1 write 5+1;1 @3 flush;2 @4 mark dm-log-writes-end;";
-    for (line, wanted) in [
-        ("record script log", "a ok;b ok;3 4;"),
-        ("list log", whole),
-        ("status log", "3 4;"),
-    ] {
-        let told = output_of(alloc, line, &mut folder)?;
-        let (status, told) = told.as_str().split_once('|').unwrap_or_default();
-        let (out, err) = told.split_once('|').unwrap_or_default();
-        let is_whole = status == "0" && out == wanted && err.is_empty();
-        let is_told = matches!(
-            err,
-            "" | "dmlw: 2 Memory;" | "dmlw: 20 Memory;" | "dmlw: 32 File;"
-        );
-        assert!(rt; holds(&rt, is_whole || status != "0" && is_told, line));
-    }
+    let mut folder = folder_of(rt.alloc(), FIRST)?;
+    check_outputs(&rt, rt.alloc(), &mut folder)
+}
+
+// The log of the first script, recorded in its folder.
+fn log_of(alloc: Global, folder: &mut Folder) -> Result<Vec<u8>, Fail> {
+    let _ = output_of(alloc, "record script log", folder)?;
+    Ok(Vec::from_slice(alloc, folder.bytes("log").unwrap_or_default())?)
+}
+
+// What a command line tells begins with this status.
+fn check_status<F: Files>(
+    rt: &(impl Abort + Print),
+    alloc: Global,
+    files: &mut F,
+    line: &str,
+    status: &str,
+) -> Result<(), Fail> {
+    let told = output_of(alloc, line, files)?;
+    assert!(rt; holds(rt, told.as_str().starts_with(status), line));
     Ok(())
+}
+
+// So it does of an image that takes so many bytes.
+fn check_length(
+    rt: &(impl Abort + Print),
+    alloc: Global,
+    image: &[u8],
+    length: u64,
+    line: &str,
+    status: &str,
+) -> Result<(), Fail> {
+    let mut files = OneFile::new(image);
+    files.length = length;
+    check_status(rt, alloc, &mut files, line, status)
 }
 
 // An image may have 2^29 bytes and no more.
 #[test]
 fn refuses_a_longer_image(rt: HostRuntime) -> Result<(), Fail> {
     let alloc = rt.alloc();
-    let mut folder = Folder::new(alloc);
-    folder.put(alloc, "script", Vec::from_slice(alloc, FIRST.as_bytes())?)?;
-    let _ = output_of(alloc, "record script log", &mut folder)?;
-    let image = folder.bytes("log").ok_or("a log")?;
-    for (length, status) in [(536_870_912, "0|"), (536_870_913, "1|")] {
-        let mut files = OneFile::new(image);
-        files.length = length;
-        for line in ["list image", "status image"] {
-            let told = output_of(alloc, line, &mut files)?;
-            assert!(rt; holds(&rt, told.as_str().starts_with(status), line));
-        }
+    let image = log_of(alloc, &mut folder_of(alloc, FIRST)?)?;
+    for line in ["list image", "status image"] {
+        check_length(&rt, alloc, &image, 536_870_912, line, "0|")?;
+        check_length(&rt, alloc, &image, 536_870_913, line, "1|")?;
     }
     Ok(())
 }
@@ -139,8 +201,13 @@ fn prints_the_formats(rt: HostRuntime) {
     assert!(rt; ended.exit.status() == 0 && err.is_empty());
     let page = str::from_utf8(&out).unwrap_or_default();
     assert!(rt; page.starts_with("# Formats\n"));
+    check_page(&rt, page);
+}
+
+// The page has each of these rows.
+fn check_page(rt: &(impl Abort + Print), page: &str) {
     for row in ROWS.split('\n') {
-        assert!(rt; holds(&rt, page.contains(row), row));
+        assert!(rt; holds(rt, page.contains(row), row));
     }
 }
 
@@ -155,35 +222,48 @@ fn shows_help_where_no_word_is_given(rt: HostRuntime) {
     assert!(rt; ended.exit.status() == 2 && out.is_empty() && !err.is_empty());
 }
 
+// The status of a word that can't be read for this reason.
+fn refused(alloc: Global, kind: io::ErrorKind, err: &mut Vec<u8>) -> u8 {
+    refuse(alloc, io::Error::from(kind), err)
+}
+
 #[test]
 fn refuses_unreadable_words(rt: HostRuntime) {
     let mut err = Vec::new(rt.alloc());
-    let error = io::Error::from(io::ErrorKind::InvalidData);
-    assert_eq!(rt; refuse(rt.alloc(), error, &mut err), 2);
-    let error = io::Error::from(io::ErrorKind::OutOfMemory);
-    assert_eq!(rt; refuse(rt.alloc(), error, &mut err), 1);
-    let error = io::Error::from(io::ErrorKind::Other);
-    assert_eq!(rt; refuse(rt.alloc(), error, &mut err), 1);
+    assert!(rt; refused(rt.alloc(), io::ErrorKind::InvalidData, &mut err) == 2);
+    assert!(rt; refused(rt.alloc(), io::ErrorKind::OutOfMemory, &mut err) == 1);
+    assert!(rt; refused(rt.alloc(), io::ErrorKind::Other, &mut err) == 1);
     let shown =
         "error: a word of the command line isn't UTF-8 text\ndmlw: 2 Memory\ndmlw: 32 File\n";
     assert!(rt; err.as_slice() == shown.as_bytes());
+}
+
+// The reasons that are told for files.
+fn check_reasons<F: Files>(
+    rt: &(impl Abort + Print),
+    alloc: Global,
+    files: &mut F,
+) -> Result<(), Fail> {
+    let told = output_of(alloc, "--explain list no-such-folder/log", files)?;
+    let wanted =
+        "1||dmlw: 32 File;  no-such-folder/log can't be read: No such file or directory (os error 2);";
+    assert!(rt; is_told(rt, told.as_str(), wanted, "a file that isn't there"));
+    let told = output_of(alloc, "--explain record same same", files)?;
+    let is_begun = told.as_str().starts_with("1||dmlw: 32 File;");
+    let ending = "the log would be written over its script;";
+    assert!(rt;
+        holds(
+            rt,
+            is_begun && told.as_str().ends_with(ending),
+            told.as_str()
+        )
+    );
+    Ok(())
 }
 
 // The system's reason for a file of it.
 #[test]
 fn explains_files(rt: HostRuntime) -> Result<(), Fail> {
     let mut files = HostFiles::new(&rt);
-    let told = output_of(rt.alloc(), "--explain list no-such-folder/log", &mut files)?;
-    assert_eq!(rt;
-        told.as_str(),
-        "1||dmlw: 32 File;  no-such-folder/log can't be read: No such file or directory (os error 2);"
-    );
-    let told = output_of(rt.alloc(), "--explain record same same", &mut files)?;
-    assert!(rt;
-        told.as_str().starts_with("1||dmlw: 32 File;")
-            && told
-                .as_str()
-                .ends_with("the log would be written over its script;")
-    );
-    Ok(())
+    check_reasons(&rt, rt.alloc(), &mut files)
 }

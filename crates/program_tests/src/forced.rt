@@ -1,9 +1,11 @@
 // Generated scripts under layers, crashed at each of their lines: the log that is found lists with no fault, and each beginning
 // of it replays to an image of which the verdict is yes at one of the moments at least.
-use crate::commands::output_of;
+use crate::commands::{folder_of, output_of};
 use std::alloc::{AllocError, Global};
+use std::io::Print;
 use std::process::Abort;
 use std::test::Fail;
+use test_asserts::holds;
 use test_files::{Folder, Numbers};
 
 // The heads of scripts: their disks, and layers that fail calls and tell no lie.
@@ -85,13 +87,18 @@ fn crashed(
     for line in lines {
         text.push_str(line)?;
     }
+    push_crash(alloc, numbers, &mut text)?;
+    Ok(text)
+}
+
+// Appends a crash with some picks.
+fn push_crash(alloc: Global, numbers: &mut Numbers, text: &mut String) -> Result<(), AllocError> {
     text.push_str("crash")?;
     for _ in 0..numbers.below(8) {
-        text.push(' ')?;
-        text.push_str(numbers.below(5).to_string(alloc)?.as_str())?;
+        text.push_str(format!(in alloc; " {}", numbers.below(5))?.as_str())?;
     }
     text.push('\n')?;
-    Ok(text)
+    Ok(())
 }
 
 // What was seen of all cases.
@@ -113,25 +120,64 @@ fn is_held(alloc: Global, moments: u64, folder: &mut Folder) -> Result<bool, Fai
     Ok(false)
 }
 
+// A folder with a script, and an image of zeroes.
+fn folder_with_zeroes(alloc: Global, script: &str) -> Result<Folder, AllocError> {
+    let zeroes = vec![in alloc; 0; 3072]?;
+    let mut folder = folder_of(alloc, script)?;
+    folder.put(alloc, "zeroes", zeroes)?;
+    Ok(folder)
+}
+
+// Replays so many entries of the log, and judges what they leave.
+fn judge_beginning(
+    rt: &(impl Abort + Print),
+    alloc: Global,
+    script: &str,
+    count: usize,
+    folder: &mut Folder,
+) -> Result<(), Fail> {
+    let line = format!(in alloc; "replay log zeroes image entries:{count}")?;
+    let replayed = output_of(alloc, &line, folder)?;
+    assert!(rt; holds(rt, replayed.starts_with("0|replayed "), script));
+    assert!(rt; holds(rt, is_held(alloc, LINES, folder)?, script));
+    Ok(())
+}
+
 // Records a script that ends by a crash, and replays and judges each beginning of the log that is found.
-fn force(rt: &impl Abort, alloc: Global, script: &str, seen: &mut Seen) -> Result<(), Fail> {
-    let mut folder = Folder::new(alloc);
-    folder.put(alloc, "script", Vec::from_slice(alloc, script.as_bytes())?)?;
-    folder.put(alloc, "zeroes", vec![in alloc; 0; 3072]?)?;
-    let recorded = output_of(alloc, "record script log", &mut folder)?;
-    let listed = output_of(alloc, "list log", &mut folder)?;
-    assert!(rt; listed.ends_with(";|"), "{script}{recorded}{listed}");
+fn force(
+    rt: &(impl Abort + Print),
+    alloc: Global,
+    script: &str,
+    folder: &mut Folder,
+    seen: &mut Seen,
+) -> Result<(), Fail> {
+    let recorded = output_of(alloc, "record script log", folder)?;
+    let listed = output_of(alloc, "list log", folder)?;
+    assert!(rt; holds(rt, listed.ends_with(";|"), script));
     seen.logs = seen.logs.saturating_add(1);
     let entries = listed.matches(';').count().saturating_sub(1);
     for count in 0..=entries {
-        let line = format!(in alloc; "replay log zeroes image entries:{count}")?;
-        let replayed = output_of(alloc, &line, &mut folder)?;
-        assert!(rt; replayed.starts_with("0|replayed "), "{script}{replayed}");
-        assert!(rt;
-            is_held(alloc, LINES, &mut folder)?,
-            "{script}{listed}{count}"
-        );
+        judge_beginning(rt, alloc, script, count, folder)?;
         seen.beginnings = seen.beginnings.saturating_add(1);
+    }
+    Ok(())
+}
+
+// Forces the script of a seed, crashed at each of its lines.
+fn force_seed(
+    rt: &(impl Abort + Print),
+    alloc: Global,
+    seed: usize,
+    seen: &mut Seen,
+) -> Result<(), Fail> {
+    let mut numbers = Numbers::new(seed as u64);
+    let head = HEADS.get(seed % HEADS.len()).copied().unwrap_or_default();
+    let lines = lines_of(alloc, &mut numbers)?;
+    for count in 0..=lines.len() {
+        let begun = lines.get(..count).unwrap_or_default();
+        let script = crashed(alloc, &mut numbers, head, begun)?;
+        let mut folder = folder_with_zeroes(alloc, script.as_str())?;
+        force(rt, alloc, script.as_str(), &mut folder, seen)?;
     }
     Ok(())
 }
@@ -144,16 +190,8 @@ fn crashes_leave_beginnings_that_are_judged_possible(rt: HostRuntime) -> Result<
         beginnings: 0,
     };
     for seed in 1..=24 {
-        let mut numbers = Numbers::new(seed as u64);
-        let head = HEADS.get(seed % HEADS.len()).copied().unwrap_or_default();
-        let lines = lines_of(alloc, &mut numbers)?;
-        for count in 0..=lines.len() {
-            let begun = lines.get(..count).unwrap_or_default();
-            let script = crashed(alloc, &mut numbers, head, begun)?;
-            force(&rt, alloc, &script, &mut seen)?;
-        }
+        force_seed(&rt, alloc, seed, &mut seen)?;
     }
-    assert_eq!(rt; seen.logs, 312);
-    assert!(rt; seen.beginnings > 300);
+    assert!(rt; seen.logs == 312 && seen.beginnings > 300);
     Ok(())
 }

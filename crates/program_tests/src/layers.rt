@@ -1,9 +1,11 @@
 //! Layers under the log that fail calls, and what stands in the log then.
-use crate::commands::output_of;
+use crate::commands::{folder_of, output_of};
+use dmlw_files::Files;
 use std::alloc::Global;
+use std::io::Print;
+use std::process::Abort;
 use std::test::Fail;
 use test_asserts::holds;
-use test_files::Folder;
 
 // The log of a whole run of the script below, as it is listed behind its first line.
 const WHOLE: &str = "0 @1 write 5+1;1 @3 flush;2 @4 mark dm-log-writes-end;";
@@ -30,6 +32,20 @@ fn is_beginning(listed: &str) -> bool {
     }
 }
 
+// Under these two layers and a fuse of so many calls what is listed is a beginning.
+fn check_layers(
+    rt: &(impl Abort + Print),
+    alloc: Global,
+    first: &str,
+    second: &str,
+    calls: u64,
+) -> Result<(), Fail> {
+    let script = layered(alloc, first, second, calls)?;
+    let listed = listed_of(alloc, script.as_str())?;
+    assert!(rt; holds(rt, is_beginning(listed.as_str()), script.as_str()));
+    Ok(())
+}
+
 // Each layer over each, and a fuse of 0 to 6 calls over both: where a log could be made, its entries are a beginning of the list.
 #[test]
 fn layers_leave_beginnings(rt: HostRuntime) -> Result<(), Fail> {
@@ -37,9 +53,7 @@ fn layers_leave_beginnings(rt: HostRuntime) -> Result<(), Fail> {
     for first in LOWER {
         for second in LOWER {
             for calls in 0..7 {
-                let script = layered(alloc, first, second, calls)?;
-                let listed = listed_of(alloc, script.as_str())?;
-                assert!(rt; holds(&rt, is_beginning(listed.as_str()), script.as_str()));
+                check_layers(&rt, alloc, first, second, calls)?;
             }
         }
     }
@@ -48,19 +62,16 @@ fn layers_leave_beginnings(rt: HostRuntime) -> Result<(), Fail> {
 
 // What is listed of the log that a script leaves; a whole list where it leaves none, since its device can't be written.
 fn listed_of(alloc: Global, script: &str) -> Result<String, Fail> {
-    let mut folder = Folder::new(alloc);
-    folder.put(alloc, "script", Vec::from_slice(alloc, script.as_bytes())?)?;
-    let told = output_of(alloc, "record script log", &mut folder)?;
+    list_after(alloc, &mut folder_of(alloc, script)?)
+}
+
+// The same of the script of some files.
+fn list_after<F: Files>(alloc: Global, files: &mut F) -> Result<String, Fail> {
+    let told = output_of(alloc, "record script log", files)?;
     if told.as_str().ends_with("dmlw: 19 Device;") {
         return Ok(format!(in alloc; "none;{WHOLE}")?);
     }
-    let listed = output_of(alloc, "list log", &mut folder)?;
-    Ok(String::from_str(
-        alloc,
-        listed
-            .as_str()
-            .strip_prefix("0|")
-            .unwrap_or("")
-            .trim_end_matches('|'),
-    )?)
+    let told = output_of(alloc, "list log", files)?;
+    let listed = told.as_str().strip_prefix("0|").unwrap_or("");
+    Ok(String::from_str(alloc, listed.trim_end_matches('|'))?)
 }

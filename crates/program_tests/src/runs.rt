@@ -1,11 +1,12 @@
 //! What `record` and `rehearse` answer, beside what a transcript shows.
+use crate::commands::with_semicolons;
 use dmlw_script::{Kind, Script, read_script};
 use run_error::RunError;
 use script_runner::*;
 use std::alloc::{AllocError, Global};
 use std::process::Abort;
 use std::test::Fail;
-use test_asserts::is_same;
+use test_asserts::rows_are_told;
 
 // The text of a script of these lines.
 fn text_of(alloc: Global, lines: &str) -> Result<String, AllocError> {
@@ -26,19 +27,26 @@ fn run_text(rt: &impl Abort, alloc: Global, text: &str) -> Result<String, Fail> 
 // The same of the script.
 fn told(rt: &impl Abort, alloc: Global, text: &str, script: &Script) -> Result<String, Fail> {
     let mut out = Vec::new(alloc);
-    let ended = match record(alloc, text.as_bytes(), script, &mut out) {
+    let done = record(alloc, text.as_bytes(), script, &mut out);
+    let ended = ended_text(rt, alloc, script.log().sectors(), done)?;
+    let out = with_semicolons(alloc, str::from_utf8(&out).unwrap_or_default())?;
+    Ok(format!(in alloc; "{out}{ended}")?)
+}
+
+// How a run ended, whose log has so many sectors: the status, or the fault.
+fn ended_text(
+    rt: &impl Abort,
+    alloc: Global,
+    sectors: u64,
+    done: Result<Recorded, RunError>,
+) -> Result<String, AllocError> {
+    match done {
         Ok(recorded) => {
-            assert_eq!(rt; recorded.image.len() as u64, 512 * script.log().sectors());
-            recorded.status.to_string(alloc)?
+            assert!(rt; recorded.image.len() as u64 == sectors.saturating_mul(512));
+            recorded.status.to_string(alloc)
         }
-        Err(error) => error.to_string(alloc)?,
-    };
-    let mut shown = String::new(alloc);
-    for byte in out {
-        shown.push(if byte == b'\n' { ';' } else { char::from(byte) })?;
+        Err(error) => error.to_string(alloc),
     }
-    shown.push_str(ended.as_str())?;
-    Ok(shown)
 }
 
 // The image has the log disk's size, and the status is told.
@@ -64,29 +72,31 @@ log 32,close,close,mark late=1
 log 32,w a 5 1 41,c a,w b 6 1 42,close=line 6: 24 Busy
 log 32,log-layer 0 32 error,w a 5 1 41=19 Device";
 
-// How many events a rehearsal of the script leaves, or how it fails.
+// How many events a rehearsal of the script of a text leaves, or how it fails.
 fn rehearsed(alloc: Global, text: &str) -> Result<String, Fail> {
-    let script = read_script(alloc, text.as_bytes(), Kind::Record)?;
-    match count_events(alloc, text, &script) {
+    match count_events(alloc, text)? {
         Ok(count) => Ok(count.to_string(alloc)?),
         Err(error) => Ok(error.to_string(alloc)?),
     }
 }
 
-// How many events a rehearsal leaves.
-fn count_events(alloc: Global, text: &str, script: &Script) -> Result<usize, RunError> {
-    Ok(rehearse(alloc, text.as_bytes(), script)?.events().len())
+// The same as a number and an error.
+fn count_events(alloc: Global, text: &str) -> Result<Result<usize, RunError>, Fail> {
+    let script = read_script(alloc, text.as_bytes(), Kind::Record)?;
+    let rehearsed = rehearse(alloc, text.as_bytes(), &script);
+    Ok(rehearsed.map(|rehearsed| rehearsed.events().len()))
 }
 
 #[test]
 fn scripts_are_rehearsed(rt: HostRuntime) -> Result<(), Fail> {
     let alloc = rt.alloc();
-    for row in REHEARSALS.lines() {
-        let mut parts = row.split("=");
-        let text = text_of(alloc, parts.next().unwrap_or_default())?;
-        let shown = rehearsed(alloc, text.as_str())?;
-        assert!(rt; is_same(&rt, &Some(shown.as_str()), &parts.next(), row));
-    }
+    assert!(rt;
+        rows_are_told(
+            &rt,
+            REHEARSALS,
+            |lines| rehearsed(alloc, text_of(alloc, lines)?.as_str()),
+        )?
+    );
     Ok(())
 }
 

@@ -55,8 +55,20 @@ fn run<R: AllocGlobal>(
     all: &mut Tally,
 ) -> io::Result<String> {
     let mut session = Session::new(rt.alloc());
+    run_in(rt, name, text, is_again, &mut session, all)
+}
+
+// The same in a folder.
+fn run_in<R: AllocGlobal>(
+    rt: &R,
+    name: &str,
+    text: &str,
+    is_again: bool,
+    session: &mut Session,
+    all: &mut Tally,
+) -> io::Result<String> {
     let mut here = Tally::new();
-    let mut shown = transcript::run(rt.alloc(), text, is_again, &mut session, &mut here)?;
+    let mut shown = transcript::run(rt.alloc(), text, is_again, session, &mut here)?;
     if !is_again {
         shown.push_str(format!(in rt.alloc(); "{name}: {here}\n")?.as_str())?;
     }

@@ -195,13 +195,23 @@ impl Session {
     // Executes the words of a command line, and shows what it tells.
     fn execute(&mut self, out: Outlet, err: Outlet, line: &str) -> Result<(), AllocError> {
         let (mut out, mut err) = (out, err);
+        self.execute_on(&mut out, &mut err, line)
+    }
+
+    // The same on outputs that stay with the caller.
+    fn execute_on(
+        &mut self,
+        out: &mut Outlet,
+        err: &mut Outlet,
+        line: &str,
+    ) -> Result<(), AllocError> {
         let words = words_of(self.alloc, line)?;
         let ended = execute(
             self.alloc,
             &words,
             &mut self.folder,
-            &mut Output::new(&mut out),
-            &mut err,
+            &mut Output::new(&mut *out),
+            err,
         );
         let is_held = out.is_held() || err.is_held();
         push_told(&mut self.shown, out.taken(), err.taken())?;

@@ -53,11 +53,23 @@ pub fn run(
         text: String::new(alloc),
         is_again,
     };
-    let mut step = Step::new(alloc);
-    go_through(text, &mut step, &mut report, session, tally)?;
+    run_steps(alloc, text, &mut report, session, tally)?;
     Ok(report.text)
 }
 
+// Runs a transcript's commands from its first line on.
+fn run_steps(
+    alloc: Global,
+    text: &str,
+    report: &mut Report,
+    session: &mut Session,
+    tally: &mut Tally,
+) -> Result<(), AllocError> {
+    let mut step = Step::new(alloc);
+    go_through(text, &mut step, report, session, tally)
+}
+
+// Takes each line of a transcript.
 fn go_through(
     text: &str,
     step: &mut Step,

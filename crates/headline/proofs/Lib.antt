@@ -1,2 +1,3 @@
 mod Promised
 mod Reopened
+mod Examples

@@ -1,4 +1,4 @@
-ghost use Rattle.std.specs.Prelude.{false, true, min, ◌+◌, ◌^◌, ◌-◌};
+ghost use Rattle.std.specs.Prelude.{◌≡◌, ◌+◌, ◌^◌, ◌-◌, false, min, true};
 ghost use Rattle.blockdev.specs.Counted.{counted, lawful_counted};
 
 use bio::{DevError, Ms};

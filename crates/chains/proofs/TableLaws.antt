@@ -1,7 +1,6 @@
 -- What the calls make of the table.
-use Rattle.std.proofs.Common.{◌≡◌, ℕ, ◌<◌, List, [], length, set, Option, Some, None, refl, ap, sym, ◌∙◌, subst, arith}
+use Rattle.std.proofs.Common.{◌≡◌, ℕ, ◌<◌, List, [], length, set, Option, Some, None, refl, ap, sym, ◌∙◌, subst, arith, length-append, ◌++◌, ◌∷◌}
 use Rattle.std.proofs.lemmas.List.{set-append_left}
-use Rattle.std.proofs.Common.{length-append, ◌++◌, ◌∷◌}
 use Rattle.chains.specs.declared.links.Links.{Links}
 use Rattle.chains.specs.declared.walk.Walk.{Walk}
 use Rattle.chains.specs.Edits.{chain_in}

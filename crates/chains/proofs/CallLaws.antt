@@ -1,11 +1,10 @@
 -- What a call that takes a value out of the table, or puts one in, leaves of it.
 use Rattle.std.proofs.Common.{◌≡◌, ℕ, zero, suc, ◌+◌, ◌-◌, ◌<◌, ◌≤◌, max, List, [], ◌∷◌, ◌++◌, length, map, get_or, set, drop, replicate, Option, Some, None, refl, ap, sym, ◌∙◌, subst, arith, length-append}
-use Rattle.std.proofs.lemmas.List.{length-map, length-replicate}
+use Rattle.std.proofs.lemmas.List.{length-map, length-replicate, get_or_at, set_at}
 use Rattle.std.proofs.lemmas.List.Sums.{sum_by-cons}
 use Rattle.std.specs.List.{sum_by}
 use Rattle.std.specs.Prelude.{slice_get, OnSome, Bool, true, false, not, is_some, ◌==◌}
 use Rattle.std.proofs.lemmas.Bool.{ne_eqb}
-use Rattle.std.proofs.lemmas.List.{get_or_at, set_at}
 use Rattle.chains.specs.declared.links.Links.{Links}
 use Rattle.chains.specs.declared.walk.Walk.{Walk}
 use Rattle.chains.specs.Edits.{chain_in, lengthened, preceded, shortened}

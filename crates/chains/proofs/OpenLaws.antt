@@ -10,11 +10,6 @@ use Rattle.chains.proofs.RingLaws.{times-same, times-other}
 use Rattle.chains.proofs.HoldsLaws.{default-grown, few-in, few-in-two, is-row, holds-grown}
 use Rattle.chains.proofs.ValueLaws.{chain-map, value-none, value-there, values-append, values-first, values-full, values-grown, values-kept, values-none}
 
--- values before which there is nothing
-pub with-none : {T : Type 0} (found : Option T) (values : List T) → with_value found values ≡ [] → values ≡ []
-with-none None values is = is
-with-none (Some value) values is = cc
-
 -- equal chains show the same
 pub shown-by : {T : Type 0} (rows : List (Option T)) (chains : List (List ℕ)) (seen : List (List T)) → length chains ≡ length seen
     → ((chain : ℕ) → values_of rows (chain_in chains chain) ≡ chain_in seen chain) → map (values_of rows) chains ≡ seen

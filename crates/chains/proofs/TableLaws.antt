@@ -1,5 +1,6 @@
 -- What the calls make of the table.
-use Rattle.std.proofs.Common.{◌≡◌, ℕ, ◌<◌, List, [], length, set, Option, Some, None, refl, ap, sym, ◌∙◌, subst, arith}
+use Rattle.std.proofs.Common.{◌≡◌, ℕ, ◌<◌, List, [], length, set, Option, Some, None, refl, ap, sym, ◌∙◌, subst, arith, length-append, ◌++◌, ◌∷◌}
+use Rattle.std.proofs.lemmas.List.{set-append_left}
 use Rattle.chains.specs.declared.links.Links.{Links}
 use Rattle.chains.specs.declared.walk.Walk.{Walk}
 use Rattle.chains.specs.Edits.{chain_in}
@@ -25,6 +26,17 @@ pub in-neither : (chains : List (List ℕ)) (from onto : ℕ) (left all : List �
     → chain_in (set (set chains from left) onto all) 0 ≡ chain_in chains 0
 in-neither chains from onto left all some more =
     in-other (set chains from left) onto 0 all (λ e. absurd (omega arith)) ∙ in-other chains from 0 left (λ e. absurd (omega arith))
+
+-- one more chain is seen as it is noted
+pub seen-grown : (lasts : List (Option ℕ)) (walk : Option Walk) → IsWalk lasts walk
+    → seen_lasts (lasts ++ None ∷ []) walk ≡ seen_lasts lasts walk ++ None ∷ []
+seen-grown lasts None walks = refl
+seen-grown lasts (Some walk) walks = set-append_left lasts (None ∷ []) walk.chain walk.at walks.1
+
+-- the walk goes on among more chains
+pub walk-grown : (lasts : List (Option ℕ)) (walk : Option Walk) → IsWalk lasts walk → IsWalk (lasts ++ None ∷ []) walk
+walk-grown lasts None walks = tt
+walk-grown lasts (Some walk) walks = (walks.0, (let less = walks.1 in omega (arith, length-append lasts (None ∷ []))))
 
 module _ {T : Type 0} where
   -- the same table, with its chains and last rows noted in an equal way

@@ -1,11 +1,9 @@
 -- What the walk over a chain makes of the table.
-use Rattle.std.proofs.Common.{◌≡◌, ◌≢◌, ℕ, ◌<◌, List, [], ◌∷◌, ◌++◌, length, map, set, take, drop, Option, Some, None, refl, ap, sym, ◌∙◌, subst, arith, length-set}
+use Rattle.std.proofs.Common.{◌≡◌, ◌≢◌, ℕ, ◌<◌, List, [], ◌∷◌, ◌++◌, length, map, set, take, drop, Option, Some, None, refl, ap, sym, ◌∙◌, subst, arith, length-set, inl, inr, vec_capacity, min, ◌-◌, ◌+◌}
 use Rattle.std.proofs.lemmas.Bool.{cases_eq}
-use Rattle.std.proofs.Common.{inl, inr}
 use Rattle.std.proofs.lemmas.List.{get_or-set_same, get_or-set_other, length-map, map-set, set-get_or, set-set, set_comm}
 use Rattle.chains.specs.declared.links.Links.{Links}
 use Rattle.chains.specs.declared.walk.Walk.{Walk}
-use Rattle.std.proofs.Common.{vec_capacity, min, ◌-◌, ◌+◌}
 use Rattle.chains.specs.Lends.{with_value}
 use Rattle.chains.specs.Edits.{chain_in, lifted, preceded, shortened, turned, with_first}
 use Rattle.chains.specs.inside.Rings.{after, last_in, times, Holds}

@@ -15,7 +15,7 @@ pub const FREE: usize = 0;
 /// Gets a row for a value, so that it's loose: the first free one, or a new one where none is free. At most 1 change.
 pub fn open_row<T>(links: &mut Links, rows: &mut Vec<Option<T>>) -> usize
     requires { HasRow links.old rows.old.items (vec_capacity rows.old) }
-    ensures open { (chains : List (List ℕ)) → IsTable links.old.next.items links.old.lasts.items rows.old.items chains →
+    ensures opened { (chains : List (List ℕ)) → IsTable links.old.next.items links.old.lasts.items rows.old.items chains →
         IsOpen links.new.next.items links.new.lasts.items rows.new.items result (shortened chains 0) }
     ensures shown { (chains : List (List ℕ)) → IsTable links.old.next.items links.old.lasts.items rows.old.items chains →
         map (values_of rows.new.items) (shortened chains 0) ≡ map (values_of rows.old.items) chains }

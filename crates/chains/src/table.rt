@@ -90,7 +90,6 @@ impl<T: Drop> Chains<T> {
     ///
     /// There was no memory. All is as before.
     pub fn reserve_row(&mut self) -> Result<(), AllocError>
-        requires rests { self.old.walked ≡ None }
         ensures same { self.new ≡ record self.old { spare = self.new.spare } }
         ensures spare { OnOk result (0 < self.new.spare) }
         ensures kept { self.old.spare ≤ self.new.spare }
@@ -103,14 +102,10 @@ impl<T: Drop> Chains<T> {
 
     /// Begins a chain with no values. Takes no memory.
     pub fn begin(&mut self)
-        requires rests { self.old.walked ≡ None }
-        requires room { 0 < self.old.room }
+        requires { 0 < self.old.room }
         ensures chains { self.new.chains ≡ self.old.chains ++ [] ∷ [] }
-        ensures changed { self.new.changed ≡ self.old.changed }
-        ensures walked { self.new.walked ≡ None }
-        ensures rows { self.new.rows ≡ self.old.rows }
         ensures room { self.new.room + 1 ≡ self.old.room }
-        ensures spare { self.new.spare ≡ self.old.spare }
+        ensures rest { self.new ≡ record self.old { chains = self.new.chains; room = self.new.room } }
     {
         self.links.begin();
     }

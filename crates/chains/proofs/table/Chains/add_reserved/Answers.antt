@@ -13,7 +13,7 @@ pub put_value-requires : goal.put_value-requires
 put_value-requires g c =
     let rests = rw (← c.self.view_is) at c.requires.rests in
     let t = table-rest c.self.invariant rests in
-    open-within (c.open_row-row.ensures.«open» (seen_chains c.self.inside.links c.self.inside.walk) t)
+    open-within (c.open_row-row.ensures.opened (seen_chains c.self.inside.links c.self.inside.walk) t)
 
 pub put_last-requires : goal.put_last-requires
 put_last-requires g c =
@@ -22,7 +22,7 @@ put_last-requires g c =
     let t = table-rest c.self.invariant rests in
     let less = chain-noted t c.args.chain there.1 in
     let same = c.open_row-row.ensures.chains in
-    loose-open (c.open_row-row.ensures.«open» (seen_chains c.self.inside.links c.self.inside.walk) t) c.args.chain (omega arith)
+    loose-open (c.open_row-row.ensures.opened (seen_chains c.self.inside.links c.self.inside.walk) t) c.args.chain (omega arith)
 
 -- nothing is walked
 rests : (g : given.Over) (c : goal.After-put_last g) → walked_in c.self.inside.walk ≡ None
@@ -32,7 +32,7 @@ rests g c = rw (← c.self.view_is) at c.requires.rests
 loose : (g : given.Over) (c : goal.After-put_last g)
     → IsOpen c.open_row-row.new.links.next.items c.open_row-row.new.links.lasts.items c.open_row-row.new.rows.items c.open_row-row.result
     (shortened (seen_chains c.self.inside.links c.self.inside.walk) 0)
-loose g c = c.open_row-row.ensures.«open» (seen_chains c.self.inside.links c.self.inside.walk) (table-rest c.self.invariant (rests g c))
+loose g c = c.open_row-row.ensures.opened (seen_chains c.self.inside.links c.self.inside.walk) (table-rest c.self.invariant (rests g c))
 
 -- the table after the call
 table : (g : given.Over) (c : goal.After-put_last g)

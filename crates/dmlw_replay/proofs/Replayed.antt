@@ -6,6 +6,7 @@ use Rattle.blockdev.specs.View.{View}
 use Rattle.blockdev.specs.Law.{NoLie}
 use Rattle.bio.specs.declared.outcome.DevError.TheVariants as devices
 use Rattle.sector_disk.specs.Sizes.{Begins}
+use Rattle.log_format.specs.declared.decode.Super.{Super}
 use Rattle.log_format.specs.declared.entry.Entry.{Entry}
 use Rattle.log_format.specs.Decode.{super_of}
 use Rattle.log_format.specs.LogOf.{log_sectors}
@@ -115,8 +116,8 @@ reading_on log v head es fault image begins reads =
 -- a replay that was done
 pub replayed_on : (log first : List ℕ) (upto : Upto) (count : ℕ) (disk v w : View) → IsImage log → Begins (length log / 512) (sector_of log) disk
     → Begins (length first / 512) (sector_of first) v → w.size ≡ v.size → NoLie v w → IsReopened disk upto count v w → IsReplayedOn log first upto count w
-replayed_on log first upto count disk v w image log_begins begins size honest done =
-    let applied : IsApplied done.head.sectorsize done.entries 0 count v.content w.content = done.applied honest in
+replayed_on log first upto count disk v w image log_begins begins size no_lie done =
+    let applied : IsApplied done.head.sectorsize done.entries 0 count v.content w.content = done.applied no_lie in
     let alike = replay_alike done.head.sectorsize (entries_from done.entries 0 count) (length first / 512) (sector_of first) v.content begins.content in
     record {
       head = done.head;
@@ -124,7 +125,7 @@ replayed_on log first upto count disk v w image log_begins begins size honest do
       fault = done.fault;
       reading = reading_on log disk done.head done.entries done.fault image log_begins done.reading;
       named = done.named;
-      within = applied.some;
+      within = λ some. let all = applied.some some in omega arith;
       size = size ∙ begins.size;
       content = λ sector below. ap (λ (c : Content). c sector) applied.content ∙ alike sector below;
     }
@@ -137,7 +138,8 @@ cause_on es fault upto head log last v w disk applied replays.PastEntries size r
 cause_on es fault upto head log last v w disk applied replays.NoSuchMark size reader target lacks = lacks
 cause_on es fault upto head log last v w disk applied replays.NoFlush size reader target lacks = lacks
 cause_on es fault upto head log last v w disk applied replays.PastTarget size reader target reaches =
-    subst (λ (n : ℕ). ReachesPast head.sectorsize es applied n) size reaches
+    let here : 0 + applied ≡ applied = omega arith in
+    subst (λ (n : ℕ). ReachesPast head.sectorsize es applied n) size (subst (λ (p : ℕ). ReachesPast head.sectorsize es p v.size) here reaches)
 cause_on es fault upto head log last v w disk applied (replays.Log (reads.Log found)) size reader target is = is
 cause_on es fault upto head log last v w disk applied (replays.Log reads.Device) size reader target failed = absurd (reader failed)
 cause_on es fault upto head log last v w disk applied (replays.Log reads.Memory) size reader target is = tt
@@ -148,37 +150,37 @@ cause_on es fault upto head log last v w disk applied (replays.Target devices.Me
 -- as many entries as were applied when a replay stopped, there are
 applied_within : (size : ℕ) (es : List Entry) (old new : Content) (applied : ℕ) (cause : ReplayError) → LeavesBy size es 0 old new applied cause
     → 0 < applied → applied ≤ length es
-applied_within size es old new applied replays.PastEntries leaves more = leaves.some more
-applied_within size es old new applied replays.NoSuchMark leaves more = leaves.some more
-applied_within size es old new applied replays.NoFlush leaves more = leaves.some more
-applied_within size es old new applied replays.PastTarget leaves more = leaves.some more
-applied_within size es old new applied (replays.Log error) leaves more = leaves.some more
+applied_within size es old new applied replays.PastEntries leaves more = let all = leaves.some more in omega arith
+applied_within size es old new applied replays.NoSuchMark leaves more = let all = leaves.some more in omega arith
+applied_within size es old new applied replays.NoFlush leaves more = let all = leaves.some more in omega arith
+applied_within size es old new applied replays.PastTarget leaves more = let all = leaves.some more in omega arith
+applied_within size es old new applied (replays.Log error) leaves more = let all = leaves.some more in omega arith
 applied_within size es old new applied (replays.Target error) leaves more =
-    let there = slice_get_within es applied leaves.next leaves.there in omega arith
+    let there = slice_get_within es (0 + applied) leaves.next leaves.there in omega arith
 
 -- a replay that stopped
 pub stopped_on : (log first : List ℕ) (upto : Upto) (stop : ReplayFault) (disk last v w : View) → IsImage log → Begins (length log / 512) (sector_of log) disk
     → Begins (length first / 512) (sector_of first) v → (HasFaulted disk last → ⊥) → (HasFaulted v w → ⊥) → NoLie v w → IsStopped disk last upto v w stop
     → StopsReplay log first upto stop
-stopped_on log first upto stop disk last v w image log_begins begins reader target honest stopped = record {
-  head = stopped.head;
-  entries = stopped.entries;
-  fault = stopped.fault;
-  reading = reading_on log disk stopped.head stopped.entries stopped.fault image log_begins stopped.reading;
-  within = applied_within stopped.head.sectorsize stopped.entries v.content w.content stop.applied stop.cause (stopped.leaves honest);
-  cause = cause_on stopped.entries stopped.fault upto stopped.head disk last v w (length first / 512) stop.applied stop.cause begins.size reader target stopped.cause;
+stopped_on log first upto stop disk last v w image log_begins begins reader target no_lie halted = record {
+  head = halted.head;
+  entries = halted.entries;
+  fault = halted.fault;
+  reading = reading_on log disk halted.head halted.entries halted.fault image log_begins halted.reading;
+  within = applied_within halted.head.sectorsize halted.entries v.content w.content stop.applied stop.cause (halted.leaves no_lie);
+  cause = cause_on halted.entries halted.fault upto halted.head disk last v w (length first / 512) stop.applied stop.cause begins.size reader target halted.cause;
 }
 
 -- why a log isn't replayed on disks that never fail
 pub fails_on : (log first : List ℕ) (upto : Upto) (error : ReopenError) (stop : Stop) (disk last v w : View) → IsImage log
     → Begins (length log / 512) (sector_of log) disk → Begins (length first / 512) (sector_of first) v → (HasFaulted disk last → ⊥) → (HasFaulted v w → ⊥) → NoLie v w
     → IsRefused disk last upto v w error → stop ≡ stop_by error → FailsOnImages log first upto stop
-fails_on log first upto (reopens.Open error) stop disk last v w image log_begins begins reader target honest refused same =
+fails_on log first upto (reopens.Open error) stop disk last v w image log_begins begins reader target no_lie refused same =
     fails_to_open log first upto (refused_by (open_device_refusal error)) stop
     (unopened_on log disk last error (refused_by (open_device_refusal error)) image log_begins reader refused refl) same
-fails_on log first upto (reopens.Replay fault) stop disk last v w image log_begins begins reader target honest refused same =
+fails_on log first upto (reopens.Replay fault) stop disk last v w image log_begins begins reader target no_lie refused same =
     subst (FailsOnImages log first upto) (sym same)
-    (stopped fault (stopped_on log first upto fault disk last v w image log_begins begins reader target honest refused))
+    (stopped fault (stopped_on log first upto fault disk last v w image log_begins begins reader target no_lie refused))
 
 -- the image of the disk that a replay left
 pub image_of : (log first : List ℕ) (upto : Upto) (count : ℕ) (w : View) (image : List ℕ) → IsImage first → IsReplayedOn log first upto count w

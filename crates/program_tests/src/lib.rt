@@ -5,9 +5,9 @@
 #[cfg(test)]
 mod commands;
 #[cfg(test)]
-mod forced;
+mod crashed_logs;
 #[cfg(test)]
-mod headline;
+mod forced;
 #[cfg(test)]
 mod host;
 #[cfg(test)]

@@ -146,7 +146,7 @@ Logs that are replayed, and what image is left.
   replayed 1
   $ show out
   8192 bytes
-  5: 62*512
+  5: 61*512
   $ remove first
   $ remove out
   $ image first 8192
@@ -154,7 +154,7 @@ Logs that are replayed, and what image is left.
   replayed 2
   $ show out
   8192 bytes
-  5: 61*512
+  5: 62*512
   $ remove first
   $ remove out
   $ image first 8192
@@ -162,7 +162,7 @@ Logs that are replayed, and what image is left.
   replayed 4
   $ show out
   8192 bytes
-  5: 61*512
+  5: 62*512
   $ write script
   > data 16
   > log 32
@@ -183,6 +183,7 @@ Logs that are replayed, and what image is left.
   replayed 1
   $ show out
   8192 bytes
+  5: 61*512
   $ remove first
   $ remove out
   $ image first 8192
@@ -190,7 +191,7 @@ Logs that are replayed, and what image is left.
   replayed 2
   $ show out
   8192 bytes
-  9: 63*512
+  5: 61*512
   $ remove first
   $ remove out
   $ image first 8192

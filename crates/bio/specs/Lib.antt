@@ -9,4 +9,5 @@ pub mod Possible
 pub mod Lawful
 pub mod EventLaws
 pub mod RequestLaws
+pub mod PossibleLaws
 pub mod inside

@@ -1,16 +1,19 @@
 -- What the words of requests and events come to in numbers.
 use Rattle.std.proofs.Common.{◌≡◌, ◌↔◌, ℕ, zero, suc, ◌+◌, ◌/◌, ◌%◌, ◌==◌, ◌<◌, ◌≤◌, ◌≢◌, Bool, true, false, not, ◌&&◌, Option, Some, None, List, [], ◌∷◌, length, get_or, Result, Ok, Err, refl, ap, sym, ◌∙◌, inl, inr, arith}
 use Rattle.std.proofs.lemmas.Bool.{and_parts, le-leb, le-ltb, leb-true, lt-ltb, ltb-true, ltb-false, cases_lt}
-use Rattle.std.specs.Prelude.{◌⊎◌, nat_le, nat_lt, if◌then◌else◌}
+use Rattle.std.specs.Prelude.{◌⊎◌, is_ok, nat_le, nat_lt, if◌then◌else◌}
 use Rattle.bio.specs.declared.event.CoreEvent.{CoreEvent}
 use Rattle.bio.specs.declared.request.Bio.{Bio}
 use Rattle.bio.specs.declared.request.Bio.TheVariants.{Write, Flush, Discard, Read}
 use Rattle.bio.specs.declared.request.BadBio.{BadBio}
 use Rattle.bio.specs.declared.request.BadBio.TheVariants.{NotWhole, TooLong, PastEnd}
+use Rattle.sectors.specs.PlaceLaws.{bool_cases}
+use Rattle.bio.specs.declared.event.CoreEvent.TheVariants.{Submit, Complete, Mark, Stop, Close}
 use Rattle.bio.specs.Check.{check_answer, range_answer}
 use Rattle.bio.specs.EventLaws.{differ-eqb}
 use Rattle.bio.specs.Events.{end_of, is_before, is_below}
-use Rattle.bio.specs.Lawful.{is_text}
+use Rattle.bio.specs.Lawful.{is_text, is_within}
+use Rattle.bio.specs.Possible.{covers_at}
 use Rattle.bio.specs.Requests.{covers, first_sector, is_tracked, overlaps, sector_count}
 
 -- the tests of a request that covers a sector
@@ -188,3 +191,45 @@ check_answer-larger (Write first bytes flush fua meta) n m passed more =
 check_answer-larger Flush n m passed more = refl
 check_answer-larger (Discard first count) n m passed more = range_answer-larger first count n m passed more
 check_answer-larger (Read first count) n m passed more = range_answer-larger first count n m passed more
+
+-- an answer that is Ok
+is_ok-ok : (answer : Result (Unit {0}) BadBio) → is_ok answer ≡ true → answer ≡ Ok tt
+is_ok-ok (Ok tt) e = refl
+is_ok-ok (Err bad) e = cc
+
+-- a request that may be sent to a device ends within it
+pub passed_within : (bio : Bio) (sectors : ℕ) → check_answer bio sectors ≡ Ok tt → first_sector bio + sector_count bio ≤ sectors
+unfolding range_of_tests
+passed_within (Write first bytes flush fua meta) sectors passed =
+    let past = by_whole (length bytes % 512 == 0) passed in
+    ltb-false sectors (first + length bytes / 512) past
+  where
+    by_whole : (whole : Bool) → (if whole then range_answer first (length bytes / 512) sectors else Err NotWhole) ≡ Ok tt
+        → nat_lt sectors (first + length bytes / 512) ≡ false
+    by_whole true e = not_past (length bytes / 512 == 0) (nat_lt 2048 (length bytes / 512)) (nat_lt sectors (first + length bytes / 512)) e
+    by_whole false e = cc
+passed_within Flush sectors passed = omega arith
+passed_within (Discard first count) sectors passed =
+    ltb-false sectors (first + count) (not_past (count == 0) (nat_lt 2048 count) (nat_lt sectors (first + count)) passed)
+passed_within (Read first count) sectors passed =
+    ltb-false sectors (first + count) (not_past (count == 0) (nat_lt 2048 count) (nat_lt sectors (first + count)) passed)
+
+-- the request that an event submits ends within a device that the event is within
+pub submits_within : (bio : Bio) (sectors : ℕ) → is_within sectors (Some (Submit bio)) ≡ true → first_sector bio + sector_count bio ≤ sectors
+submits_within bio sectors within = passed_within bio sectors (is_ok-ok (check_answer bio sectors) within)
+
+-- an event that is within a device covers no sector past its end
+pub event_within : (event : Option CoreEvent) (sectors sector : ℕ) → is_within sectors event ≡ true → sectors ≤ sector → covers_at sector event ≡ false
+event_within (Some (Submit bio)) sectors sector within past = elim (bool_cases (covers bio sector)) [
+  | inl covered ↦
+      let range = covers-parts bio sector covered in
+      let less = range.2 in
+      let most = submits_within bio sectors within in
+      absurd (omega arith)
+  | inr other ↦ other
+]
+event_within (Some (Complete id ok)) sectors sector within past = refl
+event_within (Some (Mark text)) sectors sector within past = refl
+event_within (Some (Stop cause)) sectors sector within past = refl
+event_within (Some Close) sectors sector within past = refl
+event_within None sectors sector within past = refl

@@ -1,17 +1,19 @@
 -- Verdicts by computation: two writes of sector 3, both ended, and a flush after them.
-use Rattle.std.proofs.Common.{◌≡◌, ℕ, zero, suc, true, false, None, Some, List, [], ◌∷◌, take, get_or, slice_get, replicate, refl, ap, inl, inr, arith}
-use Rattle.std.specs.Prelude.{◌≤◌, ◌<◌, ◌++◌, ◌==◌, if◌then◌else◌, unwrap_or}
-use Rattle.std.proofs.lemmas.Bool.{and_parts}
+use Rattle.std.proofs.Common.{◌≡◌, ℕ, zero, suc, true, false, None, Some, List, [], ◌∷◌, length, take, get_or, slice_get, replicate, refl, ap, sym, ◌∙◌, inl, inr, arith}
+use Rattle.std.specs.Prelude.{◌≤◌, ◌<◌, ◌++◌, ◌==◌, ◌&&◌, if◌then◌else◌, nat_lt, unwrap_or}
+use Rattle.sectors.specs.PlaceLaws.{none_first_below}
+use Rattle.std.proofs.lemmas.Bool.{and_parts, le-ltb}
 use Rattle.sectors.specs.Content as contents
 use Rattle.sectors.specs.Content.{Content}
 use Rattle.bio.specs.declared.event.CoreEvent.{CoreEvent}
 use Rattle.bio.specs.declared.event.CoreEvent.TheVariants.{Submit, Complete}
 use Rattle.bio.specs.declared.request.Bio.TheVariants.{Write, Flush}
-use Rattle.bio.specs.Events.{is_flush_submit}
+use Rattle.bio.specs.Events.{end_of, is_end_of, is_flush_submit}
 use Rattle.bio.specs.Possible.{PossibleAt, ended_ok, is_durable, is_kept}
 use Rattle.judge.specs.Latest.{IsLastFlush}
 use Rattle.judge.specs.Verdicts.{FailsAt, IsLastKept, IsRuledOutBy}
-use Rattle.judge.specs.inside.Last.{last_below}
+use Rattle.judge.specs.declared.accounts.Account.{Account}
+use Rattle.judge.specs.Accounts.{IsAccount, is_held_from, last_below, place_at}
 
 -- the writes have the bytes 1 and 2; the flush is submitted at the fourth moment and has ended at the sixth
 abbrev events : List CoreEvent
@@ -144,3 +146,83 @@ flush-open told = let ended : false ≡ true = told.ended in cc
 
 flush-earlier : IsLastFlush (events ++ Submit Flush ∷ Complete 6 true ∷ []) 4 → ⊥
 flush-earlier told = let last = told.last 6 refl refl in omega arith
+
+-- sector 3 has the newer write's value, and could hold it; it has no other write's
+held-newer : is_held_from events (holding 2) 3 1 ≡ true
+unfolding contents.over
+held-newer = refl
+
+held-other : is_held_from events (holding 2) 3 0 ≡ false
+unfolding contents.over
+held-other = refl
+
+-- a value that is gone isn't held
+abbrev replaced : List CoreEvent
+replaced =
+    Submit (Write 3 (replicate 512 1) false false false) ∷ Complete 0 true ∷ Submit (Write 3 (replicate 512 2) false true false) ∷ Complete 2 true ∷ []
+
+held-gone : is_held_from replaced (holding 1) 3 0 ≡ false
+unfolding contents.over
+held-gone = refl
+
+-- of those that pass the last is found, and none where none does
+last-none : last_below (is_kept events 4) 6 ≡ None
+last-none = refl
+
+-- a list keeps a place within it, and none past its end
+place-within : place_at (None ∷ Some 7 ∷ []) 1 ≡ Some 7
+place-within = refl
+
+place-past : place_at (None ∷ Some 7 ∷ []) 2 ≡ None
+place-past = refl
+
+-- an account names each request's end, and for each sector the last durable request and the last one whose value it has
+account-newer : (account : Account) → account.ends.items ≡ Some 1 ∷ None ∷ Some 3 ∷ None ∷ []
+    → account.last.items ≡ None ∷ None ∷ None ∷ Some 2 ∷ [] → account.held.items ≡ None ∷ None ∷ None ∷ Some 2 ∷ []
+    → IsAccount replaced (holding 2) 4 account
+unfolding contents.over
+account-newer account ends last held = record {
+  last_size = ap length last;
+  held_size = ap length held;
+  ends = λ id. ap (λ places. place_at places id) ends ∙ end_is id;
+  last = λ sector within. ap (λ places. place_at places sector) last ∙ kept_is sector within;
+  held = λ sector within. ap (λ places. place_at places sector) held ∙ held_is sector within;
+}
+  where
+    end_is : (id : ℕ) → place_at (Some 1 ∷ None ∷ Some 3 ∷ None ∷ []) id ≡ end_of replaced id
+    end_is zero = refl
+    end_is (suc zero) = refl
+    end_is (suc (suc zero)) = refl
+    end_is (suc (suc (suc zero))) = refl
+    end_is (suc (suc (suc (suc id)))) =
+        let past : ℕ = suc (suc (suc (suc id))) in
+        sym (none_first_below (λ k. nat_lt past k && is_end_of past (slice_get replaced k)) 4
+        (λ k h. ap (λ b. b && is_end_of past (slice_get replaced k)) (le-ltb past k (omega arith))))
+
+    kept_is : (sector : ℕ) → sector < 4 → place_at (None ∷ None ∷ None ∷ Some 2 ∷ []) sector ≡ last_below (is_kept replaced sector) 4
+    kept_is zero within = refl
+    kept_is (suc zero) within = refl
+    kept_is (suc (suc zero)) within = refl
+    kept_is (suc (suc (suc zero))) within = refl
+    kept_is (suc (suc (suc (suc sector)))) within = absurd (omega arith)
+
+    held_is : (sector : ℕ) → sector < 4 → place_at (None ∷ None ∷ None ∷ Some 2 ∷ []) sector ≡ last_below (is_held_from replaced (holding 2) sector) 4
+    held_is zero within = refl
+    held_is (suc zero) within = refl
+    held_is (suc (suc zero)) within = refl
+    held_is (suc (suc (suc zero))) within = refl
+    held_is (suc (suc (suc (suc sector)))) within = absurd (omega arith)
+
+-- not one that has no request for a sector that has a request's value, nor one with no ends, nor with no durable requests
+none_some : (place : ℕ) → None ≡ Some place → ⊥
+none_some place same = cc
+
+account-held : (account : Account) → account.held.items ≡ [] → IsAccount replaced (holding 2) 4 account → ⊥
+unfolding contents.over
+account-held account held told = none_some 2 (sym (ap (λ places. place_at places 3) held) ∙ told.held 3 (omega arith))
+
+account-ends : (account : Account) → account.ends.items ≡ [] → IsAccount replaced (holding 2) 4 account → ⊥
+account-ends account ends told = none_some 1 (sym (ap (λ places. place_at places 0) ends) ∙ told.ends 0)
+
+account-last : (account : Account) → account.last.items ≡ [] → IsAccount replaced (holding 2) 4 account → ⊥
+account-last account last told = none_some 2 (sym (ap (λ places. place_at places 3) last) ∙ told.last 3 (omega arith))

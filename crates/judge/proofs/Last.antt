@@ -1,97 +1,14 @@
 -- The last place that passes a test, and what it tells of all that pass.
-use Rattle.std.proofs.Common.{◌≡◌, ℕ, zero, suc, ◌<◌, ◌≤◌, Bool, true, false, ◌&&◌, ◌||◌, Option, Some, None, List, [], ◌∷◌, length, get_or, refl, ap, sym, ◌∙◌, inl, inr, arith}
+use Rattle.std.proofs.Common.{◌≡◌, ℕ, zero, suc, ◌<◌, ◌≤◌, Bool, true, false, ◌&&◌, ◌||◌, Option, Some, None, List, length, refl, ap, sym, ◌∙◌, inl, inr, arith}
 use Rattle.std.proofs.lemmas.Bool.{and_parts, lt-ltb, ltb-true, le-leb, leb-true, cases_lt}
-use Rattle.std.specs.Prelude.{◌⊎◌, slice_get, nat_lt, nat_le, is_some, if◌then◌else◌}
+use Rattle.std.specs.Prelude.{◌⊎◌, slice_get, nat_lt, nat_le, if◌then◌else◌}
 use Rattle.sectors.specs.Places.{any_below}
-use Rattle.sectors.specs.PlaceLaws.{bool_cases, last_or_below}
+use Rattle.sectors.specs.PlaceLaws.{any_below-ext, any_below-none, bool_cases, or_second}
 use Rattle.bio.specs.declared.event.CoreEvent.{CoreEvent}
 use Rattle.bio.specs.Events.{end_of, is_before, is_below, is_flush_submit}
-use Rattle.bio.specs.Possible.{covers_at, ended_ok, has_kept, is_durable, is_flushed, is_kept, is_replaced}
-use Rattle.judge.specs.inside.Last.{AreCovered, AreLastKept, is_below_last, is_sure_flush, last_below, place_at}
-
--- equal tests find some place alike
-pub any_below-ext : (s t : ℕ → Bool) (n : ℕ) → ((k : ℕ) → k < n → s k ≡ t k) → any_below s n ≡ any_below t n
-any_below-ext s t zero same = refl
-any_below-ext s t (suc n) same =
-    ap (λ b. b || s n) (any_below-ext s t n (λ k h. same k (omega arith))) ∙ ap (λ b. any_below t n || b) (same n (omega arith))
-
--- where no place passes, none is found
-pub any_below-none : (test : ℕ → Bool) (n : ℕ) → ((k : ℕ) → k < n → test k ≡ false) → any_below test n ≡ false
-any_below-none test zero none = refl
-any_below-none test (suc n) none =
-    ap (λ b. b || test n) (any_below-none test n (λ k h. none k (omega arith))) ∙ none n (omega arith)
-
--- one of two tests holds where the second does
-pub or_second : (a b : Bool) → b ≡ true → (a || b) ≡ true
-or_second true b h = refl
-or_second false b h = h
-
--- what holds of one of two
-pub or_cases : (a b : Bool) → (a || b) ≡ true → (a ≡ true) ⊎ (b ≡ true)
-or_cases true b h = inl refl
-or_cases false b h = inr h
-
--- a place that passes is found
-pub any_below-at : (test : ℕ → Bool) (n k : ℕ) → k < n → test k ≡ true → any_below test n ≡ true
-any_below-at test zero k h here = absurd (omega arith)
-any_below-at test (suc n) k h here = elim (last_or_below k n h) [
-  | inl same ↦ or_second (any_below test n) (test n) (ap test (sym same) ∙ here)
-  | inr below ↦ ap (λ b. b || test n) (any_below-at test n k below here)
-]
-
--- what is found is a place that passes
-pub any_below-some : (test : ℕ → Bool) (n : ℕ) → any_below test n ≡ true → (k : ℕ) × (k < n) × (test k ≡ true)
-any_below-some test zero h = cc
-any_below-some test (suc n) h = elim (or_cases (any_below test n) (test n) h) [
-  | inl before ↦ let found = any_below-some test n before in let less = found.1 in (found.0, omega arith, found.2)
-  | inr here ↦ (n, omega arith, here)
-]
-
--- a place passes just where there is a last one
-pub any_below-last : (test : ℕ → Bool) (n : ℕ) → any_below test n ≡ is_some (last_below test n)
-any_below-last test zero = refl
-any_below-last test (suc n) = elim (bool_cases (test n)) [
-  | inl here ↦
-      or_second (any_below test n) (test n) here ∙ sym (ap (λ b. is_some (if b then Some n else last_below test n)) here)
-  | inr other ↦
-      ap (λ b. any_below test n || b) other
-      ∙ or_false (any_below test n)
-      ∙ any_below-last test n
-      ∙ sym (ap (λ b. is_some (if b then Some n else last_below test n)) other)
-]
-  where
-    or_false : (a : Bool) → (a || false) ≡ a
-    or_false true = refl
-    or_false false = refl
-
--- the place is the last one below n that passes the test
-pub record IsLast (test : ℕ → Bool) (n place : ℕ) : Type 0 where
-  pub within : place < n
-  pub here : test place ≡ true
-  pub last : (k : ℕ) → k < n → test k ≡ true → k ≤ place
-
--- what is found is the last
-pub last_below-found : (test : ℕ → Bool) (n p : ℕ) → last_below test n ≡ Some p → IsLast test n p
-last_below-found test zero p e = cc
-last_below-found test (suc n) p e = elim (bool_cases (test n)) [
-  | inl here ↦
-      let same : n ≡ p = let is = sym (ap (λ b. if b then Some n else last_below test n) here) ∙ e in cc in
-      record {
-        within = omega arith;
-        here = ap test (sym same) ∙ here;
-        last = λ k h passes. omega arith;
-      }
-  | inr other ↦
-      let before = last_below-found test n p (sym (ap (λ b. if b then Some n else last_below test n) other) ∙ e) in
-      record {
-        within = let h = before.within in omega arith;
-        here = before.here;
-        last = λ k h passes. elim (last_or_below k n h) [
-          | inl same ↦ absurd (let contra : true ≡ false = sym passes ∙ (ap test same ∙ other) in cc)
-          | inr below ↦ before.last k below passes
-        ];
-      }
-]
+use Rattle.bio.specs.Possible.{covers_at, ended_ok, is_durable, is_flushed, is_kept, is_replaced}
+use Rattle.judge.specs.Accounts.{last_below, place_at}
+use Rattle.judge.specs.inside.Last.{AreCovered, AreLastKept, is_below_last, is_sure_flush}
 
 -- an end below a place is below each later one
 later_too : (end : Option ℕ) (m n : ℕ) → m ≤ n → is_below end m ≡ true → is_below end n ≡ true
@@ -156,10 +73,6 @@ pub replaced_last : (events : List CoreEvent) (sector id : ℕ)
     → is_replaced events sector id ≡ is_below_last (end_of events id) (last_below (is_kept events sector) (length events))
 replaced_last events sector id = any_after-last (is_kept events sector) (end_of events id) (length events)
 
--- some durable request covers the sector just where there is a last one
-pub kept_last : (events : List CoreEvent) (sector : ℕ) → has_kept events sector ≡ is_some (last_below (is_kept events sector) (length events))
-kept_last events sector = any_below-last (is_kept events sector) (length events)
-
 -- a durable request is the last one of the sectors that it covers
 pub last_kept_durable : (events : List CoreEvent) (event : CoreEvent) (sectors place : ℕ) (old new : List (Option ℕ))
     → slice_get events place ≡ Some event → is_durable events place ≡ true → length new ≡ length old
@@ -214,13 +127,3 @@ covered_out event sectors from to sector are within covers = by_test (bool_cases
     by_test (inl low) (inr high) = inr (elim (cases_lt sector to) [ inl less ↦ absurd (let contra = sym high ∙ lt-ltb sector to less in cc) | inr more ↦ more ])
     by_test (inl low) (inl high) =
         absurd (let contra : true ≡ false = sym (ap (λ b. b && nat_lt sector to) low ∙ high) ∙ (sym (are.each sector within) ∙ covers) in cc)
-
--- an element that was read stands there
-pub stands_there : {A : Type 0} (xs : List A) (k : ℕ) (x : A) → k < length xs → x ≡ get_or xs k x → slice_get xs k ≡ Some x
-stands_there [] k x h is = absurd (omega arith)
-stands_there (y ∷ xs) zero x h is = ap (λ z. Some z) (sym is)
-stands_there (y ∷ xs) (suc k) x h is = stands_there xs k x (omega arith) is
-
--- where no last place is found, none passes
-pub none_passes : (test : ℕ → Bool) (n : ℕ) → last_below test n ≡ None → any_below test n ≡ false
-none_passes test n none = any_below-last test n ∙ ap is_some none

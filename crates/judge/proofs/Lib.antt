@@ -1,7 +1,6 @@
 pub mod Last
 pub mod Values
-pub mod Marking
+pub mod Holding
 pub mod Judging
-pub mod Searching
 pub mod Verdicts
 pub mod Examples

@@ -4,7 +4,7 @@ use Rattle.std.specs.Prelude.{◌⊎◌}
 use Rattle.std.specs.Str.{bytes_eq}
 use Rattle.sectors.specs.Content.{over, sector_of}
 use Rattle.sectors.specs.ContentLaws.{over-after, over-before, over-in}
-use Rattle.judge.specs.inside.Accounts.{is_value}
+use Rattle.judge.specs.Accounts.{is_value}
 
 -- a sector of an image is a part of it
 pub part_is_sector : (image : List ℕ) (sector : ℕ)

@@ -3,7 +3,7 @@ use Rattle.std.proofs.Common.{◌≡◌, ℕ, ◌<◌, ◌≤◌, Bool, true, fa
 use Rattle.std.proofs.lemmas.Bool.{and_parts, cases_lt}
 use Rattle.std.specs.Prelude.{slice_get}
 use Rattle.sectors.specs.Content.{Content}
-use Rattle.sectors.specs.PlaceLaws.{option_cases, slice_get-within}
+use Rattle.sectors.specs.PlaceLaws.{any_below-at, option_cases, slice_get-within}
 use Rattle.bio.specs.declared.event.CoreEvent.{CoreEvent}
 use Rattle.bio.specs.Events.{end_of, is_before, is_flush_submit, submits}
 use Rattle.bio.specs.Possible.{ended_ok, is_durable, is_kept, is_replaced}
@@ -12,9 +12,10 @@ use Rattle.judge.specs.declared.verdict.Verdict.{Verdict}
 use Rattle.judge.specs.declared.verdict.Verdict.TheVariants.{Yes, No}
 use Rattle.judge.specs.Latest.{IsLastFlush}
 use Rattle.judge.specs.Verdicts.{FailsAt, IsLastKept, IsRuledOutBy, IsVerdict}
-use Rattle.judge.specs.inside.Last.{is_below_last, is_sure_flush, last_below}
-use Rattle.judge.proofs.Judging.{kept_within}
-use Rattle.judge.proofs.Last.{any_below-at, flushed_last, last_below-found, none_passes, replaced_last}
+use Rattle.judge.specs.Accounts.{last_below}
+use Rattle.judge.specs.inside.Last.{is_below_last, is_sure_flush}
+use Rattle.judge.specs.Laws.{kept_within, last_below-found, none_passes}
+use Rattle.judge.proofs.Last.{flushed_last, replaced_last}
 
 -- a place that passes, with none after it, is the last one below n
 pub last_is : (test : ℕ → Bool) (n p : ℕ) → p < n → test p ≡ true → ((k : ℕ) → test k ≡ true → k ≤ p) → last_below test n ≡ Some p

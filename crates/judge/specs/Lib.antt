@@ -1,4 +1,6 @@
 pub mod Verdicts
+pub mod Accounts
+pub mod Laws
 pub mod Latest
 pub mod Texts
 pub mod inside

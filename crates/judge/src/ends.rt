@@ -3,7 +3,8 @@ ghost use Rattle.bio.specs.Events.{is_end_of, is_flush_submit, submits};
 ghost use Rattle.bio.specs.Possible.{ended_ok, is_durable, is_success};
 ghost use Rattle.bio.specs.Requests.{has_fua};
 ghost use Rattle.sectors.specs.Places.{or_here};
-ghost use Rattle.judge.specs.inside.Last.{AreEnds, is_below_last, is_sure_flush, last_below, place_at};
+ghost use Rattle.judge.specs.Accounts.{last_below, place_at};
+ghost use Rattle.judge.specs.inside.Last.{AreEnds, is_below_last, is_sure_flush};
 
 use bio::CoreEvent;
 use std::alloc::{AllocError, Global};

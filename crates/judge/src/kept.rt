@@ -3,7 +3,8 @@ ghost use Rattle.bio.specs.declared.event.CoreEvent.TheVariants.{Submit};
 ghost use Rattle.bio.specs.Events.{is_flush_submit, submits};
 ghost use Rattle.bio.specs.Possible.{covers_at, is_durable};
 ghost use Rattle.bio.specs.Requests.{has_fua};
-ghost use Rattle.judge.specs.inside.Last.{AreCovered, AreEnds, AreLastKept, ArePut, is_sure_flush, last_below, place_at};
+ghost use Rattle.judge.specs.Accounts.{last_below, place_at};
+ghost use Rattle.judge.specs.inside.Last.{AreCovered, AreEnds, AreLastKept, ArePut, is_sure_flush};
 
 use crate::ends::{end_at, ended_ok, is_before};
 use bio::{Bio, CoreEvent};

@@ -2,18 +2,21 @@
 //!
 //! A device that was sent requests may hold, in each sector, any value that flush, FUA and completion allow
 //! (`Possible` in `bio`). `could_hold` says whether an image has such values alone, and else which sector is the
-//! lowest that has another one, and what rules it out (`specs/Verdicts`). `is_lawful` says whether a list of
-//! events is one that a recorder may have recorded.
+//! lowest that has another one, and what rules it out (`specs/Verdicts`); an `Account` is what that rests on, sector
+//! by sector. `is_lawful` says whether a list of events is one that a recorder may have recorded.
 #![tactic(auto)]
 
-pub use images::could_hold;
+pub use accounts::Account;
+pub use held::{SECTOR, place_in, sector_bytes};
+pub use images::{beginning, could_hold};
 pub use lawful::is_lawful;
 pub use verdict::Verdict;
 
+mod accounts;
 mod ends;
+mod held;
 mod images;
 mod kept;
 mod lawful;
 pub mod laws;
-mod marks;
 mod verdict;

@@ -1,18 +1,10 @@
--- The last place that passes a test, and lists that keep a place for each index.
-use Rattle.std.specs.Prelude.{◌≡◌, ℕ, zero, suc, ◌<◌, ◌≤◌, ◌⊎◌, Bool, false, ◌&&◌, Option, Some, None, List, length, get_or, slice_get, nat_lt, nat_le, if◌then◌else◌}
+-- What the lists that keep a place for each index say, as far as events have been read.
+use Rattle.std.specs.Prelude.{◌≡◌, ℕ, ◌<◌, ◌≤◌, ◌⊎◌, Bool, false, ◌&&◌, Option, Some, None, List, length, slice_get, nat_lt, nat_le}
 use Rattle.sectors.specs.Places.{first_below}
 use Rattle.bio.specs.declared.event.CoreEvent.{CoreEvent}
 use Rattle.bio.specs.Events.{is_below, is_end_of, is_flush_submit}
 use Rattle.bio.specs.Possible.{covers_at, ended_ok, is_kept}
-
--- the last place below n that passes the test
-abbrev pub last_below : (ℕ → Bool) → ℕ → Option ℕ
-last_below test zero = None
-last_below test (suc n) = if test n then Some n else last_below test n
-
--- the place that the list keeps for an index; none past its end
-abbrev pub place_at : List (Option ℕ) → ℕ → Option ℕ
-place_at places index = get_or places index None
+use Rattle.judge.specs.Accounts.{last_below, place_at}
 
 -- where the request ended, of the events below a place
 abbrev pub end_below : List CoreEvent → ℕ → ℕ → Option ℕ

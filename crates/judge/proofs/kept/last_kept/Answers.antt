@@ -1,6 +1,7 @@
 use Rattle.std.proofs.Common.{◌≡◌, ℕ, suc, ◌+◌, sym, ◌∙◌, subst, arith}
 use Rattle.judge.specs.inside.Last.{AreLastKept}
-use Rattle.judge.proofs.Last.{last_kept_durable, last_kept_other, stands_there}
+use Rattle.sectors.specs.PlaceLaws.{stands_there}
+use Rattle.judge.proofs.Last.{last_kept_durable, last_kept_other}
 use Rattle.judge.proofs.kept.last_kept.Goals as goal
 use Rattle.judge.proofs.kept.last_kept.Goals.{then-is_durable, else-is_durable}
 

@@ -1,8 +1,7 @@
 use Rattle.std.proofs.Common.{ℕ, ◌+◌, length, ap, sym, ◌∙◌, arith}
 use Rattle.std.specs.Prelude.{slice_get}
 use Rattle.bio.specs.Lawful.{is_within}
-use Rattle.judge.proofs.Last.{stands_there}
-use Rattle.judge.proofs.Searching.{all_next, not_all}
+use Rattle.sectors.specs.PlaceLaws.{all_next, not_all, stands_there}
 use Rattle.judge.proofs.lawful.are_within.Goals as goal
 
 pub returns-then-not-is_within : goal.returns-then-not-is_within

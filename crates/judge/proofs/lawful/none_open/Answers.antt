@@ -1,6 +1,6 @@
 use Rattle.std.proofs.Common.{ℕ, not, length, ap, sym, ◌∙◌}
 use Rattle.bio.specs.Events.{is_open_at}
-use Rattle.judge.proofs.Searching.{not_all}
+use Rattle.sectors.specs.PlaceLaws.{not_all}
 use Rattle.judge.proofs.lawful.none_open.Goals as goal
 
 pub returns-then-is_open_at : goal.returns-then-is_open_at

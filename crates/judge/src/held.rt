@@ -1,10 +1,11 @@
-ghost use Rattle.std.specs.Prelude.{◌≡◌, ◌&&◌, ◌||◌, ◌<◌, ◌≤◌, ◌⊎◌, ◌+◌, ◌*◌, ◌/◌, ◌%◌, IfOk, List, MatchOption, Option, Some, length, nat_le, nat_lt, not, slice_get, ℕ};
+ghost use Rattle.std.specs.Prelude.{◌≡◌, ◌&&◌, ◌<◌, ◌≤◌, ◌⊎◌, ◌+◌, ◌*◌, ◌/◌, ◌%◌, IfOk, List, MatchOption, Option, Some, if◌then◌else◌, length, nat_le, nat_lt, not, slice_get, ℕ};
 ghost use Rattle.std.specs.Str.{bytes_eq};
 ghost use Rattle.bio.specs.declared.event.CoreEvent.TheVariants.{Submit};
 ghost use Rattle.bio.specs.Possible.{covers_at, values_at, values_of};
 ghost use Rattle.sectors.specs.Content.{discards, sector_of, writes};
-ghost use Rattle.judge.specs.inside.Accounts.{AreFit, AreMarked, is_fit, is_value, mark_at};
-ghost use Rattle.judge.specs.inside.Last.{AreEnds, AreLastKept, is_below_last, place_at};
+ghost use Rattle.judge.specs.inside.Accounts.{AreFit, AreHeld, is_fit};
+ghost use Rattle.judge.specs.inside.Last.{AreEnds, AreLastKept, is_below_last};
+ghost use Rattle.judge.specs.Accounts.{is_value, place_at};
 
 use crate::ends::{end_at, is_before};
 use crate::kept::covered;
@@ -25,8 +26,8 @@ pub fn sector_bytes(image: &[u8], sector: usize) -> &[u8]
     &image[from..from + SECTOR]
 }
 
-// The place of a sector in a range, counted from 0.
-fn place_in(first: u64, count: u64, sector: usize) -> Option<usize>
+/// The place of a sector in a range, counted from 0; none outside it.
+pub fn place_in(first: u64, count: u64, sector: usize) -> Option<usize>
     ensures { MatchOption result ((sector < first) ⊎ (first + count ≤ sector))
         (λ place. (sector ≡ first + place) × (place < count)) }
 {
@@ -95,9 +96,11 @@ fn fits(
     !is_before(end, end_at(last, sector)) && has_value(event, sector, sector_bytes(image, sector))
 }
 
-// Marks the sectors from the one to before the other that fit.
-fn mark_range(
-    marks: &mut Vec<bool>,
+// Gives the sectors from the one to before the other that fit the place of the event.
+#[tactic(auto, using(crate::proofs::Holding::fit_here, crate::proofs::Holding::fit_not))]
+fn hold_range(
+    held: &mut Vec<Option<usize>>,
+    place: usize,
     event: &CoreEvent,
     end: Option<usize>,
     last: &[Option<usize>],
@@ -105,57 +108,53 @@ fn mark_range(
     range: (usize, usize),
 )
     requires order { range.0 ≤ range.1 }
-    requires within { range.1 ≤ length marks.old.items }
-    requires image { length marks.old.items ≤ length image.now / 512 }
-    ensures { AreFit (Some event.now) end last.now (sector_of image.now) range.0 range.1 marks.old.items marks.new.items }
+    requires within { range.1 ≤ length held.old.items }
+    requires image { length held.old.items ≤ length image.now / 512 }
+    ensures { AreFit (Some event.now) end last.now (sector_of image.now) place range.0 range.1 held.old.items held.new.items }
 {
     let (from, to) = range;
     for sector in from..to {
-        let here = marks[sector] || fits(event, end, last, image, sector);
-        marks[sector] = here;
+        if fits(event, end, last, image, sector) {
+            held[sector] = Some(place);
+        }
     }
 }
 
-// Marks each sector that could hold the value that the event's request put there.
-fn mark_values(
-    marks: &mut Vec<bool>,
+// Gives each sector that could hold the value that the event's request put there the place of the event.
+fn hold_values(
+    held: &mut Vec<Option<usize>>,
+    place: usize,
     event: &CoreEvent,
     end: Option<usize>,
     last: &[Option<usize>],
     image: &[u8],
 )
-    requires image { length marks.old.items ≤ length image.now / 512 }
-    ensures size { length marks.new.items ≡ length marks.old.items }
-    ensures marked { (sector : ℕ) → sector < length marks.old.items → mark_at marks.new.items sector
-        ≡ (mark_at marks.old.items sector || is_fit (Some event.now) end last.now (sector_of image.now) sector) }
+    requires image { length held.old.items ≤ length image.now / 512 }
+    ensures size { length held.new.items ≡ length held.old.items }
+    ensures held { (sector : ℕ) → sector < length held.old.items → place_at held.new.items sector
+        ≡ (if is_fit (Some event.now) end last.now (sector_of image.now) sector then Some place else place_at held.old.items sector) }
 {
-    let range = covered(event, marks.len());
-    mark_range(marks, event, end, last, image, range);
+    let range = covered(event, held.len());
+    hold_range(held, place, event, end, last, image, range);
 }
 
-/// Which sectors of the image hold a value that a request put there and that the device could still hold.
-pub fn marks_of(
+/// For each sector of the image the latest request that put the value there that it has, and whose value the device
+/// could still hold.
+pub fn held_values(
     alloc: Global,
     events: &[CoreEvent],
     ends: &[Option<usize>],
     last: &[Option<usize>],
     image: &[u8],
-) -> Result<Vec<bool>, AllocError>
+) -> Result<Vec<Option<usize>>, AllocError>
     requires ends { AreEnds events.now (length events.now) ends.now }
     requires last { AreLastKept events.now (length image.now / 512) (length events.now) last.now }
-    ensures { IfOk result (λ marks.
-        AreMarked events.now (sector_of image.now) (length image.now / 512) (length events.now) marks.items) }
+    ensures { IfOk result (λ held.
+        AreHeld events.now (sector_of image.now) (length image.now / 512) (length events.now) held.items) }
 {
-    let mut marks = vec![in alloc; false; last.len()]?;
+    let mut held = vec![in alloc; None; last.len()]?;
     for (place, event) in events.iter().enumerate() {
-        mark_values(&mut marks, event, end_at(ends, place), last, image);
+        hold_values(&mut held, place, event, end_at(ends, place), last, image);
     }
-    Ok(marks)
-}
-
-/// Whether the sector is marked.
-pub fn mark_at(marks: &[bool], sector: usize) -> bool
-    ensures { result ≡ mark_at marks.now sector }
-{
-    marks.get(sector).copied().unwrap_or(false)
+    Ok(held)
 }

@@ -1,6 +1,6 @@
 use Rattle.std.proofs.Common.{replicate, ◌∙◌}
 use Rattle.judge.proofs.Values.{some_value}
-use Rattle.judge.proofs.marks.discards_value.Goals as goal
+use Rattle.judge.proofs.held.discards_value.Goals as goal
 
 pub returns-in-Some : goal.returns-in-Some
 returns-in-Some c =

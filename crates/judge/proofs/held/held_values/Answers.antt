@@ -1,9 +1,9 @@
 use Rattle.std.proofs.Common.{◌≡◌, ℕ, suc, ◌+◌, ◌/◌, length, ◌∙◌, subst, arith}
 use Rattle.sectors.specs.Content.{sector_of}
-use Rattle.judge.specs.inside.Accounts.{AreMarked}
-use Rattle.judge.proofs.Last.{stands_there}
-use Rattle.judge.proofs.Marking.{marked_next}
-use Rattle.judge.proofs.marks.marks_of.Goals as goal
+use Rattle.sectors.specs.PlaceLaws.{stands_there}
+use Rattle.judge.specs.inside.Accounts.{AreHeld}
+use Rattle.judge.proofs.Holding.{held_next}
+use Rattle.judge.proofs.held.held_values.Goals as goal
 
 pub loop-place-preserved : goal.loop-place-preserved
 loop-place-preserved c =
@@ -13,9 +13,9 @@ loop-place-preserved c =
     let now = sector_of c.args.image.now in
     let sectors = length c.args.image.now / 512 in
     let next : suc place ≡ place + 1 = omega arith in
-    let Until = λ (n : ℕ). AreMarked events now sectors n c.mark_values.new.marks.items in
+    let Until = λ (n : ℕ). AreHeld events now sectors n c.hold_values.new.held.items in
     subst Until next
-    (marked_next events event now sectors place c.end_at.result c.args.last.now c.loop-place.marks.items c.mark_values.new.marks.items
+    (held_next events event now sectors place c.end_at.result c.args.last.now c.loop-place.held.items c.hold_values.new.held.items
     (stands_there events place event c.loop-place-test.true c.index-events-place.is)
     (c.end_at.ensures ∙ c.requires.ends.each place)
-    c.requires.last c.mark_values.ensures.size c.mark_values.ensures.marked c.loop-place.invariant)
+    c.requires.last c.hold_values.ensures.size c.hold_values.ensures.held c.loop-place.invariant)

@@ -1,7 +1,7 @@
 use Rattle.std.proofs.Common.{◌/◌, length, ◌∙◌}
 use Rattle.sectors.specs.Content.{sector_of}
 use Rattle.judge.proofs.Values.{some_value}
-use Rattle.judge.proofs.marks.writes_value.Goals as goal
+use Rattle.judge.proofs.held.writes_value.Goals as goal
 
 pub returns-in-Some : goal.returns-in-Some
 returns-in-Some c =

@@ -1,0 +1,127 @@
+ghost use Rattle.std.specs.Prelude.{◌≡◌, ◌/◌, ◌%◌, ◌<◌, IfOk, List, length, true};
+ghost use Rattle.bio.specs.declared.event.CoreEvent.{CoreEvent};
+ghost use Rattle.bio.specs.Lawful.{is_lawful};
+ghost use Rattle.sectors.specs.Content.{sector_of};
+ghost use Rattle.judge.specs.Accounts.{IsAccount, place_at};
+ghost use Rattle.judge.specs.Verdicts.{IsVerdict};
+ghost use Rattle.judge.specs.inside.Accounts.{IsFound, is_at_first, is_fine};
+
+use crate::ends::{end_at, ends_of};
+use crate::held::{SECTOR, held_values, sector_bytes};
+use crate::kept::last_kept;
+use crate::verdict::Verdict;
+use bio::{CoreEvent, Id};
+use std::alloc::{AllocError, Global};
+
+/// What a list of events and an image come to. Places are those of events, counted from 0.
+#[derive(Debug, Drop)]
+pub struct Account {
+    /// For each request, by the place of its submission, the place of its end.
+    pub ends: Vec<Option<usize>>,
+    /// For each sector the durable request over it that was submitted last.
+    pub last: Vec<Option<usize>>,
+    /// For each sector the request, of those whose value it has and could still hold, that was submitted last.
+    pub held: Vec<Option<usize>>,
+}
+
+impl Account {
+    /// The account of an image, had power failed after these events. Takes memory of 32 bytes for each sector of the
+    /// image and 16 for each event, and time by the sum of the sectors that the requests cover. Want of memory is
+    /// the only error.
+    pub fn of(alloc: Global, events: &[CoreEvent], image: &[u8]) -> Result<Account, AllocError>
+        ensures { IfOk result (IsAccount events.now (sector_of image.now) (length image.now / 512)) }
+    {
+        let ends = ends_of(alloc, events)?;
+        let last = last_kept(alloc, events, &ends, image.len() / SECTOR)?;
+        let held = held_values(alloc, events, &ends, &last, image)?;
+        Ok(Account { ends, last, held })
+    }
+
+    /// The verdict on the image that this is the account of, where `first` was on the device before the first event.
+    /// Both images are whole sectors of 512 bytes, as many in both.
+    pub fn verdict(&self, first: &[u8], image: &[u8]) -> Verdict
+        requires whole { length image.now % 512 ≡ 0 }
+        requires same { length first.now ≡ length image.now }
+        ensures { (events : List CoreEvent) → is_lawful (length image.now / 512) events ≡ true →
+            IsAccount events (sector_of image.now) (length image.now / 512) self.now →
+            IsVerdict (length image.now / 512) events (sector_of first.now) (sector_of image.now) result }
+    {
+        lowest_failing(&self.held, &self.last, first, image)
+    }
+
+    /// Where the request of this place ended.
+    pub fn end(&self, id: usize) -> Option<usize>
+        ensures { result ≡ place_at self.now.ends.items id }
+    {
+        end_at(&self.ends, id)
+    }
+
+    /// The durable request over the sector that was submitted last.
+    pub fn last_over(&self, sector: usize) -> Option<usize>
+        ensures { result ≡ place_at self.now.last.items sector }
+    {
+        end_at(&self.last, sector)
+    }
+
+    /// The latest request, of those whose value the sector has and could still hold.
+    pub fn held_from(&self, sector: usize) -> Option<usize>
+        ensures { result ≡ place_at self.now.held.items sector }
+    {
+        end_at(&self.held, sector)
+    }
+}
+
+// Whether the sector has its first value, and no durable request covers it.
+fn is_at_first(last: &[Option<usize>], first: &[u8], image: &[u8], sector: usize) -> bool
+    requires within { sector < length image.now / 512 }
+    requires same { length first.now ≡ length image.now }
+    ensures { result ≡ is_at_first last.now (sector_of first.now) (sector_of image.now) sector }
+{
+    end_at(last, sector).is_none() && sector_bytes(image, sector) == sector_bytes(first, sector)
+}
+
+// Whether the sector holds the value of a request, or has its first value and no durable request covers it.
+fn is_fine(
+    held: &[Option<usize>],
+    last: &[Option<usize>],
+    first: &[u8],
+    image: &[u8],
+    sector: usize,
+) -> bool
+    requires within { sector < length image.now / 512 }
+    requires same { length first.now ≡ length image.now }
+    ensures { result ≡ is_fine held.now last.now (sector_of first.now) (sector_of image.now) sector }
+{
+    end_at(held, sector).is_some() || is_at_first(last, first, image, sector)
+}
+
+// The durable request over the sector that was submitted last.
+fn last_over(last: &[Option<usize>], sector: usize) -> Option<Id>
+    ensures { result ≡ place_at last.now sector }
+{
+    match end_at(last, sector) {
+        Some(place) => Some(Id::new(place as u64)),
+        None => None,
+    }
+}
+
+// The lowest sector that neither holds the value of a request nor is as it was at first.
+fn lowest_failing(
+    held: &[Option<usize>],
+    last: &[Option<usize>],
+    first: &[u8],
+    image: &[u8],
+) -> Verdict
+    requires same { length first.now ≡ length image.now }
+    ensures { IsFound held.now last.now (sector_of first.now) (sector_of image.now) (length image.now / 512) result }
+{
+    for sector in 0..image.len() / SECTOR {
+        if !is_fine(held, last, first, image, sector) {
+            return Verdict::No {
+                sector: sector as u64,
+                by: last_over(last, sector),
+            };
+        }
+    }
+    Verdict::Yes
+}

@@ -1,4 +1,4 @@
-//! Tests of `refusals`, `words`, `bio`, `judge` and `chains`, through what these make public. They stand apart from the crates that they test, so that these aren't proved a
+//! Tests of `refusals`, `words`, `bio`, `judge`, `world` and `chains`, through what these make public. They stand apart from the crates that they test, so that these aren't proved a
 //! second time with their tests.
 #![tactic(auto)]
 
@@ -12,3 +12,5 @@ mod requests;
 mod verdicts;
 #[cfg(test)]
 mod words_of_lines;
+#[cfg(test)]
+mod worlds;

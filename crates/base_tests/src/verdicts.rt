@@ -56,7 +56,7 @@ fn event_of(alloc: Global, word: &str, number: u64, byte: u8) -> Result<CoreEven
 }
 
 // The events that the steps say.
-fn events_of(alloc: Global, steps: &str) -> Result<Vec<CoreEvent>, AllocError> {
+pub fn events_of(alloc: Global, steps: &str) -> Result<Vec<CoreEvent>, AllocError> {
     let mut events = Vec::new(alloc);
     for step in steps.split(",") {
         let mut words = step.split(" ");
@@ -71,7 +71,7 @@ fn events_of(alloc: Global, steps: &str) -> Result<Vec<CoreEvent>, AllocError> {
 }
 
 // An image of zeroes, but for the sectors and the bytes that the words name.
-fn image_of(alloc: Global, sectors: u8, words: &str) -> Result<Vec<u8>, AllocError> {
+pub fn image_of(alloc: Global, sectors: u8, words: &str) -> Result<Vec<u8>, AllocError> {
     let mut image = vec![in alloc; 0; sectors as usize * 512]?;
     for word in words.split(" ") {
         let mut parts = word.split(":");
@@ -130,7 +130,7 @@ fn judged(alloc: Global, row: &str) -> Result<String, AllocError> {
 // write over a plain one; two flushes of which the later ends first; a discard after a write; a flush and a FUA write
 // that failed; a value that isn't submitted yet; a write of three sectors, in part; a first content that isn't zero; no
 // event, and no sector.
-const ROWS: &str = "16|w 3 1,w 3 2,c 0,c 1,f,c 4|4||=yes
+pub const ROWS: &str = "16|w 3 1,w 3 2,c 0,c 1,f,c 4|4||=yes
 16|w 3 1,w 3 2,c 0,c 1,f,c 4|4||3:1=yes
 16|w 3 1,w 3 2,c 0,c 1,f,c 4|4||3:2=yes
 16|w 3 1,w 3 2,c 0,c 1,f,c 4|4||3:3=no 3

@@ -1,0 +1,280 @@
+-- Runs and refused steps by computation: two writes of sector 3, both ended, and a flush after them.
+use Rattle.std.proofs.Common.{◌≡◌, ℕ, ◌==◌, Bool, true, false, Some, List, [], ◌∷◌, length, get_or, take, replicate, refl, ap, sym, ◌∙◌, subst, inl, inr, arith}
+use Rattle.std.proofs.lemmas.Bool.Decides.{eqb_tells}
+use Rattle.std.specs.Prelude.{codes, slice_get, unwrap_or, if◌then◌else◌}
+use Rattle.sectors.specs.Content as contents
+use Rattle.sectors.specs.Content.{Content}
+use Rattle.bio.specs.declared.event.CoreEvent.{CoreEvent}
+use Rattle.bio.specs.declared.event.CoreEvent.TheVariants as core_events
+use Rattle.bio.specs.declared.request.Bio.TheVariants.{Write, Flush, Discard, Read}
+use Rattle.world.specs.declared.step.Step.{Step}
+use Rattle.world.specs.declared.step.Step.TheVariants.{Submit, Land, Destage, End, Power}
+use Rattle.refusals.specs.declared.refusal.Refusal.TheVariants as refusals
+use Rattle.world.specs.declared.step_error.StepError.TheVariants as step_errors
+use Rattle.world.specs.Cells.{AllSteps, CellState, IsFresh, IsPut, IsRun, Steps, WorldState, empty_cell, landed_of, landing, put_at, settling}
+use Rattle.world.specs.Refusals.{step_refusal}
+use Rattle.world.proofs.Replacing.{put_none}
+use Rattle.world.specs.Machine.{Machine, before_submit, has_step, newest, start}
+use Rattle.world.specs.Texts.{end_text, step_text}
+use Rattle.world.specs.Runs.{IsReachable, Leaves, calls_below, durable, is_run, taken, values_of_id}
+
+-- the writes have the bytes 1 and 2; the flush is submitted at the fourth moment and has ended at the sixth
+abbrev list : List CoreEvent
+list =
+    core_events.Submit (Write 3 (replicate 512 1) false false false) ∷ core_events.Submit (Write 3 (replicate 512 2) false false false)
+    ∷ core_events.Complete 0 true ∷ core_events.Complete 1 true ∷ core_events.Submit Flush ∷ core_events.Complete 4 true ∷ []
+
+-- sector 3 has this byte, and the others are zeroes
+abbrev holding : ℕ → Content
+holding byte sector = replicate 512 (if sector == 3 then byte else 0)
+
+-- the second write lands first, so that the first one's value is the newest when the sector is destaged
+abbrev run : List Step
+run =
+    Submit 0 ∷ Submit 1 ∷ Land 1 3 ∷ Land 0 3 ∷ End 0 true ∷ End 1 true ∷ Submit 4 ∷ Destage 3 ∷ End 4 true ∷ Power ∷ []
+
+-- the sector that was destaged has the value, and each other one what it had
+run-left : (sector : ℕ) → durable list (holding 0) (taken start run) sector ≡ holding 1 sector
+unfolding contents.over
+run-left sector = elim (eqb_tells sector 3) [
+  | inl same ↦ subst (λ (s : ℕ). durable list (holding 0) (taken start run) s ≡ holding 1 s) (sym same.1) here
+  | inr other ↦
+      ap (λ (b : Bool). unwrap_or (values_of_id list (newest (if b then 0 ∷ 1 ∷ [] else [])) sector) (replicate 512 (if b then 0 else 0))) other.0
+      ∙ sym (ap (λ (b : Bool). replicate 512 (if b then 1 else 0)) other.0)
+]
+  where
+    here : durable list (holding 0) (taken start run) 3 ≡ holding 1 3
+    here = refl
+
+run-leaves : Leaves list (holding 0) run (holding 1)
+run-leaves = record { runs = refl; fits = refl; off = refl; left = run-left }
+
+older-reachable : IsReachable list (holding 0) (holding 1)
+older-reachable = (run, run-leaves)
+
+-- a byte is that of its list
+byte_is : (a b : ℕ) → replicate 512 a ≡ replicate 512 b → a ≡ b
+byte_is a b same = ap (λ bytes. get_or bytes 0 0) same
+
+-- it leaves nothing else, doesn't fit fewer events, and isn't whole without power
+run-other : Leaves list (holding 0) run (holding 2) → ⊥
+unfolding contents.over
+run-other told = let contra = byte_is 1 2 (sym (run-left 3) ∙ told.left 3) in absurd (omega arith)
+
+run-fewer : Leaves (take 5 list) (holding 0) run (holding 1) → ⊥
+run-fewer told = let contra = ap length told.fits in absurd (omega arith)
+
+run-on : Leaves list (holding 0) (take 9 run) (holding 1) → ⊥
+run-on told = let contra : false ≡ true = told.off in cc
+
+-- a request is submitted once, and only a request is
+submit-first : has_step list start (Submit 0) ≡ true
+submit-first = refl
+
+submit-twice : has_step list (taken start (Submit 0 ∷ [])) (Submit 0) ≡ false
+submit-twice = refl
+
+submit-end : has_step list start (Submit 2) ≡ false
+submit-end = refl
+
+submit-read : has_step (core_events.Submit (Read 3 1) ∷ []) start (Submit 0) ≡ false
+submit-read = refl
+
+-- one that is pending lands once on each of its sectors
+land-pending : has_step list (taken start (Submit 0 ∷ [])) (Land 0 3) ≡ true
+land-pending = refl
+
+land-early : has_step list start (Land 0 3) ≡ false
+land-early = refl
+
+land-late : has_step list (taken start (Submit 0 ∷ End 0 false ∷ [])) (Land 0 3) ≡ false
+land-late = refl
+
+land-elsewhere : has_step list (taken start (Submit 0 ∷ [])) (Land 0 4) ≡ false
+land-elsewhere = refl
+
+land-twice : has_step list (taken start (Submit 0 ∷ Land 0 3 ∷ [])) (Land 0 3) ≡ false
+land-twice = refl
+
+-- a sector is destaged where some request landed
+destage-landed : has_step list (taken start (Submit 0 ∷ Land 0 3 ∷ [])) (Destage 3) ≡ true
+destage-landed = refl
+
+destage-nothing : has_step list (taken start (Submit 0 ∷ Land 0 3 ∷ [])) (Destage 4) ≡ false
+destage-nothing = refl
+
+-- a request ends once, with success only after it landed on all its sectors
+end-landed : has_step list (taken start (Submit 0 ∷ Land 0 3 ∷ [])) (End 0 true) ≡ true
+end-landed = refl
+
+end-unlanded : has_step list (taken start (Submit 0 ∷ [])) (End 0 true) ≡ false
+end-unlanded = refl
+
+end-failed : has_step list (taken start (Submit 0 ∷ [])) (End 0 false) ≡ true
+end-failed = refl
+
+end-unsubmitted : has_step list start (End 0 false) ≡ false
+end-unsubmitted = refl
+
+end-twice : has_step list (taken start (Submit 0 ∷ End 0 false ∷ [])) (End 0 false) ≡ false
+end-twice = refl
+
+-- a write of two sectors lands on both
+abbrev wide : List CoreEvent
+wide = core_events.Submit (Discard 3 2) ∷ []
+
+end-half : has_step wide (taken start (Submit 0 ∷ Land 0 3 ∷ [])) (End 0 true) ≡ false
+end-half = refl
+
+end-both : has_step wide (taken start (Submit 0 ∷ Land 0 3 ∷ Land 0 4 ∷ [])) (End 0 true) ≡ true
+end-both = refl
+
+-- with FUA the sector is destaged after it landed there
+abbrev fua : List CoreEvent
+fua = core_events.Submit (Write 3 (replicate 512 1) false true false) ∷ core_events.Submit (Write 3 (replicate 512 2) false false false) ∷ []
+
+end-destaged : has_step fua (taken start (Submit 0 ∷ Land 0 3 ∷ Destage 3 ∷ [])) (End 0 true) ≡ true
+end-destaged = refl
+
+end-cached : has_step fua (taken start (Submit 0 ∷ Land 0 3 ∷ [])) (End 0 true) ≡ false
+end-cached = refl
+
+end-destaged-before : has_step fua (taken start (Submit 0 ∷ Submit 1 ∷ Land 1 3 ∷ Destage 3 ∷ Land 0 3 ∷ [])) (End 0 true) ≡ false
+end-destaged-before = refl
+
+-- a flush ends with success where what ended so before its submission is settled
+abbrev ended : List Step
+ended = Submit 0 ∷ Submit 1 ∷ Land 0 3 ∷ End 0 true ∷ Submit 4 ∷ Land 1 3 ∷ End 1 true ∷ []
+
+flush-cached : has_step list (taken start ended) (End 4 true) ≡ false
+flush-cached = refl
+
+flush-failed : has_step list (taken start ended) (End 4 false) ≡ true
+flush-failed = refl
+
+flush-destaged : has_step list (taken start (Submit 0 ∷ Submit 1 ∷ Land 0 3 ∷ Destage 3 ∷ End 0 true ∷ Submit 4 ∷ Land 1 3 ∷ End 1 true ∷ [])) (End 4 true) ≡ true
+flush-destaged = refl
+
+-- a request that ended after the flush's submission, or that failed before it, needn't be
+flush-later : has_step list (taken start (Submit 0 ∷ Submit 4 ∷ Land 0 3 ∷ End 0 true ∷ [])) (End 4 true) ≡ true
+flush-later = refl
+
+flush-after-failed : has_step list (taken start (Submit 0 ∷ Land 0 3 ∷ End 0 false ∷ Submit 4 ∷ [])) (End 4 true) ≡ true
+flush-after-failed = refl
+
+-- power goes at any time, and nothing comes after it
+power-first : has_step list start Power ≡ true
+power-first = refl
+
+power-twice : has_step list (taken start (Power ∷ [])) Power ≡ false
+power-twice = refl
+
+submit-off : has_step list (taken start (Power ∷ [])) (Submit 0) ≡ false
+submit-off = refl
+
+-- a run is refused by one step that isn't there
+run-refused : is_run list start (Submit 0 ∷ End 0 true ∷ Power ∷ []) ≡ false
+run-refused = refl
+
+-- the calls of the first events, newest first; a mark and a stop are none
+calls-four : calls_below list 4 ≡ End 1 true ∷ End 0 true ∷ Submit 1 ∷ Submit 0 ∷ []
+calls-four = refl
+
+calls-close : calls_below (core_events.Close ∷ []) 1 ≡ []
+calls-close = refl
+
+-- what came before a submission
+before-flush : before_submit 4 (calls_below list 6) ≡ End 1 true ∷ End 0 true ∷ Submit 1 ∷ Submit 0 ∷ []
+before-flush = refl
+
+before-none : before_submit 7 (calls_below list 6) ≡ []
+before-none = refl
+
+-- what lands later in the cache isn't durable until the sector is destaged again
+durable-cached : durable list (holding 0) (taken start (Submit 0 ∷ Submit 1 ∷ Land 0 3 ∷ Destage 3 ∷ Land 1 3 ∷ [])) 3 ≡ holding 1 3
+unfolding contents.over
+durable-cached = refl
+
+durable-nothing : durable list (holding 7) (taken start (Submit 0 ∷ Land 0 3 ∷ [])) 3 ≡ holding 7 3
+unfolding contents.over
+durable-nothing = refl
+
+-- how steps are shown
+text-power : step_text Power ≡ codes "power"
+text-power = refl
+
+text-failed : end_text false ≡ codes "failed"
+text-failed = refl
+
+-- what steps do to one sector
+landing-first : landing 3 empty_cell ≡ record { landed = 3 ∷ []; settled = [] }
+landing-first = refl
+
+settling-it : settling (landing 3 empty_cell) ≡ record { landed = 3 ∷ []; settled = 3 ∷ [] }
+settling-it = refl
+
+number_is : (a b : ℕ) → a ≡ b → a ≡ b
+number_is a b same = same
+
+-- a world of one sector that holds sevens, and what isn't one
+abbrev fresh : WorldState
+fresh = record { cells = empty_cell ∷ []; calls = []; off = false; image = replicate 512 7 }
+
+fresh-world : IsFresh (replicate 512 7) fresh
+fresh-world = record { cells = refl; calls = refl; off = refl; image = refl }
+
+fresh-off : IsFresh (replicate 512 7) (record fresh { off = true }) → ⊥
+fresh-off told = let contra : true ≡ false = told.off in cc
+
+fresh-landed : IsFresh (replicate 512 7) (record fresh { cells = landing 0 empty_cell ∷ [] }) → ⊥
+fresh-landed told = let contra = number_is 1 0 (ap (λ (cells : List CellState). length (landed_of (slice_get cells 0))) told.cells) in omega arith
+
+-- power goes, and nothing else changes
+steps-power : Steps [] Power fresh (record fresh { off = true })
+steps-power = record {
+  may = refl;
+  after = record { landed = λ sector. refl; settled = λ sector. refl; calls = refl; off = refl };
+  left = λ sector within. refl;
+  sectors = refl;
+  size = refl;
+}
+
+steps-nothing : Steps [] Power fresh fresh → ⊥
+steps-nothing told = let contra : false ≡ true = told.after.off in cc
+
+steps-image : Steps [] Power fresh (record fresh { off = true; image = replicate 512 8 }) → ⊥
+steps-image told = let contra = byte_is 8 7 (told.left 0 (omega arith)) in absurd (omega arith)
+
+steps-refused : Steps [] (Submit 0) fresh (record fresh { calls = Submit 0 ∷ [] }) → ⊥
+steps-refused told = let contra : false ≡ true = told.may in cc
+
+-- no steps leave a world as it was
+all-none : AllSteps [] [] fresh fresh
+all-none = refl
+
+all-other : AllSteps [] [] fresh (record fresh { off = true }) → ⊥
+all-other told = let contra : false ≡ true = ap (λ (world : WorldState). world.off) told in cc
+
+-- no run has gone on where power is there
+run-of-none : IsRun [] (replicate 512 7) (Power ∷ []) fresh → ⊥
+run-of-none told = let contra : true ≡ false = ap (λ (m : Machine). m.off) told.reached in cc
+
+-- a call without a value leaves the image, and one with a value doesn't put it elsewhere
+put-nothing : IsPut contents.nothing 0 (replicate 512 7) (replicate 512 7)
+put-nothing = put_none contents.nothing 0 (replicate 512 7) refl
+
+put-something : IsPut contents.nothing 0 (replicate 512 7) (replicate 512 8) → ⊥
+put-something told = let contra = byte_is 8 7 (told.each 0 (omega arith)) in absurd (omega arith)
+
+put-here : put_at (λ sector. Some (sector ∷ [])) 3 (λ sector. []) 3 ≡ 3 ∷ []
+put-here = refl
+
+put-elsewhere : put_at (λ sector. Some (sector ∷ [])) 3 (λ sector. []) 4 ≡ []
+put-elsewhere = refl
+
+-- how a step's errors are refused
+refusal-step : step_refusal step_errors.BadStep ≡ refusals.BadStep
+refusal-step = refl
+
+refusal-memory : step_refusal step_errors.Memory ≡ refusals.Memory
+refusal-memory = refl

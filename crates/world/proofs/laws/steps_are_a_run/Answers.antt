@@ -1,0 +1,5 @@
+use Rattle.world.proofs.Running.{fresh_runs}
+use Rattle.world.proofs.laws.steps_are_a_run.Goals as goal
+
+pub returns : goal.returns
+returns c = fresh_runs

@@ -1,0 +1,9 @@
+pub mod Machine
+pub mod Runs
+pub mod Texts
+pub mod Cells
+pub mod Refusals
+pub mod inside
+pub use Rattle.bio.specs.Lawful
+pub use Rattle.bio.specs.Possible
+pub use Rattle.sectors.specs.Content

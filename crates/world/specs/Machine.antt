@@ -1,0 +1,103 @@
+-- A device with a cache, as a machine that takes steps: requests land in sectors, sectors are destaged, requests end, power goes.
+use Rattle.std.specs.Prelude.{ℕ, ◌+◌, ◌==◌, Bool, true, false, not, ◌&&◌, ◌||◌, Option, Some, None, is_some, List, [], ◌∷◌, slice_get, if◌then◌else◌}
+use Rattle.std.specs.List.{list_all, list_any}
+use Rattle.sectors.specs.Places.{all_below}
+use Rattle.bio.specs.declared.event.CoreEvent.{CoreEvent}
+use Rattle.bio.specs.declared.event.CoreEvent.TheVariants as core_events
+use Rattle.bio.specs.Events.{is_flush_submit, is_request, submits}
+use Rattle.bio.specs.Possible.{covers_at}
+use Rattle.bio.specs.Requests.{first_sector, has_fua, sector_count}
+use Rattle.world.specs.declared.step.Step.{Step}
+use Rattle.world.specs.declared.step.Step.TheVariants.{Submit, Land, Destage, End, Power}
+
+-- for each sector the requests that landed there, newest first, and those of them that had landed when it was destaged last; the
+-- submissions and ends so far, newest first; and whether power has gone
+pub record Machine : Type 0 where
+  pub landed : ℕ → List ℕ
+  pub settled : ℕ → List ℕ
+  pub calls : List Step
+  pub off : Bool
+
+-- a machine before its first step
+abbrev pub start : Machine
+start = record { landed = λ sector. []; settled = λ sector. []; calls = []; off = false }
+
+-- the lists of all sectors, with another one for this sector
+abbrev pub with_sector : ℕ → List ℕ → (ℕ → List ℕ) → ℕ → List ℕ
+with_sector sector ids old other = if other == sector then ids else old other
+
+-- the machine after a step
+abbrev pub after : Machine → Step → Machine
+after m (Submit id) = record m { calls = Submit id ∷ m.calls }
+after m (Land id sector) = record m { landed = with_sector sector (id ∷ m.landed sector) m.landed }
+after m (Destage sector) = record m { settled = with_sector sector (m.landed sector) m.settled }
+after m (End id ok) = record m { calls = End id ok ∷ m.calls }
+after m Power = record m { off = true }
+
+-- the step submits the request of this place
+abbrev pub is_submit : ℕ → Step → Bool
+is_submit id (Submit submitted) = submitted == id
+is_submit id _ = false
+
+-- the step ends the request of this place
+abbrev pub is_end : ℕ → Step → Bool
+is_end id (End ended ok) = ended == id
+is_end id _ = false
+
+-- the request was submitted and hasn't ended
+abbrev pub is_pending : Machine → ℕ → Bool
+is_pending m id = list_any (is_submit id) m.calls && not (list_any (is_end id) m.calls)
+
+-- the request is one of these
+abbrev pub is_among : List ℕ → ℕ → Bool
+is_among ids id = list_any (λ other. other == id) ids
+
+-- the newest of these requests
+abbrev pub newest : List ℕ → Option ℕ
+newest [] = None
+newest (id ∷ ids) = Some id
+
+-- each sector of the request that this event submits passes the test
+abbrev pub each_sector : (ℕ → Bool) → Option CoreEvent → Bool
+each_sector test (Some (core_events.Submit bio)) = all_below (λ place. test (first_sector bio + place)) (sector_count bio)
+each_sector test _ = true
+
+-- the request has landed on all its sectors
+abbrev pub has_landed : List CoreEvent → Machine → ℕ → Bool
+has_landed events m id = each_sector (λ sector. is_among (m.landed sector) id) (slice_get events id)
+
+-- each of its sectors was destaged after it had landed there
+abbrev pub has_settled : List CoreEvent → Machine → ℕ → Bool
+has_settled events m id = each_sector (λ sector. is_among (m.settled sector) id) (slice_get events id)
+
+-- the steps, newest first, that came before the request's submission
+abbrev pub before_submit : ℕ → List Step → List Step
+before_submit id [] = []
+before_submit id (call ∷ calls) = if is_submit id call then calls else before_submit id calls
+
+-- where the step is an end with success, each sector of its request was destaged after it had landed there
+abbrev pub settled_if_ended : List CoreEvent → Machine → Step → Bool
+settled_if_ended events m (End id ok) = not ok || has_settled events m id
+settled_if_ended events m _ = true
+
+-- The request may end with success: it has landed on all its sectors; with FUA, each was destaged after that; and where it has a flush,
+-- the same holds of each request that ended with success before its submission.
+abbrev pub may_succeed : List CoreEvent → Machine → ℕ → Bool
+may_succeed events m id =
+    has_landed events m id
+    && (not (submits has_fua (slice_get events id)) || has_settled events m id)
+    && (not (is_flush_submit (slice_get events id)) || list_all (settled_if_ended events m) (before_submit id m.calls))
+
+-- the step may be taken while power is there: a request is submitted once; one that is pending lands once on each of its sectors; a
+-- sector where some landed is destaged; a request that is pending ends, with success where it may
+abbrev pub may_take : List CoreEvent → Machine → Step → Bool
+may_take events m (Submit id) = is_request (slice_get events id) && not (list_any (is_submit id) m.calls)
+may_take events m (Land id sector) =
+    is_pending m id && covers_at sector (slice_get events id) && not (is_among (m.landed sector) id)
+may_take events m (Destage sector) = is_some (newest (m.landed sector))
+may_take events m (End id ok) = is_pending m id && (not ok || may_succeed events m id)
+may_take events m Power = true
+
+-- the machine has this step: power hasn't gone, and the step may be taken
+abbrev pub has_step : List CoreEvent → Machine → Step → Bool
+has_step events m step = not m.off && may_take events m step

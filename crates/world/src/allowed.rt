@@ -1,0 +1,326 @@
+//! Which steps a world may take.
+//!
+//! Each test is the machine's, over the cells and over the calls so far, which are kept oldest first.
+ghost use Rattle.std.specs.Prelude.{◌≡◌, ℕ, ◌+◌, ◌^◌, ◌<◌, Some, length, reverse, slice_get};
+ghost use Rattle.std.specs.List.{list_all, list_any};
+ghost use Rattle.bio.specs.declared.event.CoreEvent.TheVariants as core_events;
+ghost use Rattle.bio.specs.Events.{is_flush_submit, is_request, submits};
+ghost use Rattle.bio.specs.Possible.{covers_at};
+ghost use Rattle.bio.specs.Requests.{covers, first_sector, has_fua, sector_count};
+ghost use Rattle.world.specs.Cells.{landed_of, settled_of};
+ghost use Rattle.world.specs.Machine.{before_submit, is_among, is_end, is_submit, newest};
+ghost use Rattle.world.specs.inside.Allowed.{end_settled, is_allowed, is_in, is_landed, is_settled, pends, succeeds};
+ghost use Rattle.world.specs.inside.Plan.{AllEnd};
+
+use crate::cell::Cell;
+use crate::step::Step;
+use bio::{Bio, CoreEvent, Id};
+
+/// Whether the step may be taken while power is there.
+pub fn is_allowed(cells: &[Cell], calls: &[Step], events: &[CoreEvent], step: &Step) -> bool
+    requires { AllEnd events.now }
+    ensures { result ≡ is_allowed events.now cells.now (reverse calls.now) step.now }
+{
+    match step {
+        Step::Submit(id) => is_request_at(events, id.place()) && !was_submitted(calls, id.place()),
+        Step::Land(id, sector) => {
+            pends(calls, id.place())
+                && covers_at(events, id.place(), *sector)
+                && !has_landed_at(cells, *sector as usize, id.place())
+        }
+        Step::Destage(sector) => newest_at(cells, *sector as usize).is_some(),
+        Step::End(id, ok) => {
+            pends(calls, id.place()) && (!*ok || may_succeed(cells, calls, events, id.place()))
+        }
+        Step::Power => true,
+    }
+}
+
+// Whether the event of this place submits a request that is followed to its end.
+fn is_request_at(events: &[CoreEvent], id: u64) -> bool
+    ensures { result ≡ is_request (slice_get events.now id) }
+{
+    match events.get(id as usize) {
+        Some(event) => is_request(event),
+        None => false,
+    }
+}
+
+/// Whether the event submits a request that is followed to its end.
+pub fn is_request(event: &CoreEvent) -> bool
+    ensures { result ≡ is_request (Some event.now) }
+{
+    match event {
+        CoreEvent::Submit(bio) => bio.is_tracked(),
+        _ => false,
+    }
+}
+
+// Whether the call submits the request.
+fn is_submit(call: &Step, id: u64) -> bool
+    ensures { result ≡ is_submit id call.now }
+{
+    match call {
+        Step::Submit(submitted) => submitted.place() == id,
+        Step::Land(..) | Step::Destage(_) | Step::End(..) | Step::Power => false,
+    }
+}
+
+// Whether the call ends the request.
+fn is_end(call: &Step, id: u64) -> bool
+    ensures { result ≡ is_end id call.now }
+{
+    match call {
+        Step::End(ended, _) => ended.place() == id,
+        Step::Submit(_) | Step::Land(..) | Step::Destage(_) | Step::Power => false,
+    }
+}
+
+// Whether some call submits the request.
+fn any_submit(calls: &[Step], id: u64) -> bool
+    ensures { result ≡ list_any (is_submit id) calls.now }
+{
+    calls.iter().any(|call| is_submit(call, id))
+}
+
+// Whether some call ends the request.
+fn any_end(calls: &[Step], id: u64) -> bool
+    ensures { result ≡ list_any (is_end id) calls.now }
+{
+    calls.iter().any(|call| is_end(call, id))
+}
+
+// Whether the request was submitted.
+fn was_submitted(calls: &[Step], id: u64) -> bool
+    ensures { result ≡ list_any (is_submit id) (reverse calls.now) }
+{
+    any_submit(calls, id)
+}
+
+// Whether the request has ended.
+fn has_ended(calls: &[Step], id: u64) -> bool
+    ensures { result ≡ list_any (is_end id) (reverse calls.now) }
+{
+    any_end(calls, id)
+}
+
+// Whether the request was submitted and hasn't ended.
+fn pends(calls: &[Step], id: u64) -> bool
+    ensures { result ≡ pends (reverse calls.now) id }
+{
+    was_submitted(calls, id) && !has_ended(calls, id)
+}
+
+// Whether the event of this place submits a request that covers the sector.
+fn covers_at(events: &[CoreEvent], id: u64, sector: u64) -> bool
+    ensures { result ≡ covers_at sector (slice_get events.now id) }
+{
+    match events.get(id as usize) {
+        Some(event) => event_covers(event, sector),
+        None => false,
+    }
+}
+
+// Whether the event submits a request that covers the sector.
+fn event_covers(event: &CoreEvent, sector: u64) -> bool
+    ensures { result ≡ covers_at sector (Some event.now) }
+{
+    match event {
+        CoreEvent::Submit(bio) => covers(bio, sector),
+        _ => false,
+    }
+}
+
+// Whether the request covers the sector.
+fn covers(bio: &Bio, sector: u64) -> bool
+    ensures { result ≡ covers bio.now sector }
+{
+    bio.is_tracked() && is_in(bio.first_sector(), bio.sector_count(), sector)
+}
+
+// Whether the sector is one of a range.
+fn is_in(first: u64, count: u64, sector: u64) -> bool
+    ensures { result ≡ is_in first count sector }
+{
+    first <= sector && sector - first < count
+}
+
+// Whether the request has landed on the sector.
+fn has_landed_at(cells: &[Cell], sector: usize, id: u64) -> bool
+    ensures { result ≡ is_among (landed_of (slice_get cells.now sector)) id }
+{
+    match cells.get(sector) {
+        Some(cell) => cell.has_landed(id),
+        None => false,
+    }
+}
+
+// Whether the request had landed on the sector when that was destaged last.
+fn has_settled_at(cells: &[Cell], sector: usize, id: u64) -> bool
+    ensures { result ≡ is_among (settled_of (slice_get cells.now sector)) id }
+{
+    match cells.get(sector) {
+        Some(cell) => cell.has_settled(id),
+        None => false,
+    }
+}
+
+/// The request that landed last in the sector.
+pub fn newest_at(cells: &[Cell], sector: usize) -> Option<Id>
+    ensures { result ≡ newest (landed_of (slice_get cells.now sector)) }
+{
+    match cells.get(sector) {
+        Some(cell) => cell.newest(),
+        None => None,
+    }
+}
+
+// Whether the request has landed on each of its sectors.
+fn has_landed(cells: &[Cell], bio: &Bio, id: u64) -> bool
+    requires { first_sector bio.now + sector_count bio.now < 2 ^ 64 }
+    ensures { result ≡ is_landed cells.now id (Some (core_events.Submit bio.now)) }
+{
+    let first = bio.first_sector();
+    for place in 0..bio.sector_count() {
+        if !has_landed_at(cells, (first + place) as usize, id) {
+            return false;
+        }
+    }
+    true
+}
+
+// Whether each of its sectors was destaged after it had landed there.
+fn has_settled(cells: &[Cell], bio: &Bio, id: u64) -> bool
+    requires { first_sector bio.now + sector_count bio.now < 2 ^ 64 }
+    ensures { result ≡ is_settled cells.now id (Some (core_events.Submit bio.now)) }
+{
+    let first = bio.first_sector();
+    for place in 0..bio.sector_count() {
+        if !has_settled_at(cells, (first + place) as usize, id) {
+            return false;
+        }
+    }
+    true
+}
+
+// Whether the request that this event submits has landed on each of its sectors.
+fn is_landed(cells: &[Cell], events: &[CoreEvent], event: &CoreEvent, id: u64) -> bool
+    requires within { AllEnd events.now }
+    requires there { slice_get events.now id ≡ Some event.now }
+    ensures { result ≡ is_landed cells.now id (Some event.now) }
+{
+    match event {
+        CoreEvent::Submit(bio) => has_landed(cells, bio, id),
+        CoreEvent::Complete { .. } | CoreEvent::Mark(_) | CoreEvent::Stop(_) | CoreEvent::Close =>
+            true,
+    }
+}
+
+// Whether each of its sectors was destaged after it had landed there.
+fn is_settled(cells: &[Cell], events: &[CoreEvent], event: &CoreEvent, id: u64) -> bool
+    requires within { AllEnd events.now }
+    requires there { slice_get events.now id ≡ Some event.now }
+    ensures { result ≡ is_settled cells.now id (Some event.now) }
+{
+    match event {
+        CoreEvent::Submit(bio) => has_settled(cells, bio, id),
+        CoreEvent::Complete { .. } | CoreEvent::Mark(_) | CoreEvent::Stop(_) | CoreEvent::Close =>
+            true,
+    }
+}
+
+// The same of the request of this place; it is so where there is none.
+fn is_settled_at(cells: &[Cell], events: &[CoreEvent], id: u64) -> bool
+    requires { AllEnd events.now }
+    ensures { result ≡ is_settled cells.now id (slice_get events.now id) }
+{
+    match events.get(id as usize) {
+        Some(event) => is_settled(cells, events, event, id),
+        None => true,
+    }
+}
+
+// Whether the call is no end with success, or its request is settled.
+fn end_settled(cells: &[Cell], events: &[CoreEvent], call: &Step) -> bool
+    requires { AllEnd events.now }
+    ensures { result ≡ end_settled events.now cells.now call.now }
+{
+    match call {
+        Step::End(id, ok) => !*ok || is_settled_at(cells, events, id.place()),
+        Step::Submit(_) | Step::Land(..) | Step::Destage(_) | Step::Power => true,
+    }
+}
+
+// Whether each of the calls that is an end with success has its request settled.
+fn ends_settled(cells: &[Cell], events: &[CoreEvent], calls: &[Step]) -> bool
+    requires { AllEnd events.now }
+    ensures { result ≡ list_all (end_settled events.now cells.now) (reverse calls.now) }
+{
+    for call in calls {
+        if !end_settled(cells, events, call) {
+            return false;
+        }
+    }
+    true
+}
+
+// The calls before the last submission of the request; none where there is no submission.
+fn before_submit(calls: &[Step], id: u64) -> &[Step]
+    ensures { reverse result.now ≡ before_submit id (reverse calls.now) }
+{
+    let mut end = 0;
+    for (place, call) in calls.iter().enumerate() {
+        if is_submit(call, id) {
+            end = place;
+        }
+    }
+    &calls[..end]
+}
+
+// Whether the event submits a write with FUA.
+fn is_fua(event: &CoreEvent) -> bool
+    ensures { result ≡ submits has_fua (Some event.now) }
+{
+    match event {
+        CoreEvent::Submit(bio) => bio.has_fua(),
+        _ => false,
+    }
+}
+
+// Whether the event submits a flush, or a write that has one.
+fn is_flush(event: &CoreEvent) -> bool
+    ensures { result ≡ is_flush_submit (Some event.now) }
+{
+    match event {
+        CoreEvent::Submit(bio) => bio.has_flush(),
+        _ => false,
+    }
+}
+
+// Whether the request that this event submits may end with success.
+fn succeeds(
+    cells: &[Cell],
+    calls: &[Step],
+    events: &[CoreEvent],
+    event: &CoreEvent,
+    id: u64,
+) -> bool
+    requires within { AllEnd events.now }
+    requires there { slice_get events.now id ≡ Some event.now }
+    ensures { result ≡ succeeds events.now cells.now (reverse calls.now) id (Some event.now) }
+{
+    is_landed(cells, events, event, id)
+        && (!is_fua(event) || is_settled(cells, events, event, id))
+        && (!is_flush(event) || ends_settled(cells, events, before_submit(calls, id)))
+}
+
+// The same of the request of this place; it may where there is none.
+fn may_succeed(cells: &[Cell], calls: &[Step], events: &[CoreEvent], id: u64) -> bool
+    requires { AllEnd events.now }
+    ensures { result ≡ succeeds events.now cells.now (reverse calls.now) id (slice_get events.now id) }
+{
+    match events.get(id as usize) {
+        Some(event) => succeeds(cells, calls, events, event, id),
+        None => true,
+    }
+}

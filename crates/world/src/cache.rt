@@ -1,0 +1,169 @@
+//! A device with a cache, that takes steps.
+//!
+//! A world keeps a cell for each sector, the calls so far, oldest first, and the image of what is durable.
+ghost use Rattle.std.specs.Prelude.{◌≡◌, ◌∷◌, [], ◌*◌, ◌/◌, ◌%◌, ◌<◌, ℕ, Err, IfOk, OnErr, OnOk, false, true, length, replicate, get_or, reverse, slice_get, slice_set};
+ghost use Rattle.bio.specs.Lawful.{is_lawful};
+ghost use Rattle.world.specs.Cells.{CellState, IsFresh, IsPut, Steps, WorldState, empty_cell, landed_of, landing, machine_of, settling};
+ghost use Rattle.world.specs.Machine.{has_step, newest};
+ghost use Rattle.world.specs.Runs.{values_of_id};
+ghost use Rattle.world.specs.declared.step_error.StepError.TheVariants as errors;
+ghost use Rattle.world.specs.inside.Allowed.{is_allowed};
+ghost use Rattle.world.specs.inside.Plan.{AllEnd};
+
+use crate::allowed::{is_allowed, newest_at};
+use crate::cell::{Cell, land_in, settle_in};
+use crate::putting::put_newest;
+use crate::step::Step;
+use crate::step_error::StepError;
+use bio::CoreEvent;
+use judge::SECTOR;
+use std::alloc::{AllocError, Global};
+use std::marker::Model;
+
+/// A device with a cache. Contracts see the machine that it is (`machine_of`), and its image.
+#[derive(Debug, Drop)]
+pub struct World {
+    cells: Vec<Cell>,
+    calls: Vec<Step>,
+    off: bool,
+    image: Vec<u8>,
+}
+
+impl Model for World {
+    ghost Value = { WorldState };
+
+    ghost view = { λ world. record {
+      cells = world.cells.items;
+      calls = reverse world.calls.items;
+      off = world.off;
+      image = world.image.items;
+    } };
+
+    ghost invariant = { λ world. length world.image.items ≡ 512 * length world.cells.items };
+}
+
+// So many sectors where nothing landed.
+fn empty_cells(alloc: Global, sectors: usize) -> Result<Vec<Cell>, AllocError>
+    ensures { IfOk result (λ cells. cells.items ≡ replicate sectors empty_cell) }
+{
+    let mut cells = Vec::new(alloc);
+    for _ in 0..sectors {
+        cells.push(Cell::new(alloc))?;
+    }
+    Ok(cells)
+}
+
+impl World {
+    /// A device before its first step, with these bytes, whole sectors of 512. Takes memory of the bytes and of 40 for
+    /// each sector. Want of memory is the only error.
+    pub fn new(alloc: Global, first: &[u8]) -> Result<World, AllocError>
+        requires { length first.now % 512 ≡ 0 }
+        ensures { IfOk result (IsFresh first.now) }
+    {
+        let cells = empty_cells(alloc, first.len() / SECTOR)?;
+        Ok(World {
+            cells,
+            calls: Vec::new(alloc),
+            off: false,
+            image: first.to_vec(alloc)?,
+        })
+    }
+
+    /// Takes a step. `events` is a list that a recorder of the device may have recorded (`is_lawful`), the same for all
+    /// steps. `BadStep` comes just where the device has no such step then; after an error nothing has changed. Takes
+    /// memory of 24 bytes for a submission or an end and of 8 for a landing, and time by the calls so far; an end with
+    /// success takes time by the sectors of the requests that it asks for, and by what landed there.
+    pub fn step(&mut self, events: &[CoreEvent], step: &Step) -> Result<(), StepError>
+        requires { is_lawful (length self.old.image / 512) events.now ≡ true }
+        ensures taken { OnOk result (Steps events.now step.now self.old self.new) }
+        ensures refused { OnErr result (self.new ≡ self.old) }
+        ensures bad { has_step events.now (machine_of self.old) step.now ≡ false → result ≡ Err errors.BadStep }
+        ensures good { has_step events.now (machine_of self.old) step.now ≡ true → result ≡ Err errors.BadStep → ⊥ }
+    {
+        if !self.has_step(events, step) {
+            return Err(StepError::BadStep);
+        }
+        self.take(events, step)?;
+        Ok(())
+    }
+
+    // Whether the device has the step.
+    fn has_step(&self, events: &[CoreEvent], step: &Step) -> bool
+        requires { is_lawful (length self.now.image / 512) events.now ≡ true }
+        ensures has { result ≡ has_step events.now (machine_of self.now) step.now }
+        ensures sectors { length self.now.image ≡ 512 * length self.now.cells }
+    {
+        !self.off && is_allowed(&self.cells, &self.calls, events, step)
+    }
+
+    // Takes a step that the device has.
+    fn take(&mut self, events: &[CoreEvent], step: &Step) -> Result<(), AllocError>
+        requires lawful { is_lawful (length self.old.image / 512) events.now ≡ true }
+        requires sectors { length self.old.image ≡ 512 * length self.old.cells }
+        requires may { has_step events.now (machine_of self.old) step.now ≡ true }
+        ensures taken { OnOk result (Steps events.now step.now self.old self.new) }
+        ensures refused { OnErr result (self.new ≡ self.old) }
+    {
+        match step {
+            Step::Submit(_) | Step::End(..) => self.call(step),
+            Step::Land(id, sector) => self.land(id.place(), *sector as usize),
+            Step::Destage(sector) => {
+                self.destage(events, *sector as usize);
+                Ok(())
+            }
+            Step::Power => {
+                self.power();
+                Ok(())
+            }
+        }
+    }
+
+    // Notes a submission or an end.
+    fn call(&mut self, step: &Step) -> Result<(), AllocError>
+        ensures called { OnOk result (self.new ≡ record self.old { calls = step.now ∷ self.old.calls }) }
+        ensures refused { OnErr result (self.new ≡ self.old) }
+    {
+        self.calls.push(*step)?;
+        Ok(())
+    }
+
+    // A request lands in a sector.
+    fn land(&mut self, id: u64, sector: usize) -> Result<(), AllocError>
+        requires { sector < length self.old.cells }
+        ensures landed { OnOk result (self.new ≡ record self.old {
+          cells = slice_set self.old.cells sector (landing id (get_or self.old.cells sector empty_cell));
+        }) }
+        ensures refused { OnErr result (self.new ≡ self.old) }
+    {
+        land_in(&mut self.cells, sector, id)
+    }
+
+    // A sector is destaged.
+    fn destage(&mut self, events: &[CoreEvent], sector: usize)
+        requires { sector < length self.old.cells }
+        ensures cells { self.new ≡ record self.old {
+          cells = slice_set self.old.cells sector (settling (get_or self.old.cells sector empty_cell));
+          image = self.new.image;
+        } }
+        ensures image { IsPut (values_of_id events.now (newest (landed_of (slice_get self.old.cells sector)))) sector
+            self.old.image self.new.image }
+    {
+        let newest = newest_at(&self.cells, sector);
+        put_newest(&mut self.image, events, newest, sector);
+        settle_in(&mut self.cells, sector);
+    }
+
+    // Power goes.
+    fn power(&mut self)
+        ensures { self.new ≡ record self.old { off = true } }
+    {
+        self.off = true;
+    }
+
+    /// What is durable: what the device holds once power goes.
+    pub fn image(&self) -> &[u8]
+        ensures { result.now ≡ self.now.image }
+    {
+        &self.image
+    }
+}

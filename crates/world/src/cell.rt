@@ -1,0 +1,113 @@
+//! What landed in one sector: the requests, oldest first, and how many of them had landed when it was destaged
+//! last.
+ghost use Rattle.std.specs.Prelude.{◌≡◌, ◌∷◌, ◌≤◌, ℕ, ◌<◌, OnErr, OnOk, get_or, length, reverse, slice_set, take};
+ghost use Rattle.world.specs.Cells.{CellState, empty_cell, landing, settling};
+ghost use Rattle.world.specs.Machine.{is_among, newest};
+
+use bio::Id;
+use std::alloc::{AllocError, Global};
+use std::marker::Model;
+
+#[derive(Debug, Drop)]
+pub struct Cell {
+    ids: Vec<u64>,
+    safe: usize,
+}
+
+impl Model for Cell {
+    ghost Value = { CellState };
+
+    ghost view = { λ cell. record { landed = reverse cell.ids.items; settled = reverse (take cell.safe cell.ids.items) } };
+
+    ghost invariant = { λ cell. cell.safe ≤ length cell.ids.items };
+}
+
+impl Cell {
+    /// A sector where nothing landed.
+    pub fn new(alloc: Global) -> Cell
+        ensures { result ≡ empty_cell }
+    {
+        Cell {
+            ids: Vec::new(alloc),
+            safe: 0,
+        }
+    }
+
+    /// A request lands.
+    pub fn land(&mut self, id: u64) -> Result<(), AllocError>
+        ensures landed { OnOk result (self.new ≡ record self.old { landed = id ∷ self.old.landed }) }
+        ensures refused { OnErr result (self.new ≡ self.old) }
+    {
+        self.ids.push(id)?;
+        Ok(())
+    }
+
+    /// The sector is destaged.
+    pub fn settle(&mut self)
+        ensures { self.new ≡ record self.old { settled = self.old.landed } }
+    {
+        self.safe = self.ids.len();
+    }
+
+    /// The request that landed last.
+    pub fn newest(&self) -> Option<Id>
+        ensures { result ≡ newest self.now.landed }
+    {
+        newest_of(&self.ids)
+    }
+
+    /// Whether the request has landed.
+    pub fn has_landed(&self, id: u64) -> bool
+        ensures { result ≡ is_among self.now.landed id }
+    {
+        is_among(&self.ids, id)
+    }
+
+    /// Whether the request had landed when the sector was destaged last.
+    pub fn has_settled(&self, id: u64) -> bool
+        ensures { result ≡ is_among self.now.settled id }
+    {
+        is_among(&self.ids[..self.safe], id)
+    }
+}
+
+// The last of these, oldest first.
+fn newest_of(ids: &[u64]) -> Option<Id>
+    ensures { result ≡ newest (reverse ids.now) }
+{
+    match ids.last() {
+        Some(id) => Some(Id::new(*id)),
+        None => None,
+    }
+}
+
+// Whether the request is one of these, oldest first.
+fn is_among(ids: &[u64], id: u64) -> bool
+    ensures { result ≡ is_among (reverse ids.now) id }
+{
+    contains(ids, id)
+}
+
+// The same, of a list seen as it is kept.
+fn contains(ids: &[u64], id: u64) -> bool
+    ensures { result ≡ is_among ids.now id }
+{
+    ids.iter().any(|other| *other == id)
+}
+
+/// A request lands in a sector.
+pub fn land_in(cells: &mut [Cell], sector: usize, id: u64) -> Result<(), AllocError>
+    requires { sector < length cells.old }
+    ensures landed { OnOk result (cells.new ≡ slice_set cells.old sector (landing id (get_or cells.old sector empty_cell))) }
+    ensures refused { OnErr result (cells.new ≡ cells.old) }
+{
+    cells[sector].land(id)
+}
+
+/// A sector is destaged.
+pub fn settle_in(cells: &mut [Cell], sector: usize)
+    requires { sector < length cells.old }
+    ensures { cells.new ≡ slice_set cells.old sector (settling (get_or cells.old sector empty_cell)) }
+{
+    cells[sector].settle();
+}

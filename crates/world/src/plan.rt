@@ -1,0 +1,121 @@
+//! The steps of one request for its sectors, as the plan of a run has them.
+//!
+//! A request lands at its submission where another one's value is wanted, and else at its end.
+ghost use Rattle.std.specs.Prelude.{◌≡◌, ℕ, ◌+◌, ◌^◌, ◌<◌, ◌++◌, OnOk, Some};
+ghost use Rattle.bio.specs.declared.event.CoreEvent.TheVariants as core_events;
+ghost use Rattle.bio.specs.Requests.{first_sector, sector_count};
+ghost use Rattle.judge.specs.Accounts.{place_at};
+ghost use Rattle.world.specs.inside.Plan.{by_sector, is_upto, is_wanted, lands_if, lands_late, sure_by, touch};
+
+use crate::step::Step;
+use bio::{Bio, Id};
+use judge::Account;
+use std::alloc::AllocError;
+
+// Whether the request of this place is the one that is wanted.
+fn is_wanted(wanted: Option<usize>, id: usize) -> bool
+    ensures { result ≡ is_wanted wanted id }
+{
+    match wanted {
+        Some(wanted) => wanted == id,
+        None => false,
+    }
+}
+
+// Whether a place was found, and this one isn't past it.
+fn is_upto(id: usize, last: Option<usize>) -> bool
+    ensures { result ≡ is_upto id last }
+{
+    match last {
+        Some(last) => id <= last,
+        None => false,
+    }
+}
+
+// The request lands on the sector, where it does, and that is destaged, where it is.
+fn touch(
+    run: &mut Vec<Step>,
+    lands: bool,
+    settles: bool,
+    id: usize,
+    sector: u64,
+) -> Result<(), AllocError>
+    ensures { OnOk result (run.new.items ≡ run.old.items ++ touch lands settles id sector) }
+{
+    if !lands {
+        return Ok(());
+    }
+    run.push(Step::Land(Id::new(id as u64), sector))?;
+    if settles {
+        run.push(Step::Destage(sector))?;
+    }
+    Ok(())
+}
+
+// The steps of a request for a sector at its submission, where it has to land at all.
+fn lands_early(
+    run: &mut Vec<Step>,
+    account: &Account,
+    id: usize,
+    has_to: bool,
+    sector: u64,
+) -> Result<(), AllocError>
+    ensures { OnOk result (run.new.items ≡ run.old.items
+        ++ lands_if has_to (place_at account.now.held.items) (sure_by account.now.last.items) id sector) }
+{
+    let lands = !is_wanted(account.held_from(sector as usize), id) && has_to;
+    let settles = is_upto(id, account.last_over(sector as usize));
+    touch(run, lands, settles, id, sector)
+}
+
+// The steps of a request for a sector at its end.
+fn lands_late(
+    run: &mut Vec<Step>,
+    account: &Account,
+    id: usize,
+    sector: u64,
+) -> Result<(), AllocError>
+    ensures { OnOk result (run.new.items ≡ run.old.items ++ lands_late (place_at account.now.held.items) id sector) }
+{
+    let lands = is_wanted(account.held_from(sector as usize), id);
+    touch(run, lands, true, id, sector)
+}
+
+/// The steps of a request for all its sectors at its submission, where it has to land at all: it will end with
+/// success.
+pub fn land_early(
+    run: &mut Vec<Step>,
+    account: &Account,
+    id: usize,
+    has_to: bool,
+    bio: &Bio,
+) -> Result<(), AllocError>
+    requires { first_sector bio.now + sector_count bio.now < 2 ^ 64 }
+    ensures { OnOk result (run.new.items ≡ run.old.items
+        ++ by_sector (lands_if has_to (place_at account.now.held.items) (sure_by account.now.last.items) id)
+        (Some (core_events.Submit bio.now))) }
+{
+    let first = bio.first_sector();
+    for place in 0..bio.sector_count() {
+        lands_early(run, account, id, has_to, first + place)?;
+    }
+    Ok(())
+}
+
+/// The steps of a request for all its sectors at its end.
+pub fn land_late(
+    run: &mut Vec<Step>,
+    account: &Account,
+    id: usize,
+    bio: &Bio,
+) -> Result<(), AllocError>
+    requires { first_sector bio.now + sector_count bio.now < 2 ^ 64 }
+    ensures { OnOk result (run.new.items ≡ run.old.items
+        ++ by_sector (lands_late (place_at account.now.held.items) id) (Some (core_events.Submit bio.now))) }
+{
+    let first = bio.first_sector();
+    for place in 0..bio.sector_count() {
+        lands_late(run, account, id, first + place)?;
+    }
+    Ok(())
+}

@@ -1,0 +1,87 @@
+//! The value of a request, put in one sector of an image.
+ghost use Rattle.std.specs.Prelude.{◌≡◌, ◌/◌, ◌<◌, Some, length, slice_get};
+ghost use Rattle.bio.specs.Possible.{values_at, values_of};
+ghost use Rattle.sectors.specs.Content.{Patch, discards, writes};
+ghost use Rattle.world.specs.Cells.{IsPut};
+ghost use Rattle.world.specs.Runs.{values_of_id};
+
+use bio::{Bio, CoreEvent, Id};
+use judge::{SECTOR, place_in, sector_bytes};
+
+/// Puts the value of the request of this place, where there is one.
+pub fn put_newest(image: &mut [u8], events: &[CoreEvent], newest: Option<Id>, sector: usize)
+    requires { sector < length image.old / 512 }
+    ensures { IsPut (values_of_id events.now newest) sector image.old image.new }
+{
+    match newest {
+        Some(id) => put_id(image, events, id.place(), sector),
+        None => {}
+    }
+}
+
+// The same of a place.
+fn put_id(image: &mut [u8], events: &[CoreEvent], id: u64, sector: usize)
+    requires { sector < length image.old / 512 }
+    ensures { IsPut (values_at (slice_get events.now id)) sector image.old image.new }
+{
+    match events.get(id as usize) {
+        Some(event) => put_event(image, event, sector),
+        None => {}
+    }
+}
+
+// Puts the value of the request that this event submits.
+fn put_event(image: &mut [u8], event: &CoreEvent, sector: usize)
+    requires { sector < length image.old / 512 }
+    ensures { IsPut (values_at (Some event.now)) sector image.old image.new }
+{
+    match event {
+        CoreEvent::Submit(bio) => put_bio(image, bio, sector),
+        CoreEvent::Complete { .. } | CoreEvent::Mark(_) | CoreEvent::Stop(_) | CoreEvent::Close =>
+            {}
+    }
+}
+
+// Puts the value that a request has for the sector.
+fn put_bio(image: &mut [u8], bio: &Bio, sector: usize)
+    requires { sector < length image.old / 512 }
+    ensures { IsPut (values_of bio.now) sector image.old image.new }
+{
+    match bio {
+        Bio::Write { first, bytes, .. } => put_written(image, *first, bytes.as_slice(), sector),
+        Bio::Discard { first, count } => put_zeroes(image, *first, *count, sector),
+        Bio::Flush | Bio::Read { .. } => {}
+    }
+}
+
+// Puts the bytes that a write has for the sector.
+fn put_written(image: &mut [u8], first: u64, bytes: &[u8], sector: usize)
+    requires { sector < length image.old / 512 }
+    ensures { IsPut (writes first bytes.now) sector image.old image.new }
+{
+    match place_in(first, (bytes.len() / SECTOR) as u64, sector) {
+        Some(place) => put_bytes(image, sector, sector_bytes(bytes, place)),
+        None => {}
+    }
+}
+
+// Puts zeroes, where a discard covers the sector.
+fn put_zeroes(image: &mut [u8], first: u64, count: u64, sector: usize)
+    requires { sector < length image.old / 512 }
+    ensures { IsPut (discards first count) sector image.old image.new }
+{
+    match place_in(first, count, sector) {
+        Some(_) => put_bytes(image, sector, [0; SECTOR].as_slice()),
+        None => {}
+    }
+}
+
+// Puts these bytes.
+fn put_bytes(image: &mut [u8], sector: usize, part: &[u8])
+    requires within { sector < length image.old / 512 }
+    requires part { length part.now ≡ 512 }
+    ensures { (patch : Patch) → patch sector ≡ Some part.now → IsPut patch sector image.old image.new }
+{
+    let from = sector * SECTOR;
+    image[from..from + SECTOR].copy_from_slice(part);
+}

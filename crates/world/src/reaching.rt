@@ -1,0 +1,204 @@
+//! A run that leaves an image, made from the judge's account of it.
+//!
+//! The plan takes the events one after another, then the requests that haven't ended, then power goes.
+ghost use Rattle.std.specs.Prelude.{◌≡◌, ℕ, ◌/◌, ◌%◌, ◌++◌, IfOk, MatchOption, OnOk, Some, length, slice_get, take, true};
+ghost use Rattle.bio.specs.Events.{end_of, is_open_at};
+ghost use Rattle.bio.specs.Lawful.{is_lawful};
+ghost use Rattle.bio.specs.Possible.{ended_ok, is_success};
+ghost use Rattle.judge.specs.Accounts.{place_at};
+ghost use Rattle.sectors.specs.Content.{sector_of};
+ghost use Rattle.sectors.specs.Places.{collect};
+ghost use Rattle.world.specs.Runs.{IsReachable, Leaves};
+ghost use Rattle.world.specs.inside.Plan.{AllEnd, by_sector, lands_late, plan, steps_left, steps_of, sure_by};
+
+use crate::allowed::is_request;
+use crate::plan::{land_early, land_late};
+use crate::step::Step;
+use bio::{CoreEvent, Id};
+use judge::{Account, Verdict, beginning};
+use std::alloc::{AllocError, Global};
+
+/// A run of the machine that fits the first `moment` of the events and leaves the image, where `first` was on the
+/// device before the first event; none where there is no such run. `events` is a list that a recorder of the device
+/// may have recorded (`is_lawful`), a later moment than its last counts as all of them; both images have the
+/// device's length in bytes, whole sectors of 512.
+///
+/// Takes memory of 32 bytes for each sector, 16 for each event and what the run's steps take, two for each sector
+/// that a request covers at most; and time by the sum of these. Want of memory is the only error.
+pub fn reach(
+    alloc: Global,
+    events: &[CoreEvent],
+    moment: u64,
+    first: &[u8],
+    image: &[u8],
+) -> Result<Option<Vec<Step>>, AllocError>
+    requires whole { length image.now % 512 ≡ 0 }
+    requires same { length first.now ≡ length image.now }
+    requires lawful { is_lawful (length image.now / 512) events.now ≡ true }
+    ensures { IfOk result (λ found. MatchOption found
+        (IsReachable (take moment events.now) (sector_of first.now) (sector_of image.now) → ⊥)
+        (λ run. Leaves (take moment events.now) (sector_of first.now) run.items (sector_of image.now))) }
+{
+    let events = beginning(events, moment);
+    let account = Account::of(alloc, events, image)?;
+    match account.verdict(first, image) {
+        Verdict::Yes => Ok(Some(run_of(alloc, events, &account)?)),
+        Verdict::No { .. } => Ok(None),
+    }
+}
+
+// The run that the account says.
+fn run_of(alloc: Global, events: &[CoreEvent], account: &Account) -> Result<Vec<Step>, AllocError>
+    requires ends { (id : ℕ) → place_at account.now.ends.items id ≡ end_of events.now id }
+    requires within { AllEnd events.now }
+    ensures { IfOk result (λ run.
+        run.items ≡ plan events.now (place_at account.now.held.items) (sure_by account.now.last.items)) }
+{
+    let mut run = Vec::new(alloc);
+    follow(&mut run, events, account)?;
+    finish(&mut run, events, account)?;
+    run.push(Step::Power)?;
+    Ok(run)
+}
+
+// The steps for all events.
+fn follow(run: &mut Vec<Step>, events: &[CoreEvent], account: &Account) -> Result<(), AllocError>
+    requires ends { (id : ℕ) → place_at account.now.ends.items id ≡ end_of events.now id }
+    requires within { AllEnd events.now }
+    ensures { OnOk result (run.new.items ≡ run.old.items ++ collect (λ place. steps_of events.now
+        (place_at account.now.held.items) (sure_by account.now.last.items) place (slice_get events.now place)) (length events.now)) }
+{
+    for (place, event) in events.iter().enumerate() {
+        take_event(run, events, account, place, event)?;
+    }
+    Ok(())
+}
+
+// The steps for one event.
+fn take_event(
+    run: &mut Vec<Step>,
+    events: &[CoreEvent],
+    account: &Account,
+    place: usize,
+    event: &CoreEvent,
+) -> Result<(), AllocError>
+    requires ends { (id : ℕ) → place_at account.now.ends.items id ≡ end_of events.now id }
+    requires within { AllEnd events.now }
+    requires there { slice_get events.now place ≡ Some event.now }
+    ensures { OnOk result (run.new.items ≡ run.old.items ++ steps_of events.now
+        (place_at account.now.held.items) (sure_by account.now.last.items) place (Some event.now)) }
+{
+    match event {
+        CoreEvent::Submit(bio) => {
+            run.push(Step::Submit(Id::new(place as u64)))?;
+            let has_to = ended_ok(events, account, place);
+            land_early(run, account, place, has_to, bio)
+        }
+        CoreEvent::Complete { id, ok } => {
+            land_at(run, events, account, id.place() as usize)?;
+            run.push(Step::End(*id, *ok))?;
+            Ok(())
+        }
+        CoreEvent::Mark(_) | CoreEvent::Stop(_) | CoreEvent::Close => Ok(()),
+    }
+}
+
+// Whether the request of this place ended with success.
+fn ended_ok(events: &[CoreEvent], account: &Account, id: usize) -> bool
+    requires { (id : ℕ) → place_at account.now.ends.items id ≡ end_of events.now id }
+    ensures { result ≡ ended_ok events.now id }
+{
+    match account.end(id) {
+        Some(end) => is_success_at(events, end),
+        None => false,
+    }
+}
+
+// Whether an end with success stands at this place.
+fn is_success_at(events: &[CoreEvent], place: usize) -> bool
+    ensures { result ≡ is_success (slice_get events.now place) }
+{
+    match events.get(place) {
+        Some(event) => matches!(event, CoreEvent::Complete { ok: true, .. }),
+        None => false,
+    }
+}
+
+// The steps of the request of this place at its end.
+fn land_at(
+    run: &mut Vec<Step>,
+    events: &[CoreEvent],
+    account: &Account,
+    id: usize,
+) -> Result<(), AllocError>
+    requires { AllEnd events.now }
+    ensures { OnOk result (run.new.items ≡ run.old.items
+        ++ by_sector (lands_late (place_at account.now.held.items) id) (slice_get events.now id)) }
+{
+    match events.get(id) {
+        Some(event) => land_event(run, events, account, id, event),
+        None => Ok(()),
+    }
+}
+
+// The same, by the event of this place.
+fn land_event(
+    run: &mut Vec<Step>,
+    events: &[CoreEvent],
+    account: &Account,
+    id: usize,
+    event: &CoreEvent,
+) -> Result<(), AllocError>
+    requires within { AllEnd events.now }
+    requires there { slice_get events.now id ≡ Some event.now }
+    ensures { OnOk result (run.new.items ≡ run.old.items
+        ++ by_sector (lands_late (place_at account.now.held.items) id) (Some event.now)) }
+{
+    match event {
+        CoreEvent::Submit(bio) => land_late(run, account, id, bio),
+        CoreEvent::Complete { .. } | CoreEvent::Mark(_) | CoreEvent::Stop(_) | CoreEvent::Close =>
+            Ok(()),
+    }
+}
+
+// The steps of all requests that haven't ended.
+fn finish(run: &mut Vec<Step>, events: &[CoreEvent], account: &Account) -> Result<(), AllocError>
+    requires ends { (id : ℕ) → place_at account.now.ends.items id ≡ end_of events.now id }
+    requires within { AllEnd events.now }
+    ensures { OnOk result (run.new.items ≡ run.old.items
+        ++ collect (steps_left events.now (place_at account.now.held.items)) (length events.now)) }
+{
+    for id in 0..events.len() {
+        land_left(run, events, account, id)?;
+    }
+    Ok(())
+}
+
+// The steps of the request of this place, where it hasn't ended.
+fn land_left(
+    run: &mut Vec<Step>,
+    events: &[CoreEvent],
+    account: &Account,
+    id: usize,
+) -> Result<(), AllocError>
+    requires ends { (id : ℕ) → place_at account.now.ends.items id ≡ end_of events.now id }
+    requires within { AllEnd events.now }
+    ensures { OnOk result (run.new.items ≡ run.old.items
+        ++ steps_left events.now (place_at account.now.held.items) id) }
+{
+    if is_open_at(events, account, id) {
+        land_at(run, events, account, id)?;
+    }
+    Ok(())
+}
+
+// Whether the request of this place hasn't ended.
+fn is_open_at(events: &[CoreEvent], account: &Account, id: usize) -> bool
+    requires { (id : ℕ) → place_at account.now.ends.items id ≡ end_of events.now id }
+    ensures { result ≡ is_open_at events.now id }
+{
+    match events.get(id) {
+        Some(event) => is_request(event) && account.end(id).is_none(),
+        None => false,
+    }
+}

@@ -1,0 +1,63 @@
+//! A step of a device with a cache, and how it is shown.
+ghost use Rattle.std.specs.Prelude.{Some};
+ghost use Rattle.world.specs.Texts.{end_text, step_text};
+
+use bio::Id;
+use std::fmt;
+
+/// A step of a device with a cache. Ids are the places of submissions in the event list, sectors are counted
+/// from 0. It is shown as `submit <id>`, `land <id> <sector>`, `destage <sector>`, `end <id> ok` or `end <id> failed`,
+/// or `power`.
+#[derive(Clone, Copy, Debug, PartialEq, Eq)]
+pub enum Step {
+    /// The request is submitted.
+    Submit(Id),
+    /// The request's value lands in the cache for this sector, one of those that it covers.
+    Land(Id, u64),
+    /// The newest value that landed in this sector becomes durable.
+    Destage(u64),
+    /// The request ends, with or without success.
+    End(Id, bool),
+    /// Power goes: what is durable then stays.
+    Power,
+}
+
+impl fmt::Display for Step {
+    ghost output = { λ step. Some (step_text step) };
+
+    fn fmt<W: fmt::Write>(&self, f: &mut fmt::Formatter<W>) -> fmt::Result {
+        match *self {
+            Step::Submit(id) => {
+                let place = id.place();
+                write!(f, "submit {place}")
+            }
+            Step::Land(id, sector) => {
+                let place = id.place();
+                write!(f, "land {place} {sector}")
+            }
+            Step::Destage(sector) => write!(f, "destage {sector}"),
+            Step::End(id, ok) => {
+                let place = id.place();
+                let result = Ended(ok);
+                write!(f, "end {place} {result}")
+            }
+            Step::Power => f.write_str("power"),
+        }
+    }
+}
+
+// How a request ended.
+#[derive(Clone, Copy)]
+struct Ended(bool);
+
+impl fmt::Display for Ended {
+    ghost output = { λ ended. Some (end_text ended.0) };
+
+    fn fmt<W: fmt::Write>(&self, f: &mut fmt::Formatter<W>) -> fmt::Result {
+        if self.0 {
+            f.write_str("ok")
+        } else {
+            f.write_str("failed")
+        }
+    }
+}

@@ -28,6 +28,7 @@ use Rattle.dmlw_commands.specs.Exits.{told_line}
 use Rattle.dmlw_files.specs.Files.{Write}
 use Rattle.dmlw_judge.specs.Beginnings.{BeginsLog, IsReplayedTo}
 use Rattle.dmlw_judge.specs.Judgements.{AreRead, CanJudge, CannotJudge, EndsJudging, HasNoVerdict, HasVerdict, IsJudged, Judges, Question, exit_judged, file, moment as no_moment, question, run, text, verdict_line}
+use Rattle.recorder.specs.Shown.{core_of}
 
 same_number : (a b : ℕ) → a ≡ b → a ≡ b
 same_number a b same = same
@@ -61,7 +62,7 @@ cannot_size = inr (λ size. let same = same_number 0 512 size in omega arith)
 no_events : (plan : Plan) (events : List CoreEvent) → plan.commands ≡ [] → IsRehearsed plan events → events ≡ []
 no_events plan events none rehearsed =
     let ran = subst (λ cs. RunsLines stack_answering plan.names cs rehearsed.text rehearsed.start rehearsed.last) none rehearsed.ran in
-    rehearsed.recorded ∙ ap (λ (r : DiskRun). r.recorder.core.events) ran.1 ∙ ap (λ core. core.events) rehearsed.starts.log_disk.begun.core
+    rehearsed.recorded ∙ ap (λ (r : DiskRun). (core_of r.recorder).events) ran.1 ∙ ap (λ core. core.events) rehearsed.starts.log_disk.begun.core
 
 -- so its moment 1 isn't judged
 judged_later : (plan : Plan) (image : List ℕ) (verdict : Verdict) → plan.commands ≡ [] → IsJudged plan 1 image verdict → ⊥

@@ -7,4 +7,8 @@ mod format;
 #[cfg(test)]
 mod images;
 #[cfg(test)]
+mod links;
+#[cfg(test)]
 mod recording;
+#[cfg(test)]
+mod short_lists;

@@ -7,8 +7,12 @@ pub mod OneStep
 pub mod Waiting
 pub mod Releasing
 pub mod Between
+pub mod LaneLaws
+pub mod RequestLaws
 pub mod Walk
 pub mod Rooms
+pub mod Views
+pub mod EndLaws
 pub mod Meaning
 pub mod CoreSteps
 pub mod Readable

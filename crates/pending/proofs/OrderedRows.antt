@@ -9,7 +9,7 @@ use Rattle.bio.specs.declared.request.Bio.TheVariants.{Write, Flush}
 use Rattle.pending.specs.Chains.{AtFua, Chain, Direct, EndsPlain, IsFirstNeed, IsNeed, Through}
 use Rattle.pending.specs.Moments.{last_moment}
 use Rattle.pending.specs.QueueEvent.{ends_plain, is_linked, recorded}
-use Rattle.pending.specs.declared.slot.PendingEntry.{PendingEntry}
+use Rattle.pending.specs.declared.row.PendingEntry.{PendingEntry}
 use Rattle.pending.specs.inside.Releasing.{is_beyond, is_taken, kept_from, lies_in, queues_itself, ranges_meet, taken_from}
 use Rattle.log_format.specs.Entries.{entry_of}
 use Rattle.pending.proofs.Words.{chain-linked, need-recorded}

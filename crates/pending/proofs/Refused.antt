@@ -1,4 +1,4 @@
--- What a core never is, which numbers of entries belong to a moment, and which events are alike but for their results: examples that hold and
+-- What a core never is, how many links a call may change, which numbers of entries belong to a moment, and which events are alike but for their results: examples that hold and
 -- examples that don't.
 use Rattle.std.proofs.Common.{◌≡◌, true, false, List, [], ◌∷◌, length, map, replicate, refl, arith}
 use Rattle.bio.specs.declared.event.CoreEvent.{CoreEvent}
@@ -7,7 +7,7 @@ use Rattle.bio.specs.declared.outcome.End.TheVariants.{Full}
 use Rattle.bio.specs.declared.request.Bio.TheVariants.{Write, Flush}
 use Rattle.pending.specs.Beginnings.{BelongsTo, queued_by}
 use Rattle.pending.specs.CompletionList.{dm_log_writes}
-use Rattle.pending.specs.CoreState.{IsSound, items_of, new_state}
+use Rattle.pending.specs.CoreState.{CoreState, IsSound, LinksBound, items_of, new_state, queued_between}
 use Rattle.pending.specs.Results.{as_success}
 
 -- a core of no events is sound
@@ -72,3 +72,27 @@ other-end same = cc
 
 other-event : as_success (Stop Full) ≡ as_success Close → ⊥
 other-event same = cc
+
+-- a core of a mark alone
+abbrev marked : CoreState
+marked = record new_state { events = Mark [] ∷ [] }
+
+-- the mark is queued
+one_queued : queued_between new_state marked ≡ 1
+one_queued = refl
+
+-- with one entry queued 16 links may be changed
+links_kept : LinksBound (record { state = new_state; links = 3 }) (record { state = marked; links = 19 })
+links_kept = let one = one_queued in record { few = omega arith; rises = omega arith }
+
+-- and no more
+links_missed : LinksBound (record { state = new_state; links = 3 }) (record { state = marked; links = 20 }) → ⊥
+links_missed bound = let one = one_queued in let few = bound.few in absurd (omega arith)
+
+-- with none queued 8 may be
+links_idle : LinksBound (record { state = marked; links = 3 }) (record { state = marked; links = 12 }) → ⊥
+links_idle bound = let few = bound.few in absurd (omega arith)
+
+-- the count never falls
+links_lost : LinksBound (record { state = marked; links = 3 }) (record { state = marked; links = 2 }) → ⊥
+links_lost bound = let rises = bound.rises in absurd (omega arith)

@@ -1,5 +1,5 @@
-pub mod Slots
 pub mod Releasing
+pub mod Requests
 pub mod Waiting
 pub mod Steps
 pub mod Represents

@@ -31,6 +31,7 @@ use Rattle.script_runner.specs.Followed.{IsFollowed, StandsFor, submissions_of}
 use Rattle.script_runner.specs.Lines.{Answering, Asks, EndsRequest, RunsLine, TakesStep, reply_of}
 use Rattle.script_runner.specs.Runs.{RunsLines}
 use Rattle.script_runner.specs.Submitted.{bio_of}
+use Rattle.recorder.specs.Shown.{core_of}
 
 -- what is asked is what the line says
 asks_stands : {L : Type 0} {l : Ghosts L} (submission : Submission) (request : Request) (old new : Recorder L l) → Asks (bio_of submission) request old new
@@ -92,14 +93,14 @@ stays old new id event (more, is) stands =
 
 -- a mark that is queued stands at its place
 pub queued_stands : {L : Type 0} {l : Ghosts L} (text : List ℕ) (reply : Reply) (id : ℕ) (old new : Recorder L l) → Marks text reply old new → reply ≡ replies.Queued id
-    → slice_get new.core.events id ≡ Some (core_events.Mark text)
+    → slice_get (core_of new).events id ≡ Some (core_events.Mark text)
 queued_stands {L} {l} text reply id old new marks queued = elim (bool_cases (is_text text)) [
-  | inl heard ↦ elim (bool_cases (is_recording old.core.events)) [
+  | inl heard ↦ elim (bool_cases (is_recording (core_of old).events)) [
     | inl going ↦ elim (marks.recorded heard going) [
       | inl (place, is) ↦
-          ap (λ (n : ℕ). slice_get new.core.events n) (queued_id id (length old.core.events) (sym queued ∙ place))
-          ∙ ap (λ (c : CoreState). slice_get c.events (length old.core.events)) is
-          ∙ slice_get-append_here old.core.events (core_events.Mark text) []
+          ap (λ (n : ℕ). slice_get (core_of new).events n) (queued_id id (length (core_of old).events) (sym queued ∙ place))
+          ∙ ap (λ (c : CoreState). slice_get c.events (length (core_of old).events)) is
+          ∙ slice_get-append_here (core_of old).events (core_events.Mark text) []
       | inr refused ↦ absurd (not_refused id (sym queued ∙ refused.0))
     ]
     | inr over ↦ absurd (not_passed id (sym queued ∙ (marks.passed heard over).0))
@@ -118,14 +119,14 @@ queued_stands {L} {l} text reply id old new marks queued = elim (bool_cases (is_
 
 -- a submission that is followed stands at its id
 tracked_stands : {L : Type 0} {l : Ghosts L} (bio : Bio) (id : ℕ) (old new : Recorder L l) → Submits bio (reply_of (Some id)) old new
-    → slice_get new.core.events id ≡ Some (core_events.Submit bio)
-tracked_stands {L} {l} bio id old new submits = elim (bool_cases (records old.core bio)) [
+    → slice_get (core_of new).events id ≡ Some (core_events.Submit bio)
+tracked_stands {L} {l} bio id old new submits = elim (bool_cases (records (core_of old) bio)) [
   | inl recorded ↦ elim (submits.recorded recorded) [
     | inl (reply, tracked) ↦
-        let place : id ≡ length old.core.events = tracked_id id (length old.core.events) reply in
-        ap (λ (n : ℕ). slice_get new.core.events n) place
-        ∙ ap (λ (c : CoreState). slice_get c.events (length old.core.events)) tracked.core
-        ∙ slice_get-append_here old.core.events (core_events.Submit bio) []
+        let place : id ≡ length (core_of old).events = tracked_id id (length (core_of old).events) reply in
+        ap (λ (n : ℕ). slice_get (core_of new).events n) place
+        ∙ ap (λ (c : CoreState). slice_get c.events (length (core_of old).events)) tracked.core
+        ∙ slice_get-append_here (core_of old).events (core_events.Submit bio) []
     | inr (reply, stops) ↦ absurd (not_refused id reply)
   ]
   | inr passes ↦ absurd (not_passed id (submits.passed passes).0)
@@ -155,10 +156,10 @@ last_case items last request place found =
 
 -- a request that was asked last, and is followed, stands at its id
 asked_stands : {L : Type 0} {l : Ghosts L} (bio asked : Bio) (request : Request) (id : ℕ) (old new : Recorder L l) → Asks asked request old new
-    → request ≡ requests.Asked bio (Some id) → slice_get new.core.events id ≡ Some (core_events.Submit bio)
+    → request ≡ requests.Asked bio (Some id) → slice_get (core_of new).events id ≡ Some (core_events.Submit bio)
 asked_stands {L} {l} bio asked (requests.Asked kept (Some other)) id old new asks is =
     let parts = same_asked is in
-    subst (λ (n : ℕ). slice_get new.core.events n ≡ Some (core_events.Submit bio)) parts.1
+    subst (λ (n : ℕ). slice_get (core_of new).events n ≡ Some (core_events.Submit bio)) parts.1
     (tracked_stands {l = l} asked other old new asks.1 ∙ ap (λ (b : Bio). Some (core_events.Submit b)) (sym asks.0 ∙ parts.0))
   where
     same_asked : requests.Asked kept (Some other) ≡ requests.Asked bio (Some id) → (kept ≡ bio) × (other ≡ id)
@@ -168,9 +169,9 @@ asked_stands bio asked requests.Failed id old new asks is = absurd (cc is)
 
 -- where a line adds no request, each stays followed
 kept_followed : {D L : Type 0} {d : Ghosts D} {l : Ghosts L} (old new : Running D L d l) → new.requests.items ≡ old.requests.items
-    → EventsGrow old.recorder.core.events new.recorder.core.events → IsFollowed old → IsFollowed new
+    → EventsGrow (core_of old.recorder).events (core_of new.recorder).events → IsFollowed old → IsFollowed new
 kept_followed old new same grows followed = λ place bio id found.
-    stays old.recorder.core.events new.recorder.core.events id (core_events.Submit bio) grows
+    stays (core_of old.recorder).events (core_of new.recorder).events id (core_events.Submit bio) grows
     (followed place bio id (ap (λ (items : List Request). slice_get items place) (sym same) ∙ found))
 
 -- each line keeps them followed
@@ -179,7 +180,7 @@ line_followed : {D L : Type 0} {d : Ghosts D} {l : Ghosts L} (m : Answering D L)
 line_followed {D} {L} {d} {l} m names (commands.Submit submission) text old new line followed = λ place bio id found.
     elim (last_case old.requests.items line.does.request (requests.Asked bio (Some id)) place
     (ap (λ (items : List Request). slice_get items place) (sym line.does.kept) ∙ found)) [
-      | inl before ↦ stays old.recorder.core.events new.recorder.core.events id (core_events.Submit bio) line.goes.events (followed place bio id before)
+      | inl before ↦ stays (core_of old.recorder).events (core_of new.recorder).events id (core_events.Submit bio) line.goes.events (followed place bio id before)
       | inr last ↦ asked_stands {l = l} bio (bio_of submission) line.does.request id old.recorder new.recorder line.does.asks last
     ]
 line_followed {D} {L} {d} {l} m names (commands.Complete request) text old new line followed =

@@ -34,6 +34,7 @@ use Rattle.script_runner.specs.OnDisks.{stack_answering, DiskRun, Starts}
 use Rattle.script_runner.specs.Runs.{RunsLines}
 use Rattle.script_runner.specs.Submitted.{bio_of}
 use Rattle.script_runner.proofs.Submitting.{bio_passes}
+use Rattle.recorder.specs.Shown.{core_of}
 
 -- each request among the events passed the test of a device of so many sectors
 abbrev AreWithin : ℕ → List CoreEvent → Type 0
@@ -65,136 +66,136 @@ stopped_within sectors core cause within = by_case (is_recording core.events)
     by_case false = within
 
 stops_within : {L : Type 0} {l : Ghosts L} (sectors : ℕ) (cause : End) (old new : Recorder L l) → Stops cause old new
-    → AreWithin sectors old.core.events → AreWithin sectors new.core.events
+    → AreWithin sectors (core_of old).events → AreWithin sectors (core_of new).events
 stops_within sectors cause old new stops within =
-    subst (λ (es : List CoreEvent). AreWithin sectors es) (sym stops.events) (stopped_within sectors old.core cause within)
+    subst (λ (es : List CoreEvent). AreWithin sectors es) (sym stops.events) (stopped_within sectors (core_of old) cause within)
 
 -- a submission of a request that passes the test
 submitted_within : {L : Type 0} {l : Ghosts L} (sectors : ℕ) (bio : Bio) (reply : Reply) (old new : Recorder L l) → Submits bio reply old new
-    → is_ok (check_answer bio sectors) ≡ true → AreWithin sectors old.core.events → AreWithin sectors new.core.events
-submitted_within {L} {l} sectors bio reply old new submits passes within = elim (bool_cases (records old.core bio)) [
+    → is_ok (check_answer bio sectors) ≡ true → AreWithin sectors (core_of old).events → AreWithin sectors (core_of new).events
+submitted_within {L} {l} sectors bio reply old new submits passes within = elim (bool_cases (records (core_of old) bio)) [
   | inl recorded ↦ elim (submits.recorded recorded) [
-    | inl tracked ↦ grown_within sectors old.core new.core (events.Submit bio) tracked.1.core passes within
+    | inl tracked ↦ grown_within sectors (core_of old) (core_of new) (events.Submit bio) tracked.1.core passes within
     | inr refused ↦ stops_within {l = l} sectors _ old new refused.1 within
   ]
-  | inr other ↦ same_within sectors old.core new.core (submits.passed other).1.core within
+  | inr other ↦ same_within sectors (core_of old) (core_of new) (submits.passed other).1.core within
 ]
 
 -- the end of a request
 completed_within : {L : Type 0} {l : Ghosts L} (sectors id : ℕ) (ok : Bool) (reply : Reply) (old new : Recorder L l) → Completes id ok reply old new
-    → AreWithin sectors old.core.events → AreWithin sectors new.core.events
-completed_within sectors id ok reply old new completes within = elim (bool_cases (is_open_at old.core.events id)) [
-  | inl opened ↦ grown_within sectors old.core new.core (events.Complete id ok) (completes.recorded opened).1 refl within
-  | inr other ↦ same_within sectors old.core new.core (completes.unknown other).1 within
+    → AreWithin sectors (core_of old).events → AreWithin sectors (core_of new).events
+completed_within sectors id ok reply old new completes within = elim (bool_cases (is_open_at (core_of old).events id)) [
+  | inl opened ↦ grown_within sectors (core_of old) (core_of new) (events.Complete id ok) (completes.recorded opened).1 refl within
+  | inr other ↦ same_within sectors (core_of old) (core_of new) (completes.unknown other).1 within
 ]
 
 -- a mark
 marked_within : {L : Type 0} {l : Ghosts L} (sectors : ℕ) (text : List ℕ) (reply : Reply) (old new : Recorder L l) → Marks text reply old new
-    → AreWithin sectors old.core.events → AreWithin sectors new.core.events
+    → AreWithin sectors (core_of old).events → AreWithin sectors (core_of new).events
 marked_within sectors text reply old new marks within = elim (bool_cases (is_text text)) [
-  | inl heard ↦ elim (bool_cases (is_recording old.core.events)) [
+  | inl heard ↦ elim (bool_cases (is_recording (core_of old).events)) [
     | inl going ↦ elim (marks.recorded heard going) [
-      | inl queued ↦ grown_within sectors old.core new.core (events.Mark text) queued.1 refl within
-      | inr refused ↦ same_within sectors old.core new.core refused.1 within
+      | inl queued ↦ grown_within sectors (core_of old) (core_of new) (events.Mark text) queued.1 refl within
+      | inr refused ↦ same_within sectors (core_of old) (core_of new) refused.1 within
     ]
-    | inr over ↦ same_within sectors old.core new.core (marks.passed heard over).1 within
+    | inr over ↦ same_within sectors (core_of old) (core_of new) (marks.passed heard over).1 within
   ]
-  | inr bad ↦ same_within sectors old.core new.core (marks.unheard bad) within
+  | inr bad ↦ same_within sectors (core_of old) (core_of new) (marks.unheard bad) within
 ]
 
 -- the end of recording
 closed_within : {L : Type 0} {l : Ghosts L} (sectors : ℕ) (reply : Reply) (old new : Recorder L l) → Closes reply old new
-    → AreWithin sectors old.core.events → AreWithin sectors new.core.events
+    → AreWithin sectors (core_of old).events → AreWithin sectors (core_of new).events
 closed_within sectors reply old new closes within = elim closes.answer [
-  | inl done ↦ subst (λ (c : CoreState). AreWithin sectors c.events) (sym done.1) (by_case (has_no_close old.core.events))
+  | inl done ↦ subst (λ (c : CoreState). AreWithin sectors c.events) (sym done.1) (by_case (has_no_close (core_of old).events))
   | inr other ↦ elim other [
-    | inl busy ↦ same_within sectors old.core new.core busy.1 within
-    | inr memory ↦ same_within sectors old.core new.core memory.1 within
+    | inl busy ↦ same_within sectors (core_of old) (core_of new) busy.1 within
+    | inr memory ↦ same_within sectors (core_of old) (core_of new) memory.1 within
   ]
 ]
   where
-    by_case : (going : Bool) → AreWithin sectors (if going then added_to old.core events.Close else old.core).events
-    by_case true = within_snoc sectors old.core.events events.Close within refl
+    by_case : (going : Bool) → AreWithin sectors (if going then added_to (core_of old) events.Close else (core_of old)).events
+    by_case true = within_snoc sectors (core_of old).events events.Close within refl
     by_case false = within
 
 -- a turn of the writer
 turned_within : {L : Type 0} {l : Ghosts L} (sectors : ℕ) (turn : Turn) (old new : Recorder L l) → Turns turn old new
-    → AreWithin sectors old.core.events → AreWithin sectors new.core.events
+    → AreWithin sectors (core_of old).events → AreWithin sectors (core_of new).events
 turned_within {L} {l} sectors turn old new turned within = by_end old.end refl
   where
-    going : new.core.events ≡ old.core.events → AreWithin sectors new.core.events
+    going : (core_of new).events ≡ (core_of old).events → AreWithin sectors (core_of new).events
     going same = subst (λ (es : List CoreEvent). AreWithin sectors es) (sym same) within
 
-    by_turn : (turn : Turn) → old.end ≡ None → Turns turn old new → AreWithin sectors new.core.events
-    by_turn turns.Nothing on did = same_within sectors old.core new.core (did.logging on).1.core within
+    by_turn : (turn : Turn) → old.end ≡ None → Turns turn old new → AreWithin sectors (core_of new).events
+    by_turn turns.Nothing on did = same_within sectors (core_of old) (core_of new) (did.logging on).1.core within
     by_turn (turns.Placed index) on did = going (did.logging on).0.events
     by_turn (turns.Settled index) on did = going (did.logging on).0.events
     by_turn (turns.Ended cause) on did = stops_within {l = l} sectors cause old new (did.logging on).stops within
 
-    by_end : (end : Option End) → old.end ≡ end → AreWithin sectors new.core.events
+    by_end : (end : Option End) → old.end ≡ end → AreWithin sectors (core_of new).events
     by_end None is = by_turn turn is turned
-    by_end (Some cause) is = same_within sectors old.core new.core (turned.ended cause is).1.core within
+    by_end (Some cause) is = same_within sectors (core_of old) (core_of new) (turned.ended cause is).1.core within
 
 -- turns until the log is written
 drained_within : {L : Type 0} {l : Ghosts L} (sectors : ℕ) (answer : Result Unit End) (old new : Recorder L l) → Drains answer old new
-    → AreWithin sectors old.core.events → AreWithin sectors new.core.events
+    → AreWithin sectors (core_of old).events → AreWithin sectors (core_of new).events
 drained_within {L} {l} sectors answer old new drains within = by_end old.end refl
   where
-    by_answer : (answer : Result Unit End) → old.end ≡ None → Drains answer old new → AreWithin sectors new.core.events
+    by_answer : (answer : Result Unit End) → old.end ≡ None → Drains answer old new → AreWithin sectors (core_of new).events
     by_answer (Ok done) on drained = subst (λ (es : List CoreEvent). AreWithin sectors es) (sym (drained.logging on).0.events) within
     by_answer (Err cause) on drained = stops_within {l = l} sectors cause old new (drained.logging on) within
 
-    by_end : (end : Option End) → old.end ≡ end → AreWithin sectors new.core.events
+    by_end : (end : Option End) → old.end ≡ end → AreWithin sectors (core_of new).events
     by_end None is = by_answer answer is drains
-    by_end (Some cause) is = same_within sectors old.core new.core (drains.ended cause is).1.core within
+    by_end (Some cause) is = same_within sectors (core_of old) (core_of new) (drains.ended cause is).1.core within
 
 -- a request that is asked
 asked_within : {L : Type 0} {l : Ghosts L} (sectors : ℕ) (bio : Bio) (request : Request) (old new : Recorder L l) → Asks bio request old new
-    → is_ok (check_answer bio sectors) ≡ true → AreWithin sectors old.core.events → AreWithin sectors new.core.events
+    → is_ok (check_answer bio sectors) ≡ true → AreWithin sectors (core_of old).events → AreWithin sectors (core_of new).events
 asked_within {L} {l} sectors bio (requests.Asked kept id) old new asks passes within = submitted_within {l = l} sectors bio (reply_of id) old new asks.1 passes within
 asked_within {L} {l} sectors bio requests.Failed old new asks passes within = elim asks [
-  | inl unasked ↦ subst (λ (r : Recorder L l). AreWithin sectors r.core.events) (sym unasked.1) within
+  | inl unasked ↦ subst (λ (r : Recorder L l). AreWithin sectors (core_of r).events) (sym unasked.1) within
   | inr refused ↦ submitted_within {l = l} sectors bio (replies.Refused refusals.Memory) old new refused passes within
 ]
 
 -- a request's end
 heard_within : {L : Type 0} {l : Ghosts L} (sectors : ℕ) (id : Option ℕ) (ok : Bool) (old new : Recorder L l) → HearsEnd id ok old new
-    → AreWithin sectors old.core.events → AreWithin sectors new.core.events
+    → AreWithin sectors (core_of old).events → AreWithin sectors (core_of new).events
 heard_within {L} {l} sectors (Some id) ok old new hears within = completed_within {l = l} sectors id ok hears.0 old new hears.1 within
-heard_within {L} {l} sectors None ok old new hears within = subst (λ (r : Recorder L l). AreWithin sectors r.core.events) (sym hears) within
+heard_within {L} {l} sectors None ok old new hears within = subst (λ (r : Recorder L l). AreWithin sectors (core_of r).events) (sym hears) within
 
 ended_within : {D L : Type 0} {d : Ghosts D} {l : Ghosts L} (sectors : ℕ) (found : Option Request) (name : ScriptId) (text : List ℕ) (old new : Running D L d l)
-    → EndsRequest found name text old new → AreWithin sectors old.recorder.core.events → AreWithin sectors new.recorder.core.events
+    → EndsRequest found name text old new → AreWithin sectors (core_of old.recorder).events → AreWithin sectors (core_of new.recorder).events
 ended_within {D} {L} {d} {l} sectors None name text old new does within = absurd does
 ended_within {D} {L} {d} {l} sectors (Some requests.Failed) name text old new does within =
-    subst (λ (r : Recorder L l). AreWithin sectors r.core.events) (sym does.1) within
+    subst (λ (r : Recorder L l). AreWithin sectors (core_of r).events) (sym does.1) within
 ended_within {D} {L} {d} {l} sectors (Some (requests.Asked bio id)) name text old new does within =
     heard_within {l = l} sectors id does.ok old.recorder new.recorder does.hears within
 
 -- a line that names no request
 step_within : {D L : Type 0} {d : Ghosts D} {l : Ghosts L} (m : Answering D L) (sectors : ℕ) (step : Step) (text : List ℕ) (old new : Running D L d l) → TakesStep m step text old new
-    → AreWithin sectors old.recorder.core.events → AreWithin sectors new.recorder.core.events
+    → AreWithin sectors (core_of old.recorder).events → AreWithin sectors (core_of new.recorder).events
 step_within {D} {L} {d} {l} m sectors steps.Close text old new does within =
     drained_within {l = l} sectors does.answer does.closed new.recorder does.drains
     (closed_within {l = l} sectors replies.Closed old.recorder does.closed does.closes within)
 step_within {D} {L} {d} {l} m sectors (steps.Read first count) text old new does within =
-    subst (λ (r : Recorder L l). AreWithin sectors r.core.events) (sym does.log) within
+    subst (λ (r : Recorder L l). AreWithin sectors (core_of r).events) (sym does.log) within
 step_within {D} {L} {d} {l} m sectors steps.Turn text old new does within =
     turned_within {l = l} sectors does.turn old.recorder new.recorder does.turns within
 step_within {D} {L} {d} {l} m sectors (steps.Mark mark) text old new does within =
     marked_within {l = l} sectors mark does.reply old.recorder new.recorder does.marks within
 step_within {D} {L} {d} {l} m sectors (steps.At moment) text old new does within =
-    same_within sectors old.recorder.core new.recorder.core does.core within
+    same_within sectors (core_of old.recorder) (core_of new.recorder) does.core within
 step_within {D} {L} {d} {l} m sectors (steps.Message disks.Data layer asked) text old new does within =
-    subst (λ (r : Recorder L l). AreWithin sectors r.core.events) (sym does.log) within
+    subst (λ (r : Recorder L l). AreWithin sectors (core_of r).events) (sym does.log) within
 step_within {D} {L} {d} {l} m sectors (steps.Message disks.Log layer asked) text old new does within =
-    same_within sectors old.recorder.core new.recorder.core does.core within
+    same_within sectors (core_of old.recorder) (core_of new.recorder) does.core within
 
 -- the lines of a script, where each request fits a device of so many sectors
 lines_within : {D L : Type 0} {d : Ghosts D} {l : Ghosts L} (m : Answering D L) (sectors : ℕ) (names : List ScriptId) (before body : List Command) (text : List ℕ) (old new : Running D L d l)
-    → IsWellFormed sectors before body → RunsLines m names body text old new → AreWithin sectors old.recorder.core.events → AreWithin sectors new.recorder.core.events
+    → IsWellFormed sectors before body → RunsLines m names body text old new → AreWithin sectors (core_of old.recorder).events → AreWithin sectors (core_of new.recorder).events
 lines_within {D} {L} {d} {l} m sectors names before [] text old new fit ran within =
-    subst (λ (run : Running D L d l). AreWithin sectors run.recorder.core.events) (sym ran.1) within
+    subst (λ (run : Running D L d l). AreWithin sectors (core_of run.recorder).events) (sym ran.1) within
 lines_within {D} {L} {d} {l} m sectors names before (commands.Submit submission ∷ body) text old new fit ran within =
     let does = ran.4.does in
     lines_within {d = d} {l = l} m sectors names (before ++ commands.Submit submission ∷ []) body ran.2 ran.0 new fit.1 ran.5
@@ -208,9 +209,9 @@ lines_within {D} {L} {d} {l} m sectors names before (commands.Step step ∷ body
 
 -- the events of a script's run are lawful
 pub run_lawful : (plan : Plan) (text : List ℕ) (start last : DiskRun) → IsPlan plan → Starts plan start → RunsLines stack_answering plan.names plan.commands text start last
-    → is_well_formed last.recorder.core.events ≡ true → is_lawful (top_of plan.data_disk) last.recorder.core.events ≡ true
+    → is_well_formed (core_of last.recorder).events ≡ true → is_lawful (top_of plan.data_disk) (core_of last.recorder).events ≡ true
 run_lawful plan text start last is starts ran well_formed =
-    let none : AreWithin (top_of plan.data_disk) start.recorder.core.events =
+    let none : AreWithin (top_of plan.data_disk) (core_of start.recorder).events =
     subst (λ (c : CoreState). AreWithin (top_of plan.data_disk) c.events) (sym starts.log_disk.begun.core) (λ place. refl) in
     let within = lines_within stack_answering (top_of plan.data_disk) plan.names [] plan.commands text start last is.well_formed ran none in
-    well_formed-lawful (top_of plan.data_disk) last.recorder.core.events well_formed (λ place here. within place)
+    well_formed-lawful (top_of plan.data_disk) (core_of last.recorder).events well_formed (λ place here. within place)

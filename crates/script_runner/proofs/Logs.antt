@@ -23,7 +23,7 @@ use Rattle.dmlw_script.specs.declared.command.Command.{Command}
 use Rattle.dmlw_script.specs.declared.script_id.ScriptId.{ScriptId}
 use Rattle.recorder.specs.declared.recorder.Recorder.{Recorder}
 use Rattle.recorder.specs.Growth.{RecorderGoes}
-use Rattle.recorder.specs.Shown.{recording_of}
+use Rattle.recorder.specs.Shown.{core_of, recording_of}
 use Rattle.script_runner.specs.declared.running.Running.{Running}
 use Rattle.script_runner.specs.Runs.{RunsLines}
 
@@ -64,7 +64,7 @@ found_written {D} {L} {d} {l} (Some (requests.Asked bio id)) name text old new d
     ended_written {l = l} id does.ok old.recorder new.recorder does.hears written
 
 -- so does what leaves the core and the log as they are
-moment_written : {L : Type 0} {l : Ghosts L} (old new : Recorder L l) → new.core ≡ old.core → new.end ≡ old.end
+moment_written : {L : Type 0} {l : Ghosts L} (old new : Recorder L l) → core_of new ≡ core_of old → new.end ≡ old.end
     → Same (recording_of old).store (recording_of new).store → IsWritten old → IsWritten new
 moment_written {L} {l} old new core end same written = λ closed on.
     let placed = written (sym (ap (λ (c : CoreState). has_no_close c.events) core) ∙ closed) (sym end ∙ on) in

@@ -31,7 +31,7 @@ use Rattle.recorder.specs.declared.recorder.Recorder.{Recorder}
 use Rattle.recorder.specs.Growth.{HasWholeLog, RecorderGoes}
 use Rattle.recorder.specs.Recording.{log_of}
 use Rattle.recorder.specs.Replayed.{ReplaysToWhatCouldBe}
-use Rattle.recorder.specs.Shown.{recording_of}
+use Rattle.recorder.specs.Shown.{core_of, recording_of}
 use Rattle.script_runner.specs.Begun.{IsNewOn}
 use Rattle.script_runner.specs.OnDisks.{DiskRecorder, DiskRun, IsCounted, IsNew, IsRecorded, IsStackOf, Starts, left_on, seen_on, stack_answering, zeroes}
 use Rattle.dmlw_script.specs.Plans.{top_of, Disk, IsDisk, Plan}
@@ -88,7 +88,7 @@ stack_place disk stack is = is.over.place ∙ ap (λ (n : ℕ). record { origin 
 pub new_log : {L : Type 0} {l : Ghosts L} (device : L) (store : LogStore L l) (recorder : Recorder L l)
     → store.placed ≡ 0 → store.moment ≡ 0 → Goes (writes 0 (first_sector 512 0)) (l.shown device) (l.shown store.device)
     → ((l.shown store.device).lies ≡ 0 → (left : Content) → (l.shown store.device).crash left → IsLogOf (l.shown store.device).size left 512 [])
-    → (recorder.core ≡ new_state) × (recorder.store ≡ store) × (recorder.end ≡ None) → IsNewOn device recorder
+    → (core_of recorder ≡ new_state) × (recorder.store ≡ store) × (recorder.end ≡ None) → IsNewOn device recorder
 new_log {L} {l} device store recorder none start goes empty (core, same, end) = record {
   core = core;
   end = end;
@@ -144,7 +144,7 @@ pub is_recorded : (plan : Plan) (text : List ℕ) (start last : DiskRun) (log : 
     → AgreeBelow (shown_of (disk_of log)).size (left_on picks (disk_of log)) (sector_of image)
     → ((stack_shown last.recorder.store.device).lies ≡ 0 → (left : Content) → (stack_shown last.recorder.store.device).crash left
     → ReplaysToWhatCouldBe (recording_of last.recorder) (recording_of last.recorder) left)
-    → (IsWritten start.recorder → last.recorder.end ≡ None → has_no_close last.recorder.core.events ≡ false → (stack_shown last.recorder.store.device).lies ≡ 0
+    → (IsWritten start.recorder → last.recorder.end ≡ None → has_no_close (core_of last.recorder).events ≡ false → (stack_shown last.recorder.store.device).lies ≡ 0
     → HasWholeLog (recording_of last.recorder))
     → IsRecorded plan text status lies image
 is_recorded plan text start last log status lies image picks starts ran goes counted tells same lied count ending bytes reopens whole =
@@ -188,7 +188,7 @@ is_recorded plan text start last log status lies image picks starts ran goes cou
             possible = reopened.possible;
           };
       whole = λ none closed on.
-          subst (λ (n : ℕ). IsLogOf n (seen_on plan.log_disk image) 512 (log_of last.recorder.core)) size
+          subst (λ (n : ℕ). IsLogOf n (seen_on plan.log_disk image) 512 (log_of (core_of last.recorder))) size
           (image_log plan device seen.0 image size place agree seen.2
           ((whole (new_written plan.log_disk start.recorder new) on closed (honest none)).crash seen.0 seen.1));
     }

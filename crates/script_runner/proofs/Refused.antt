@@ -47,7 +47,7 @@ use Rattle.recorder.specs.declared.recorder.Recorder.{Recorder}
 use Rattle.recorder.specs.declared.reply.Reply.TheVariants as replies
 use Rattle.recorder.specs.Recording.{log_of}
 use Rattle.recorder.specs.Replayed.{ReplaysToWhatCouldBe}
-use Rattle.recorder.specs.Shown.{recording_of}
+use Rattle.recorder.specs.Shown.{core_of, recording_of}
 use Rattle.run_error.specs.declared.run_error.RunError.{RunError}
 use Rattle.run_error.specs.declared.run_error.RunError.TheVariants as faults
 use Rattle.script_runner.specs.declared.recording.Lies.{Lies}
@@ -238,13 +238,13 @@ asked_in_order = refl
 
 -- a request that is followed stands in the events
 followed_nowhere : {D L : Type 0} {d : Ghosts D} {l : Ghosts L} (run : Running D L d l) → slice_get run.requests.items 0 ≡ Some (requests.Asked bios.Flush (Some 0))
-    → run.recorder.core ≡ new_state → IsFollowed run → ⊥
+    → core_of run.recorder ≡ new_state → IsFollowed run → ⊥
 followed_nowhere run asked none told =
     let here : slice_get [] 0 ≡ Some (events.Submit bios.Flush) = ap (λ (c : CoreState). slice_get c.events 0) (sym none) ∙ told 0 bios.Flush 0 asked in
     cc
 
 -- there is memory for a flush wherever the recorder has some
-asks_flush : {L : Type 0} {l : Ghosts L} (old new : Recorder L l) → records old.core bios.Flush ≡ false → Asks bios.Flush requests.Failed old new → ⊥
+asks_flush : {L : Type 0} {l : Ghosts L} (old new : Recorder L l) → records (core_of old) bios.Flush ≡ false → Asks bios.Flush requests.Failed old new → ⊥
 asks_flush old new passes (inl unasked) = let has = unasked.0 in cc
 asks_flush old new passes (inr asked) = let reply = (asked.passed passes).0 in cc
 
@@ -275,7 +275,7 @@ complete_line bio id name text old new told = (told.prints, told.kept)
 
 -- and the recorder hears of a success only where the device answered one
 complete_heard : {D L : Type 0} {d : Ghosts D} {l : Ghosts L} (id : ℕ) (name : ScriptId) (text : List ℕ) (old new : Running D L d l)
-    → is_open_at old.recorder.core.events id ≡ true → new.recorder.core ≡ added_to old.recorder.core (events.Complete id true)
+    → is_open_at (core_of old.recorder).events id ≡ true → core_of new.recorder ≡ added_to (core_of old.recorder) (events.Complete id true)
     → ((end : ℕ) → d.does old.disk Flushes old.moment (Ok end) new.disk → ⊥) → EndsAsked bios.Flush (Some id) name text old new → ⊥
 complete_heard {D} {L} {d} {l} id name text old new opened heard never told = by_end told.ok told.hands_over told.hears
   where
@@ -286,7 +286,7 @@ complete_heard {D} {L} {d} {l} id name text old new opened heard never told = by
     by_end : (ok : Bool) → HandsOver d.does old.moment bios.Flush ok old.disk new.disk → HearsEnd (Some id) ok old.recorder new.recorder → ⊥
     by_end true handed hears = by_answer handed.0 handed.1 handed.2
     by_end false handed hears =
-        let before = old.recorder.core.events in
+        let before = (core_of old.recorder).events in
         let both = sym heard ∙ (hears.1.recorded opened).1 in
         let same : Some (events.Complete id true) ≡ Some (events.Complete id false) =
         sym (slice_get-append_here before (events.Complete id true) [])
@@ -351,7 +351,7 @@ message_data m names layer asked text old new told = (told.takes, told.unchanged
 message_log : {D L : Type 0} {d : Ghosts D} {l : Ghosts L} (m : Answering D L) (names : List ScriptId) (layer : ℕ) (asked text : List ℕ) (old new : Running D L d l)
     → Does m names (commands.Step (steps.Message disks.Log layer asked)) text old new
     → m.log_device old.recorder.store.device layer asked (Ok tt) new.recorder.store.device
-    × Unchanged (l.shown old.recorder.store.device) (l.shown new.recorder.store.device) × (new.recorder.core ≡ old.recorder.core)
+    × Unchanged (l.shown old.recorder.store.device) (l.shown new.recorder.store.device) × (core_of new.recorder ≡ core_of old.recorder)
     × (new.recorder.end ≡ old.recorder.end) × (new.recorder.store.moment ≡ old.recorder.store.moment) × (new.disk ≡ old.disk)
     × (new.requests.items ≡ old.requests.items) × (text ≡ [])
 message_log m names layer asked text old new told = (
@@ -417,12 +417,12 @@ close_place {D} {L} {d} {l} m plan place refusal text old alone told =
     (told.place_is ∙ ap (λ (before : List Command). length before) none, ran.0)
 
 close_busy : {D L : Type 0} {d : Ghosts D} {l : Ghosts L} (m : Answering D L) (plan : Plan) (place : ℕ) (text : List ℕ) (old : Running D L d l)
-    → plan.commands ≡ commands.Step steps.Close ∷ [] → none_open old.recorder.core.events ≡ true → RefusesClose m plan place refusals.Busy text old → ⊥
+    → plan.commands ≡ commands.Step steps.Close ∷ [] → none_open (core_of old.recorder).events ≡ true → RefusesClose m plan place refusals.Busy text old → ⊥
 close_busy {D} {L} {d} {l} m plan place text old alone none_is told =
     let none = none_before told.before told.rest (commands.Step steps.Close) _ (sym alone ∙ told.split) in
     let ran = subst (λ (before : List Command). RunsLines m plan.names before text old told.mid) none told.ran in
     let opened = told.refused.busy.0 refl in
-    let same = sym none_is ∙ ap (λ (run : Running D L d l). none_open run.recorder.core.events) (sym ran.1) ∙ opened in
+    let same = sym none_is ∙ ap (λ (run : Running D L d l). none_open (core_of run.recorder).events) (sym ran.1) ∙ opened in
     cc
 
 -- a script of a message alone, which is refused at its own place, where nothing was printed, by what its device answers
@@ -483,7 +483,7 @@ close_printing {D} {L} {d} {l} m text plan old fault alone (run_file again is) b
 
 -- a new log has no entry, logging goes on, and where its device told no lie a crash leaves an empty log
 new_nothing : {L : Type 0} {l : Ghosts L} (device : L) (recorder : Recorder L l) → IsNewOn device recorder
-    → (recorder.store.placed ≡ 0) × (recorder.end ≡ None) × (recorder.core ≡ new_state)
+    → (recorder.store.placed ≡ 0) × (recorder.end ≡ None) × (core_of recorder ≡ new_state)
 new_nothing device recorder told = (told.placed, told.end, told.core)
 
 new_empty : {L : Type 0} {l : Ghosts L} (device : L) (recorder : Recorder L l) (left : Content) → IsNewOn device recorder
@@ -557,8 +557,8 @@ honest_log : (plan : Plan) (text : List ℕ) (status : Status) (lies : Lies) (im
     → (told : IsRecorded plan text status lies image)
     → (status ≡ status_of 512 (entries_of (store_of told.last.recorder.store)) told.last.recorder.end)
     × ReplaysToWhatCouldBe (recording_of told.last.recorder) (recording_of told.last.recorder) (moved (top_origin 0 plan.log_disk.layers) (sector_of image))
-    × (has_no_close told.last.recorder.core.events ≡ false → told.last.recorder.end ≡ None
-    → IsLogOf (top_of plan.log_disk) (moved (top_origin 0 plan.log_disk.layers) (sector_of image)) 512 (log_of told.last.recorder.core))
+    × (has_no_close (core_of told.last.recorder).events ≡ false → told.last.recorder.end ≡ None
+    → IsLogOf (top_of plan.log_disk) (moved (top_origin 0 plan.log_disk.layers) (sector_of image)) 512 (log_of (core_of told.last.recorder)))
 honest_log plan text status lies image honest told = (told.tells honest, told.beginning honest, told.whole honest)
 
 -- a recording ends by the end of logging only where its log can't be made, and then it has printed nothing

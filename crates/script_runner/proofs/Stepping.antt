@@ -17,7 +17,7 @@ use Rattle.recorder.specs.declared.reply.Reply.{Reply}
 use Rattle.recorder.specs.declared.reply.Reply.TheVariants as replies
 use Rattle.recorder.specs.Calls.{Closes, Marks, Submits}
 use Rattle.recorder.specs.Growth.{RecorderGoes}
-use Rattle.recorder.specs.Shown.{recording_of}
+use Rattle.recorder.specs.Shown.{core_of, recording_of}
 use Rattle.dmlw_script.specs.declared.script_id.ScriptId.{ScriptId}
 use Rattle.dmlw_script.specs.Plans.{moment_at_step}
 use Rattle.script_runner.specs.declared.running.Running.{Running}
@@ -39,7 +39,7 @@ use Rattle.script_runner.specs.declared.request.Request.{Request}
 -- a reply to a submission that names no id and passes nothing says that there is no memory
 pub refused-only : {L : Type 0} {g : Ghosts L} (bio : Bio) (reply : Reply) (old new : Recorder L g) → Submits bio reply old new
     → ((id : ℕ) → reply ≡ replies.Tracked id → ⊥) → (reply ≡ replies.Passed → ⊥) → Submits bio (replies.Refused refusals.Memory) old new
-refused-only bio reply old new submits tracked passed = elim (bool_cases (records old.core bio)) [
+refused-only bio reply old new submits tracked passed = elim (bool_cases (records (core_of old) bio)) [
   | inl recorded ↦ elim (submits.recorded recorded) [
     | inl followed ↦ absurd (tracked _ followed.0)
     | inr refused ↦ subst (λ (answer : Reply). Submits bio answer old new) refused.0 submits
@@ -69,7 +69,7 @@ line_is_text (byte ∷ text) plain =
 -- what is printed of a mark is what its reply says
 pub mark_prints : {L : Type 0} {g : Ghosts L} (text : List ℕ) (reply : Reply) (old new : Recorder L g) → Marks text reply old new → is_line_text text ≡ true
     → PrintsMark reply (mark_outcome reply)
-mark_prints text reply old new marks plain = elim (bool_cases (is_recording old.core.events)) [
+mark_prints text reply old new marks plain = elim (bool_cases (is_recording (core_of old).events)) [
   | inl going ↦ elim (marks.recorded heard going) [
     | inl queued ↦ subst (λ (r : Reply). PrintsMark r (mark_outcome r)) (sym queued.0) refl
     | inr refused ↦ subst (λ (r : Reply). PrintsMark r (mark_outcome r)) (sym refused.0) (refl, refl)

@@ -23,6 +23,7 @@ use Rattle.recorder.specs.declared.reply.Turn.TheVariants as turns
 use Rattle.recorder.specs.Calls.{Completes, Drains, IsUnchanged, Marks, Submits, Turns}
 use Rattle.recorder.specs.Recording.{log_of}
 use Rattle.script_runner.specs.Written.{IsWritten}
+use Rattle.recorder.specs.Shown.{core_of}
 
 -- a recorder that didn't change keeps it
 pub kept_unchanged : {L : Type 0} {l : Ghosts L} (old new : Recorder L l) → IsWritten old → IsUnchanged old new → IsWritten new
@@ -34,7 +35,7 @@ kept_unchanged old new written same = λ closed on.
     ∙ ap (λ (c : CoreState). length (log_of c)) (sym core)
 
 -- one whose events have no Close keeps it
-pub kept_recording : {L : Type 0} {l : Ghosts L} (new : Recorder L l) → has_no_close new.core.events ≡ true → IsWritten new
+pub kept_recording : {L : Type 0} {l : Ghosts L} (new : Recorder L l) → has_no_close (core_of new).events ≡ true → IsWritten new
 kept_recording new recording = λ closed on. absurd (let both = sym recording ∙ closed in cc)
 
 -- an event that is no Close leaves none
@@ -50,12 +51,12 @@ kept_ended new cause ended = λ closed on. absurd (let both = sym ended ∙ on i
 
 -- a submission keeps it
 pub kept_submit : {L : Type 0} {l : Ghosts L} (bio : Bio) (reply : Reply) (old new : Recorder L l) → Submits bio reply old new → IsWritten old → IsWritten new
-kept_submit {L} {l} bio reply old new submits written = elim (bool_cases (records old.core bio)) [
+kept_submit {L} {l} bio reply old new submits written = elim (bool_cases (records (core_of old) bio)) [
   | inl recorded ↦ elim (submits.recorded recorded) [
     | inl tracked ↦
-        let going = (and_parts (is_recording old.core.events) (is_tracked bio) recorded).0 in
-        let recording = (and_parts (has_no_stop old.core.events) (has_no_close old.core.events) going).1 in
-        kept_recording {l = l} new (unclosed old.core new.core (events.Submit bio) tracked.1.core refl recording)
+        let going = (and_parts (is_recording (core_of old).events) (is_tracked bio) recorded).0 in
+        let recording = (and_parts (has_no_stop (core_of old).events) (has_no_close (core_of old).events) going).1 in
+        kept_recording {l = l} new (unclosed (core_of old) (core_of new) (events.Submit bio) tracked.1.core refl recording)
     | inr refused ↦ kept_ended {l = l} new _ refused.1.end
   ]
   | inr passes ↦ kept_unchanged {l = l} old new written (submits.passed passes).1
@@ -63,26 +64,26 @@ kept_submit {L} {l} bio reply old new submits written = elim (bool_cases (record
 
 -- the end of a request keeps it
 pub kept_complete : {L : Type 0} {l : Ghosts L} (id : ℕ) (ok : Bool) (reply : Reply) (old new : Recorder L l) → Completes id ok reply old new → IsWritten old → IsWritten new
-kept_complete {L} {l} id ok reply old new completes written = elim (bool_cases (is_open_at old.core.events id)) [
+kept_complete {L} {l} id ok reply old new completes written = elim (bool_cases (is_open_at (core_of old).events id)) [
   | inl opened ↦
       let is = (completes.recorded opened).1 in
-      let lawful = (and_parts (is_well_formed new.core.events) _ new.kept.lawful).0 in
-      let well_formed : is_well_formed (old.core.events ++ events.Complete id ok ∷ []) ≡ true = ap (λ (c : CoreState). is_well_formed c.events) (sym is) ∙ lawful in
-      let parts = and_parts (is_well_formed old.core.events) (can_follow old.core.events (Some (events.Complete id ok)))
-      (sym (is_well_formed-snoc old.core.events (events.Complete id ok)) ∙ well_formed) in
-      let recording = (and_parts (has_no_close old.core.events) (is_open_at old.core.events id) parts.1).0 in
-      kept_recording {l = l} new (unclosed old.core new.core (events.Complete id ok) is refl recording)
+      let lawful = (and_parts (is_well_formed (core_of new).events) _ new.kept.lawful).0 in
+      let well_formed : is_well_formed ((core_of old).events ++ events.Complete id ok ∷ []) ≡ true = ap (λ (c : CoreState). is_well_formed c.events) (sym is) ∙ lawful in
+      let parts = and_parts (is_well_formed (core_of old).events) (can_follow (core_of old).events (Some (events.Complete id ok)))
+      (sym (is_well_formed-snoc (core_of old).events (events.Complete id ok)) ∙ well_formed) in
+      let recording = (and_parts (has_no_close (core_of old).events) (is_open_at (core_of old).events id) parts.1).0 in
+      kept_recording {l = l} new (unclosed (core_of old) (core_of new) (events.Complete id ok) is refl recording)
   | inr other ↦ kept_unchanged {l = l} old new written (record { core = (completes.unknown other).1; store = completes.log; end = completes.end })
 ]
 
 -- a mark keeps it
 pub kept_mark : {L : Type 0} {l : Ghosts L} (text : List ℕ) (reply : Reply) (old new : Recorder L l) → Marks text reply old new → IsWritten old → IsWritten new
 kept_mark {L} {l} text reply old new marks written = elim (bool_cases (is_text text)) [
-  | inl heard ↦ elim (bool_cases (is_recording old.core.events)) [
+  | inl heard ↦ elim (bool_cases (is_recording (core_of old).events)) [
     | inl going ↦ elim (marks.recorded heard going) [
       | inl queued ↦
-          let recording = (and_parts (has_no_stop old.core.events) (has_no_close old.core.events) going).1 in
-          kept_recording {l = l} new (unclosed old.core new.core (events.Mark text) queued.1 refl recording)
+          let recording = (and_parts (has_no_stop (core_of old).events) (has_no_close (core_of old).events) going).1 in
+          kept_recording {l = l} new (unclosed (core_of old) (core_of new) (events.Mark text) queued.1 refl recording)
       | inr refused ↦ kept_unchanged {l = l} old new written (record { core = refused.1; store = marks.log; end = marks.end })
     ]
     | inr over ↦ kept_unchanged {l = l} old new written (record { core = (marks.passed heard over).1; store = marks.log; end = marks.end })
@@ -98,11 +99,11 @@ none-behind log n e all found = let within = slice_get_within log n e found in o
 pub kept_turn : {L : Type 0} {l : Ghosts L} (turn : Turn) (old new : Recorder L l) → Turns turn old new → IsWritten old → IsWritten new
 kept_turn {L} {l} turn old new turned written = by_end old.end refl
   where
-    placing : (index : ℕ) (e : Entry) → old.end ≡ None → new.core.events ≡ old.core.events → index ≡ old.store.placed
-        → slice_get (log_of old.core) index ≡ Some e → IsWritten new
-    placing index e on same number entry = elim (bool_cases (has_no_close old.core.events)) [
+    placing : (index : ℕ) (e : Entry) → old.end ≡ None → (core_of new).events ≡ (core_of old).events → index ≡ old.store.placed
+        → slice_get (log_of (core_of old)) index ≡ Some e → IsWritten new
+    placing index e on same number entry = elim (bool_cases (has_no_close (core_of old).events)) [
       | inl recording ↦ kept_recording {l = l} new (ap has_no_close same ∙ recording)
-      | inr closed ↦ absurd (none-behind (log_of old.core) index e (number ∙ written closed on) entry)
+      | inr closed ↦ absurd (none-behind (log_of (core_of old)) index e (number ∙ written closed on) entry)
     ]
 
     by_turn : (turn : Turn) → old.end ≡ None → Turns turn old new → IsWritten new

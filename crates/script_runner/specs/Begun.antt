@@ -14,10 +14,11 @@ use Rattle.pending.specs.CoreState.{new_state}
 use Rattle.recorder.specs.declared.recorder.Recorder.{Recorder}
 use Rattle.run_error.specs.declared.run_error.RunError.{RunError}
 use Rattle.run_error.specs.declared.run_error.RunError.TheVariants.{LoggingEnded}
+use Rattle.recorder.specs.Shown.{core_of}
 
 -- Nothing is recorded yet, and a log of no entries was made on this device: unless it lied, a crash leaves just that.
 pub record IsNewOn {L : Type 0} {l : Ghosts L} (device : L) (recorder : Recorder L l) : Type 0 where
-  pub core : recorder.core ≡ new_state
+  pub core : core_of recorder ≡ new_state
   pub end : recorder.end ≡ None
   pub placed : recorder.store.placed ≡ 0
   pub moment : recorder.store.moment ≡ 0

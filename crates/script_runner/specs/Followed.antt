@@ -10,11 +10,12 @@ use Rattle.script_runner.specs.declared.request.Request.{Request}
 use Rattle.script_runner.specs.declared.request.Request.TheVariants as requests
 use Rattle.script_runner.specs.declared.running.Running.{Running}
 use Rattle.script_runner.specs.Submitted.{bio_of}
+use Rattle.recorder.specs.Shown.{core_of}
 
 -- each request that the recorder follows stands in its events at its id, as it was asked
 abbrev pub IsFollowed : {D L : Type 0} {d : Ghosts D} {l : Ghosts L} → Running D L d l → Type 0
 IsFollowed run = (place : ℕ) (bio : Bio) (id : ℕ) → slice_get run.requests.items place ≡ Some (requests.Asked bio (Some id))
-    → slice_get run.recorder.core.events id ≡ Some (core_events.Submit bio)
+    → slice_get (core_of run.recorder).events id ≡ Some (core_events.Submit bio)
 
 -- what became of a line that submits: the request that it says was asked; or there was no memory for it
 abbrev pub StandsFor : Submission → Request → Type 0

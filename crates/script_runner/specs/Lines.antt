@@ -23,7 +23,7 @@ use Rattle.recorder.specs.declared.reply.Reply.{Reply}
 use Rattle.recorder.specs.declared.reply.Reply.TheVariants as replies
 use Rattle.recorder.specs.Calls.{Turns, Closes, Completes, Drains, Marks, Submits}
 use Rattle.recorder.specs.Growth.{RecorderGoes}
-use Rattle.recorder.specs.Shown.{recording_of}
+use Rattle.recorder.specs.Shown.{core_of, recording_of}
 use Rattle.log_store.specs.Calls.{Same}
 use Rattle.dmlw_script.specs.Plans.{moment_at}
 use Rattle.script_runner.specs.declared.request.Request.{Request}
@@ -118,7 +118,7 @@ PrintsMark _ printed = ⊥
 -- A line sets the moment, at which the calls of both devices begin from then on; the recorder hears of nothing.
 pub record SetsMoment {D L : Type 0} {d : Ghosts D} {l : Ghosts L} (moment : ℕ) (text : List ℕ) (old new : Running D L d l) : Type 0 where
   pub keeps : KeepsData text old new
-  pub core : new.recorder.core ≡ old.recorder.core
+  pub core : core_of new.recorder ≡ core_of old.recorder
   pub end : new.recorder.end ≡ old.recorder.end
   pub store : Same (recording_of old.recorder).store (recording_of new.recorder).store
   pub device : new.recorder.store.device ≡ old.recorder.store.device
@@ -155,7 +155,7 @@ pub record TellsLog {D L : Type 0} {d : Ghosts D} {l : Ghosts L} (m : Answering 
   pub keeps : KeepsData text old new
   pub takes : m.log_device old.recorder.store.device layer asked (Ok tt) new.recorder.store.device
   pub unchanged : Unchanged (l.shown old.recorder.store.device) (l.shown new.recorder.store.device)
-  pub core : new.recorder.core ≡ old.recorder.core
+  pub core : core_of new.recorder ≡ core_of old.recorder
   pub end : new.recorder.end ≡ old.recorder.end
   pub store : Same (recording_of old.recorder).store (recording_of new.recorder).store
   pub log_moment : new.recorder.store.moment ≡ old.recorder.store.moment

@@ -18,7 +18,7 @@ use Rattle.dmlw_script.specs.Plans.{Plan}
 use Rattle.recorder.specs.declared.recorder.Recorder.{Recorder}
 use Rattle.recorder.specs.Recording.{log_of}
 use Rattle.recorder.specs.Replayed.{ReplaysToWhatCouldBe}
-use Rattle.recorder.specs.Shown.{recording_of}
+use Rattle.recorder.specs.Shown.{core_of, recording_of}
 use Rattle.run_error.specs.declared.run_error.RunError.{RunError}
 use Rattle.script_runner.specs.Begun.{IsNewOn, IsUnmadeOn}
 use Rattle.script_runner.specs.declared.recording.Lies.{Lies}
@@ -106,8 +106,8 @@ pub record IsRecorded (plan : Plan) (text : List ℕ) (status : Status) (lies : 
   pub beginning : lies.log_disk ≡ 0 →
       ReplaysToWhatCouldBe (recording_of last.recorder) (recording_of last.recorder) (seen_on plan.log_disk image)
   -- where the script closed and logging goes on, it is the whole list
-  pub whole : lies.log_disk ≡ 0 → has_no_close last.recorder.core.events ≡ false → last.recorder.end ≡ None →
-      IsLogOf (top_of plan.log_disk) (seen_on plan.log_disk image) 512 (log_of last.recorder.core)
+  pub whole : lies.log_disk ≡ 0 → has_no_close (core_of last.recorder).events ≡ false → last.recorder.end ≡ None →
+      IsLogOf (top_of plan.log_disk) (seen_on plan.log_disk image) 512 (log_of (core_of last.recorder))
 
 -- Why recording a script, which was read from a text, fails: there is no memory, or the output can't be written; no log could be made, and nothing
 -- was printed; or its run ends before its last line.

@@ -5,6 +5,7 @@ use Rattle.dmlw_script.specs.Plans.{Plan}
 use Rattle.run_error.specs.declared.run_error.RunError.{RunError}
 use Rattle.script_runner.specs.OnDisks.{stack_answering, DiskRun, FailsOnDisks, Starts}
 use Rattle.script_runner.specs.Runs.{RunsLines}
+use Rattle.recorder.specs.Shown.{core_of}
 
 -- A script was rehearsed: its lines ran, whatever they print, and these are the recorder's events.
 pub record IsRehearsed (plan : Plan) (events : List CoreEvent) : Type 0 where
@@ -13,7 +14,7 @@ pub record IsRehearsed (plan : Plan) (events : List CoreEvent) : Type 0 where
   pub text : List ℕ
   pub last : DiskRun
   pub ran : RunsLines stack_answering plan.names plan.commands text start last
-  pub recorded : events ≡ last.recorder.core.events
+  pub recorded : events ≡ (core_of last.recorder).events
 
 -- rehearsing a script, which was read from a text, fails as recording it does, with a writer of which nothing is known
 abbrev pub FailsRehearsal : List ℕ → Plan → RunError → Type 0

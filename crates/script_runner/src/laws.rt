@@ -15,7 +15,7 @@ ghost use Rattle.run_error.specs.declared.run_error.RunError.{RunError};
 ghost use Rattle.run_error.specs.declared.run_error.RunError.TheVariants.{LoggingEnded};
 ghost use Rattle.dmlw_script.specs.Plans.{Disk, Plan};
 ghost use Rattle.bio.specs.declared.outcome.End.TheVariants as ends;
-ghost use Rattle.recorder.specs.Shown.{recording_of};
+ghost use Rattle.recorder.specs.Shown.{core_of, recording_of};
 ghost use Rattle.sectors.specs.Content.{Content};
 ghost use Rattle.std.specs.List.{AllZip};
 ghost use Rattle.script_runner.specs.declared.request.Request.{Request};
@@ -84,7 +84,7 @@ pub fn requests_stand_in_the_events<D: Message + Drop, L: Message + Drop>()
 pub fn marks_stand_in_the_events<D: Message + Drop, L: Message + Drop>()
     ensures { (names : List ScriptId) (body : List Command) (mark text more : List ℕ) (id : ℕ) (old mid new : Running D L D.BlockDev L.BlockDev) →
         (line : TellsMark mark text old mid) → line.reply ≡ Queued id → RunsLines (answering D.answers L.answers) names body more mid new →
-        slice_get new.recorder.core.events id ≡ Some (Mark mark) }
+        slice_get (core_of new.recorder).events id ≡ Some (Mark mark) }
 {
     lines_go_as_one_call::<D, L>();
 }
@@ -95,8 +95,8 @@ pub fn crashes_of_a_run_leave_beginnings<D: Message + Drop, L: Message + Drop>()
     ensures { (names : List ScriptId) (body : List Command) (text : List ℕ) (old new : Running D L D.BlockDev L.BlockDev) (left : Content) →
         RunsLines (answering D.answers L.answers) names body text old new → (recording_of new.recorder).store.device.lies ≡ 0 →
         (recording_of new.recorder).store.device.since (recording_of old.recorder).store.device.moment left →
-        (count : ℕ) × (old.recorder.store.settled ≤ count) × (count ≤ length (log_of new.recorder.core))
-        × IsLogOf (recording_of new.recorder).store.device.size left 512 (take count (log_of new.recorder.core)) }
+        (count : ℕ) × (old.recorder.store.settled ≤ count) × (count ≤ length (log_of (core_of new.recorder)))
+        × IsLogOf (recording_of new.recorder).store.device.size left 512 (take count (log_of (core_of new.recorder))) }
 {
     lines_go_as_one_call::<D, L>();
     recorder::laws::crashes_leave_beginnings::<L>();
@@ -108,8 +108,8 @@ pub fn closed_runs_leave_whole_logs<D: Message + Drop, L: Message + Drop>()
     ensures placed { (names : List ScriptId) (body : List Command) (text : List ℕ) (old new : Running D L D.BlockDev L.BlockDev) →
         RunsLines (answering D.answers L.answers) names body text old new → IsWritten old.recorder → IsWritten new.recorder }
     ensures whole { (names : List ScriptId) (body : List Command) (text : List ℕ) (old new : Running D L D.BlockDev L.BlockDev) →
-        RunsLines (answering D.answers L.answers) names body text old new → IsWritten old.recorder → IsSound new.recorder.core → new.recorder.end ≡ None →
-        has_no_close new.recorder.core.events ≡ false → (recording_of new.recorder).store.device.lies ≡ 0 →
+        RunsLines (answering D.answers L.answers) names body text old new → IsWritten old.recorder → IsSound (core_of new.recorder) → new.recorder.end ≡ None →
+        has_no_close (core_of new.recorder).events ≡ false → (recording_of new.recorder).store.device.lies ≡ 0 →
         HasWholeLog (recording_of new.recorder) }
 {
     recorder::laws::closed_logs_are_whole::<L>();

@@ -25,7 +25,9 @@ impl Model for Rehearsed {
 
     ghost Value = { List CoreEvent };
 
-    ghost view = { λ rehearsed. rehearsed.recorder.core.events };
+    ghost use Rattle.recorder.specs.Shown.{core_of};
+
+    ghost view = { λ rehearsed. (core_of rehearsed.recorder).events };
 }
 
 impl Rehearsed {

@@ -1,7 +1,8 @@
 use Rattle.script_runner.proofs.Following.{queued_stands, stays}
 use Rattle.script_runner.proofs.laws.marks_stand_in_the_events.Goals as goal
+use Rattle.recorder.specs.Shown.{core_of}
 
 pub returns : goal.returns
 returns g c = λ names body mark text more id old mid new line queued ran.
-    stays mid.recorder.core.events new.recorder.core.events id _ (c.lines_go_as_one_call.ensures names body more mid new ran).events
+    stays (core_of mid.recorder).events (core_of new.recorder).events id _ (c.lines_go_as_one_call.ensures names body more mid new ran).events
     (queued_stands {l = g.L.BlockDev} mark line.reply id old.recorder mid.recorder line.marks queued)

@@ -6,7 +6,7 @@ use Rattle.log_store.specs.Shown.{store_of}
 use Rattle.log_store.specs.Store.{entries_of}
 use Rattle.pending.specs.CoreState.{IsSound}
 use Rattle.recorder.specs.Replayed.{ReplaysToWhatCouldBe}
-use Rattle.recorder.specs.Shown.{recording_of}
+use Rattle.recorder.specs.Shown.{core_of, recording_of}
 use Rattle.layer_table.specs.Layers.{stack_shown}
 use Rattle.sectors.specs.Content.{Content}
 use Rattle.script_runner.proofs.OnDisks.{is_recorded, same_lies}
@@ -40,7 +40,7 @@ returns-clause-recorded g c =
     (record { entries = says.counts; end = says.end; none = says.none; last = says.last }) in
     let replays : (stack_shown last.recorder.store.device).lies ≡ 0 → (left : Content) → (stack_shown last.recorder.store.device).crash left → ReplaysToWhatCouldBe (recording_of last.recorder) (recording_of last.recorder) left =
     λ honest left may. c.crashed_logs_replay_to_what_could_be.ensures.between last.recorder left honest may in
-    let sound = subst (λ (r : DiskRecorder). IsSound r.core) played.left c.events-events.ensures.core in
+    let sound = subst (λ (r : DiskRecorder). IsSound (core_of r)) played.left c.events-events.ensures.core in
     let same = c.into_device-log.ensures ∙ ap (λ (r : DiskRecorder). r.store.device) played.left in
     let lied = same_lies (record { data_disk = c.in_ok-played.played.data_lies; log_disk = c.lies.result }) (stack_shown last.disk).lies (stack_shown c.into_device-log.result).lies
     played.lied c.lies.ensures in (

@@ -3,6 +3,7 @@ use Rattle.std.specs.Prelude.{IsTrue, length}
 use Rattle.std.specs.List.{list_all}
 use Rattle.blockdev.specs.declared.message.MessageError.{MessageError}
 use Rattle.dmlw_script.specs.declared.disk_name.DiskName.{DiskName}
+use Rattle.pending.specs.CoreState.{CoreShown}
 use Rattle.recorder.specs.Growth.{RecorderGoes}
 use Rattle.recorder.specs.Shown.{recording_of}
 use Rattle.script_runner.specs.declared.running.Running.{Running}
@@ -47,7 +48,7 @@ returns-in-Ok-clause-tells g c =
             keeps = record { device = refl; kept = refl; prints = refl };
             takes = subst (λ (asked : List ℕ). g.L.Message.answers run.recorder.store.device c.args.layer asked (Ok tt) last.store.device) text taken;
             unchanged = told.device;
-            core = told.core;
+            core = ap (λ (shown : CoreShown). shown.state) told.core;
             end = told.end;
             store = told.same;
             log_moment = told.moment;

@@ -1,0 +1,110 @@
+//! How many links the core changes, and that its rows are used again.
+use bio::{Bio, Id};
+use pending::*;
+use std::alloc::{AllocError, Global};
+use std::test::Fail;
+
+// Submits a discard of one sector.
+fn submit(core: &mut Core, sector: u64) -> Result<u64, AllocError> {
+    let answer = core.submit(&Bio::Discard {
+        first: sector,
+        count: 1,
+    })?;
+    match answer {
+        Submitted::Tracked(id) => Ok(id.place()),
+        Submitted::Passed => Ok(u64::MAX),
+    }
+}
+
+// Ends what is open at a place.
+fn end(core: &mut Core, place: u64) {
+    let id = Id::new(place);
+    if core.is_open(id) {
+        core.complete(id, true);
+    }
+}
+
+// So many requests are submitted and end, every seventh first; they have the places from this one on.
+fn end_all(core: &mut Core, from: u64, count: u64) -> Result<(), AllocError> {
+    for sector in 0..count {
+        submit(core, sector)?;
+    }
+    for number in 0..count {
+        end(
+            core,
+            from.wrapping_add(number.wrapping_mul(7).checked_rem(count).unwrap_or(0)),
+        );
+    }
+    Ok(())
+}
+
+// The place of the next entry.
+fn next_place(core: &mut Core) -> Option<u64> {
+    let (id, _entry) = core.take()?;
+    Some(id.place())
+}
+
+// Takes all, and tells how many came in the order of their ends, with the flush at the end.
+fn take_all(core: &mut Core, from: u64, count: u64, flush: u64) -> u64 {
+    let mut right: u64 = 0;
+    for number in 0..count {
+        let place = from.wrapping_add(number.wrapping_mul(7).checked_rem(count).unwrap_or(0));
+        right = right.saturating_add(u64::from(next_place(core) == Some(place)));
+    }
+    right.saturating_add(u64::from(next_place(core) == Some(flush)))
+}
+
+#[test]
+fn a_flush_changes_few_links(rt: HostRuntime) -> Result<(), Fail> {
+    let mut core = Core::new(rt.alloc())?;
+    end_all(&mut core, 0, 1000)?;
+    let flush = core.events().len() as u64;
+    let before = core.links_changed();
+    core.submit(&Bio::Flush)?;
+    let submitted = core.links_changed();
+    end(&mut core, flush);
+    let ended = core.links_changed();
+    let (one, two) = (
+        submitted.saturating_sub(before),
+        ended.saturating_sub(submitted),
+    );
+    assert!(rt; 1 <= one && one <= 8, "submission: {one}");
+    assert!(rt; 1001 <= two && two <= 8 * 1001 + 8, "end: {two}");
+    assert_eq!(rt; take_all(&mut core, 0, 1000, flush), 1001);
+    assert!(rt; core.take().is_none());
+    Ok(())
+}
+
+// How many rows the core's chains have, as it is shown.
+fn rows_shown(alloc: Global, core: &Core) -> Result<usize, AllocError> {
+    let shown = format!(in alloc; "{core:?}")?;
+    let (_, links) = shown.as_str().split_once("next: [").unwrap_or(("", ""));
+    let (rows, _) = links.split_once(']').unwrap_or(("", ""));
+    Ok(rows.split(',').count())
+}
+
+// So many rounds: requests end, a flush ends, and all is taken. How many rows there are after the second and the last one.
+fn rounds(alloc: Global, count: u64, requests: u64) -> Result<(usize, usize), AllocError> {
+    let mut core = Core::new(alloc)?;
+    let mut second = 0;
+    for round in 0..count {
+        let from = core.events().len() as u64;
+        end_all(&mut core, from, requests)?;
+        let flush = core.events().len() as u64;
+        core.submit(&Bio::Flush)?;
+        end(&mut core, flush);
+        for _ in 0..requests.saturating_add(1) {
+            core.take();
+        }
+        if round == 1 {
+            second = rows_shown(alloc, &core)?;
+        }
+    }
+    Ok((second, rows_shown(alloc, &core)?))
+}
+
+#[test]
+fn rows_are_used_again(rt: HostRuntime) -> Result<(), Fail> {
+    assert_eq!(rt; rounds(rt.alloc(), 200, 100)?, (101, 101));
+    Ok(())
+}

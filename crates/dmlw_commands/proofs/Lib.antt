@@ -1,3 +1,4 @@
+pub mod Opening
 pub mod Listing
 pub mod Failing
 pub mod Endings

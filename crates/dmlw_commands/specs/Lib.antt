@@ -1,6 +1,7 @@
 pub use Rattle.dmlw_files.specs.Files
 pub mod Exits
 pub mod Lists
+pub mod Opened
 pub mod Records
 pub mod Endings
 pub mod EndingLaws

@@ -11,5 +11,6 @@ pub use exit::Exit;
 mod ending;
 mod exit;
 pub mod list;
+mod opened;
 pub mod record;
 pub mod status;

@@ -16,12 +16,13 @@ use Rattle.log_reader.specs.declared.fault.OpenDeviceError.{OpenDeviceError}
 use Rattle.log_reader.specs.declared.fault.OpenDeviceError.TheVariants as device_opens
 use Rattle.log_reader.specs.declared.fault.OpenError.TheVariants as opens
 use Rattle.log_reader.specs.declared.fault.ReadDeviceError.TheVariants as reads
+use Rattle.log_reader.specs.AlikeLaws.{reads_alike}
 use Rattle.log_reader.specs.Devices.{HasFaulted}
 use Rattle.log_reader.specs.Reader.{OpenRefuses}
 use Rattle.log_reader.specs.Readings.{IsReading}
 use Rattle.log_reader.specs.Reads.{Reads}
 use Rattle.log_reader.specs.Refusals.{open_device_refusal}
-use Rattle.replay.specs.AlikeLaws.{reads_alike, replay_alike}
+use Rattle.replay.specs.AlikeLaws.{replay_alike}
 use Rattle.replay.specs.declared.fault.ReplayError.{ReplayError}
 use Rattle.replay.specs.declared.fault.ReplayError.TheVariants as replays
 use Rattle.replay.specs.declared.fault.ReplayFault.{ReplayFault}

@@ -1,3 +1,4 @@
+pub mod UpToFound
 pub mod Applied
 pub mod Loops
 pub mod Calling

@@ -201,20 +201,23 @@ calls - 16 5;9=9:w5+1 w6+2 w8+1 d9+3 w1+1",
     )
 }
 
-// A log device that fails does so too: in a search or in reading the entries' own sectors nothing is applied, in reading an entry's data that one isn't.
+// A log device that fails does so too: in a search nothing is applied, in reading an entry's own sector or its data that one isn't.
 #[test]
 fn log_devices_that_fail_end_a_replay(rt: HostRuntime) -> Result<(), Fail> {
     assert_replays(
         &rt,
         rt.alloc(),
         "calls 1 16 -;f=1 Io after 0:
-calls 9 16 -;f=1 Io after 0:
+calls 3 16 -;f=1 Io after 0:
+calls 4 16 -;f=1 Io after 0:
+calls 9 16 -;f=1 Io after 2:w5+1 w6+2
 calls 1 16 -;m=1 Io after 0:
 calls 1 16 -;9=1 Io after 0:
-calls 9 16 -;9=1 Io after 0:
-calls 10 16 -;9=1 Io after 0:
-calls 11 16 -;9=1 Io after 1:w5+1
-calls 12 16 -;9=1 Io after 2:w5+1 w6+2
+calls 2 16 -;9=1 Io after 0:
+calls 3 16 -;9=1 Io after 1:w5+1
+calls 4 16 -;9=1 Io after 1:w5+1
+calls 5 16 -;9=1 Io after 2:w5+1 w6+2
+calls 9 16 -;9=1 Io after 5:w5+1 w6+2 w8+1
 calls 1 16 -;0=0:",
     )
 }

@@ -1,0 +1,51 @@
+// The log of an image, opened on a disk that the image becomes without a copy.
+// Its entries are read one by one, without a write's data.
+ghost use Rattle.std.specs.Prelude.{◌≡◌, ◌⊎◌, IfErr, IfOk, List, Option, false};
+ghost use Rattle.log_format.specs.declared.entry.Entry.{Entry};
+ghost use Rattle.log_reader.specs.declared.fault.LogFault.{LogFault};
+ghost use Rattle.log_reader.specs.Reader.{GivesWithin, Keeps};
+ghost use Rattle.log_reader.specs.Reads.{Reads};
+ghost use Rattle.log_reader.specs.Shown.{reader_of};
+ghost use Rattle.run_error.specs.Errors.{memory_error};
+ghost use Rattle.dmlw_files.specs.Images.{IsImage};
+ghost use Rattle.dmlw_commands.specs.Lists.{RefusesImage};
+ghost use Rattle.dmlw_commands.specs.Opened.{GivesNext, Opens};
+
+use blockdev::laws::crashes_leave_whole_sectors;
+use log_format::{Entry, Placed};
+use log_reader::LogReader;
+use refusals::Refusal;
+use run_error::RunError;
+use sector_disk::SectorDisk;
+use std::alloc::Global;
+
+// The reader of the log that an image holds.
+pub(crate) fn open_image(alloc: Global, image: Vec<u8>) -> Result<LogReader<SectorDisk>, RunError>
+    requires { IsImage image.items }
+    ensures opened { IfOk result (λ reader. Opens image.items (reader_of reader)) }
+    ensures refused { IfErr result (λ fault. (fault ≡ memory_error) ⊎ RefusesImage image.items fault) }
+{
+    crashes_leave_whole_sectors::<SectorDisk>();
+    let disk = SectorDisk::from_bytes(alloc, image)?;
+    match LogReader::open(alloc, disk) {
+        Ok(reader) => Ok(reader),
+        Err((_disk, error)) => Err(RunError::from(Refusal::from(error))),
+    }
+}
+
+// The entry that comes next in the log of an image, without a write's data; none after the last one.
+pub(crate) fn next_of_image(
+    reader: &mut LogReader<SectorDisk>,
+) -> Result<Option<(Placed, Entry)>, RunError>
+    requires { (reader_of reader.old).failed ≡ false }
+    ensures gives { (es : List Entry) (fault : Option LogFault) →
+        Reads (reader_of reader.old).device.size (reader_of reader.old).device.content (reader_of reader.old).head es fault →
+        GivesNext es fault (reader_of reader.old) (reader_of reader.new) result }
+    ensures within { GivesWithin (reader_of reader.old).device.size (reader_of reader.old).head.sectorsize result }
+    ensures keeps { Keeps (reader_of reader.old) (reader_of reader.new) }
+{
+    match reader.next_head() {
+        Ok(found) => Ok(found),
+        Err(error) => Err(RunError::from(Refusal::from(error))),
+    }
+}

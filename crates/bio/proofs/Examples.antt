@@ -3,11 +3,11 @@ use Rattle.bio.specs.declared.event.CoreEvent.TheVariants.{Submit, Complete, Mar
 use Rattle.bio.specs.declared.outcome.End.TheVariants as ends
 use Rattle.bio.specs.declared.request.Bio.{Bio}
 use Rattle.bio.specs.declared.request.Bio.TheVariants.{Write, Flush, Discard, Read}
-use Rattle.bio.specs.declared.request.BadBio.TheVariants.{NotWhole, TooLong, PastEnd}
-use Rattle.bio.specs.Check.{check_answer}
+use Rattle.bio.specs.declared.request.BadBio.TheVariants.{NotWhole, TooLong, PastEnd, Unaligned}
+use Rattle.bio.specs.Check.{check_answer, check_sized_answer}
 use Rattle.bio.specs.Events.{flush_after, is_before}
-use Rattle.bio.specs.Lawful.{is_lawful, is_text, is_well_formed}
-use Rattle.bio.specs.Requests.{covers, is_change, overlaps}
+use Rattle.bio.specs.Lawful.{is_lawful, is_lawful_sized, is_text, is_well_formed}
+use Rattle.bio.specs.Requests.{covers, is_aligned, is_change, overlaps}
 
 -- a write of two sectors at sector 5
 two : Bio
@@ -166,3 +166,36 @@ check-part = refl
 
 check-flush : check_answer Flush 0 ≡ Ok tt
 check-flush = refl
+
+-- with log sectors of 4,096 bytes a request begins and ends at multiples of 8 sectors; a flush does
+aligned-whole : is_aligned 4096 (Discard 8 16) ≡ true
+aligned-whole = refl
+
+aligned-first : is_aligned 4096 (Discard 7 16) ≡ false
+aligned-first = refl
+
+aligned-count : is_aligned 4096 (Read 8 7) ≡ false
+aligned-count = refl
+
+aligned-flush : is_aligned 4096 Flush ≡ true
+aligned-flush = refl
+
+-- a request past the end is told as that first, and one that isn't aligned only where it may be sent
+sized-past : check_sized_answer 4096 (Discard 63 7) 64 ≡ Err PastEnd
+sized-past = refl
+
+sized-odd : check_sized_answer 4096 (Read 8 7) 64 ≡ Err Unaligned
+sized-odd = refl
+
+sized-whole : check_sized_answer 4096 (Discard 56 8) 64 ≡ Ok tt
+sized-whole = refl
+
+sized-small : check_sized_answer 512 (Discard 63 1) 64 ≡ Ok tt
+sized-small = refl
+
+-- a list is lawful for a log with large sectors where each of its requests is aligned
+lawful-whole : is_lawful_sized 4096 64 (Submit (Discard 8 16) ∷ Complete 0 true ∷ Close ∷ []) ≡ true
+lawful-whole = refl
+
+lawful-odd : is_lawful_sized 4096 64 (Submit (Discard 8 15) ∷ Complete 0 true ∷ Close ∷ []) ≡ false
+lawful-odd = refl

@@ -1,8 +1,9 @@
-use Rattle.std.specs.Prelude.{ℕ, ◌+◌, ◌/◌, ◌%◌, ◌==◌, length, Result, Ok, Err, nat_lt, if◌then◌else◌}
+use Rattle.std.specs.Prelude.{ℕ, ◌+◌, ◌/◌, ◌%◌, ◌==◌, length, Bool, Result, Ok, Err, nat_lt, if◌then◌else◌}
 use Rattle.bio.specs.declared.request.Bio.{Bio}
 use Rattle.bio.specs.declared.request.Bio.TheVariants.{Write, Flush, Discard, Read}
 use Rattle.bio.specs.declared.request.BadBio.{BadBio}
-use Rattle.bio.specs.declared.request.BadBio.TheVariants.{NotWhole, TooLong, PastEnd}
+use Rattle.bio.specs.declared.request.BadBio.TheVariants.{NotWhole, TooLong, PastEnd, Unaligned}
+use Rattle.bio.specs.Requests.{is_aligned}
 
 -- the answer for whole sectors: at least one, at most 2,048, and all within the device
 abbrev pub range_answer : ℕ → ℕ → ℕ → Result (Unit {0}) BadBio
@@ -19,3 +20,13 @@ check_answer (Write first bytes flush fua meta) sectors =
 check_answer Flush sectors = Ok tt
 check_answer (Discard first count) sectors = range_answer first count sectors
 check_answer (Read first count) sectors = range_answer first count sectors
+
+-- an answer that is Ok stays where a test passes, and is Unaligned where it doesn't; a reason against the request stays
+abbrev pub unless_unaligned : Bool → Result (Unit {0}) BadBio → Result (Unit {0}) BadBio
+unless_unaligned aligned (Ok tt) = if aligned then Ok tt else Err Unaligned
+unless_unaligned aligned (Err bad) = Err bad
+
+-- whether a request may be sent to a device of so many sectors and recorded in a log with sectors of so many bytes, and else the first
+-- reason against it
+abbrev pub check_sized_answer : ℕ → Bio → ℕ → Result (Unit {0}) BadBio
+check_sized_answer size bio sectors = unless_unaligned (is_aligned size bio) (check_answer bio sectors)

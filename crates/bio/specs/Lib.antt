@@ -2,6 +2,7 @@ pub mod Moments
 pub mod Causes
 pub mod Refusals
 pub mod Texts
+pub mod Sizes
 pub mod Check
 pub mod Requests
 pub mod Events
@@ -9,5 +10,6 @@ pub mod Possible
 pub mod Lawful
 pub mod EventLaws
 pub mod RequestLaws
+pub mod SizeLaws
 pub mod PossibleLaws
 pub mod inside

@@ -23,3 +23,4 @@ abbrev pub bad_bio_refusal : BadBio → Refusal
 bad_bio_refusal bad_bios.NotWhole = refusals.NotWhole
 bad_bio_refusal bad_bios.TooLong = refusals.TooLong
 bad_bio_refusal bad_bios.PastEnd = refusals.PastEnd
+bad_bio_refusal bad_bios.Unaligned = refusals.Unaligned

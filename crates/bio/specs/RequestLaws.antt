@@ -193,7 +193,7 @@ check_answer-larger (Discard first count) n m passed more = range_answer-larger 
 check_answer-larger (Read first count) n m passed more = range_answer-larger first count n m passed more
 
 -- an answer that is Ok
-is_ok-ok : (answer : Result (Unit {0}) BadBio) → is_ok answer ≡ true → answer ≡ Ok tt
+pub is_ok-ok : (answer : Result (Unit {0}) BadBio) → is_ok answer ≡ true → answer ≡ Ok tt
 is_ok-ok (Ok tt) e = refl
 is_ok-ok (Err bad) e = cc
 

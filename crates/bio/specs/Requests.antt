@@ -1,4 +1,4 @@
-use Rattle.std.specs.Prelude.{ℕ, ◌+◌, ◌/◌, Bool, true, false, ◌&&◌, length, nat_lt, nat_le}
+use Rattle.std.specs.Prelude.{ℕ, ◌+◌, ◌/◌, ◌%◌, ◌==◌, Bool, true, false, ◌&&◌, length, nat_lt, nat_le}
 use Rattle.bio.specs.declared.request.Bio.{Bio}
 use Rattle.bio.specs.declared.request.Bio.TheVariants.{Write, Flush, Discard, Read}
 
@@ -42,6 +42,11 @@ sector_count (Write first bytes flush fua meta) = length bytes / 512
 sector_count Flush = 0
 sector_count (Discard first count) = count
 sector_count (Read first count) = count
+
+-- it begins and ends at multiples of so many bytes, for a log with sectors of that size: its first sector and its count are
+-- multiples of the sectors of 512 bytes in one
+abbrev pub is_aligned : ℕ → Bio → Bool
+is_aligned size bio = first_sector bio % (size / 512) == 0 && sector_count bio % (size / 512) == 0
 
 -- a write or a discard puts a value in the sector
 abbrev pub covers : Bio → ℕ → Bool

@@ -2,10 +2,10 @@ ghost use Rattle.std.specs.Prelude.{◌≡◌, ◌≢◌, ◌↔◌, ◌+◌, �
 ghost use Rattle.bio.specs.declared.event.CoreEvent.{CoreEvent};
 ghost use Rattle.bio.specs.declared.request.Bio.{Bio};
 ghost use Rattle.bio.specs.declared.request.Bio.TheVariants.{Write, Flush, Discard, Read};
-ghost use Rattle.bio.specs.Check.{check_answer};
+ghost use Rattle.bio.specs.Check.{check_answer, check_sized_answer};
 ghost use Rattle.bio.specs.Events.{end_of, is_before};
-ghost use Rattle.bio.specs.Lawful.{is_text};
-ghost use Rattle.bio.specs.Requests.{covers, overlaps};
+ghost use Rattle.bio.specs.Lawful.{is_lawful, is_lawful_sized, is_text};
+ghost use Rattle.bio.specs.Requests.{covers, is_aligned, overlaps};
 
 use crate::MAX_REQUEST_SECTORS;
 
@@ -48,4 +48,18 @@ pub fn texts_have_no_zero()
 pub fn larger_devices_take_more()
     ensures { (bio : Bio) (sectors more : ℕ) → check_answer bio sectors ≡ Ok tt → sectors ≤ more →
         check_answer bio more ≡ Ok tt }
+{}
+
+/// A request that may be recorded in a log with sectors of the given size may be sent to the device, and
+/// is aligned to that size.
+pub fn sized_requests_pass_both()
+    ensures { (size : ℕ) (bio : Bio) (sectors : ℕ) → (check_sized_answer size bio sectors ≡ Ok tt)
+        ↔ ((check_answer bio sectors ≡ Ok tt) × IsTrue (is_aligned size bio)) }
+{}
+
+/// With log sectors of 512 bytes each request is aligned: `check_sized` answers what `check` does, and
+/// each lawful event list is lawful for such a log.
+pub fn small_sectors_take_each_request()
+    ensures answer { (bio : Bio) (sectors : ℕ) → check_sized_answer 512 bio sectors ≡ check_answer bio sectors }
+    ensures lawful { (sectors : ℕ) (events : List CoreEvent) → is_lawful_sized 512 sectors events ≡ is_lawful sectors events }
 {}

@@ -1,6 +1,7 @@
 //! Block requests and their events.
 //!
-//! A request is a `Bio`; `check` decides whether it may be sent to a device. What happens to
+//! A request is a `Bio`; `check` decides whether it may be sent to a device, and `check_sized` whether it also suits a
+//! log of sectors of a given `SectorSize`. What happens to
 //! requests is a list of `CoreEvent`s; an `Id` is the place of a request's submission, or of a mark,
 //! in that list. The definitions beside the code (`specs/`) say which sectors a request covers
 //! (`Requests`), where the requests of an event list end (`Events`), and which lists are lawful
@@ -12,7 +13,8 @@ pub use event::{CoreEvent, Event};
 pub use id::Id;
 pub use ms::Ms;
 pub use outcome::{DevError, End, Status};
-pub use request::{BadBio, Bio, MAX_REQUEST_SECTORS, check};
+pub use request::{BadBio, Bio, MAX_REQUEST_SECTORS, check, check_sized};
+pub use sector_size::SectorSize;
 
 mod bytes;
 mod event;
@@ -21,3 +23,4 @@ pub mod laws;
 mod ms;
 mod outcome;
 mod request;
+mod sector_size;

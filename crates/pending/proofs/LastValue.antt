@@ -1,40 +1,41 @@
 -- What replaying entries leaves in a sector: the value of the last entry that has one.
-use Rattle.std.proofs.Common.{◌≡◌, ℕ, zero, suc, ◌*◌, ◌/◌, ◌<◌, Option, Some, None, List, [], ◌∷◌, length, take, replicate, refl, ap, sym, ◌∙◌, inl, inr, arith}
+use Rattle.std.proofs.Common.{◌≡◌, ℕ, zero, suc, ◌*◌, ◌<◌, Option, Some, None, List, [], ◌∷◌, true, length, take, refl, ap, sym, ◌∙◌, inl, inr, arith}
 use Rattle.std.specs.Prelude.{◌⊎◌, slice_get, option_map, unwrap_or}
 use Rattle.sectors.specs.Content.{Content, Patch, over, put, sector_of}
 use Rattle.sectors.specs.ContentLaws.{over_cases}
-use Rattle.sectors.specs.PlaceLaws.{option_cases}
-use Rattle.bio.specs.declared.request.Bio.TheVariants as bios
+use Rattle.sectors.specs.PlaceLaws.{all_below-each, option_cases, slice_get-within}
 use Rattle.bio.specs.declared.event.CoreEvent.{CoreEvent}
 use Rattle.bio.specs.declared.event.CoreEvent.TheVariants.{Submit, Complete, Mark, Stop, Close}
+use Rattle.bio.specs.Lawful.{all_aligned, submits_aligned}
 use Rattle.bio.specs.Possible.{values_at}
 use Rattle.log_format.specs.declared.entry.Entry.{Entry}
-use Rattle.log_format.specs.Entries.{kind_of}
+use Rattle.log_format.specs.Entries.{is_sector_size, kind_of, sectors_per}
+use Rattle.log_format.specs.AlignedLaws.{entries_keep_values}
 use Rattle.log_format.specs.Replay.{kind_values, replay}
 use Rattle.pending.specs.CompletionList.{Item, entry_at}
 use Rattle.pending.specs.Beginnings.{entries_of}
 
--- the values of an entry in a log with sectors of 512 bytes
-abbrev pub entry_values : Entry → Patch
-entry_values e = kind_values 512 (kind_of e.flags) e
+-- the values of an entry in a log with sectors of so many bytes
+abbrev pub entry_values : ℕ → Entry → Patch
+entry_values size e = kind_values size (kind_of e.flags) e
 
 -- the last entry that has a value for the sector
-pub record LastAt (es : List Entry) (sector : ℕ) (now : List ℕ) : Type 0 where
+pub record LastAt (size : ℕ) (es : List Entry) (sector : ℕ) (now : List ℕ) : Type 0 where
   pub place : ℕ
   pub entry : Entry
   pub is : slice_get es place ≡ Some entry
-  pub value : entry_values entry sector ≡ Some now
-  pub after : (k : ℕ) (later : Entry) → place < k → slice_get es k ≡ Some later → entry_values later sector ≡ None
+  pub value : entry_values size entry sector ≡ Some now
+  pub after : (k : ℕ) (later : Entry) → place < k → slice_get es k ≡ Some later → entry_values size later sector ≡ None
 
 -- no entry has a value for the sector
-abbrev pub NoneAt : List Entry → ℕ → Type 0
-NoneAt es sector = (k : ℕ) (entry : Entry) → slice_get es k ≡ Some entry → entry_values entry sector ≡ None
+abbrev pub NoneAt : ℕ → List Entry → ℕ → Type 0
+NoneAt size es sector = (k : ℕ) (entry : Entry) → slice_get es k ≡ Some entry → entry_values size entry sector ≡ None
 
 -- what is left in a sector
-pub last-value : (es : List Entry) (sector : ℕ) (first : Content)
-    → ((replay 512 es first sector ≡ first sector) × NoneAt es sector) ⊎ LastAt es sector (replay 512 es first sector)
-last-value [] sector first = inl (refl, λ k entry e. cc)
-last-value (e ∷ es) sector first = elim (last-value es sector (put (entry_values e) first)) [
+pub last-value : (size : ℕ) (es : List Entry) (sector : ℕ) (first : Content)
+    → ((replay size es first sector ≡ first sector) × NoneAt size es sector) ⊎ LastAt size es sector (replay size es first sector)
+last-value size [] sector first = inl (refl, λ k entry e. cc)
+last-value size (e ∷ es) sector first = elim (last-value size es sector (put (entry_values size e) first)) [
   | inr last ↦ inr (record {
     place = suc last.place;
     entry = last.entry;
@@ -42,7 +43,7 @@ last-value (e ∷ es) sector first = elim (last-value es sector (put (entry_valu
     value = last.value;
     after = λ k later less there. after_one k later last.place less there last.after;
   })
-  | inl none ↦ elim (option_cases (entry_values e sector)) [
+  | inl none ↦ elim (option_cases (entry_values size e sector)) [
     | inl nothing_here ↦ inl (
       none.0 ∙ ap (λ v. unwrap_or v (first sector)) nothing_here,
       λ k entry there. first_too k entry there nothing_here none.1,
@@ -58,44 +59,41 @@ last-value (e ∷ es) sector first = elim (last-value es sector (put (entry_valu
 ]
   where
     after_one : (k : ℕ) (later : Entry) (place : ℕ) → suc place < k → slice_get (e ∷ es) k ≡ Some later
-        → ((k : ℕ) (later : Entry) → place < k → slice_get es k ≡ Some later → entry_values later sector ≡ None) → entry_values later sector ≡ None
+        → ((k : ℕ) (later : Entry) → place < k → slice_get es k ≡ Some later → entry_values size later sector ≡ None) → entry_values size later sector ≡ None
     after_one zero later place less there after = absurd (omega arith)
     after_one (suc k) later place less there after = after k later (omega arith) there
 
-    first_too : (k : ℕ) (entry : Entry) → slice_get (e ∷ es) k ≡ Some entry → entry_values e sector ≡ None → NoneAt es sector → entry_values entry sector ≡ None
-    first_too zero entry there here none = let same : e ≡ entry = cc in ap (λ x. entry_values x sector) (sym same) ∙ here
+    first_too : (k : ℕ) (entry : Entry) → slice_get (e ∷ es) k ≡ Some entry → entry_values size e sector ≡ None → NoneAt size es sector → entry_values size entry sector ≡ None
+    first_too zero entry there here none = let same : e ≡ entry = cc in ap (λ x. entry_values size x sector) (sym same) ∙ here
     first_too (suc k) entry there here none = none k entry there
 
-    rest_only : (k : ℕ) (later : Entry) → 0 < k → slice_get (e ∷ es) k ≡ Some later → NoneAt es sector → entry_values later sector ≡ None
+    rest_only : (k : ℕ) (later : Entry) → 0 < k → slice_get (e ∷ es) k ≡ Some later → NoneAt size es sector → entry_values size later sector ≡ None
     rest_only zero later less there none = absurd (omega arith)
     rest_only (suc k) later less there none = none k later there
 
--- a number divided by one, and so often
-by_one : (n : ℕ) → (n / 1) * 1 ≡ n
-by_one n = omega arith
-
 -- a range of no sectors has no values
-empty_range : (first : ℕ) (value : ℕ → List ℕ) (sector : ℕ) → over first 0 value sector ≡ None
-empty_range first value sector = elim (over_cases first 0 value sector) [
-  | inl within ↦ absurd (let none = within.1 in omega arith)
-  | inr none ↦ none
+empty_range : (n first : ℕ) (value : ℕ → List ℕ) (sector : ℕ) → n ≡ 0 → over first n value sector ≡ None
+empty_range n first value sector none = elim (over_cases first n value sector) [
+  | inl within ↦ absurd (let some = within.1 in omega arith)
+  | inr nothing_here ↦ nothing_here
 ]
 
 -- the entry of what an event submits has the values of the request
-pub entry-values : (there : Option CoreEvent) (sector : ℕ) → entry_values (entry_at 512 there) sector ≡ values_at there sector
-entry-values (Some (Submit (bios.Write first bytes flush fua meta))) sector =
-    ap (λ (n : ℕ). over n (length bytes / 512 * 1) (sector_of bytes) sector) (by_one first)
-    ∙ ap (λ (n : ℕ). over first n (sector_of bytes) sector) (omega arith)
-entry-values (Some (Submit bios.Flush)) sector = empty_range 0 (sector_of []) sector
-entry-values (Some (Submit (bios.Discard first count))) sector =
-    ap (λ (n : ℕ). over n (count / 1 * 1) (λ _. replicate 512 0) sector) (by_one first)
-    ∙ ap (λ (n : ℕ). over first n (λ _. replicate 512 0) sector) (by_one count)
-entry-values (Some (Submit (bios.Read first count))) sector = empty_range 0 (sector_of []) sector
-entry-values (Some (Complete id ok)) sector = empty_range 0 (sector_of []) sector
-entry-values (Some (Mark text)) sector = refl
-entry-values (Some (Stop cause)) sector = empty_range 0 (sector_of []) sector
-entry-values (Some Close) sector = refl
-entry-values None sector = empty_range 0 (sector_of []) sector
+pub entry-values : (size : ℕ) (there : Option CoreEvent) (sector : ℕ) → is_sector_size size ≡ true → submits_aligned size there ≡ true
+    → entry_values size (entry_at size there) sector ≡ values_at there sector
+entry-values size (Some (Submit bio)) sector right aligned = entries_keep_values size bio sector right aligned
+entry-values size (Some (Complete id ok)) sector right aligned = empty_range (0 * sectors_per size) (0 * sectors_per size) (sector_of []) sector (omega arith)
+entry-values size (Some (Mark text)) sector right aligned = refl
+entry-values size (Some (Stop cause)) sector right aligned = empty_range (0 * sectors_per size) (0 * sectors_per size) (sector_of []) sector (omega arith)
+entry-values size (Some Close) sector right aligned = refl
+entry-values size None sector right aligned = empty_range (0 * sectors_per size) (0 * sectors_per size) (sector_of []) sector (omega arith)
+
+-- each request that the events submit is aligned, and what stands at a place submits no other
+pub aligned-at : (size : ℕ) (events : List CoreEvent) (id : ℕ) → all_aligned size events ≡ true → submits_aligned size (slice_get events id) ≡ true
+aligned-at size events id aligned = elim (option_cases (slice_get events id)) [
+  | inl none ↦ ap (submits_aligned size) none
+  | inr some ↦ all_below-each (λ place. submits_aligned size (slice_get events place)) (length events) aligned id (slice_get-within events id some.0 some.1)
+]
 
 -- an entry of a beginning of items is one of the items
 pub entry-item : (items : List Item) (n k : ℕ) (entry : Entry) → slice_get (entries_of (take n items)) k ≡ Some entry

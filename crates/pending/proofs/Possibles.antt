@@ -13,10 +13,11 @@ use Rattle.bio.specs.declared.event.CoreEvent.TheVariants.{Submit, Complete, Mar
 use Rattle.bio.specs.Requests.{covers, has_fua}
 use Rattle.bio.specs.RequestLaws.{covers-parts, covers-within, is_before-end, overlaps-common}
 use Rattle.bio.specs.Events.{end_of, first_place, is_before, is_end_of, is_flush_submit, is_stop, submits}
-use Rattle.bio.specs.Lawful.{is_well_formed}
+use Rattle.bio.specs.Lawful.{all_aligned, is_well_formed, submits_aligned}
 use Rattle.bio.specs.EventLaws.{length-beginning, slice_get-take}
 use Rattle.bio.specs.Possible.{PossibleAt, covers_at, ended_ok, has_kept, is_durable, is_flushed, is_kept, is_replaced, is_success_at, values_at, values_of}
 use Rattle.log_format.specs.declared.entry.Entry.{Entry}
+use Rattle.log_format.specs.Entries.{is_sector_size}
 use Rattle.log_format.specs.Replay.{replay}
 use Rattle.pending.specs.QueueEvent.{queue_event, recorded}
 use Rattle.pending.specs.CompletionList.{Item, completion_list, dm_log_writes, entry_at}
@@ -24,7 +25,7 @@ use Rattle.pending.specs.Moments.{last_moment}
 use Rattle.pending.specs.Beginnings.{BelongsTo, entries_of}
 use Rattle.pending.proofs.Durable.{IsDurableBefore, IsFound, IsMoment, durable-queued, found-first, queued-longer, queued-shorter}
 use Rattle.pending.proofs.Ends.{ends-there, flush_submit-some, open-queue_event, queued-after, queued-within}
-use Rattle.pending.proofs.LastValue.{LastAt, NoneAt, entry-item, entry-values, entry_values, item-entry, last-value}
+use Rattle.pending.proofs.LastValue.{LastAt, NoneAt, aligned-at, entry-item, entry-values, entry_values, item-entry, last-value}
 use Rattle.pending.proofs.Order.{listed-queued, queued-listed}
 use Rattle.pending.proofs.Passing.{any_below-found, or_cases}
 use Rattle.pending.proofs.Prefix.{recorded_list_grows}
@@ -115,43 +116,43 @@ durable-of events moment sector id within inside kept =
     }
 
 -- the entry of what is queued before a moment stands among those queued by then
-stands-before : (events : List CoreEvent) (moment id event : ℕ) → moment ≤ length events → queue_event recorded events id ≡ Some event → event < moment
-    → (k : ℕ) × (slice_get (completion_list (dm_log_writes 512) events) k ≡ Some (id, entry_at 512 (slice_get (take moment events) id)))
-    × (k < length (completion_list (dm_log_writes 512) (take moment events)))
-stands-before events moment id event within queued less =
+stands-before : (size : ℕ) (events : List CoreEvent) (moment id event : ℕ) → moment ≤ length events → queue_event recorded events id ≡ Some event → event < moment
+    → (k : ℕ) × (slice_get (completion_list (dm_log_writes size) events) k ≡ Some (id, entry_at size (slice_get (take moment events) id)))
+    × (k < length (completion_list (dm_log_writes size) (take moment events)))
+stands-before size events moment id event within queued less =
     let front = take moment events in
-    let listed = queued-listed (dm_log_writes 512) front id event (queued-shorter events moment id event within less queued) in
-    let inside = slice_get-within (completion_list (dm_log_writes 512) front) listed.0 (id, entry_at 512 (slice_get front id)) listed.1 in
-    let grows = recorded_list_grows 512 front (drop moment events) in (
+    let listed = queued-listed (dm_log_writes size) front id event (queued-shorter events moment id event within less queued) in
+    let inside = slice_get-within (completion_list (dm_log_writes size) front) listed.0 (id, entry_at size (slice_get front id)) listed.1 in
+    let grows = recorded_list_grows size front (drop moment events) in (
       listed.0,
-      ap (λ es. slice_get (completion_list (dm_log_writes 512) es) listed.0) (sym (take-append-drop moment events))
+      ap (λ es. slice_get (completion_list (dm_log_writes size) es) listed.0) (sym (take-append-drop moment events))
           ∙ ap (λ items. slice_get items listed.0) grows.1
-          ∙ slice_get-append_front (completion_list (dm_log_writes 512) front) grows.0 listed.0 inside
+          ∙ slice_get-append_front (completion_list (dm_log_writes size) front) grows.0 listed.0 inside
           ∙ listed.1,
       inside,
     )
 
 -- What an item of the first so many is: queued by a moment's next event at the latest, and submitted before the moment.
-record IsItemBy (events : List CoreEvent) (moment : ℕ) (item : Item) : Type 0 where
+record IsItemBy (size : ℕ) (events : List CoreEvent) (moment : ℕ) (item : Item) : Type 0 where
   event : ℕ
   queued : queue_event recorded events item.0 ≡ Some event
-  entry : item.1 ≡ entry_at 512 (slice_get events item.0)
+  entry : item.1 ≡ entry_at size (slice_get events item.0)
   by_then : event ≤ moment
 
-item-by : (events : List CoreEvent) (moment k : ℕ) (item : Item) → is_well_formed events ≡ true
-    → slice_get (completion_list (dm_log_writes 512) events) k ≡ Some item
-    → k < length (completion_list (dm_log_writes 512) (take (suc moment) events)) → IsItemBy events moment item
-item-by events moment k item well_formed is inside =
+item-by : (size : ℕ) (events : List CoreEvent) (moment k : ℕ) (item : Item) → is_well_formed events ≡ true
+    → slice_get (completion_list (dm_log_writes size) events) k ≡ Some item
+    → k < length (completion_list (dm_log_writes size) (take (suc moment) events)) → IsItemBy size events moment item
+item-by size events moment k item well_formed is inside =
     let front = take (suc moment) events in
-    let grows = recorded_list_grows 512 front (drop (suc moment) events) in
-    let there : slice_get (completion_list (dm_log_writes 512) front) k ≡ Some item =
-    sym (slice_get-append_front (completion_list (dm_log_writes 512) front) grows.0 k inside)
+    let grows = recorded_list_grows size front (drop (suc moment) events) in
+    let there : slice_get (completion_list (dm_log_writes size) front) k ≡ Some item =
+    sym (slice_get-append_front (completion_list (dm_log_writes size) front) grows.0 k inside)
     ∙ ap (λ items. slice_get items k) (sym grows.1)
-    ∙ ap (λ es. slice_get (completion_list (dm_log_writes 512) es) k) (take-append-drop (suc moment) events)
+    ∙ ap (λ es. slice_get (completion_list (dm_log_writes size) es) k) (take-append-drop (suc moment) events)
     ∙ is in
     let front_formed = well_formed-beginning front (drop (suc moment) events) (ap is_well_formed (take-append-drop (suc moment) events) ∙ well_formed) in
-    let listed = listed-queued (dm_log_writes 512) front k item front_formed there in
-    let whole = listed-queued (dm_log_writes 512) events k item well_formed is in
+    let listed = listed-queued (dm_log_writes size) front k item front_formed there in
+    let whole = listed-queued (dm_log_writes size) events k item well_formed is in
     let event = listed.1.0 in
     let less = queued-within front item.0 event listed.1.2.queues in
     let long = length-take (suc moment) events in record {
@@ -211,17 +212,22 @@ value-some (Some (Stop cause)) sector now e = cc
 value-some (Some Close) sector now e = cc
 value-some None sector now e = cc
 
+-- the events were recorded for a log with sectors of so many bytes: each request that they submit is aligned
+pub record IsSized (size : ℕ) (events : List CoreEvent) : Type 0 where
+  pub right : is_sector_size size ≡ true
+  pub aligned : all_aligned size events ≡ true
+
 -- a durable request over a sector has an entry with a value there, among those queued by the moment
-durable-entry : (events : List CoreEvent) (moment count sector id : ℕ) → IsMoment events moment → BelongsTo (dm_log_writes 512) events moment count
+durable-entry : (size : ℕ) (events : List CoreEvent) (moment count sector id : ℕ) → IsSized size events → IsMoment events moment → BelongsTo (dm_log_writes size) events moment count
     → (durable : IsDurableBefore events moment sector id)
-    → (k : ℕ) × (entry : Entry) × (slice_get (completion_list (dm_log_writes 512) events) k ≡ Some (id, entry)) × (k < count)
-    × (slice_get (entries_of (take count (completion_list (dm_log_writes 512) events))) k ≡ Some entry) × (entry_values entry sector ≡ None → ⊥)
-durable-entry events moment count sector id safe belongs durable =
-    let items = completion_list (dm_log_writes 512) events in
+    → (k : ℕ) × (entry : Entry) × (slice_get (completion_list (dm_log_writes size) events) k ≡ Some (id, entry)) × (k < count)
+    × (slice_get (entries_of (take count (completion_list (dm_log_writes size) events))) k ≡ Some entry) × (entry_values size entry sector ≡ None → ⊥)
+durable-entry size events moment count sector id sized safe belongs durable =
+    let items = completion_list (dm_log_writes size) events in
     let there = durable.there in
     let queued = durable-queued events moment sector id safe durable in
-    let stands = stands-before events moment id queued.0 safe.within queued.1 queued.2 in
-    let entry = entry_at 512 (slice_get (take moment events) id) in
+    let stands = stands-before size events moment id queued.0 safe.within queued.1 queued.2 in
+    let entry = entry_at size (slice_get (take moment events) id) in
     let before : id < moment = let a = (ends-there events id durable.end there.ends).1 in let b = there.before in omega arith in
     let less : stands.0 < count = let a = stands.2 in let b = belongs.from in omega arith in (
       stands.0,
@@ -231,29 +237,30 @@ durable-entry events moment count sector id safe belongs durable =
       item-entry items count stands.0 (id, entry) stands.1 less,
       λ none. covers-value there.bio sector durable.over (
           ap (λ found. values_at found sector) (sym (slice_get-take events moment id before ∙ there.submitted))
-          ∙ sym (entry-values (slice_get (take moment events) id) sector)
+          ∙ sym (entry-values size (slice_get (take moment events) id) sector sized.right
+          (ap (submits_aligned size) (slice_get-take events moment id before) ∙ aligned-at size events id sized.aligned))
           ∙ none),
     )
 
 -- where no entry has a value for the sector, nothing durable covers it
-none-kept : (events : List CoreEvent) (moment count sector : ℕ) → IsMoment events moment → BelongsTo (dm_log_writes 512) events moment count
-    → NoneAt (entries_of (take count (completion_list (dm_log_writes 512) events))) sector → has_kept (take moment events) sector ≡ false
-none-kept events moment count sector safe belongs none = elim (bool_cases (has_kept (take moment events) sector)) [
+none-kept : (size : ℕ) (events : List CoreEvent) (moment count sector : ℕ) → IsSized size events → IsMoment events moment → BelongsTo (dm_log_writes size) events moment count
+    → NoneAt size (entries_of (take count (completion_list (dm_log_writes size) events))) sector → has_kept (take moment events) sector ≡ false
+none-kept size events moment count sector sized safe belongs none = elim (bool_cases (has_kept (take moment events) sector)) [
   | inl some ↦
       let found = any_below-found (is_kept (take moment events) sector) (length (take moment events)) some in
-      let entry = durable-entry events moment count sector found.0 safe belongs (durable-of events moment sector found.0 safe.within found.1 found.2) in
+      let entry = durable-entry size events moment count sector found.0 sized safe belongs (durable-of events moment sector found.0 safe.within found.1 found.2) in
       absurd (entry.5 (none entry.0 entry.1 entry.4))
   | inr other ↦ other
 ]
 
 -- the request whose value is last is replaced by none that is durable
-last-unreplaced : (events : List CoreEvent) (moment count sector id place : ℕ) (now : List ℕ) (entry : Entry) → IsMoment events moment
-    → BelongsTo (dm_log_writes 512) events moment count
-    → (last : LastAt (entries_of (take count (completion_list (dm_log_writes 512) events))) sector now)
-    → slice_get (completion_list (dm_log_writes 512) events) last.place ≡ Some (id, entry)
+last-unreplaced : (size : ℕ) (events : List CoreEvent) (moment count sector id place : ℕ) (now : List ℕ) (entry : Entry) → IsSized size events → IsMoment events moment
+    → BelongsTo (dm_log_writes size) events moment count
+    → (last : LastAt size (entries_of (take count (completion_list (dm_log_writes size) events))) sector now)
+    → slice_get (completion_list (dm_log_writes size) events) last.place ≡ Some (id, entry)
     → (bio : Bio) → slice_get events id ≡ Some (Submit bio) → covers bio sector ≡ true
     → is_replaced (take moment events) sector id ≡ false
-last-unreplaced events moment count sector id place now entry safe belongs last stands bio submitted over =
+last-unreplaced size events moment count sector id place now entry sized safe belongs last stands bio submitted over =
     let front = take moment events in
     elim (bool_cases (is_replaced front sector id)) [
       | inl replaced ↦
@@ -273,36 +280,36 @@ last-unreplaced events moment count sector id place now entry safe belongs last 
             before = before.2;
             why = inl ((overlaps-common bio second).1 (sector, over, durable.over));
           } in
-          let there = durable-entry events moment count sector later safe belongs durable in
-          let less = found-first 512 events id later last.place there.0 entry there.1 safe.well_formed both stands there.2 in
+          let there = durable-entry size events moment count sector later sized safe belongs durable in
+          let less = found-first size events id later last.place there.0 entry there.1 safe.well_formed both stands there.2 in
           absurd (there.5 (last.after there.0 there.1 less there.4))
       | inr other ↦ other
     ]
 
 -- Each sector of what is replayed is possible.
-pub possible-at : (events : List CoreEvent) (first : Content) (moment count sector : ℕ) → is_well_formed events ≡ true
-    → moment ≤ last_moment events → BelongsTo (dm_log_writes 512) events moment count
-    → PossibleAt (take moment events) first (replay 512 (entries_of (take count (completion_list (dm_log_writes 512) events))) first) sector
-possible-at events first moment count sector well_formed until belongs =
+pub possible-at : (size : ℕ) (events : List CoreEvent) (first : Content) (moment count sector : ℕ) → IsSized size events → is_well_formed events ≡ true
+    → moment ≤ last_moment events → BelongsTo (dm_log_writes size) events moment count
+    → PossibleAt (take moment events) first (replay size (entries_of (take count (completion_list (dm_log_writes size) events))) first) sector
+possible-at size events first moment count sector sized well_formed until belongs =
     let safe = moment-from events moment well_formed until in
-    let items = completion_list (dm_log_writes 512) events in
+    let items = completion_list (dm_log_writes size) events in
     let es = entries_of (take count items) in
-    elim (last-value es sector first) [
-      | inl none ↦ inl (none.0, none-kept events moment count sector safe belongs none.1)
+    elim (last-value size es sector first) [
+      | inl none ↦ inl (none.0, none-kept size events moment count sector sized safe belongs none.1)
       | inr last ↦
           let item = entry-item items count last.place last.entry last.is in
           let id = item.0.0 in
-          let by = item-by events moment last.place item.0 well_formed item.1 (let a = item.3 in let b = belongs.to in omega arith) in
-          let value : values_at (slice_get events id) sector ≡ Some (replay 512 es first sector) =
-          sym (entry-values (slice_get events id) sector)
-          ∙ ap (λ e. entry_values e sector) (sym by.entry ∙ item.2)
+          let by = item-by size events moment last.place item.0 well_formed item.1 (let a = item.3 in let b = belongs.to in omega arith) in
+          let value : values_at (slice_get events id) sector ≡ Some (replay size es first sector) =
+          sym (entry-values size (slice_get events id) sector sized.right (aligned-at size events id sized.aligned))
+          ∙ ap (λ e. entry_values size e sector) (sym by.entry ∙ item.2)
           ∙ last.value in
-          let some = value-some (slice_get events id) sector (replay 512 es first sector) value in
-          let over = value-covers some.0 sector (replay 512 es first sector) (ap (λ there. values_at there sector) (sym some.1) ∙ value) in
+          let some = value-some (slice_get events id) sector (replay size es first sector) value in
+          let over = value-covers some.0 sector (replay size es first sector) (ap (λ there. values_at there sector) (sym some.1) ∙ value) in
           let before = item-before events moment id some.0 by.event well_formed some.1 by.queued by.by_then in
           inr (
             id,
             ap (λ there. values_at there sector) (slice_get-take events moment id before) ∙ value,
-            last-unreplaced events moment count sector id last.place (replay 512 es first sector) item.0.1 safe belongs last item.1 some.0 some.1 over,
+            last-unreplaced size events moment count sector id last.place (replay size es first sector) item.0.1 sized safe belongs last item.1 some.0 some.1 over,
           )
     ]

@@ -1,0 +1,128 @@
+// Tests of logs with sectors of 4,096 bytes.
+ghost use Rattle.std.specs.Prelude.{IfOk, IsTrue};
+ghost use Rattle.bio.specs.Requests.{is_tracked};
+ghost use Rattle.bio.specs.Sizes.{bytes_of};
+ghost use Rattle.log_format.specs.Entries.{is_readable};
+
+use bio::{Bio, Bytes, End, SectorSize, check_sized};
+use blockdev::BlockDev;
+use log_format::{Entry, read_super};
+use log_store::LogStore;
+use sector_disk::SectorDisk;
+use std::alloc::{AllocError, Global};
+use std::process::Abort;
+use std::test::Fail;
+use test_asserts::rows_are_told;
+use test_devices::Watched;
+
+// Logs on disks of so many sectors, a line each. `w` appends a write of 8 sectors, `m` a mark, `s` settles; after `=` stand the status, and how many
+// entries and which sector size the super block has after a crash that keeps only what is settled.
+const LOGS: &str = "64 =0 0;0 of 4096
+64 wms=2 31;2 of 4096
+64 msw=2 31;1 of 4096
+64 mmmmmmms=6 55 logging_disabled;0 of 4096
+71 mmmmmmms=6 55 logging_disabled;0 of 4096
+72 mmmmmmms=7 63;7 of 4096
+8 ms=0 0 logging_disabled;0 of 4096
+16 ms=0 0 logging_disabled;0 of 4096
+24 ms=1 15;1 of 4096";
+
+// The calls of the device that a log on 64 sectors makes: `w8+8` writes sectors 8 to 15, `F` with FUA, and `f` flushes.
+const CALLS: &str = "64 =F0+8
+64 m=F0+8 w8+8
+64 w=F0+8 w8+8 w16+8
+64 wms=F0+8 w8+8 w16+8 w24+8 f0+0 F0+8";
+
+// A write of 8 sectors.
+fn write(alloc: Global) -> Result<Bio, AllocError>
+    ensures { IfOk result (λ bio. IsTrue (is_tracked bio)) }
+{
+    Ok(Bio::Write {
+        first: 16,
+        bytes: Bytes::from_vec(vec![in alloc; 0x41; 4096]?),
+        flush: false,
+        fua: false,
+        meta: false,
+    })
+}
+
+// The entry of a step, in a log with sectors of this size.
+fn entry(rt: &impl Abort, alloc: Global, size: SectorSize, step: u8) -> Result<Entry, Fail>
+    ensures { IfOk result (λ entry. IsTrue (is_readable (bytes_of size) entry)) }
+{
+    if step == b'm' {
+        log_format::laws::end_mark_is_readable();
+        return Ok(Entry::end_mark(alloc)?);
+    }
+    log_format::laws::requests_are_readable();
+    let bio = write(alloc)?;
+    assert!(rt; check_sized(&bio, 1_048_576, size).is_ok());
+    Ok(Entry::of_request(alloc, &bio, size.bytes())?)
+}
+
+// A store over a device, after these steps.
+fn stored<D: BlockDev + Drop>(
+    rt: &impl Abort,
+    alloc: Global,
+    device: D,
+    steps: &str,
+) -> Result<LogStore<D>, Fail> {
+    assert!(rt; device.sectors() >= 8);
+    let mut store = LogStore::create_sized(device, SectorSize::B4096)
+        .ok()
+        .expect(rt, "a disk never fails");
+    assert!(rt; store.sector_size() == SectorSize::B4096);
+    for step in steps.bytes() {
+        let refused = if step == b's' {
+            store.settle().err()
+        } else {
+            store
+                .append(&entry(rt, alloc, store.sector_size(), step)?)
+                .err()
+        };
+        assert!(rt; matches!(refused, None | Some(End::Full)));
+    }
+    Ok(store)
+}
+
+// A disk of so many sectors, and the steps.
+fn split(alloc: Global, row: &str) -> Result<(SectorDisk, &str), Fail> {
+    let (sectors, steps) = row.split_once(' ').unwrap_or_default();
+    let sectors = sectors.parse::<u64>().unwrap_or(0).clamp(8, 8192);
+    Ok((SectorDisk::new(alloc, sectors)?, steps))
+}
+
+// What a log comes to.
+fn log_told(rt: &impl Abort, alloc: Global, row: &str) -> Result<String, Fail> {
+    let (disk, steps) = split(alloc, row)?;
+    let store = stored(rt, alloc, disk, steps)?;
+    let status = store.status();
+    let mut disk = store.into_device();
+    disk.crash(&[0; 128]);
+    let head = read_super(disk.bytes()?.as_slice())
+        .ok()
+        .expect(rt, "a log");
+    Ok(format!(in alloc; "{status};{} of {}", head.count, head.sectorsize)?)
+}
+
+#[test]
+fn large_logs_are_kept(rt: HostRuntime) -> Result<(), Fail> {
+    let alloc = rt.alloc();
+    assert!(rt; rows_are_told(&rt, LOGS, |row| log_told(&rt, alloc, row))?);
+    Ok(())
+}
+
+// The calls of the device.
+fn calls_told(rt: &impl Abort, alloc: Global, row: &str) -> Result<String, Fail> {
+    let (disk, steps) = split(alloc, row)?;
+    let store = stored(rt, alloc, Watched::new(alloc, disk), steps)?;
+    let seen = store.into_device().seen;
+    Ok(format!(in alloc; "{}", seen.as_str().trim_end())?)
+}
+
+#[test]
+fn large_logs_call_their_device(rt: HostRuntime) -> Result<(), Fail> {
+    let alloc = rt.alloc();
+    assert!(rt; rows_are_told(&rt, CALLS, |row| calls_told(&rt, alloc, row))?);
+    Ok(())
+}

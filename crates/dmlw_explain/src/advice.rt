@@ -41,6 +41,8 @@ pub(crate) fn advice(refusal: Refusal) -> &'static str {
             "an id is submitted once in a script, and `c <id>` ends one that was submitted and hasn't ended",
         Refusal::BadMoment =>
             "a moment is a number of the run's events, and the image has the sectors of the data disk under its layers",
+        Refusal::Unaligned =>
+            "with log sectors of 4096 bytes the place and the length of each request and entry are multiples of 4096 bytes, which are 8 sectors of 512 bytes",
         _ => "",
     }
 }

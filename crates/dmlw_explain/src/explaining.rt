@@ -145,10 +145,7 @@ fn write_file_of_replaying<F: Files, W: Write>(
 {
     let ReplayNames { log, first, out } = names;
     if files.is_same(log, out) {
-        return writeln!(
-            to,
-            "  {log} and {out} are one file: the image would be written over the log"
-        );
+        return write_over_log(log, out, to);
     }
     if let Some(Trouble::Write(error)) = files.trouble() {
         return writeln!(to, "  {out} can't be written: {error}");
@@ -159,6 +156,88 @@ fn write_file_of_replaying<F: Files, W: Write>(
         log
     };
     write_file_of_reading(alloc, name, files, to)
+}
+
+/// The names of the files of a copy.
+#[derive(Clone, Copy, Debug)]
+pub struct CopyNames<'a> {
+    /// The log that is copied.
+    pub log: &'a str,
+    /// The image of the new log, which is written.
+    pub out: &'a str,
+}
+
+/// What `--explain` adds to how a copy of a log ended, likewise.
+pub fn explain_copying<F: Files>(
+    alloc: Global,
+    explains: bool,
+    refusal: Option<Refusal>,
+    names: CopyNames,
+    files: &mut F,
+) -> String
+    ensures silent { explains ≡ false → string_bytes result ≡ [] }
+    ensures kept { KeepsFiles (F.contents files.old) (F.contents files.new) }
+    ensures unwritten { F.writes files.new ≡ F.writes files.old }
+{
+    let mut text = String::new(alloc);
+    if !explains {
+        return text;
+    }
+    match write_copying(alloc, refusal, names, files, &mut text) {
+        Ok(()) => text,
+        Err(_) => String::new(alloc),
+    }
+}
+
+// Writes what there is to say of a copy that ended so.
+fn write_copying<F: Files, W: Write>(
+    alloc: Global,
+    refusal: Option<Refusal>,
+    names: CopyNames,
+    files: &mut F,
+    to: &mut W,
+) -> fmt::Result
+    ensures kept { KeepsFiles (F.contents files.old) (F.contents files.new) }
+    ensures unwritten { F.writes files.new ≡ F.writes files.old }
+{
+    match refusal {
+        None => Ok(()),
+        Some(Refusal::File) => write_file_of_copying(alloc, names, files, to),
+        Some(Refusal::Full) => writeln!(
+            to,
+            "  {}: the next entry doesn't fit: give the new log more sectors",
+            names.out
+        ),
+        Some(refusal) => write_advice(names.log, refusal, to),
+    }
+}
+
+// Writes which file of a copy can't be used, and why.
+fn write_file_of_copying<F: Files, W: Write>(
+    alloc: Global,
+    names: CopyNames,
+    files: &mut F,
+    to: &mut W,
+) -> fmt::Result
+    ensures kept { KeepsFiles (F.contents files.old) (F.contents files.new) }
+    ensures unwritten { F.writes files.new ≡ F.writes files.old }
+{
+    let CopyNames { log, out } = names;
+    if files.is_same(log, out) {
+        return write_over_log(log, out, to);
+    }
+    if let Some(Trouble::Write(error)) = files.trouble() {
+        return writeln!(to, "  {out} can't be written: {error}");
+    }
+    write_file_of_reading(alloc, log, files, to)
+}
+
+// Writes that a log's file would be written over.
+fn write_over_log<W: Write>(log: &str, out: &str, to: &mut W) -> fmt::Result {
+    writeln!(
+        to,
+        "  {log} and {out} are one file: the image would be written over the log"
+    )
 }
 
 // Writes what there is to say of a recording that ended so.

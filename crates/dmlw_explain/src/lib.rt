@@ -3,7 +3,8 @@
 #![tactic(auto)]
 
 pub use explaining::{
-    ReplayNames, explain_judging, explain_reading, explain_recording, explain_replaying,
+    CopyNames, ReplayNames, explain_copying, explain_judging, explain_reading, explain_recording,
+    explain_replaying,
 };
 
 mod advice;

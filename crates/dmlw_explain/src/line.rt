@@ -4,7 +4,7 @@ use std::fmt::Write;
 // The lines that a script can have; what stands in angle brackets is a word of that kind, and in square ones a word that may be left out.
 const FORMS: [&str; 15] = [
     "data <sectors>",
-    "log <sectors>",
+    "log <sectors> [4096]",
     "data-layer 0 <length> <target> ..",
     "log-layer 0 <length> <target> ..",
     "at <ms>",

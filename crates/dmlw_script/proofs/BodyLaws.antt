@@ -11,6 +11,8 @@ use Rattle.std.proofs.lemmas.Slice.Eq.{bytes_eq-Decides}
 use Rattle.std.proofs.Math.Seq.{get_or-append_seam}
 use Rattle.std.proofs.lemmas.Option.{cond_some}
 use Rattle.bio.specs.declared.request.BadBio.{BadBio}
+use Rattle.bio.specs.declared.sector_size.SectorSize.{SectorSize}
+use Rattle.bio.specs.Sizes.{bytes_of}
 use Rattle.refusals.specs.declared.refusal.Refusal.{Refusal}
 use Rattle.refusals.specs.declared.refusal.Refusal.TheVariants.{BadId, BadLine}
 use Rattle.dmlw_script.specs.declared.command.Command.{Command}
@@ -94,11 +96,11 @@ new_name before_byte rest name distinct =
 -- ---- bodies
 
 -- a body is that of a script
-pub record IsSound (sectors : ℕ) (b : Body) : Type 0 where
+pub record IsSound (bytes sectors : ℕ) (b : Body) : Type 0 where
   pub ids : AllByRecursion IsName b.names
   pub distinct : IsDistinct same_name b.names
   pub numbered : length b.names ≡ submissions b.body
-  pub well_formed : IsWellFormed sectors [] b.body
+  pub well_formed : IsWellFormed bytes sectors [] b.body
 
 -- what a line of the body says may stand in a script, as far as that is known of the line alone
 abbrev pub IsFine : BodyLine → Type 0
@@ -125,12 +127,12 @@ count_after_command-is before (commands.Complete request) = omega arith
 count_after_command-is before (commands.Step step) = omega arith
 
 -- one more command that may come
-pub well_formed_push : (sectors : ℕ) (before body : List Command) (command : Command) → IsWellFormed sectors before body → CanFollow sectors (before ++ body) command → IsWellFormed sectors before (body ++ command ∷ [])
-well_formed_push sectors before [] command well_formed may = (subst (λ (x : List Command). CanFollow sectors x command) (append-nil before) may, tt)
-well_formed_push sectors before (c ∷ body) command well_formed may = (
+pub well_formed_push : (bytes sectors : ℕ) (before body : List Command) (command : Command) → IsWellFormed bytes sectors before body → CanFollow bytes sectors (before ++ body) command → IsWellFormed bytes sectors before (body ++ command ∷ [])
+well_formed_push bytes sectors before [] command well_formed may = (subst (λ (x : List Command). CanFollow bytes sectors x command) (append-nil before) may, tt)
+well_formed_push bytes sectors before (c ∷ body) command well_formed may = (
   well_formed.0,
-  well_formed_push sectors (before ++ c ∷ []) body command well_formed.1
-      (subst (λ (x : List Command). CanFollow sectors x command) (sym (append_assoc before (c ∷ []) body)) may),
+  well_formed_push bytes sectors (before ++ c ∷ []) body command well_formed.1
+      (subst (λ (x : List Command). CanFollow bytes sectors x command) (sym (append_assoc before (c ∷ []) body)) may),
 )
 
 -- one more id
@@ -166,17 +168,17 @@ unlisted name names e =
     (cases_Bool (list_any (same_name name) names))
 
 -- a submission
-submit_grows : (sectors : ℕ) (b : Body) (name : ScriptId) (submission : Submission) → request_of name b.names ≡ None → IsName name
-    → CanFollow sectors b.body (commands.Submit submission) → IsSound sectors b → (c : Body)
-    → record { names = b.names ++ name ∷ []; body = b.body ++ commands.Submit submission ∷ [] } ≡ c → IsSound sectors c × Grows b c (body_lines.Submit name submission)
-submit_grows sectors b name submission new is may sound c same =
+submit_grows : (bytes sectors : ℕ) (b : Body) (name : ScriptId) (submission : Submission) → request_of name b.names ≡ None → IsName name
+    → CanFollow bytes sectors b.body (commands.Submit submission) → IsSound bytes sectors b → (c : Body)
+    → record { names = b.names ++ name ∷ []; body = b.body ++ commands.Submit submission ∷ [] } ≡ c → IsSound bytes sectors c × Grows b c (body_lines.Submit name submission)
+submit_grows bytes sectors b name submission new is may sound c same =
     let more : length (b.names ++ name ∷ []) ≡ length b.names + 1 = length-append b.names (name ∷ []) in
-    subst (λ (x : Body). IsSound sectors x × Grows b x (body_lines.Submit name submission)) same (
+    subst (λ (x : Body). IsSound bytes sectors x × Grows b x (body_lines.Submit name submission)) same (
       record {
         ids = ids_push b.names name sound.ids is;
         distinct = IsDistinct-push same_name_equiv b.names name sound.distinct (unlisted name b.names new);
         numbered = more ∙ sym (submissions-push b.body (commands.Submit submission) ∙ omega (arith, sound.numbered));
-        well_formed = well_formed_push sectors [] b.body (commands.Submit submission) sound.well_formed may;
+        well_formed = well_formed_push bytes sectors [] b.body (commands.Submit submission) sound.well_formed may;
       },
       record {
         names = name ∷ [];
@@ -188,15 +190,15 @@ submit_grows sectors b name submission new is may sound c same =
     )
 
 -- any other line
-other_grows : (sectors : ℕ) (b : Body) (command : Command) (s : BodyLine) → CanFollow sectors b.body command → submits command ≡ 0
-    → line_at b.names (length b.names) command ≡ s → IsSound sectors b → (c : Body) → with_command b command ≡ c → IsSound sectors c × Grows b c s
-other_grows sectors b command s may none says sound c same =
-    subst (λ (x : Body). IsSound sectors x × Grows b x s) same (
+other_grows : (bytes sectors : ℕ) (b : Body) (command : Command) (s : BodyLine) → CanFollow bytes sectors b.body command → submits command ≡ 0
+    → line_at b.names (length b.names) command ≡ s → IsSound bytes sectors b → (c : Body) → with_command b command ≡ c → IsSound bytes sectors c × Grows b c s
+other_grows bytes sectors b command s may none says sound c same =
+    subst (λ (x : Body). IsSound bytes sectors x × Grows b x s) same (
       record {
         ids = sound.ids;
         distinct = sound.distinct;
         numbered = sound.numbered ∙ sym (submissions-push b.body command ∙ omega (arith, none));
-        well_formed = well_formed_push sectors [] b.body command sound.well_formed may;
+        well_formed = well_formed_push bytes sectors [] b.body command sound.well_formed may;
       },
       record { names = []; command = command; grown_names = sym (append-nil b.names); grown_body = refl; says = says },
     )
@@ -212,22 +214,22 @@ later_ok true x e = absurd (cc)
 later_ok false x e = refl
 
 -- a line that names no request and is taken passes its tests
-step_ok : (sectors moment : ℕ) (step : Step) (x : Unit {0}) → step_test sectors moment step ≡ Ok x → (step_answer sectors step ≡ Ok tt) × IsInTime moment step
-step_ok sectors moment steps.Close x e = (refl, tt)
-step_ok sectors moment (steps.Read first count) x e = (told_ok (step_answer sectors (steps.Read first count)) x e, tt)
-step_ok sectors moment steps.Turn x e = (refl, tt)
-step_ok sectors moment (steps.Mark text) x e = (refl, tt)
-step_ok sectors moment (steps.Message over layer text) x e = (refl, tt)
-step_ok sectors moment (steps.At later) x e = (refl, ltb-false _ _ (later_ok (nat_lt later moment) x e))
+step_ok : (bytes sectors moment : ℕ) (step : Step) (x : Unit {0}) → step_test bytes sectors moment step ≡ Ok x → (step_answer bytes sectors step ≡ Ok tt) × IsInTime moment step
+step_ok bytes sectors moment steps.Close x e = (refl, tt)
+step_ok bytes sectors moment (steps.Read first count) x e = (told_ok (step_answer bytes sectors (steps.Read first count)) x e, tt)
+step_ok bytes sectors moment steps.Turn x e = (refl, tt)
+step_ok bytes sectors moment (steps.Mark text) x e = (refl, tt)
+step_ok bytes sectors moment (steps.Message over layer text) x e = (refl, tt)
+step_ok bytes sectors moment (steps.At later) x e = (refl, ltb-false _ _ (later_ok (nat_lt later moment) x e))
 
 -- so is one that may come
-step_again : (sectors moment : ℕ) (step : Step) → step_answer sectors step ≡ Ok tt → IsInTime moment step → step_test sectors moment step ≡ Ok tt
-step_again sectors moment steps.Close fine in_time = refl
-step_again sectors moment (steps.Read first count) fine in_time = ap as_refusal fine
-step_again sectors moment steps.Turn fine in_time = refl
-step_again sectors moment (steps.Mark text) fine in_time = refl
-step_again sectors moment (steps.Message over layer text) fine in_time = refl
-step_again sectors moment (steps.At later) fine in_time = cond-false _ _ _ (le-ltb _ _ in_time)
+step_again : (bytes sectors moment : ℕ) (step : Step) → step_answer bytes sectors step ≡ Ok tt → IsInTime moment step → step_test bytes sectors moment step ≡ Ok tt
+step_again bytes sectors moment steps.Close fine in_time = refl
+step_again bytes sectors moment (steps.Read first count) fine in_time = ap as_refusal fine
+step_again bytes sectors moment steps.Turn fine in_time = refl
+step_again bytes sectors moment (steps.Mark text) fine in_time = refl
+step_again bytes sectors moment (steps.Message over layer text) fine in_time = refl
+step_again bytes sectors moment (steps.At later) fine in_time = cond-false _ _ _ (le-ltb _ _ in_time)
 
 -- an end that is taken was of an open request
 pub ended_ok : (t : Bool) (b c : Body) (command : Command) → cond t (Err BadId) (Ok (with_command b command)) ≡ Ok c → (t ≡ false) × (with_command b command ≡ c)
@@ -235,27 +237,27 @@ ended_ok true b c command e = absurd (cc)
 ended_ok false b c command e = (refl, cc)
 
 -- an end
-end_grows : (sectors : ℕ) (b c : Body) (name : ScriptId) (o : Option ℕ) → request_of name b.names ≡ o → ended_next o b ≡ Ok c → IsSound sectors b → IsSound sectors c × Grows b c (body_lines.Complete name)
-end_grows sectors b c name None is e sound = absurd (cc)
-end_grows sectors b c name (Some request) is e sound =
+end_grows : (bytes sectors : ℕ) (b c : Body) (name : ScriptId) (o : Option ℕ) → request_of name b.names ≡ o → ended_next o b ≡ Ok c → IsSound bytes sectors b → IsSound bytes sectors c × Grows b c (body_lines.Complete name)
+end_grows bytes sectors b c name None is e sound = absurd (cc)
+end_grows bytes sectors b c name (Some request) is e sound =
     let p = name_of_request name b.names request (script_id []) is in
     let q = ended_ok (is_ended request b.body) b c (commands.Complete request) e in
-    other_grows sectors b (commands.Complete request) (body_lines.Complete name) (omega (arith, p.0, sound.numbered), q.0) refl
+    other_grows bytes sectors b (commands.Complete request) (body_lines.Complete name) (omega (arith, p.0, sound.numbered), q.0) refl
     (ap (λ (n : ScriptId). body_lines.Complete n) p.1) sound c q.1
 
 -- one more line keeps a body sound, and adds a line that says this
-pub step_grows : (sectors : ℕ) (b c : Body) (s : BodyLine) → body_step sectors b s ≡ Ok c → IsFine s → IsSound sectors b → IsSound sectors c × Grows b c s
-step_grows sectors b c (body_lines.Submit name submission) e fine sound =
+pub step_grows : (bytes sectors : ℕ) (b c : Body) (s : BodyLine) → body_step bytes sectors b s ≡ Ok c → IsFine s → IsSound bytes sectors b → IsSound bytes sectors c × Grows b c s
+step_grows bytes sectors b c (body_lines.Submit name submission) e fine sound =
     let p = bind_ok (with_name b name) _ c e in
-    let q = bind_ok (as_refusal (submission_answer sectors submission)) _ c p.2 in
+    let q = bind_ok (as_refusal (submission_answer bytes sectors submission)) _ c p.2 in
     let n = named_ok (request_of name b.names) b p.0 name p.1 in
-    submit_grows sectors b name submission n.0 fine.0 (told_ok (submission_answer sectors submission) q.0 q.1, fine.1) sound c
+    submit_grows bytes sectors b name submission n.0 fine.0 (told_ok (submission_answer bytes sectors submission) q.0 q.1, fine.1) sound c
     (ap (λ (x : Body). with_command x (commands.Submit submission)) n.1 ∙ (let last = q.2 in cc))
-step_grows sectors b c (body_lines.Complete name) e fine sound = end_grows sectors b c name (request_of name b.names) refl e sound
-step_grows sectors b c (body_lines.Step step) e fine sound =
-    let q = bind_ok (step_test sectors (moment_after b.body) step) _ c e in
-    let told = step_ok sectors (moment_after b.body) step q.0 q.1 in
-    other_grows sectors b (commands.Step step) (body_lines.Step step) (told.0, fine, told.1) refl refl sound c (let last = q.2 in cc)
+step_grows bytes sectors b c (body_lines.Complete name) e fine sound = end_grows bytes sectors b c name (request_of name b.names) refl e sound
+step_grows bytes sectors b c (body_lines.Step step) e fine sound =
+    let q = bind_ok (step_test bytes sectors (moment_after b.body) step) _ c e in
+    let told = step_ok bytes sectors (moment_after b.body) step q.0 q.1 in
+    other_grows bytes sectors b (commands.Step step) (body_lines.Step step) (told.0, fine, told.1) refl refl sound c (let last = q.2 in cc)
 
 -- ---- the lines of a body
 
@@ -274,35 +276,35 @@ lines_push names n (c ∷ body) command =
     ∙ ap (λ (k : ℕ). lines_of_body names (count_after_command n c) body ++ parsed_lines.Body (line_at names k command) ∷ []) count)
 
 -- a command's line doesn't depend on later names
-line_kept : (sectors : ℕ) (names more : List ScriptId) (done : List Command) (command : Command) (rest : ℕ) → CanFollow sectors done command
+line_kept : (bytes sectors : ℕ) (names more : List ScriptId) (done : List Command) (command : Command) (rest : ℕ) → CanFollow bytes sectors done command
     → length names ≡ submissions done + (submits command + rest) → line_at (names ++ more) (submissions done) command ≡ line_at names (submissions done) command
-line_kept sectors names more done (commands.Submit submission) rest may numbered =
+line_kept bytes sectors names more done (commands.Submit submission) rest may numbered =
     ap (λ (x : ScriptId). body_lines.Submit x submission) (get_or_append_left names more (script_id []) (submissions done) (omega (arith, numbered)))
-line_kept sectors names more done (commands.Complete request) rest may numbered =
+line_kept bytes sectors names more done (commands.Complete request) rest may numbered =
     ap (λ (x : ScriptId). body_lines.Complete x) (get_or_append_left names more (script_id []) request (omega (arith, numbered, may.0)))
-line_kept sectors names more done (commands.Step step) rest may numbered = refl
+line_kept bytes sectors names more done (commands.Step step) rest may numbered = refl
 
 -- nor do those of a body
-lines_kept : (sectors : ℕ) (names more : List ScriptId) (n : ℕ) (done body : List Command) → n ≡ submissions done → IsWellFormed sectors done body
+lines_kept : (bytes sectors : ℕ) (names more : List ScriptId) (n : ℕ) (done body : List Command) → n ≡ submissions done → IsWellFormed bytes sectors done body
     → length names ≡ n + submissions body → lines_of_body (names ++ more) n body ≡ lines_of_body names n body
-lines_kept sectors names more n done [] counted well_formed numbered = refl
-lines_kept sectors names more n done (c ∷ body) counted well_formed numbered =
+lines_kept bytes sectors names more n done [] counted well_formed numbered = refl
+lines_kept bytes sectors names more n done (c ∷ body) counted well_formed numbered =
     let sum = submissions-cons c body in
     let count = count_after_command-is n c in
     let first : line_at (names ++ more) n c ≡ line_at names n c =
     ap (λ (k : ℕ). line_at (names ++ more) k c) counted
-    ∙ line_kept sectors names more done c (submissions body) well_formed.0 (omega (arith, numbered, counted, sum))
+    ∙ line_kept bytes sectors names more done c (submissions body) well_formed.0 (omega (arith, numbered, counted, sum))
     ∙ ap (λ (k : ℕ). line_at names k c) (sym counted) in
     ap (λ (x : BodyLine). parsed_lines.Body x ∷ lines_of_body (names ++ more) (count_after_command n c) body) first
     ∙ ap (λ (ls : List Said). parsed_lines.Body (line_at names n c) ∷ ls)
-    (lines_kept sectors names more (count_after_command n c) (done ++ c ∷ []) body (omega (arith, count, counted, submissions-push done c)) well_formed.1
+    (lines_kept bytes sectors names more (count_after_command n c) (done ++ c ∷ []) body (omega (arith, count, counted, submissions-push done c)) well_formed.1
     (omega (arith, numbered, sum, count)))
 
 -- a line more of a body that grows
-pub lines_grow : (sectors : ℕ) (b c : Body) (s : BodyLine) → IsSound sectors b → Grows b c s → lines_of_draft c ≡ lines_of_draft b ++ parsed_lines.Body s ∷ []
-lines_grow sectors b c s sound g =
+pub lines_grow : (bytes sectors : ℕ) (b c : Body) (s : BodyLine) → IsSound bytes sectors b → Grows b c s → lines_of_draft c ≡ lines_of_draft b ++ parsed_lines.Body s ∷ []
+lines_grow bytes sectors b c s sound g =
     let kept : lines_of_body c.names 0 b.body ≡ lines_of_draft b =
-    ap (λ (ns : List ScriptId). lines_of_body ns 0 b.body) g.grown_names ∙ lines_kept sectors b.names g.names 0 [] b.body refl sound.well_formed (sound.numbered ∙ omega arith) in
+    ap (λ (ns : List ScriptId). lines_of_body ns 0 b.body) g.grown_names ∙ lines_kept bytes sectors b.names g.names 0 [] b.body refl sound.well_formed (sound.numbered ∙ omega arith) in
     let last : line_at c.names (0 + submissions b.body) g.command ≡ s = ap (λ (k : ℕ). line_at c.names k g.command) (omega (arith, sound.numbered)) ∙ g.says in
     ap (λ (cs : List Command). lines_of_body c.names 0 cs) g.grown_body ∙ lines_push c.names 0 b.body g.command
     ∙ ap (λ (ls : List Said). ls ++ parsed_lines.Body (line_at c.names (0 + submissions b.body) g.command) ∷ []) kept
@@ -316,8 +318,8 @@ run kind p [] = Ok p
 run kind p (s ∷ ss) = parsed_step kind p s >>= λ q. run kind q ss
 
 -- the head is whole, and this was read of the body
-abbrev pub in_draft : Disk → Disk → Body → Progress
-in_draft d l b = record { head = heads.Whole d l; body = b }
+abbrev pub in_draft : Disk → Disk → SectorSize → Body → Progress
+in_draft d l size b = record { head = heads.Whole d l size; body = b }
 
 -- what has this value goes on from it
 pub bind_at : {A B : Type 0} (r : Result A Refusal) (f : A → Result B Refusal) (x : A) (y : Result B Refusal) → r ≡ Ok x → f x ≡ y → (r >>= f) ≡ y
@@ -342,19 +344,19 @@ with_name_again before_byte more names name before whole distinct =
     (new_name before_byte more name (subst (λ (x : List ScriptId). IsDistinct same_name x) whole distinct))
 
 -- one line of a body, and the lines after it
-again_step : (d l : Disk) (names before_byte next : List ScriptId) (before body : List Command) (command : Command) →
-    body_step (top_of d) (record { names = before_byte; body = before }) (line_at names (length before_byte) command) ≡ Ok (record { names = next; body = before ++ command ∷ [] }) →
+again_step : (d l : Disk) (size : SectorSize) (names before_byte next : List ScriptId) (before body : List Command) (command : Command) →
+    body_step (bytes_of size) (top_of d) (record { names = before_byte; body = before }) (line_at names (length before_byte) command) ≡ Ok (record { names = next; body = before ++ command ∷ [] }) →
     count_after_command (length before_byte) command ≡ length next →
-    run kinds.Record (in_draft d l (record { names = next; body = before ++ command ∷ [] })) (lines_of_body names (length next) body)
-    ≡ Ok (in_draft d l (record { names = names; body = (before ++ command ∷ []) ++ body })) →
-    run kinds.Record (in_draft d l (record { names = before_byte; body = before })) (lines_of_body names (length before_byte) (command ∷ body))
-    ≡ Ok (in_draft d l (record { names = names; body = before ++ command ∷ body }))
-again_step d l names before_byte next before body command one counts others =
-    let done = λ (x : List Command). let b : Body = record { names = names; body = x } in in_draft d l b in
+    run kinds.Record (in_draft d l size (record { names = next; body = before ++ command ∷ [] })) (lines_of_body names (length next) body)
+    ≡ Ok (in_draft d l size (record { names = names; body = (before ++ command ∷ []) ++ body })) →
+    run kinds.Record (in_draft d l size (record { names = before_byte; body = before })) (lines_of_body names (length before_byte) (command ∷ body))
+    ≡ Ok (in_draft d l size (record { names = names; body = before ++ command ∷ body }))
+again_step d l size names before_byte next before body command one counts others =
+    let done = λ (x : List Command). let b : Body = record { names = names; body = x } in in_draft d l size b in
     let old : Body = record { names = before_byte; body = before } in
     let start : Body = record { names = next; body = before ++ command ∷ [] } in
-    bind_at _ _ _ _ (ap (with_body (in_draft d l old)) one)
-    (ap (λ n. run kinds.Record (in_draft d l start) (lines_of_body names n body)) counts ∙ others ∙ ap (λ x. Ok (done x)) (append_assoc before (command ∷ []) body))
+    bind_at _ _ _ _ (ap (with_body (in_draft d l size old)) one)
+    (ap (λ n. run kinds.Record (in_draft d l size start) (lines_of_body names n body)) counts ∙ others ∙ ap (λ x. Ok (done x)) (append_assoc before (command ∷ []) body))
 
 -- what is known of the next submission of names = front ++ rest
 record NextName (names before_byte rest : List ScriptId) (before body : List Command) (command : Command) : Type 0 where
@@ -397,10 +399,10 @@ front_distinct before_byte rest distinct =
     ∙ apart_from_distinct same_name (before_byte ++ rest) i j d distinct below (omega (arith, length-append before_byte rest)))
 
 -- an end, again
-end_again : (sectors : ℕ) (names before_byte rest : List ScriptId) (before : List Command) (request : ℕ) → names ≡ before_byte ++ rest → IsDistinct same_name names →
+end_again : (names before_byte rest : List ScriptId) (before : List Command) (request : ℕ) → names ≡ before_byte ++ rest → IsDistinct same_name names →
     request < length before_byte → is_ended request before ≡ false →
     ended_next (request_of (name_at names request) before_byte) (record { names = before_byte; body = before }) ≡ Ok (record { names = before_byte; body = before ++ commands.Complete request ∷ [] })
-end_again sectors names before_byte rest before request whole distinct inside going =
+end_again names before_byte rest before request whole distinct inside going =
     let b : Body = record { names = before_byte; body = before } in
     let here : name_at names request ≡ get_or before_byte request (script_id []) = ap (λ x. name_at x request) whole ∙ get_or_append_left before_byte rest (script_id []) request inside in
     let place : request_of (name_at names request) before_byte ≡ Some request =
@@ -408,28 +410,28 @@ end_again sectors names before_byte rest before request whole distinct inside go
     ap (λ o. ended_next o b) place ∙ cond-false _ _ _ going
 
 -- the lines of a body give it again: those after its beginning lead from there to all of it
-pub run_again : (d l : Disk) (names before_byte rest : List ScriptId) (before body : List Command) → names ≡ before_byte ++ rest → IsDistinct same_name names →
-    length before_byte ≡ submissions before → length rest ≡ submissions body → IsWellFormed (top_of d) before body →
-    run kinds.Record (in_draft d l (record { names = before_byte; body = before })) (lines_of_body names (length before_byte) body)
-    ≡ Ok (in_draft d l (record { names = names; body = before ++ body }))
-run_again d l names before_byte rest before [] whole distinct numbered left well_formed =
+pub run_again : (d l : Disk) (size : SectorSize) (names before_byte rest : List ScriptId) (before body : List Command) → names ≡ before_byte ++ rest → IsDistinct same_name names →
+    length before_byte ≡ submissions before → length rest ≡ submissions body → IsWellFormed (bytes_of size) (top_of d) before body →
+    run kinds.Record (in_draft d l size (record { names = before_byte; body = before })) (lines_of_body names (length before_byte) body)
+    ≡ Ok (in_draft d l size (record { names = names; body = before ++ body }))
+run_again d l size names before_byte rest before [] whole distinct numbered left well_formed =
     let all : before_byte ≡ names = sym (whole ∙ ap (λ x. before_byte ++ x) (no_names rest left) ∙ append-nil before_byte) in
-    let b = λ (ns : List ScriptId) (cs : List Command). let x : Body = record { names = ns; body = cs } in in_draft d l x in
+    let b = λ (ns : List ScriptId) (cs : List Command). let x : Body = record { names = ns; body = cs } in in_draft d l size x in
     ap (λ ns. Ok (b ns before)) all ∙ ap (λ cs. Ok (b names cs)) (sym (append-nil before))
-run_again d l names before_byte rest before (commands.Submit submission ∷ body) whole distinct numbered left well_formed =
+run_again d l size names before_byte rest before (commands.Submit submission ∷ body) whole distinct numbered left well_formed =
     let n = next_name names before_byte rest before body (commands.Submit submission) refl whole numbered left in
-    again_step d l names before_byte (before_byte ++ n.name ∷ []) before body (commands.Submit submission)
+    again_step d l size names before_byte (before_byte ++ n.name ∷ []) before body (commands.Submit submission)
     (bind_at _ _ _ _ (ap (with_name (record { names = before_byte; body = before })) n.here ∙ with_name_again before_byte n.more names n.name before n.split distinct)
     (bind_at _ _ _ _ (ap as_refusal well_formed.0.0) refl))
     n.counts
-    (run_again d l names (before_byte ++ n.name ∷ []) n.more (before ++ commands.Submit submission ∷ []) body n.whole distinct n.numbered n.left well_formed.1)
-run_again d l names before_byte rest before (commands.Complete request ∷ body) whole distinct numbered left well_formed =
-    again_step d l names before_byte before_byte before body (commands.Complete request)
-    (end_again (top_of d) names before_byte rest before request whole distinct (omega (arith, well_formed.0.0, numbered)) well_formed.0.1) refl
-    (run_again d l names before_byte rest (before ++ commands.Complete request ∷ []) body whole distinct
+    (run_again d l size names (before_byte ++ n.name ∷ []) n.more (before ++ commands.Submit submission ∷ []) body n.whole distinct n.numbered n.left well_formed.1)
+run_again d l size names before_byte rest before (commands.Complete request ∷ body) whole distinct numbered left well_formed =
+    again_step d l size names before_byte before_byte before body (commands.Complete request)
+    (end_again names before_byte rest before request whole distinct (omega (arith, well_formed.0.0, numbered)) well_formed.0.1) refl
+    (run_again d l size names before_byte rest (before ++ commands.Complete request ∷ []) body whole distinct
     (numbered ∙ sym (submissions-push before (commands.Complete request) ∙ omega arith)) (left ∙ submissions-cons (commands.Complete request) body ∙ omega arith) well_formed.1)
-run_again d l names before_byte rest before (commands.Step step ∷ body) whole distinct numbered left well_formed =
-    again_step d l names before_byte before_byte before body (commands.Step step)
-    (bind_at _ _ _ _ (step_again (top_of d) (moment_after before) step well_formed.0.0 well_formed.0.2) refl) refl
-    (run_again d l names before_byte rest (before ++ commands.Step step ∷ []) body whole distinct
+run_again d l size names before_byte rest before (commands.Step step ∷ body) whole distinct numbered left well_formed =
+    again_step d l size names before_byte before_byte before body (commands.Step step)
+    (bind_at _ _ _ _ (step_again (bytes_of size) (top_of d) (moment_after before) step well_formed.0.0 well_formed.0.2) refl) refl
+    (run_again d l size names before_byte rest (before ++ commands.Step step ∷ []) body whole distinct
     (numbered ∙ sym (submissions-push before (commands.Step step) ∙ omega arith)) (left ∙ submissions-cons (commands.Step step) body ∙ omega arith) well_formed.1)

@@ -6,7 +6,11 @@ use Rattle.std.proofs.lemmas.Bool.{and_from, and_parts, cond-true, leb-true, ltb
 use Rattle.std.proofs.lemmas.Bool.Decides.{nat_tests}
 use Rattle.std.proofs.lemmas.Fmt.{digits_decimal}
 use Rattle.std.proofs.lemmas.List.Elements.{All-from_recursion}
-use Rattle.bio.specs.Check.{range_answer}
+use Rattle.bio.specs.SizeLaws.{sized_passed}
+use Rattle.bio.specs.Sizes.{bytes_of}
+use Rattle.bio.specs.declared.sector_size.SectorSize.{SectorSize}
+use Rattle.bio.specs.declared.sector_size.SectorSize.TheVariants as sizes
+use Rattle.bio.specs.declared.request.Bio.TheVariants.{Read}
 use Rattle.bio.specs.declared.request.BadBio.{BadBio}
 use Rattle.dmlw_script.specs.declared.command.Command.{Command}
 use Rattle.dmlw_script.specs.declared.command.Command.TheVariants as commands
@@ -26,7 +30,7 @@ use Rattle.dmlw_script.specs.Grammar.{layer_verb, message_verb, spaced, IsId, Pa
 use Rattle.words.specs.WordLaws.{decimal_number, number_model}
 use Rattle.dmlw_script.specs.Lines.{with_line_feeds, is_ascii_line, is_line_byte, is_line_text, unskipped, lines_of, IsUnbroken}
 use Rattle.dmlw_script.specs.Ids.{is_id, is_name_byte, letters_of, script_id}
-use Rattle.dmlw_script.specs.Plans.{ArePicks, CanFollow, count_after_command, head_of, layer_line, line_at, lines_behind_head, lines_of_body, name_at, lines_of_script, step_answer, submission_answer, submissions, top_of, with_ending, Disk, HasLineText, IsDisk, IsName, IsWellFormed, IsPlan, Plan, WritesByte}
+use Rattle.dmlw_script.specs.Plans.{ArePicks, CanFollow, count_after_command, head_of, layer_line, line_at, lines_behind_head, lines_of_body, name_at, lines_of_script, range_test, step_answer, submission_answer, submissions, top_of, with_ending, Disk, HasLineText, IsDisk, IsName, IsWellFormed, IsPlan, Plan, WritesByte}
 use Rattle.table_line.specs.Standing.{CanStand}
 use Rattle.dmlw_script.specs.CanonicalText.{ended_line, line_text, canonical_text}
 use Rattle.dmlw_script.specs.Words.{byte_text, hex_digit}
@@ -135,8 +139,12 @@ pub data_written : (n : ℕ) → n < 2 ^ 64 → IsWritten (parsed_lines.Head (he
 data_written n low = record { says = record { word = decimal n; number = decimal_number n low; spelled = refl }; good = written_number (codes "data") n refl low }
 
 -- the log disk's line
-pub log_written : (n : ℕ) → n < 2 ^ 64 → IsWritten (parsed_lines.Head (head_lines.Log n))
-log_written n low = record { says = record { word = decimal n; number = decimal_number n low; spelled = refl }; good = written_number (codes "log") n refl low }
+pub log_written : (n : ℕ) (size : SectorSize) → n < 2 ^ 64 → IsWritten (parsed_lines.Head (head_lines.Log n size))
+log_written n sizes.B512 low = record { says = record { word = decimal n; number = decimal_number n low; spelled = refl }; good = written_number (codes "log") n refl low }
+log_written n sizes.B4096 low = record {
+  says = record { word = decimal n; number = decimal_number n low; spelled = refl };
+  good = line_text_append (codes "log") (32 ∷ (decimal n ++ codes " 4096")) refl (line_text_append (decimal n) (codes " 4096") (line_number n low) refl);
+}
 
 -- an end's line
 pub complete_written : (name : ScriptId) → IsName name → IsWritten (parsed_lines.Body (body_lines.Complete name))
@@ -320,13 +328,13 @@ written_append [] ts written others = others
 written_append (s ∷ ss) ts written others = (written.0, written_append ss ts written.1 others)
 
 -- a head's lines can be written
-head_written : (d l : Disk) → IsDisk d → IsDisk l → AllByRecursion IsWritten (head_of d l)
-head_written d l is_data is_log =
+head_written : (d l : Disk) (size : SectorSize) → IsDisk d → IsDisk l → AllByRecursion IsWritten (head_of d l size)
+head_written d l size is_data is_log =
     let few : d.sectors ≤ 1048576 = leb-true d.sectors 1048576 (and_parts (nat_le 1 d.sectors) (nat_le d.sectors 1048576) is_data.size).1 in
     let small : l.sectors ≤ 1048576 = leb-true l.sectors 1048576 (and_parts (nat_le 1 l.sectors) (nat_le l.sectors 1048576) is_log.size).1 in (
       data_written d.sectors (omega (arith, few)),
       (
-        log_written l.sectors (omega (arith, small)),
+        log_written l.sectors size (omega (arith, small)),
         written_append (map (layer_line disks.Data) d.layers) (map (layer_line disks.Log) l.layers) (layers_written disks.Data d.sectors d.layers is_data.stand)
             (layers_written disks.Log l.sectors l.layers is_log.stand),
       ),
@@ -340,35 +348,35 @@ passed true bad r e = absurd (cc)
 passed false bad r e = (refl, e)
 
 -- sectors that pass the test are few and within the disk
-range_ok : (first count sectors : ℕ) → range_answer first count sectors ≡ Ok tt → (count ≤ 2048) × (first + count ≤ sectors)
-range_ok first count sectors e =
-    let some = passed (count == 0) _ _ e in
+range_ok : (bytes sectors first count : ℕ) → range_test bytes sectors first count ≡ Ok tt → (count ≤ 2048) × (first + count ≤ sectors)
+range_ok bytes sectors first count e =
+    let some = passed (count == 0) _ _ (sized_passed bytes (Read first count) sectors e).0 in
     let short = passed (nat_lt 2048 count) _ _ some.1 in
     let within = passed (nat_lt sectors (first + count)) _ _ short.1 in
     (ltb-false _ _ short.0, ltb-false _ _ within.0)
 
 -- a submission's line
-submission_written : (sectors : ℕ) (name : ScriptId) (submission : Submission) → sectors ≤ 1048576 → IsName name → submission_answer sectors submission ≡ Ok tt → WritesByte submission
-    → IsWritten (submit name submission)
-submission_written sectors name (submits.Write first count byte options) small is passes low =
-    let r = range_ok first count sectors passes in
+submission_written : (bytes sectors : ℕ) (name : ScriptId) (submission : Submission) → sectors ≤ 1048576 → IsName name → submission_answer bytes sectors submission ≡ Ok tt
+    → WritesByte submission → IsWritten (submit name submission)
+submission_written bytes sectors name (submits.Write first count byte options) small is passes low =
+    let r = range_ok bytes sectors first count passes in
     write_written name first count byte options is (omega (arith, r.1)) (omega (arith, r.0)) low
-submission_written sectors name (submits.Discard first count) small is passes low =
-    let r = range_ok first count sectors passes in
+submission_written bytes sectors name (submits.Discard first count) small is passes low =
+    let r = range_ok bytes sectors first count passes in
     discard_written name first count is (omega (arith, r.1)) (omega (arith, r.0))
-submission_written sectors name submits.Flush small is passes low =
+submission_written bytes sectors name submits.Flush small is passes low =
     record { says = record { word = letters_of name; id = letters_id name is; spelled = refl }; good = written_id (codes "f") name refl is }
 
 -- a line that names no request
-step_written : (sectors : ℕ) (it : Step) → sectors ≤ 1048576 → step_answer sectors it ≡ Ok tt → HasLineText it → IsWritten (step it)
-step_written sectors steps.Close small passes text = record { says = refl; good = refl }
-step_written sectors (steps.Read first count) small passes text =
-    let r = range_ok first count sectors passes in
+step_written : (bytes sectors : ℕ) (it : Step) → sectors ≤ 1048576 → step_answer bytes sectors it ≡ Ok tt → HasLineText it → IsWritten (step it)
+step_written bytes sectors steps.Close small passes text = record { says = refl; good = refl }
+step_written bytes sectors (steps.Read first count) small passes text =
+    let r = range_ok bytes sectors first count passes in
     read_written first count (omega (arith, r.1)) (omega (arith, r.0))
-step_written sectors steps.Turn small passes text = record { says = refl; good = refl }
-step_written sectors (steps.At moment) small passes low = at_written moment low
-step_written sectors (steps.Message over layer text) small passes has = message_written over layer text has.0 has.1
-step_written sectors (steps.Mark mark) small passes text = record { says = record { plain = text; spelled = refl }; good = text }
+step_written bytes sectors steps.Turn small passes text = record { says = refl; good = refl }
+step_written bytes sectors (steps.At moment) small passes low = at_written moment low
+step_written bytes sectors (steps.Message over layer text) small passes has = message_written over layer text has.0 has.1
+step_written bytes sectors (steps.Mark mark) small passes text = record { says = record { plain = text; spelled = refl }; good = text }
 
 -- a request's id is one
 id_at : (names : List ScriptId) (request : ℕ) → AllByRecursion IsName names → request < length names → IsName (name_at names request)
@@ -380,23 +388,23 @@ submission_id : (names : List ScriptId) (n : ℕ) (body : List Command) (submiss
 submission_id names n body submission ids numbered = id_at names n ids (omega (arith, numbered, submissions-cons (commands.Submit submission) body))
 
 -- the line of a command can be written
-command_written : (sectors : ℕ) (names : List ScriptId) (done : List Command) (command : Command) (rest : List Command) → sectors ≤ 1048576 → AllByRecursion IsName names
-    → length names ≡ submissions done + submissions (command ∷ rest) → CanFollow sectors done command → IsWritten (parsed_lines.Body (line_at names (submissions done) command))
-command_written sectors names done (commands.Submit submission) rest small ids numbered may =
-    submission_written sectors (name_at names (submissions done)) submission small (submission_id names (submissions done) rest submission ids numbered) may.0 may.1
-command_written sectors names done (commands.Complete request) rest small ids numbered may =
+command_written : (bytes sectors : ℕ) (names : List ScriptId) (done : List Command) (command : Command) (rest : List Command) → sectors ≤ 1048576 → AllByRecursion IsName names
+    → length names ≡ submissions done + submissions (command ∷ rest) → CanFollow bytes sectors done command → IsWritten (parsed_lines.Body (line_at names (submissions done) command))
+command_written bytes sectors names done (commands.Submit submission) rest small ids numbered may =
+    submission_written bytes sectors (name_at names (submissions done)) submission small (submission_id names (submissions done) rest submission ids numbered) may.0 may.1
+command_written bytes sectors names done (commands.Complete request) rest small ids numbered may =
     complete_written (name_at names request) (id_at names request ids (omega (arith, numbered, may.0)))
-command_written sectors names done (commands.Step it) rest small ids numbered may = step_written sectors it small may.0 may.1
+command_written bytes sectors names done (commands.Step it) rest small ids numbered may = step_written bytes sectors it small may.0 may.1
 
 -- each line of a body can be written
-body_written : (sectors : ℕ) (names : List ScriptId) (n : ℕ) (done body : List Command) → sectors ≤ 1048576 → AllByRecursion IsName names → n ≡ submissions done → length names ≡ n + submissions body →
-    IsWellFormed sectors done body → AllByRecursion IsWritten (lines_of_body names n body)
-body_written sectors names n done [] small ids counted numbered well_formed = tt
-body_written sectors names n done (command ∷ body) small ids counted numbered well_formed =
+body_written : (bytes sectors : ℕ) (names : List ScriptId) (n : ℕ) (done body : List Command) → sectors ≤ 1048576 → AllByRecursion IsName names → n ≡ submissions done → length names ≡ n + submissions body →
+    IsWellFormed bytes sectors done body → AllByRecursion IsWritten (lines_of_body names n body)
+body_written bytes sectors names n done [] small ids counted numbered well_formed = tt
+body_written bytes sectors names n done (command ∷ body) small ids counted numbered well_formed =
     let count = count_after_command-is n command in (
       subst (λ (k : ℕ). IsWritten (parsed_lines.Body (line_at names k command))) (sym counted)
-          (command_written sectors names done command body small ids (numbered ∙ ap (λ (k : ℕ). k + submissions (command ∷ body)) counted) well_formed.0),
-      body_written sectors names (count_after_command n command) (done ++ command ∷ []) body small ids (count ∙ sym (submissions-push done command ∙ omega (arith, counted)))
+          (command_written bytes sectors names done command body small ids (numbered ∙ ap (λ (k : ℕ). k + submissions (command ∷ body)) counted) well_formed.0),
+      body_written bytes sectors names (count_after_command n command) (done ++ command ∷ []) body small ids (count ∙ sym (submissions-push done command ∙ omega (arith, counted)))
           (omega (arith, numbered, count, submissions-cons command body)) well_formed.1,
     )
 
@@ -407,9 +415,9 @@ plan_written plan is =
     let l = plan.log_disk in
     let is_data : IsDisk d = is.data_disk in
     let small : top_of d ≤ 1048576 = top_small d.sectors d.layers is_data.stand (leb-true d.sectors 1048576 (and_parts (nat_le 1 d.sectors) (nat_le d.sectors 1048576) is_data.size).1) in
-    written_append (head_of d l) (lines_behind_head plan) (head_written d l is_data is.log_disk)
+    written_append (head_of d l plan.log_size) (lines_behind_head plan) (head_written d l plan.log_size is_data is.log_disk)
     (ending_written plan.ending (lines_of_body plan.names 0 plan.commands) is.picks
-    (body_written (top_of d) plan.names 0 [] plan.commands small is.ids refl (is.numbered ∙ omega arith) is.well_formed))
+    (body_written (bytes_of plan.log_size) (top_of d) plan.names 0 [] plan.commands small is.ids refl (is.numbered ∙ omega arith) is.well_formed))
 
 -- one more byte of a line
 feed_step : (t : Bool) (b : ℕ) (line : List ℕ) (rest ls : List (List ℕ)) → not t ≡ true → ls ≡ line ∷ rest → cond t ([] ∷ ls) (onto_first b ls) ≡ (b ∷ line) ∷ rest

@@ -1,6 +1,7 @@
 -- Laws of disks and their layers.
 use Rattle.std.proofs.Common.{◌≡◌, ℕ, suc, ◌+◌, ◌-◌, ◌≤◌, ◌<◌, true, List, [], ◌∷◌, ◌++◌, length, Some, refl, ap, ◌∙◌, sym, arith}
 use Rattle.std.specs.Prelude.{slice_get}
+use Rattle.std.specs.List.{AllByRecursion}
 use Rattle.std.proofs.lemmas.Bool.{leb-true}
 use Rattle.std.proofs.lemmas.List.{length-append}
 use Rattle.table_line.specs.declared.layer_spec.LayerSpec.{LayerSpec}
@@ -44,3 +45,27 @@ disk_push disk layer is few fine within = record {
 pub top_small : (sectors : ℕ) (layers : List LayerSpec) → CanStand sectors layers → sectors ≤ 1048576 → top_sectors sectors layers ≤ 1048576
 top_small sectors [] stand small = small
 top_small sectors (layer ∷ layers) stand small = top_small layer.length layers stand.2 (let lengths = stand.0.sectors in lengths.few)
+
+-- what stands on top has no more sectors than the disk
+pub top_within : (sectors : ℕ) (layers : List LayerSpec) → CanStand sectors layers → top_sectors sectors layers ≤ sectors
+top_within sectors [] stand = omega arith
+top_within sectors (layer ∷ layers) stand =
+    let above : top_sectors layer.length layers ≤ layer.length = top_within layer.length layers stand.2 in
+    let within : layer.offset + layer.length ≤ sectors = stand.1 in
+    omega arith
+
+-- each of the layers has at least so many sectors
+abbrev pub AreLong : ℕ → List LayerSpec → Type 0
+AreLong least layers = AllByRecursion (λ (layer : LayerSpec). least ≤ layer.length) layers
+
+-- layers have as many as their top has
+pub long_below : (least sectors : ℕ) (layers : List LayerSpec) → CanStand sectors layers → least ≤ top_sectors sectors layers → AreLong least layers
+long_below least sectors [] stand long = tt
+long_below least sectors (layer ∷ layers) stand long =
+    let above : top_sectors layer.length layers ≤ layer.length = top_within layer.length layers stand.2 in
+    (omega (arith, long), long_below least layer.length layers stand.2 long)
+
+-- layers that stand have a sector each
+pub long_enough : (sectors : ℕ) (layers : List LayerSpec) → CanStand sectors layers → AreLong 1 layers
+long_enough sectors [] stand = tt
+long_enough sectors (layer ∷ layers) stand = ((let lengths = stand.0.sectors in lengths.some), long_enough layer.length layers stand.2)

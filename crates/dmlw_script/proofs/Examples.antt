@@ -1,20 +1,23 @@
 -- Definitions on texts, each by computation.
 use Rattle.std.proofs.Common.{◌≡◌, ℕ, Bool, true, false, None, Some, List, [], ◌∷◌, Err, Ok, replicate, refl, arith}
-use Rattle.std.specs.Prelude.{◌++◌, codes, decimal}
+use Rattle.std.specs.Prelude.{◌/◌, ◌≤◌, ◌++◌, codes, decimal}
 use Rattle.table_line.specs.Ranges.{IsLayerSpec}
 use Rattle.table_line.specs.declared.layer_spec.LayerSpec.{LayerSpec}
 use Rattle.table_line.specs.declared.layer_spec.Target.TheVariants as targets
 use Rattle.table_line.specs.declared.table_error.TableError.TheVariants as table_errors
-use Rattle.refusals.specs.declared.refusal.Refusal.TheVariants.{BadNumber, OutOfRange}
+use Rattle.bio.specs.Sizes.{bytes_of}
+use Rattle.bio.specs.declared.request.BadBio.TheVariants.{PastEnd, Unaligned}
+use Rattle.refusals.specs.declared.refusal.Refusal.TheVariants.{BadLine, BadNumber, OutOfRange}
 use Rattle.dmlw_script.specs.Said as parsed_lines
 use Rattle.dmlw_script.specs.declared.line.HeadLine.TheVariants as head_lines
+use Rattle.bio.specs.declared.sector_size.SectorSize.TheVariants as sizes
 use Rattle.dmlw_script.specs.declared.disk_name.DiskName.TheVariants as disks
 use Rattle.dmlw_script.specs.declared.command.Command.TheVariants as commands
 use Rattle.dmlw_script.specs.declared.command.Submission.TheVariants as submits
 use Rattle.dmlw_script.specs.declared.command.Step.TheVariants as steps
 use Rattle.dmlw_script.specs.declared.command.WriteOptions.{WriteOptions}
 use Rattle.dmlw_script.specs.CanonicalText.{line_text, step_text}
-use Rattle.dmlw_script.specs.Plans.{head_count, is_within, layer_line, lines_of_script, moment_after, top_of, Disk, IsInTime, Plan}
+use Rattle.dmlw_script.specs.Plans.{head_count, is_log_disk_size, is_within, layer_line, lines_of_script, moment_after, range_test, top_of, Disk, IsInTime, IsPlan, Plan}
 use Rattle.table_line.specs.Standing.{CanStand}
 use Rattle.dmlw_script.specs.Reading.{bare, data_due, head_refusal, in_body, in_head, prefix_after, StandsAfter}
 use Rattle.dmlw_script.specs.Grammar.{spaced}
@@ -155,7 +158,7 @@ under layers = record { sectors = 16; layers = layers }
 
 -- a script of two layers over the data disk
 abbrev layered : Plan
-layered = record { data_disk = under (linear 8 8 ∷ linear 7 1 ∷ []); log_disk = bare 32; names = []; commands = []; ending = None }
+layered = record { data_disk = under (linear 8 8 ∷ linear 7 1 ∷ []); log_disk = bare 32; log_size = sizes.B512; names = []; commands = []; ending = None }
 
 -- the sectors of the top: the disk's own, or the uppermost layer's
 bare_top : top_of (bare 16) ≡ 16
@@ -185,7 +188,7 @@ may_not_stand stand = absurd (let within = stand.2.1 in omega arith)
 four_lines : head_count layered ≡ 4
 four_lines = refl
 
-two_layers : lines_of_script layered ≡ parsed_lines.Head (head_lines.Data 16) ∷ parsed_lines.Head (head_lines.Log 32) ∷ layer_line disks.Data (linear 8 8)
+two_layers : lines_of_script layered ≡ parsed_lines.Head (head_lines.Data 16) ∷ parsed_lines.Head (head_lines.Log 32 sizes.B512) ∷ layer_line disks.Data (linear 8 8)
     ∷ layer_line disks.Data (linear 7 1) ∷ []
 two_layers = refl
 
@@ -222,11 +225,11 @@ reads_no_moment : parse_line (codes "at") ≡ None
 reads_no_moment = refl
 
 -- a head may have more layers until the body begins
-in_the_head : prefix_after data_due (parsed_lines.Head (head_lines.Data 16) ∷ parsed_lines.Head (head_lines.Log 32) ∷ layer_line disks.Data (linear 8 8) ∷ [])
+in_the_head : prefix_after data_due (parsed_lines.Head (head_lines.Data 16) ∷ parsed_lines.Head (head_lines.Log 32 sizes.B512) ∷ layer_line disks.Data (linear 8 8) ∷ [])
     ≡ in_head (under (linear 8 8 ∷ [])) (bare 32)
 in_the_head = refl
 
-in_the_body : prefix_after data_due (parsed_lines.Head (head_lines.Data 16) ∷ parsed_lines.Head (head_lines.Log 32) ∷ step (steps.At 5) ∷ step steps.Turn ∷ [])
+in_the_body : prefix_after data_due (parsed_lines.Head (head_lines.Data 16) ∷ parsed_lines.Head (head_lines.Log 32 sizes.B512) ∷ step (steps.At 5) ∷ step steps.Turn ∷ [])
     ≡ in_body (bare 16) (bare 32) 5
 in_the_body = refl
 
@@ -251,3 +254,74 @@ past_the_top = refl
 
 on_the_top : head_refusal layered (head_lines.Layer disks.Data (Ok (linear 7 0))) ≡ None
 on_the_top = refl
+
+-- ---- the size of the log's sectors
+
+-- the log disk's line names 4,096 bytes alone, and in one spelling
+reads_large_log : parse_line (codes "log 0256 4096") ≡ Some (parsed_lines.Head (head_lines.Log 256 sizes.B4096))
+reads_large_log = refl
+
+reads_small_log : parse_line (codes "log 256") ≡ Some (parsed_lines.Head (head_lines.Log 256 sizes.B512))
+reads_small_log = refl
+
+reads_no_small_word : parse_line (codes "log 256 512") ≡ None
+reads_no_small_word = refl
+
+reads_no_zero_before : parse_line (codes "log 256 04096") ≡ None
+reads_no_zero_before = refl
+
+reads_no_word_behind : parse_line (codes "log 256 4096 x") ≡ None
+reads_no_word_behind = refl
+
+large_log_text : line_text (parsed_lines.Head (head_lines.Log 256 sizes.B4096)) ≡ codes "log " ++ (decimal 256 ++ codes " 4096")
+large_log_text = refl
+
+small_log_text : line_text (parsed_lines.Head (head_lines.Log 256 sizes.B512)) ≡ codes "log " ++ decimal 256
+small_log_text = refl
+
+-- one of the log's sectors fits on its disk
+fits_once : is_log_disk_size 4096 8 ≡ true
+fits_once = refl
+
+fits_not : is_log_disk_size 4096 7 ≡ false
+fits_not = refl
+
+fits_small : is_log_disk_size 512 1 ≡ true
+fits_small = refl
+
+-- a request of whole log sectors, one that isn't, and one that reaches past the data disk too
+whole_log_sectors : range_test 4096 16 8 8 ≡ Ok tt
+whole_log_sectors = refl
+
+part_of_log_sector : range_test 4096 16 8 7 ≡ Err Unaligned
+part_of_log_sector = refl
+
+past_and_part : range_test 4096 16 8 9 ≡ Err PastEnd
+past_and_part = refl
+
+any_small_sectors : range_test 512 16 8 7 ≡ Ok tt
+any_small_sectors = refl
+
+-- a script with log sectors of 4,096 bytes, whose log disk has 16 sectors under these layers
+abbrev large : List LayerSpec → Plan
+large layers = record { data_disk = bare 16; log_disk = under layers; log_size = sizes.B4096; names = []; commands = []; ending = None }
+
+-- a layer of the log disk that is shorter than one of them is refused, unless something else is wrong with it; one of the data disk isn't
+short_log_layer : head_refusal (large []) (head_lines.Layer disks.Log (Ok (linear 7 0))) ≡ Some BadLine
+short_log_layer = refl
+
+short_and_past : head_refusal (large []) (head_lines.Layer disks.Log (Ok (linear 7 10))) ≡ Some OutOfRange
+short_and_past = refl
+
+long_log_layer : head_refusal (large []) (head_lines.Layer disks.Log (Ok (linear 8 8))) ≡ None
+long_log_layer = refl
+
+short_data_layer : head_refusal (large []) (head_lines.Layer disks.Data (Ok (linear 7 0))) ≡ None
+short_data_layer = refl
+
+-- one fits on a top of 8 sectors, and a script with a top of 7 isn't one
+room_on_top : bytes_of (large (linear 8 8 ∷ [])).log_size / 512 ≤ top_of (large (linear 8 8 ∷ [])).log_disk
+room_on_top = omega arith
+
+no_room_on_top : IsPlan (large (linear 8 8 ∷ linear 7 0 ∷ [])) → ⊥
+no_room_on_top is = absurd (let room : 8 ≤ 7 = is.room in omega arith)

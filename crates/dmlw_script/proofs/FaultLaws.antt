@@ -1,13 +1,17 @@
 use Rattle.std.proofs.Common.{◌≡◌, ℕ, suc, ◌+◌, ◌<◌, ◌≤◌, Bool, true, false, not, cond, List, [], ◌∷◌, ◌++◌, length, Option, Some, None, Ok, Err, ◌⊎◌, inl, inr, ⊎_elim, refl, ap, ◌∙◌, sym, subst, arith, append_assoc}
-use Rattle.std.specs.Prelude.{nat_lt, Result, codes}
+use Rattle.std.specs.Prelude.{nat_le, nat_lt, Result, codes}
 use Rattle.std.specs.List.{list_any, AllZip}
 use Rattle.std.proofs.lemmas.Bool.{cond-true, cond-false, cases_Bool, ltb-false, ltb-true}
 use Rattle.std.proofs.lemmas.List.{append-nil}
 use Rattle.bio.specs.declared.request.BadBio.{BadBio}
+use Rattle.bio.specs.declared.sector_size.SectorSize.{SectorSize}
+use Rattle.bio.specs.declared.sector_size.SectorSize.TheVariants as sizes
+use Rattle.bio.specs.Sizes.{bytes_of}
 use Rattle.refusals.specs.declared.refusal.Refusal.{Refusal}
 use Rattle.refusals.specs.declared.refusal.Refusal.TheVariants.{BadLine, BadId, OutOfRange}
 use Rattle.table_line.specs.declared.layer_spec.LayerSpec.{LayerSpec}
 use Rattle.table_line.specs.declared.table_error.TableError.{TableError}
+use Rattle.table_line.specs.Refusals.{table_refusal}
 use Rattle.dmlw_script.specs.declared.command.Command.{Command}
 use Rattle.dmlw_script.specs.declared.command.Command.TheVariants as commands
 use Rattle.dmlw_script.specs.declared.command.Step.{Step}
@@ -32,7 +36,7 @@ use Rattle.dmlw_script.specs.inside.Drafts.{◌>>=◌, body_step, ended_next, na
 use Rattle.dmlw_script.specs.Grammar.{ParsesAs, AreLinesOf}
 use Rattle.dmlw_script.specs.Lines.{is_ascii_line, is_skipped, unskipped}
 use Rattle.dmlw_script.specs.Ids.{same_name}
-use Rattle.dmlw_script.specs.Plans.{disk_of, is_disk_size, is_ended, is_within, moment_after, moment_at, request_of, step_answer, submission_answer, top_of, Disk, Plan}
+use Rattle.dmlw_script.specs.Plans.{disk_of, is_disk_size, is_ended, is_log_disk_size, is_within, least_sectors, moment_after, moment_at, request_of, step_answer, submission_answer, top_of, Disk, Plan}
 use Rattle.dmlw_script.specs.inside.Readers.{and_then, at_line, body_line, crash_line, finish_step, finished, has_begun, step_if_parsed, line_step, nothing, read_lines, parsed_step, with_body, with_head, Progress}
 use Rattle.dmlw_script.specs.Reading.{at_end, bad_line, bare, body_refusal, data_due, head_refusal, in_body, in_head, is_open, log_due, moment_at_line, next, prefix_after, refused, test_refusal, with_layer, BeginsScript, ComesInTime, FaultAfter, IsFirstFault, IsLineAfter, IsLineFault, Prefix, StandsAfter}
 use Rattle.dmlw_script.specs.inside.Parsing.{parse_line}
@@ -111,10 +115,10 @@ pub record Completes (p : Progress) (number : ℕ) : Type 0 where
 
 -- the lines of the head that are missing complete a script
 completes : (h : Stage) (b : Body) (number : ℕ) → Completes (record { head = h; body = b }) number
-completes (heads.Whole d l) b number = record { more = []; plan = plan_of d l b; read = refl }
-completes (heads.Ended d l picks) b number = record { more = []; plan = ended_plan d l (Some picks) b; read = refl }
-completes (heads.Data d) b number = record { more = codes "log 1" ∷ []; plan = plan_of d (bare 1) b; read = refl }
-completes heads.Empty b number = record { more = codes "data 1" ∷ codes "log 1" ∷ []; plan = plan_of (bare 1) (bare 1) b; read = refl }
+completes (heads.Whole d l size) b number = record { more = []; plan = plan_of d l size b; read = refl }
+completes (heads.Ended d l size picks) b number = record { more = []; plan = ended_plan d l size (Some picks) b; read = refl }
+completes (heads.Data d) b number = record { more = codes "log 1" ∷ []; plan = plan_of d (bare 1) sizes.B512 b; read = refl }
+completes heads.Empty b number = record { more = codes "data 1" ∷ codes "log 1" ∷ []; plan = plan_of (bare 1) (bare 1) sizes.B512 b; read = refl }
 
 -- lines that lead somewhere begin a script
 pub gone_begins : (lines : List (List ℕ)) (q : Progress) → go kinds.Record nothing lines ≡ Ok q → BeginsScript lines
@@ -139,8 +143,8 @@ unfinished before q refusal gone finish plan spells =
 
 -- a text that can't end yet is a bad line
 unfinished_is : (h : Stage) (b : Body) (refusal : Refusal) → finished kinds.Record h b ≡ Err refusal → refusal ≡ BadLine
-unfinished_is (heads.Whole d l) b refusal e = absurd (cc)
-unfinished_is (heads.Ended d l picks) b refusal e = absurd (cc)
+unfinished_is (heads.Whole d l size) b refusal e = absurd (cc)
+unfinished_is (heads.Ended d l size picks) b refusal e = absurd (cc)
 unfinished_is (heads.Data d) b refusal e = cc
 unfinished_is heads.Empty b refusal e = cc
 
@@ -155,8 +159,8 @@ body_prefix d l (command ∷ body) = in_body d l (moment_after (command ∷ body
 abbrev pub prefix_of : Stage → List Command → Prefix
 prefix_of heads.Empty body = data_due
 prefix_of (heads.Data d) body = log_due d
-prefix_of (heads.Whole d l) body = body_prefix d l body
-prefix_of (heads.Ended d l picks) body = at_end
+prefix_of (heads.Whole d l size) body = body_prefix d l body
+prefix_of (heads.Ended d l size picks) body = at_end
 
 -- how much was read, with the commands
 abbrev pub prefix_at : Progress → Prefix
@@ -166,59 +170,59 @@ prefix_at p = prefix_of p.head p.body.body
 abbrev pub IsEarly : Stage → List Command → Type 0
 IsEarly heads.Empty body = body ≡ []
 IsEarly (heads.Data d) body = body ≡ []
-IsEarly (heads.Whole d l) body = Unit {0}
-IsEarly (heads.Ended d l picks) body = Unit {0}
+IsEarly (heads.Whole d l size) body = Unit {0}
+IsEarly (heads.Ended d l size picks) body = Unit {0}
 
 -- this follows on that by what a line says
 abbrev pub Moves : Prefix → Said → Stage → List Command → Type 0
 Moves prefix s h body = (prefix_of h body ≡ next prefix s) × IsEarly h body
 
 -- after one more layer of the data disk
-data_moves : (d l : Disk) (k : Stage) (asked : Result LayerSpec TableError) (layers : List LayerSpec) → data_layer layers d l asked ≡ Ok k →
+data_moves : (d l : Disk) (size : SectorSize) (k : Stage) (asked : Result LayerSpec TableError) (layers : List LayerSpec) → data_layer layers d l size asked ≡ Ok k →
     Moves (in_head d l) (parsed_lines.Head (head_lines.Layer disks.Data asked)) k []
-data_moves d l k asked (layer ∷ layers) e = absurd (cc)
-data_moves d l k asked [] e =
-    let r = with_data_ok (layer_step d asked) l k e in
-    let y = layered d asked r.0 r.1 in (
+data_moves d l size k asked (layer ∷ layers) e = absurd (cc)
+data_moves d l size k asked [] e =
+    let r = with_data_ok (layer_step (least_sectors disks.Data size) d asked) l size k e in
+    let y = layered (least_sectors disks.Data size) d asked r.0 r.1 in (
       ap (λ (h : Stage). prefix_of h []) (sym r.2) ∙ ap (λ (x : Disk). in_head x l) (sym y.with)
           ∙ ap (λ (a : Result LayerSpec TableError). next (in_head d l) (parsed_lines.Head (head_lines.Layer disks.Data a))) (sym y.is),
       subst (λ (h : Stage). IsEarly h []) r.2 tt,
     )
 
 -- after one more layer of the log disk
-log_moves : (d l : Disk) (k : Stage) (asked : Result LayerSpec TableError) → with_log d (layer_step l asked) ≡ Ok k →
+log_moves : (d l : Disk) (size : SectorSize) (k : Stage) (asked : Result LayerSpec TableError) → with_log d (layer_step (least_sectors disks.Log size) l asked) size ≡ Ok k →
     Moves (in_head d l) (parsed_lines.Head (head_lines.Layer disks.Log asked)) k []
-log_moves d l k asked e =
-    let r = with_log_ok d (layer_step l asked) k e in
-    let y = layered l asked r.0 r.1 in (
+log_moves d l size k asked e =
+    let r = with_log_ok d (layer_step (least_sectors disks.Log size) l asked) size k e in
+    let y = layered (least_sectors disks.Log size) l asked r.0 r.1 in (
       ap (λ (h : Stage). prefix_of h []) (sym r.2) ∙ ap (λ (x : Disk). in_head d x) (sym y.with)
           ∙ ap (λ (a : Result LayerSpec TableError). next (in_head d l) (parsed_lines.Head (head_lines.Layer disks.Log a))) (sym y.is),
       subst (λ (h : Stage). IsEarly h []) r.2 tt,
     )
 
 -- after one more layer
-layer_moves : (d l : Disk) (k : Stage) (body : List Command) (over : DiskName) (asked : Result LayerSpec TableError) →
-    layer_in (has_begun body) d l over asked ≡ Ok k → Moves (body_prefix d l body) (parsed_lines.Head (head_lines.Layer over asked)) k body
-layer_moves d l k (command ∷ body) over asked e = absurd (cc)
-layer_moves d l k [] disks.Data asked e = data_moves d l k asked l.layers e
-layer_moves d l k [] disks.Log asked e = log_moves d l k asked e
+layer_moves : (d l : Disk) (size : SectorSize) (k : Stage) (body : List Command) (over : DiskName) (asked : Result LayerSpec TableError) →
+    layer_in (has_begun body) d l size over asked ≡ Ok k → Moves (body_prefix d l body) (parsed_lines.Head (head_lines.Layer over asked)) k body
+layer_moves d l size k (command ∷ body) over asked e = absurd (cc)
+layer_moves d l size k [] disks.Data asked e = data_moves d l size k asked l.layers e
+layer_moves d l size k [] disks.Log asked e = log_moves d l size k asked e
 
 -- after one more line of the head
 head_moves : (h k : Stage) (body : List Command) (line : HeadLine) → head_step h (has_begun body) line ≡ Ok k → IsEarly h body → Moves (prefix_of h body) (parsed_lines.Head line) k body
 head_moves heads.Empty k body (head_lines.Data n) e early =
     let p = cond_ok (is_disk_size n) (heads.Data (bare n)) k BadLine e in
     (ap (λ (h : Stage). prefix_of h body) (sym p.1), subst (λ (h : Stage). IsEarly h body) p.1 early)
-head_moves (heads.Data d) k body (head_lines.Log n) e early =
-    let p = cond_ok (is_disk_size n) (heads.Whole d (bare n)) k BadLine e in
+head_moves (heads.Data d) k body (head_lines.Log n size) e early =
+    let p = cond_ok (is_log_disk_size (bytes_of size) n) (heads.Whole d (bare n) size) k BadLine e in
     (ap (λ (h : Stage). prefix_of h body) (sym p.1) ∙ ap (body_prefix d (bare n)) early, subst (λ (h : Stage). IsEarly h body) p.1 tt)
-head_moves (heads.Whole d l) k body (head_lines.Layer over asked) e early = layer_moves d l k body over asked e
-head_moves heads.Empty k body (head_lines.Log n) e early = absurd (cc e)
+head_moves (heads.Whole d l size) k body (head_lines.Layer over asked) e early = layer_moves d l size k body over asked e
+head_moves heads.Empty k body (head_lines.Log n size) e early = absurd (cc e)
 head_moves heads.Empty k body (head_lines.Layer over asked) e early = absurd (cc e)
 head_moves (heads.Data d) k body (head_lines.Data n) e early = absurd (cc e)
 head_moves (heads.Data d) k body (head_lines.Layer over asked) e early = absurd (cc e)
-head_moves (heads.Whole d l) k body (head_lines.Data n) e early = absurd (cc e)
-head_moves (heads.Whole d l) k body (head_lines.Log n) e early = absurd (cc e)
-head_moves (heads.Ended d l picks) k body line e early = absurd (cc e)
+head_moves (heads.Whole d l size) k body (head_lines.Data n) e early = absurd (cc e)
+head_moves (heads.Whole d l size) k body (head_lines.Log n other) e early = absurd (cc e)
+head_moves (heads.Ended d l size picks) k body line e early = absurd (cc e)
 
 -- after one more command
 after_command : (d l : Disk) (body : List Command) (command : Command) → body_prefix d l (body ++ command ∷ []) ≡ in_body d l (moment_at (moment_after body) command)
@@ -238,17 +242,17 @@ end_moves d l b c (Some request) e =
     ap (λ (x : Body). body_prefix d l x.body) (sym q.1) ∙ after_command d l b.body (commands.Complete request)
 
 -- after one more line of the body
-step_moves : (sectors : ℕ) (d l : Disk) (b c : Body) (line : BodyLine) → body_step sectors b line ≡ Ok c → body_prefix d l c.body ≡ in_body d l (moment_at_line (moment_after b.body) line)
-step_moves sectors d l b c (body_lines.Submit name submission) e =
+step_moves : (bytes sectors : ℕ) (d l : Disk) (b c : Body) (line : BodyLine) → body_step bytes sectors b line ≡ Ok c → body_prefix d l c.body ≡ in_body d l (moment_at_line (moment_after b.body) line)
+step_moves bytes sectors d l b c (body_lines.Submit name submission) e =
     let p = bind_ok (with_name b name) _ c e in
-    let q = bind_ok (as_refusal (submission_answer sectors submission)) _ c p.2 in
+    let q = bind_ok (as_refusal (submission_answer bytes sectors submission)) _ c p.2 in
     let n = named_ok (request_of name b.names) b p.0 name p.1 in
     let same : with_command p.0 (commands.Submit submission) ≡ c = (let last = q.2 in cc) in
     ap (λ (x : Body). body_prefix d l x.body) (sym (ap (λ (x : Body). with_command x (commands.Submit submission)) n.1 ∙ same))
     ∙ after_command d l b.body (commands.Submit submission)
-step_moves sectors d l b c (body_lines.Complete name) e = end_moves d l b c (request_of name b.names) e
-step_moves sectors d l b c (body_lines.Step step) e =
-    let q = bind_ok (step_test sectors (moment_after b.body) step) _ c e in
+step_moves bytes sectors d l b c (body_lines.Complete name) e = end_moves d l b c (request_of name b.names) e
+step_moves bytes sectors d l b c (body_lines.Step step) e =
+    let q = bind_ok (step_test bytes sectors (moment_after b.body) step) _ c e in
     let same : with_command b (commands.Step step) ≡ c = (let last = q.2 in cc) in
     ap (λ (x : Body). body_prefix d l x.body) (sym same) ∙ after_command d l b.body (commands.Step step)
 
@@ -256,15 +260,15 @@ step_moves sectors d l b c (body_lines.Step step) e =
 body_moves : (h : Stage) (p q : Progress) (line : BodyLine) → p.head ≡ h → body_line kinds.Record h p line ≡ Ok q → Moves (prefix_of h p.body.body) (parsed_lines.Body line) q.head q.body.body
 body_moves heads.Empty p q line is e = absurd (cc e)
 body_moves (heads.Data d) p q line is e = absurd (cc e)
-body_moves (heads.Whole d l) p q line is e =
-    let r = with_body_ok p q (body_step (top_of d) p.body line) e in
+body_moves (heads.Whole d l size) p q line is e =
+    let r = with_body_ok p q (body_step (bytes_of size) (top_of d) p.body line) e in
     let here : p.head ≡ q.head = ap (λ (x : Progress). x.head) r.2 in
-    let whole : heads.Whole d l ≡ q.head = sym is ∙ here in
+    let whole : heads.Whole d l size ≡ q.head = sym is ∙ here in
     let after : r.0.body ≡ q.body.body = ap (λ (x : Progress). x.body.body) r.2 in (
-      ap (λ (x : Stage). prefix_of x q.body.body) (sym whole) ∙ ap (body_prefix d l) (sym after) ∙ step_moves (top_of d) d l p.body r.0 line r.1 ∙ sym (next_line d l p.body.body line),
+      ap (λ (x : Stage). prefix_of x q.body.body) (sym whole) ∙ ap (body_prefix d l) (sym after) ∙ step_moves (bytes_of size) (top_of d) d l p.body r.0 line r.1 ∙ sym (next_line d l p.body.body line),
       subst (λ (x : Stage). IsEarly x q.body.body) whole tt,
     )
-body_moves (heads.Ended d l picks) p q line is e = absurd (cc e)
+body_moves (heads.Ended d l size picks) p q line is e = absurd (cc e)
 
 -- a crash comes next after a head, or after commands
 next_crash : (d l : Disk) (body : List Command) (picks : List ℕ) → next (body_prefix d l body) (parsed_lines.Crash picks) ≡ at_end
@@ -275,10 +279,10 @@ next_crash d l (command ∷ body) picks = refl
 crash_moves : (h : Stage) (p q : Progress) (picks : List ℕ) → crash_line kinds.Record h p picks ≡ Ok q → Moves (prefix_of h p.body.body) (parsed_lines.Crash picks) q.head q.body.body
 crash_moves heads.Empty p q picks e = absurd (cc e)
 crash_moves (heads.Data d) p q picks e = absurd (cc e)
-crash_moves (heads.Ended d l ended) p q picks e = absurd (cc e)
-crash_moves (heads.Whole d l) p q picks e =
-    let same : record p { head = heads.Ended d l picks } ≡ q = cc in
-    let ended : heads.Ended d l picks ≡ q.head = ap (λ (x : Progress). x.head) same in
+crash_moves (heads.Ended d l size ended) p q picks e = absurd (cc e)
+crash_moves (heads.Whole d l size) p q picks e =
+    let same : record p { head = heads.Ended d l size picks } ≡ q = cc in
+    let ended : heads.Ended d l size picks ≡ q.head = ap (λ (x : Progress). x.head) same in
     (ap (λ (x : Stage). prefix_of x q.body.body) (sym ended) ∙ sym (next_crash d l p.body.body picks), subst (λ (x : Stage). IsEarly x q.body.body) ended tt)
 
 -- after one more line
@@ -371,12 +375,12 @@ listed_place name names request e =
     (cases_Bool (list_any (same_name name) names))
 
 -- why a submission is refused
-submit_refused : (d l : Disk) (b : Body) (name : ScriptId) (submission : Submission) (refusal : Refusal) (o : Option ℕ) → request_of name b.names ≡ o
-    → (named_next o b name >>= λ submitted. as_refusal (submission_answer (top_of d) submission) >>= λ fine. Ok (with_command submitted (commands.Submit submission))) ≡ Err refusal
-    → body_refusal (plan_of d l b) (body_lines.Submit name submission) ≡ Some refusal
-submit_refused d l b name submission refusal None is e =
-    cond-false _ _ _ (unlisted name b.names is) ∙ tested_err (submission_answer (top_of d) submission) _ refusal e
-submit_refused d l b name submission refusal (Some request) is e =
+submit_refused : (d l : Disk) (size : SectorSize) (b : Body) (name : ScriptId) (submission : Submission) (refusal : Refusal) (o : Option ℕ) → request_of name b.names ≡ o
+    → (named_next o b name >>= λ submitted. as_refusal (submission_answer (bytes_of size) (top_of d) submission) >>= λ fine. Ok (with_command submitted (commands.Submit submission))) ≡ Err refusal
+    → body_refusal (plan_of d l size b) (body_lines.Submit name submission) ≡ Some refusal
+submit_refused d l size b name submission refusal None is e =
+    cond-false _ _ _ (unlisted name b.names is) ∙ tested_err (submission_answer (bytes_of size) (top_of d) submission) _ refusal e
+submit_refused d l size b name submission refusal (Some request) is e =
     cond-true _ _ _ (listed_place name b.names request is) ∙ cc
 
 -- an end that is refused was of an ended request
@@ -385,17 +389,17 @@ ended_err true c refusal e = (refl, cc)
 ended_err false c refusal e = absurd (cc)
 
 -- why an end is refused
-end_refused : (d l : Disk) (b : Body) (name : ScriptId) (refusal : Refusal) (o : Option ℕ) → request_of name b.names ≡ o → ended_next o b ≡ Err refusal
-    → body_refusal (plan_of d l b) (body_lines.Complete name) ≡ Some refusal
-end_refused d l b name refusal None is e = cond-false _ _ _ (ap (λ (o : Option ℕ). is_open o (plan_of d l b)) is) ∙ cc
-end_refused d l b name refusal (Some request) is e =
+end_refused : (d l : Disk) (size : SectorSize) (b : Body) (name : ScriptId) (refusal : Refusal) (o : Option ℕ) → request_of name b.names ≡ o → ended_next o b ≡ Err refusal
+    → body_refusal (plan_of d l size b) (body_lines.Complete name) ≡ Some refusal
+end_refused d l size b name refusal None is e = cond-false _ _ _ (ap (λ (o : Option ℕ). is_open o (plan_of d l size b)) is) ∙ cc
+end_refused d l size b name refusal (Some request) is e =
     let h = ended_err (is_ended request b.body) (with_command b (commands.Complete request)) refusal e in
-    cond-false _ _ _ (ap (λ (o : Option ℕ). is_open o (plan_of d l b)) is ∙ ap not h.0) ∙ ap Some h.1
+    cond-false _ _ _ (ap (λ (o : Option ℕ). is_open o (plan_of d l size b)) is ∙ ap not h.0) ∙ ap Some h.1
 
 -- why a line of the body is refused: it doesn't come in time, or for its own reason
-abbrev BodyRefused : Disk → Disk → Body → BodyLine → Refusal → Type 0
-BodyRefused d l b line refusal =
-    ((ComesInTime (moment_after b.body) line → ⊥) × (BadLine ≡ refusal)) ⊎ (ComesInTime (moment_after b.body) line × (body_refusal (plan_of d l b) line ≡ Some refusal))
+abbrev BodyRefused : Disk → Disk → SectorSize → Body → BodyLine → Refusal → Type 0
+BodyRefused d l size b line refusal =
+    ((ComesInTime (moment_after b.body) line → ⊥) × (BadLine ≡ refusal)) ⊎ (ComesInTime (moment_after b.body) line × (body_refusal (plan_of d l size b) line ≡ Some refusal))
 
 -- a moment that goes back is refused
 later_refused : (t : Bool) (x : Unit {0}) (refusal : Refusal) → cond t (Err BadLine) (Ok x) ≡ Err refusal → (t ≡ true) × (BadLine ≡ refusal)
@@ -413,22 +417,22 @@ answered_err (Ok u) refusal e = absurd (cc)
 answered_err (Err bad) refusal e = cc
 
 -- why a line that names no request is refused
-step_refused : (d l : Disk) (b : Body) (step : Step) (refusal : Refusal) → step_test (top_of d) (moment_after b.body) step ≡ Err refusal → BodyRefused d l b (body_lines.Step step) refusal
-step_refused d l b steps.Close refusal e = absurd (cc)
-step_refused d l b (steps.Read first count) refusal e = inr (tt, answered_err (step_answer (top_of d) (steps.Read first count)) refusal e)
-step_refused d l b steps.Turn refusal e = absurd (cc)
-step_refused d l b (steps.Mark text) refusal e = absurd (cc)
-step_refused d l b (steps.Message over layer text) refusal e = absurd (cc)
-step_refused d l b (steps.At later) refusal e =
+step_refused : (d l : Disk) (size : SectorSize) (b : Body) (step : Step) (refusal : Refusal) → step_test (bytes_of size) (top_of d) (moment_after b.body) step ≡ Err refusal → BodyRefused d l size b (body_lines.Step step) refusal
+step_refused d l size b steps.Close refusal e = absurd (cc)
+step_refused d l size b (steps.Read first count) refusal e = inr (tt, answered_err (step_answer (bytes_of size) (top_of d) (steps.Read first count)) refusal e)
+step_refused d l size b steps.Turn refusal e = absurd (cc)
+step_refused d l size b (steps.Mark text) refusal e = absurd (cc)
+step_refused d l size b (steps.Message over layer text) refusal e = absurd (cc)
+step_refused d l size b (steps.At later) refusal e =
     let p = later_refused (nat_lt later (moment_after b.body)) tt refusal e in
     let back : later < moment_after b.body = ltb-true _ _ p.0 in
     inl (λ in_time. absurd (let forth : moment_after b.body ≤ later = in_time in omega arith), p.1)
 
-body_refused : (d l : Disk) (b : Body) (line : BodyLine) (refusal : Refusal) → body_step (top_of d) b line ≡ Err refusal → BodyRefused d l b line refusal
-body_refused d l b (body_lines.Submit name submission) refusal e = inr (tt, submit_refused d l b name submission refusal (request_of name b.names) refl e)
-body_refused d l b (body_lines.Complete name) refusal e = inr (tt, end_refused d l b name refusal (request_of name b.names) refl e)
-body_refused d l b (body_lines.Step step) refusal e =
-    step_refused d l b step refusal (step_err (step_test (top_of d) (moment_after b.body) step) (with_command b (commands.Step step)) refusal e)
+body_refused : (d l : Disk) (size : SectorSize) (b : Body) (line : BodyLine) (refusal : Refusal) → body_step (bytes_of size) (top_of d) b line ≡ Err refusal → BodyRefused d l size b line refusal
+body_refused d l size b (body_lines.Submit name submission) refusal e = inr (tt, submit_refused d l size b name submission refusal (request_of name b.names) refl e)
+body_refused d l size b (body_lines.Complete name) refusal e = inr (tt, end_refused d l size b name refusal (request_of name b.names) refl e)
+body_refused d l size b (body_lines.Step step) refusal e =
+    step_refused d l size b step refusal (step_err (step_test (bytes_of size) (top_of d) (moment_after b.body) step) (with_command b (commands.Step step)) refusal e)
 
 -- a line of the body that comes in time may stand after a head, or after commands
 stands_body : (d l : Disk) (body : List Command) (line : BodyLine) → ComesInTime (moment_after body) line → StandsAfter (body_prefix d l body) (parsed_lines.Body line)
@@ -441,34 +445,34 @@ stood_body d l [] line stands = stands
 stood_body d l (command ∷ body) line stands = stands
 
 -- lines after which a text may end
-gone_spells : (before : List (List ℕ)) (d l : Disk) (b : Body) → go kinds.Record nothing before ≡ Ok (in_draft d l b) → AreLinesOf before (plan_of d l b)
-gone_spells before d l b gone =
-    lines_spell before 1 (plan_of d l b)
-    (ap (λ x. read_lines kinds.Record nothing 1 x) (sym (append-nil before)) ∙ lines_go kinds.Record nothing (in_draft d l b) 1 before [] gone)
+gone_spells : (before : List (List ℕ)) (d l : Disk) (size : SectorSize) (b : Body) → go kinds.Record nothing before ≡ Ok (in_draft d l size b) → AreLinesOf before (plan_of d l size b)
+gone_spells before d l size b gone =
+    lines_spell before 1 (plan_of d l size b)
+    (ap (λ x. read_lines kinds.Record nothing 1 x) (sym (append-nil before)) ∙ lines_go kinds.Record nothing (in_draft d l size b) 1 before [] gone)
 
 -- why a line that says this is refused where this is read of the body
 body_fault : (before : List (List ℕ)) (h : Stage) (b : Body) (line : List ℕ) (s : BodyLine) (refusal : Refusal) → Comes before (record { head = h; body = b }) line (parsed_lines.Body s)
     → body_line kinds.Record h (record { head = h; body = b }) s ≡ Err refusal → IsLineFault before line refusal
 body_fault before heads.Empty b line s refusal c e = never_fault before (record { head = heads.Empty; body = b }) line (parsed_lines.Body s) refusal c (λ stands. stands) (cc)
 body_fault before (heads.Data d) b line s refusal c e = never_fault before (record { head = heads.Data d; body = b }) line (parsed_lines.Body s) refusal c (λ stands. stands) (cc)
-body_fault before (heads.Whole d l) b line s refusal c e =
+body_fault before (heads.Whole d l size) b line s refusal c e =
     ⊎_elim
     (λ (h : (ComesInTime (moment_after b.body) s → ⊥) × (BadLine ≡ refusal)).
-    never_fault before (in_draft d l b) line (parsed_lines.Body s) refusal c (λ stands. h.0 (stood_body d l b.body s stands)) h.1)
-    (λ (h : ComesInTime (moment_after b.body) s × (body_refusal (plan_of d l b) s ≡ Some refusal)).
-    refused (parsed_lines.Body s) (plan_of d l b) refusal (comes_after before (in_draft d l b) line (parsed_lines.Body s) c (stands_body d l b.body s h.0)) (gone_spells before d l b c.gone) h.1)
-    (body_refused d l b s refusal (with_body_err (in_draft d l b) (body_step (top_of d) b s) refusal e))
-body_fault before (heads.Ended d l picks) b line s refusal c e =
-    never_fault before (record { head = heads.Ended d l picks; body = b }) line (parsed_lines.Body s) refusal c (λ stands. stands) (cc)
+    never_fault before (in_draft d l size b) line (parsed_lines.Body s) refusal c (λ stands. h.0 (stood_body d l b.body s stands)) h.1)
+    (λ (h : ComesInTime (moment_after b.body) s × (body_refusal (plan_of d l size b) s ≡ Some refusal)).
+    refused (parsed_lines.Body s) (plan_of d l size b) refusal (comes_after before (in_draft d l size b) line (parsed_lines.Body s) c (stands_body d l b.body s h.0)) (gone_spells before d l size b c.gone) h.1)
+    (body_refused d l size b s refusal (with_body_err (in_draft d l size b) (body_step (bytes_of size) (top_of d) b s) refusal e))
+body_fault before (heads.Ended d l size picks) b line s refusal c e =
+    never_fault before (record { head = heads.Ended d l size picks; body = b }) line (parsed_lines.Body s) refusal c (λ stands. stands) (cc)
 
 -- why a crash is refused where this is read of the body
 crash_fault : (before : List (List ℕ)) (h : Stage) (b : Body) (line picks : List ℕ) (refusal : Refusal) → Comes before (record { head = h; body = b }) line (parsed_lines.Crash picks)
     → crash_line kinds.Record h (record { head = h; body = b }) picks ≡ Err refusal → IsLineFault before line refusal
 crash_fault before heads.Empty b line picks refusal c e = never_fault before (record { head = heads.Empty; body = b }) line (parsed_lines.Crash picks) refusal c (λ stands. stands) (cc)
 crash_fault before (heads.Data d) b line picks refusal c e = never_fault before (record { head = heads.Data d; body = b }) line (parsed_lines.Crash picks) refusal c (λ stands. stands) (cc)
-crash_fault before (heads.Whole d l) b line picks refusal c e = absurd (cc)
-crash_fault before (heads.Ended d l ended) b line picks refusal c e =
-    never_fault before (record { head = heads.Ended d l ended; body = b }) line (parsed_lines.Crash picks) refusal c (λ stands. stands) (cc)
+crash_fault before (heads.Whole d l size) b line picks refusal c e = absurd (cc)
+crash_fault before (heads.Ended d l size ended) b line picks refusal c e =
+    never_fault before (record { head = heads.Ended d l size ended; body = b }) line (parsed_lines.Crash picks) refusal c (λ stands. stands) (cc)
 
 -- ---- why a line of the head is refused
 
@@ -477,79 +481,98 @@ cond_err : {A : Type 0} (t : Bool) (x : A) (bad refusal : Refusal) → cond t (O
 cond_err true x bad refusal e = absurd (cc)
 cond_err false x bad refusal e = (refl, cc)
 
--- why a layer over a disk is refused: four stand there, or for its own reason
-abbrev LayerRefused : Disk → Result LayerSpec TableError → Refusal → Type 0
-LayerRefused disk asked refusal =
-    ((4 ≤ length disk.layers) × (BadLine ≡ refusal))
-    ⊎ ((length disk.layers < 4) × ((plan : Plan) (over : DiskName) → disk_of over plan ≡ disk → head_refusal plan (head_lines.Layer over asked) ≡ Some refusal))
+-- why a line asks for no layer over a disk, whose layers have at least so many sectors
+abbrev asked_refusal : (least : ℕ) → Disk → Result LayerSpec TableError → Option Refusal
+asked_refusal least disk (Err error) = Some (table_refusal error)
+asked_refusal least disk (Ok spec) = cond (is_within spec (top_of disk)) (cond (nat_le least spec.length) None (Some BadLine)) (Some OutOfRange)
 
-layer_err : (disk : Disk) (asked : Result LayerSpec TableError) (refusal : Refusal) → layer_step disk asked ≡ Err refusal → LayerRefused disk asked refusal
-layer_err disk asked refusal e = by_count (nat_lt (length disk.layers) 4) refl asked e
+-- it is why a line of the head is refused
+head_refusal_is : (plan : Plan) (over : DiskName) (asked : Result LayerSpec TableError)
+    → head_refusal plan (head_lines.Layer over asked) ≡ asked_refusal (least_sectors over plan.log_size) (disk_of over plan) asked
+head_refusal_is plan over (Err error) = refl
+head_refusal_is plan over (Ok spec) = refl
+
+-- why a layer over a disk is refused: four stand there, or for its own reason
+abbrev LayerRefused : (least : ℕ) → Disk → Result LayerSpec TableError → Refusal → Type 0
+LayerRefused least disk asked refusal =
+    ((4 ≤ length disk.layers) × (BadLine ≡ refusal)) ⊎ ((length disk.layers < 4) × (asked_refusal least disk asked ≡ Some refusal))
+
+-- a layer that is refused doesn't fit, or is too short
+asked_err : (least : ℕ) (disk : Disk) (asked : Result LayerSpec TableError) (refusal : Refusal) → asked_layer least disk asked ≡ Err refusal → asked_refusal least disk asked ≡ Some refusal
+asked_err least disk (Err error) refusal e = cc
+asked_err least disk (Ok spec) refusal e = by_tests (is_within spec (top_of disk)) (nat_le least spec.length) e
   where
-    by_count : (t : Bool) → nat_lt (length disk.layers) 4 ≡ t → (a : Result LayerSpec TableError) → cond t (asked_layer disk a) (Err BadLine) ≡ Err refusal → LayerRefused disk a refusal
-    by_count false many a e = inl (ltb-false _ _ many, cc)
-    by_count true few (Err error) e = inr (ltb-true _ _ few, λ plan over same. cc)
-    by_count true few (Ok spec) e =
-        let p = cond_err (is_within spec (top_of disk)) (with_layer disk spec) OutOfRange refusal e in
-        inr (
-          ltb-true _ _ few,
-          λ plan over same.
-              ap (λ (x : Disk). cond (is_within spec (top_of x)) None (Some OutOfRange)) same ∙ cond-false _ _ _ p.0 ∙ ap Some p.1,
-        )
+    by_tests : (within long : Bool) → cond within (cond long (Ok (with_layer disk spec)) (Err BadLine)) (Err OutOfRange) ≡ Err refusal
+        → cond within (cond long None (Some BadLine)) (Some OutOfRange) ≡ Some refusal
+    by_tests true true e = absurd (cc)
+    by_tests true false e = cc
+    by_tests false long e = cc
+
+layer_err : (least : ℕ) (disk : Disk) (asked : Result LayerSpec TableError) (refusal : Refusal) → layer_step least disk asked ≡ Err refusal → LayerRefused least disk asked refusal
+layer_err least disk asked refusal e = by_count (nat_lt (length disk.layers) 4) refl e
+  where
+    by_count : (t : Bool) → nat_lt (length disk.layers) 4 ≡ t → cond t (asked_layer least disk asked) (Err BadLine) ≡ Err refusal → LayerRefused least disk asked refusal
+    by_count false many e = inl (ltb-false _ _ many, cc)
+    by_count true few e = inr (ltb-true _ _ few, asked_err least disk asked refusal e)
 
 -- a data disk that was refused
-with_data_err : (r : Result Disk Refusal) (l : Disk) (refusal : Refusal) → with_data r l ≡ Err refusal → r ≡ Err refusal
-with_data_err (Ok d) l refusal e = absurd (cc)
-with_data_err (Err x) l refusal e = cc
+with_data_err : (r : Result Disk Refusal) (l : Disk) (size : SectorSize) (refusal : Refusal) → with_data r l size ≡ Err refusal → r ≡ Err refusal
+with_data_err (Ok d) l size refusal e = absurd (cc)
+with_data_err (Err x) l size refusal e = cc
 
 -- a log disk that was refused
-with_log_err : (d : Disk) (r : Result Disk Refusal) (refusal : Refusal) → with_log d r ≡ Err refusal → r ≡ Err refusal
-with_log_err d (Ok l) refusal e = absurd (cc)
-with_log_err d (Err x) refusal e = cc
+with_log_err : (d : Disk) (r : Result Disk Refusal) (size : SectorSize) (refusal : Refusal) → with_log d r size ≡ Err refusal → r ≡ Err refusal
+with_log_err d (Ok l) size refusal e = absurd (cc)
+with_log_err d (Err x) size refusal e = cc
 
 -- a head of these disks, with no commands
-abbrev headed : Disk → Disk → List ScriptId → Progress
-headed d l names = in_draft d l (record { names = names; body = [] })
+abbrev headed : Disk → Disk → SectorSize → List ScriptId → Progress
+headed d l size names = in_draft d l size (record { names = names; body = [] })
 
 -- why a layer of the data disk is refused
-data_fault : (before : List (List ℕ)) (d l : Disk) (names : List ScriptId) (line : List ℕ) (asked : Result LayerSpec TableError) (refusal : Refusal) (layers : List LayerSpec) → l.layers ≡ layers →
-    Comes before (headed d l names) line (parsed_lines.Head (head_lines.Layer disks.Data asked)) → data_layer layers d l asked ≡ Err refusal → IsLineFault before line refusal
-data_fault before d l names line asked refusal (layer ∷ layers) are c e =
-    never_fault before (headed d l names) line (parsed_lines.Head (head_lines.Layer disks.Data asked)) refusal c (λ stands. let both = sym are ∙ stands.1 in cc) (cc)
-data_fault before d l names line asked refusal [] none c e =
+data_fault : (before : List (List ℕ)) (d l : Disk) (size : SectorSize) (names : List ScriptId) (line : List ℕ) (asked : Result LayerSpec TableError) (refusal : Refusal) (layers : List LayerSpec) → l.layers ≡ layers →
+    Comes before (headed d l size names) line (parsed_lines.Head (head_lines.Layer disks.Data asked)) → data_layer layers d l size asked ≡ Err refusal → IsLineFault before line refusal
+data_fault before d l size names line asked refusal (layer ∷ layers) are c e =
+    never_fault before (headed d l size names) line (parsed_lines.Head (head_lines.Layer disks.Data asked)) refusal c (λ stands. let both = sym are ∙ stands.1 in cc) (cc)
+data_fault before d l size names line asked refusal [] none c e =
     let s = parsed_lines.Head (head_lines.Layer disks.Data asked) in
+    let least = least_sectors disks.Data size in
     let b : Body = record { names = names; body = [] } in
     ⊎_elim
-    (λ (h : (4 ≤ length d.layers) × (BadLine ≡ refusal)). never_fault before (headed d l names) line s refusal c (λ stands. absurd (let few : length d.layers < 4 = stands.0 in omega (arith, h.0))) h.1)
-    (λ (h : (length d.layers < 4) × ((plan : Plan) (over : DiskName) → disk_of over plan ≡ d → head_refusal plan (head_lines.Layer over asked) ≡ Some refusal)).
-    refused s (plan_of d l b) refusal (comes_after before (headed d l names) line s c (h.0, none)) (gone_spells before d l b c.gone) (h.1 (plan_of d l b) disks.Data refl))
-    (layer_err d asked refusal (with_data_err (layer_step d asked) l refusal e))
+    (λ (h : (4 ≤ length d.layers) × (BadLine ≡ refusal)). never_fault before (headed d l size names) line s refusal c (λ stands. absurd (let few : length d.layers < 4 = stands.0 in omega (arith, h.0))) h.1)
+    (λ (h : (length d.layers < 4) × (asked_refusal least d asked ≡ Some refusal)).
+    refused s (plan_of d l size b) refusal (comes_after before (headed d l size names) line s c (h.0, none)) (gone_spells before d l size b c.gone)
+    (head_refusal_is (plan_of d l size b) disks.Data asked ∙ h.1))
+    (layer_err least d asked refusal (with_data_err (layer_step least d asked) l size refusal e))
 
 -- why a layer of the log disk is refused
-log_fault : (before : List (List ℕ)) (d l : Disk) (names : List ScriptId) (line : List ℕ) (asked : Result LayerSpec TableError) (refusal : Refusal) →
-    Comes before (headed d l names) line (parsed_lines.Head (head_lines.Layer disks.Log asked)) → with_log d (layer_step l asked) ≡ Err refusal → IsLineFault before line refusal
-log_fault before d l names line asked refusal c e =
+log_fault : (before : List (List ℕ)) (d l : Disk) (size : SectorSize) (names : List ScriptId) (line : List ℕ) (asked : Result LayerSpec TableError) (refusal : Refusal) →
+    Comes before (headed d l size names) line (parsed_lines.Head (head_lines.Layer disks.Log asked)) → with_log d (layer_step (least_sectors disks.Log size) l asked) size ≡ Err refusal → IsLineFault before line refusal
+log_fault before d l size names line asked refusal c e =
     let s = parsed_lines.Head (head_lines.Layer disks.Log asked) in
+    let least = least_sectors disks.Log size in
     let b : Body = record { names = names; body = [] } in
     ⊎_elim
-    (λ (h : (4 ≤ length l.layers) × (BadLine ≡ refusal)). never_fault before (headed d l names) line s refusal c (λ stands. absurd (let few : length l.layers < 4 = stands in omega (arith, h.0))) h.1)
-    (λ (h : (length l.layers < 4) × ((plan : Plan) (over : DiskName) → disk_of over plan ≡ l → head_refusal plan (head_lines.Layer over asked) ≡ Some refusal)).
-    refused s (plan_of d l b) refusal (comes_after before (headed d l names) line s c h.0) (gone_spells before d l b c.gone) (h.1 (plan_of d l b) disks.Log refl))
-    (layer_err l asked refusal (with_log_err d (layer_step l asked) refusal e))
+    (λ (h : (4 ≤ length l.layers) × (BadLine ≡ refusal)). never_fault before (headed d l size names) line s refusal c (λ stands. absurd (let few : length l.layers < 4 = stands in omega (arith, h.0))) h.1)
+    (λ (h : (length l.layers < 4) × (asked_refusal least l asked ≡ Some refusal)).
+    refused s (plan_of d l size b) refusal (comes_after before (headed d l size names) line s c h.0) (gone_spells before d l size b c.gone)
+    (head_refusal_is (plan_of d l size b) disks.Log asked ∙ h.1))
+    (layer_err least l asked refusal (with_log_err d (layer_step least l asked) size refusal e))
 
 -- a line of the head that is no layer's stands before the layers
-no_size : (d l : Disk) (body : List Command) (n : ℕ) → (StandsAfter (body_prefix d l body) (parsed_lines.Head (head_lines.Data n)) → ⊥) × (StandsAfter (body_prefix d l body) (parsed_lines.Head (head_lines.Log n)) → ⊥)
-no_size d l [] n = (λ stands. stands, λ stands. stands)
-no_size d l (command ∷ body) n = (λ stands. stands, λ stands. stands)
+no_size : (d l : Disk) (body : List Command) (n : ℕ) (size : SectorSize) →
+    (StandsAfter (body_prefix d l body) (parsed_lines.Head (head_lines.Data n)) → ⊥) × (StandsAfter (body_prefix d l body) (parsed_lines.Head (head_lines.Log n size)) → ⊥)
+no_size d l [] n size = (λ stands. stands, λ stands. stands)
+no_size d l (command ∷ body) n size = (λ stands. stands, λ stands. stands)
 
 -- why a layer is refused
-layer_fault : (before : List (List ℕ)) (d l : Disk) (names : List ScriptId) (body : List Command) (line : List ℕ) (over : DiskName) (asked : Result LayerSpec TableError) (refusal : Refusal) →
-    Comes before (in_draft d l (record { names = names; body = body })) line (parsed_lines.Head (head_lines.Layer over asked)) → layer_in (has_begun body) d l over asked ≡ Err refusal →
+layer_fault : (before : List (List ℕ)) (d l : Disk) (size : SectorSize) (names : List ScriptId) (body : List Command) (line : List ℕ) (over : DiskName) (asked : Result LayerSpec TableError) (refusal : Refusal) →
+    Comes before (in_draft d l size (record { names = names; body = body })) line (parsed_lines.Head (head_lines.Layer over asked)) → layer_in (has_begun body) d l size over asked ≡ Err refusal →
     IsLineFault before line refusal
-layer_fault before d l names (command ∷ body) line over asked refusal c e =
-    never_fault before (in_draft d l (record { names = names; body = command ∷ body })) line (parsed_lines.Head (head_lines.Layer over asked)) refusal c (λ stands. stands) (cc)
-layer_fault before d l names [] line disks.Data asked refusal c e = data_fault before d l names line asked refusal l.layers refl c e
-layer_fault before d l names [] line disks.Log asked refusal c e = log_fault before d l names line asked refusal c e
+layer_fault before d l size names (command ∷ body) line over asked refusal c e =
+    never_fault before (in_draft d l size (record { names = names; body = command ∷ body })) line (parsed_lines.Head (head_lines.Layer over asked)) refusal c (λ stands. stands) (cc)
+layer_fault before d l size names [] line disks.Data asked refusal c e = data_fault before d l size names line asked refusal l.layers refl c e
+layer_fault before d l size names [] line disks.Log asked refusal c e = log_fault before d l size names line asked refusal c e
 
 -- why a line of the head is refused
 head_fault : (before : List (List ℕ)) (h : Stage) (b : Body) (line : List ℕ) (s : HeadLine) (refusal : Refusal) → Comes before (record { head = h; body = b }) line (parsed_lines.Head s)
@@ -557,24 +580,24 @@ head_fault : (before : List (List ℕ)) (h : Stage) (b : Body) (line : List ℕ)
 head_fault before heads.Empty b line (head_lines.Data n) refusal c e =
     let p = cond_err (is_disk_size n) (heads.Data (bare n)) BadLine refusal e in
     never_fault before (record { head = heads.Empty; body = b }) line (parsed_lines.Head (head_lines.Data n)) refusal c (λ stands. let both = sym stands ∙ p.0 in cc) p.1
-head_fault before (heads.Data d) b line (head_lines.Log n) refusal c e =
-    let p = cond_err (is_disk_size n) (heads.Whole d (bare n)) BadLine refusal e in
-    never_fault before (record { head = heads.Data d; body = b }) line (parsed_lines.Head (head_lines.Log n)) refusal c (λ stands. let both = sym stands ∙ p.0 in cc) p.1
-head_fault before (heads.Whole d l) b line (head_lines.Layer over asked) refusal c e = layer_fault before d l b.names b.body line over asked refusal c e
-head_fault before heads.Empty b line (head_lines.Log n) refusal c e =
-    never_fault before (record { head = heads.Empty; body = b }) line (parsed_lines.Head (head_lines.Log n)) refusal c (λ stands. stands) (cc)
+head_fault before (heads.Data d) b line (head_lines.Log n size) refusal c e =
+    let p = cond_err (is_log_disk_size (bytes_of size) n) (heads.Whole d (bare n) size) BadLine refusal e in
+    never_fault before (record { head = heads.Data d; body = b }) line (parsed_lines.Head (head_lines.Log n size)) refusal c (λ stands. let both = sym stands ∙ p.0 in cc) p.1
+head_fault before (heads.Whole d l size) b line (head_lines.Layer over asked) refusal c e = layer_fault before d l size b.names b.body line over asked refusal c e
+head_fault before heads.Empty b line (head_lines.Log n size) refusal c e =
+    never_fault before (record { head = heads.Empty; body = b }) line (parsed_lines.Head (head_lines.Log n size)) refusal c (λ stands. stands) (cc)
 head_fault before heads.Empty b line (head_lines.Layer over asked) refusal c e =
     never_fault before (record { head = heads.Empty; body = b }) line (parsed_lines.Head (head_lines.Layer over asked)) refusal c (λ stands. stands) (cc)
 head_fault before (heads.Data d) b line (head_lines.Data n) refusal c e =
     never_fault before (record { head = heads.Data d; body = b }) line (parsed_lines.Head (head_lines.Data n)) refusal c (λ stands. stands) (cc)
 head_fault before (heads.Data d) b line (head_lines.Layer over asked) refusal c e =
     never_fault before (record { head = heads.Data d; body = b }) line (parsed_lines.Head (head_lines.Layer over asked)) refusal c (λ stands. stands) (cc)
-head_fault before (heads.Whole d l) b line (head_lines.Data n) refusal c e =
-    never_fault before (in_draft d l b) line (parsed_lines.Head (head_lines.Data n)) refusal c (no_size d l b.body n).0 (cc)
-head_fault before (heads.Whole d l) b line (head_lines.Log n) refusal c e =
-    never_fault before (in_draft d l b) line (parsed_lines.Head (head_lines.Log n)) refusal c (no_size d l b.body n).1 (cc)
-head_fault before (heads.Ended d l picks) b line s refusal c e =
-    never_fault before (record { head = heads.Ended d l picks; body = b }) line (parsed_lines.Head s) refusal c (λ stands. stands) (cc)
+head_fault before (heads.Whole d l size) b line (head_lines.Data n) refusal c e =
+    never_fault before (in_draft d l size b) line (parsed_lines.Head (head_lines.Data n)) refusal c (no_size d l b.body n size).0 (cc)
+head_fault before (heads.Whole d l size) b line (head_lines.Log n other) refusal c e =
+    never_fault before (in_draft d l size b) line (parsed_lines.Head (head_lines.Log n other)) refusal c (no_size d l b.body n other).1 (cc)
+head_fault before (heads.Ended d l size picks) b line s refusal c e =
+    never_fault before (record { head = heads.Ended d l size picks; body = b }) line (parsed_lines.Head s) refusal c (λ stands. stands) (cc)
 
 -- why a line that says this is refused
 parsed_fault : (before : List (List ℕ)) (q : Progress) (line : List ℕ) (s : Said) (refusal : Refusal) → Comes before q line s → parsed_step kinds.Record q s ≡ Err refusal → IsLineFault before line refusal

@@ -9,6 +9,8 @@ use Rattle.std.proofs.lemmas.Bool.Decides.{nat_tests}
 use Rattle.std.proofs.lemmas.List.{append-nil}
 use Rattle.std.proofs.lemmas.Slice.Eq.{bytes_eq-Decides}
 use Rattle.std.proofs.lemmas.Option.{cond_some}
+use Rattle.bio.specs.declared.sector_size.SectorSize.{SectorSize}
+use Rattle.bio.specs.declared.sector_size.SectorSize.TheVariants as sizes
 use Rattle.dmlw_script.specs.declared.disk_name.DiskName.{DiskName}
 use Rattle.dmlw_script.specs.declared.disk_name.DiskName.TheVariants as disks
 use Rattle.dmlw_script.specs.declared.script_id.ScriptId.{ScriptId}
@@ -19,11 +21,11 @@ use Rattle.dmlw_script.specs.declared.line.BodyLine.TheVariants as body_lines
 use Rattle.dmlw_script.specs.declared.command.Submission.TheVariants as submits
 use Rattle.dmlw_script.specs.declared.command.Step.TheVariants as steps
 use Rattle.dmlw_script.specs.declared.command.WriteOptions.{WriteOptions}
-use Rattle.dmlw_script.specs.Grammar.{layer_verb, message_verb, spaced, AsksFor, IsId, ParsesAs, ParsesAsCrash, ParsesAsId, ParsesAsNumber}
+use Rattle.dmlw_script.specs.Grammar.{layer_verb, message_verb, size_words, spaced, AsksFor, IsId, ParsesAs, ParsesAsCrash, ParsesAsId, ParsesAsNumber}
 use Rattle.words.specs.WordLaws.{number_again, number_read}
 use Rattle.dmlw_script.specs.Lines.{is_line_text, is_skipped}
 use Rattle.dmlw_script.specs.Ids.{is_id, is_name_byte, id_of_word}
-use Rattle.dmlw_script.specs.inside.Parsing.{◌>>=◌, asked_of, body_words, discard_of, disk_of_word, found_options, layer_of, lone_word, mark_of, message_of, message_to, numbers_of, options_of, take_word, parse_parts, parse_words, parse_line, picks_of, plain_parts, read_of, split_words, step, submit, with_number, write_of}
+use Rattle.dmlw_script.specs.inside.Parsing.{◌>>=◌, asked_of, body_words, discard_of, disk_of_word, found_options, layer_of, log_of, lone_word, mark_of, message_of, message_to, numbers_of, options_of, take_word, parse_parts, parse_words, parse_line, picks_of, plain_parts, read_of, size_of, split_words, step, submit, with_number, write_of}
 use Rattle.dmlw_script.specs.Options.{option_text, option_word, option_words, options_text}
 use Rattle.dmlw_script.specs.Words.{byte_from, byte_of, byte_text, half_of, hex_digit}
 use Rattle.dmlw_script.proofs.LayerLaws.{asked_is, one_asked}
@@ -446,11 +448,32 @@ layer_read over words s e =
     let same : layer_of over words ≡ s = cc in
     subst (λ (x : Said). ParsesAs (first_word (layer_verb over) words) x) same (record { text = words; asks = asked_is words; spelled = refl })
 
+-- the size that is read is spelled behind the word before it
+size_read : (word : List ℕ) (rest : Option (List ℕ)) (size : SectorSize) → size_of rest ≡ Some size → word ++ behind rest ≡ spaced (word ∷ size_words size)
+size_read word None size e =
+    let same : sizes.B512 ≡ size = cc in
+    append-nil word ∙ ap (λ (x : SectorSize). spaced (word ∷ size_words x)) same
+size_read word (Some text) size e =
+    let p = cond_some (bytes_eq text (codes "4096")) sizes.B4096 size e in
+    ap (λ (x : List ℕ). word ++ 32 ∷ x) (same_bytes text (codes "4096") p.0) ∙ ap (λ (x : SectorSize). spaced (word ∷ size_words x)) p.1
+
+-- what is heard as the log disk's line is said
+log_read : (words : List ℕ) (s : Said) → log_of words ≡ Some s → ParsesAs (first_word (codes "log") words) s
+log_read words s e =
+    let a = bind_some (number_of (before_byte 32 words)) _ s e in
+    let b = bind_some (size_of (after_byte 32 words)) _ s a.2 in
+    let is : parsed_lines.Head (head_lines.Log a.0 b.0) ≡ s = let last = b.2 in cc in
+    subst (λ (x : Said). ParsesAs (first_word (codes "log") words) x) is (record {
+      word = before_byte 32 words;
+      number = number_read (before_byte 32 words) a.0 a.1;
+      spelled = ap (λ x. first_word (codes "log") x) (before_and_behind words ∙ size_read (before_byte 32 words) (after_byte 32 words) b.0 b.1);
+    })
+
 -- what is heard of the words is said
 said_read : (verb words : List ℕ) (s : Said) → parse_words verb words ≡ Some s → ParsesAs (first_word verb words) s
 said_read verb words s =
     verb_read verb (codes "data") words _ _ s (number_line (codes "data") words (λ n. parsed_lines.Head (head_lines.Data n)) s (λ n says. says))
-    (verb_read verb (codes "log") words _ _ s (number_line (codes "log") words (λ n. parsed_lines.Head (head_lines.Log n)) s (λ n says. says))
+    (verb_read verb (codes "log") words _ _ s (log_read words s)
     (verb_read verb (codes "data-layer") words _ _ s (layer_read disks.Data words s)
     (verb_read verb (codes "log-layer") words _ _ s (layer_read disks.Log words s)
     (body_read verb words s))))
@@ -732,6 +755,15 @@ message_again over lw text layer is_layer plain =
     bind_at _ _ _ _ (ap number_of a.0 ∙ number_again lw layer is_layer)
     (bind_at _ _ _ _ a.1 (cond-true _ _ _ plain))
 
+-- the log disk's line is heard as it is
+log_again : (word : List ℕ) (n : ℕ) (size : SectorSize) → IsNumber word n → log_of (spaced (word ∷ size_words size)) ≡ Some (parsed_lines.Head (head_lines.Log n size))
+log_again word n sizes.B512 is =
+    let c = cut_alone word (number_lacks_space word is.0) in
+    bind_at _ _ _ _ (ap number_of c.0 ∙ number_again word n is) (bind_at _ _ _ _ (ap size_of c.1) refl)
+log_again word n sizes.B4096 is =
+    let c = cut_at 32 word (codes "4096") (number_lacks_space word is.0) in
+    bind_at _ _ _ _ (ap number_of c.0 ∙ number_again word n is) (bind_at _ _ _ _ (ap size_of c.1) refl)
+
 -- a layer is heard as it is
 layer_again : (over : DiskName) (text : List ℕ) (asked : Result LayerSpec TableError) → AsksFor (words_of text) asked → layer_of over text ≡ parsed_lines.Head (head_lines.Layer over asked)
 layer_again over text asked asks =
@@ -741,8 +773,7 @@ layer_again over text asked asks =
 pub parsed_again : (line : List ℕ) (s : Said) → ParsesAs line s → parse_line line ≡ Some s
 parsed_again line (parsed_lines.Head (head_lines.Data n)) says =
     rw says.spelled (ap (option_map (λ k. parsed_lines.Head (head_lines.Data k))) (number_again says.word n says.number))
-parsed_again line (parsed_lines.Head (head_lines.Log n)) says =
-    rw says.spelled (ap (option_map (λ k. parsed_lines.Head (head_lines.Log k))) (number_again says.word n says.number))
+parsed_again line (parsed_lines.Head (head_lines.Log n size)) says = rw says.spelled (log_again says.word n size says.number)
 parsed_again line (parsed_lines.Head (head_lines.Layer disks.Data asked)) says = rw says.spelled (ap Some (layer_again disks.Data says.text asked says.asks))
 parsed_again line (parsed_lines.Head (head_lines.Layer disks.Log asked)) says = rw says.spelled (ap Some (layer_again disks.Log says.text asked says.asks))
 parsed_again line (parsed_lines.Body (body_lines.Submit name (submits.Write first count byte options))) says =

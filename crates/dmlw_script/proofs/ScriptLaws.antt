@@ -5,6 +5,7 @@ use Rattle.std.proofs.lemmas.Bool.{cases_lt, eq-eqb}
 use Rattle.std.proofs.lemmas.List.{append-nil, length-append, length-map}
 use Rattle.std.proofs.lemmas.Option.{slice_get-get_or, slice_get_past}
 use Rattle.std.proofs.Math.Bool.{or-true}
+use Rattle.bio.specs.Sizes.{bytes_of}
 use Rattle.dmlw_script.specs.declared.command.Command.{Command}
 use Rattle.dmlw_script.specs.declared.command.Command.TheVariants as commands
 use Rattle.dmlw_script.specs.declared.script_id.ScriptId.{ScriptId}
@@ -157,7 +158,7 @@ get_behind (s ∷ front) rest place =
     ap (slice_get (s ∷ (front ++ rest))) next ∙ get_behind front rest place
 
 -- as many lines are in a head as its disks and layers
-length-head : (plan : Plan) → length (head_of plan.data_disk plan.log_disk) ≡ head_count plan
+length-head : (plan : Plan) → length (head_of plan.data_disk plan.log_disk plan.log_size) ≡ head_count plan
 length-head plan =
     let d = plan.data_disk.layers in
     let l = plan.log_disk.layers in
@@ -170,7 +171,7 @@ length-head plan =
 pub line_says : (text : List ℕ) (plan : Plan) (place number : ℕ) → IsTextOf text plan → command_line text (place + head_count plan) ≡ Some number → IsLineOf (lines_of text) plan place number
 line_says text plan place number spells e =
     let found = kept_at 1 (lines_of text) (place + head_count plan) number e in
-    let head = head_of plan.data_disk plan.log_disk in
+    let head = head_of plan.data_disk plan.log_disk plan.log_size in
     let parse_words = said_at (unskipped (lines_of text)) (lines_of_script plan) (place + head_count plan) found.line spells.says found.there in
     let at : number ≡ 1 + length found.before = found.number_is in
     record {
@@ -212,7 +213,7 @@ length-unskipped text plan spells =
     let says = as_many (unskipped (lines_of text)) (lines_of_script plan) spells.says in
     let body = length-lines_of_body plan.names 0 plan.commands in
     let ending = length-with_ending plan.ending (lines_of_body plan.names 0 plan.commands) in
-    let parts = length-append (head_of plan.data_disk plan.log_disk) (lines_behind_head plan) in
+    let parts = length-append (head_of plan.data_disk plan.log_disk plan.log_size) (lines_behind_head plan) in
     let head = length-head plan in
     omega arith
 
@@ -268,19 +269,19 @@ one_line lines plan place m n a b =
 -- ---- ends
 
 -- a command of a well-formed body may come after those before it
-well_formed_at : (sectors : ℕ) (done before : List Command) (command : Command) (rest : List Command) → IsWellFormed sectors done (before ++ command ∷ rest)
-    → CanFollow sectors (done ++ before) command
-well_formed_at sectors done [] command rest well_formed =
-    subst (λ (x : List Command). CanFollow sectors x command) (sym (append-nil done)) well_formed.0
-well_formed_at sectors done (first ∷ before) command rest well_formed =
-    subst (λ (x : List Command). CanFollow sectors x command) (append_assoc done (first ∷ []) before)
-    (well_formed_at sectors (done ++ first ∷ []) before command rest well_formed.1)
+well_formed_at : (bytes sectors : ℕ) (done before : List Command) (command : Command) (rest : List Command) → IsWellFormed bytes sectors done (before ++ command ∷ rest)
+    → CanFollow bytes sectors (done ++ before) command
+well_formed_at bytes sectors done [] command rest well_formed =
+    subst (λ (x : List Command). CanFollow bytes sectors x command) (sym (append-nil done)) well_formed.0
+well_formed_at bytes sectors done (first ∷ before) command rest well_formed =
+    subst (λ (x : List Command). CanFollow bytes sectors x command) (append_assoc done (first ∷ []) before)
+    (well_formed_at bytes sectors (done ++ first ∷ []) before command rest well_formed.1)
 
 -- each command of a script may come after those before it
 pub can_follow : (plan : Plan) (before : List Command) (command : Command) (rest : List Command) → IsPlan plan → plan.commands ≡ before ++ command ∷ rest
-    → CanFollow (top_of plan.data_disk) before command
+    → CanFollow (bytes_of plan.log_size) (top_of plan.data_disk) before command
 can_follow plan before command rest is split =
-    well_formed_at (top_of plan.data_disk) [] before command rest (subst (λ (x : List Command). IsWellFormed (top_of plan.data_disk) [] x) split is.well_formed)
+    well_formed_at (bytes_of plan.log_size) (top_of plan.data_disk) [] before command rest (subst (λ (x : List Command). IsWellFormed (bytes_of plan.log_size) (top_of plan.data_disk) [] x) split is.well_formed)
 
 -- a request that a command ends has ended after it
 ended_behind : (request : ℕ) (before between : List Command) → is_ended request (before ++ commands.Complete request ∷ between) ≡ true

@@ -1,6 +1,7 @@
 use Rattle.std.proofs.Common.{◌≡◌, ℕ, ◌+◌, ◌≤◌, true, false, List, [], ◌∷◌, ◌++◌, length, Option, Some, None, Ok, Err, ◌⊎◌, inl, inr, ⊎_elim, refl, ap, ◌∙◌, sym, subst, arith}
 use Rattle.std.specs.Prelude.{Result, IfErr, IfOk}
 use Rattle.std.proofs.lemmas.Bool.{cases_Bool}
+use Rattle.bio.specs.declared.sector_size.SectorSize.{SectorSize}
 use Rattle.refusals.specs.declared.refusal.Refusal.{Refusal}
 use Rattle.refusals.specs.declared.refusal.Refusal.TheVariants.{BadLine, Memory}
 use Rattle.refusals.specs.declared.fault.Fault.{Fault}
@@ -98,14 +99,14 @@ heads_of p q (line ∷ lines) (parsed_lines.Crash picks ∷ ss) says e =
     absurd (run_crash_step p.head p r.0 picks r.1)
 
 -- a whole head has two lines at least
-whole_two : (h : Stage) (rest : List Said) (d l : Disk) → h ≡ heads.Whole d l → 2 ≤ length (lines_of_head h ++ rest)
-whole_two h rest d l is = subst (λ (x : Stage). 2 ≤ length (lines_of_head x ++ rest)) (sym is) (omega arith)
+whole_two : (h : Stage) (rest : List Said) (d l : Disk) (size : SectorSize) → h ≡ heads.Whole d l size → 2 ≤ length (lines_of_head h ++ rest)
+whole_two h rest d l size is = subst (λ (x : Stage). 2 ≤ length (lines_of_head x ++ rest)) (sym is) (omega arith)
 
 -- so many lines were read of a run whose head is whole
-run_count : (q : Progress) (ss : List Said) → run kinds.Run nothing ss ≡ Ok q → AllByRecursion IsFineLine ss → (d l : Disk) → q.head ≡ heads.Whole d l → 2 ≤ length ss
-run_count q ss e fine d l is =
+run_count : (q : Progress) (ss : List Said) → run kinds.Run nothing ss ≡ Ok q → AllByRecursion IsFineLine ss → (d l : Disk) (size : SectorSize) → q.head ≡ heads.Whole d l size → 2 ≤ length ss
+run_count q ss e fine d l size is =
     let g = run_lines q ss (head_run nothing q ss e) fine in
-    subst (λ (lines : List Said). 2 ≤ length lines) g.1 (whole_two q.head (with_ending (ending_of q.head) (lines_of_draft q.body)) d l is)
+    subst (λ (lines : List Said). 2 ≤ length lines) g.1 (whole_two q.head (with_ending (ending_of q.head) (lines_of_draft q.body)) d l size is)
 
 -- what a run's head hears, a recorder's does
 head_heard : (p q : Progress) (o : Option Said) → step_if_parsed kinds.Run p o ≡ Ok q → step_if_parsed kinds.Record p o ≡ Ok q
@@ -138,25 +139,25 @@ RunRefused before line refusal step = (IsBehindHead before line × (refusal ≡ 
 
 -- a head that is whole stands in these lines
 abbrev HasWhole : List (List ℕ) → Stage → Type 0
-HasWhole before h = (d l : Disk) → h ≡ heads.Whole d l → 2 ≤ length (unskipped before)
+HasWhole before h = (d l : Disk) (size : SectorSize) → h ≡ heads.Whole d l size → 2 ≤ length (unskipped before)
 
 -- why a line of a run's body is refused
 run_body_refused : (before : List (List ℕ)) (q : Progress) (line : List ℕ) (s : BodyLine) (refusal : Refusal) (h : Stage) → is_skipped line ≡ false → ParsesAs line (parsed_lines.Body s)
     → HasWhole before h → body_line kinds.Run h q s ≡ Err refusal → RunRefused before line refusal (body_line kinds.Record h q s)
 run_body_refused before q line s refusal heads.Empty kept says many e = inr e
 run_body_refused before q line s refusal (heads.Data d) kept says many e = inr e
-run_body_refused before q line s refusal (heads.Whole d l) kept says many e =
-    inl ((many d l refl, kept, λ is. absurd (let same = one_parsed line (parsed_lines.Body s) (parsed_lines.Head is.0) says is.1 in cc)), cc)
-run_body_refused before q line s refusal (heads.Ended d l picks) kept says many e = inr e
+run_body_refused before q line s refusal (heads.Whole d l size) kept says many e =
+    inl ((many d l size refl, kept, λ is. absurd (let same = one_parsed line (parsed_lines.Body s) (parsed_lines.Head is.0) says is.1 in cc)), cc)
+run_body_refused before q line s refusal (heads.Ended d l size picks) kept says many e = inr e
 
 -- why a crash of a run is refused
 run_crash_refused : (before : List (List ℕ)) (q : Progress) (line picks : List ℕ) (refusal : Refusal) (h : Stage) → is_skipped line ≡ false → ParsesAs line (parsed_lines.Crash picks)
     → HasWhole before h → crash_line kinds.Run h q picks ≡ Err refusal → RunRefused before line refusal (crash_line kinds.Record h q picks)
 run_crash_refused before q line picks refusal heads.Empty kept says many e = inr e
 run_crash_refused before q line picks refusal (heads.Data d) kept says many e = inr e
-run_crash_refused before q line picks refusal (heads.Whole d l) kept says many e =
-    inl ((many d l refl, kept, λ is. absurd (let same = one_parsed line (parsed_lines.Crash picks) (parsed_lines.Head is.0) says is.1 in cc)), cc)
-run_crash_refused before q line picks refusal (heads.Ended d l ended) kept says many e = inr e
+run_crash_refused before q line picks refusal (heads.Whole d l size) kept says many e =
+    inl ((many d l size refl, kept, λ is. absurd (let same = one_parsed line (parsed_lines.Crash picks) (parsed_lines.Head is.0) says is.1 in cc)), cc)
+run_crash_refused before q line picks refusal (heads.Ended d l size ended) kept says many e = inr e
 
 -- why a run's line that says this is refused
 run_parsed : (before : List (List ℕ)) (q : Progress) (line : List ℕ) (s : Said) (refusal : Refusal) → is_skipped line ≡ false → ParsesAs line s
@@ -208,7 +209,7 @@ run_line text fault (Some number) is reads =
     let g = go_heard kinds.Run nothing f.q f.before f.gone in
     let said = as_many (unskipped f.before) g.ss g.step_if_parsed.says in
     let fine = all_fine (unskipped f.before) g.ss g.step_if_parsed.says in
-    let many : HasWhole f.before f.q.head = (λ d l whole. omega (arith, said, run_count f.q g.ss g.leads fine d l whole)) in
+    let many : HasWhole f.before f.q.head = (λ d l size whole. omega (arith, said, run_count f.q g.ss g.leads fine d l size whole)) in
     let gone = head_lines nothing f.q f.before f.gone in
     let place : number ≡ 1 + length f.before = (let both = sym is ∙ f.place in cc) in
     record {

@@ -10,7 +10,7 @@ use Rattle.dmlw_script.specs.declared.command.Step.{Step}
 use Rattle.dmlw_script.specs.declared.command.Step.TheVariants as steps
 use Rattle.dmlw_script.specs.declared.disk_name.DiskName.{DiskName}
 use Rattle.dmlw_script.specs.declared.script_id.ScriptId.{ScriptId}
-use Rattle.dmlw_script.specs.Grammar.{layer_verb, message_verb, spaced}
+use Rattle.dmlw_script.specs.Grammar.{layer_verb, message_verb, size_words, spaced}
 use Rattle.dmlw_script.specs.Ids.{letters_of}
 use Rattle.dmlw_script.specs.Options.{option_words}
 use Rattle.dmlw_script.specs.Plans.{lines_of_script, Plan}
@@ -43,7 +43,7 @@ layer_text over (Err error) = []
 -- the line that says this
 abbrev pub line_text : Said → List ℕ
 line_text (parsed_lines.Head (head_lines.Data sectors)) = spaced (codes "data" ∷ decimal sectors ∷ [])
-line_text (parsed_lines.Head (head_lines.Log sectors)) = spaced (codes "log" ∷ decimal sectors ∷ [])
+line_text (parsed_lines.Head (head_lines.Log sectors size)) = spaced (codes "log" ∷ decimal sectors ∷ size_words size)
 line_text (parsed_lines.Head (head_lines.Layer over asked)) = layer_text over asked
 line_text (parsed_lines.Body (body_lines.Submit name submission)) = submission_text name submission
 line_text (parsed_lines.Body (body_lines.Complete name)) = spaced (codes "c" ∷ letters_of name ∷ [])

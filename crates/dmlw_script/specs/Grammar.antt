@@ -1,6 +1,8 @@
 -- The grammar of a recorder's scripts, as a relation between texts and scripts.
 use Rattle.std.specs.Prelude.{◌≡◌, ℕ, ◌<◌, true, ◌+◌, List, [], ◌∷◌, ◌++◌, Result, Ok, Err, Some, codes, length, slice_get}
 use Rattle.std.specs.List.{join_with_byte, AllByRecursion, AllZip}
+use Rattle.bio.specs.declared.sector_size.SectorSize.{SectorSize}
+use Rattle.bio.specs.declared.sector_size.SectorSize.TheVariants as sizes
 use Rattle.dmlw_script.specs.declared.disk_name.DiskName.{DiskName}
 use Rattle.dmlw_script.specs.declared.disk_name.DiskName.TheVariants as disks
 use Rattle.dmlw_script.specs.declared.script_id.ScriptId.{ScriptId}
@@ -35,6 +37,17 @@ pub record ParsesAsNumber (verb line : List ℕ) (n : ℕ) : Type 0 where
   pub word : List ℕ
   pub number : IsNumber word n
   pub spelled : line ≡ spaced (verb ∷ word ∷ [])
+
+-- the words of the size of a log's sectors behind the sectors of its disk: none for 512 bytes
+abbrev pub size_words : SectorSize → List (List ℕ)
+size_words sizes.B512 = []
+size_words sizes.B4096 = codes "4096" ∷ []
+
+-- the line is that of the log disk: its sectors, and the size of the log's sectors
+pub record ParsesAsLog (line : List ℕ) (sectors : ℕ) (size : SectorSize) : Type 0 where
+  pub word : List ℕ
+  pub number : IsNumber word sectors
+  pub spelled : line ≡ spaced (codes "log" ∷ word ∷ size_words size)
 
 -- the line is this first word and an id
 pub record ParsesAsId (verb line : List ℕ) (name : ScriptId) : Type 0 where
@@ -114,7 +127,7 @@ pub record ParsesAsLayer (over : DiskName) (line : List ℕ) (asked : Result Lay
 -- what a line says by its words
 abbrev pub ParsesAs : List ℕ → Said → Type 0
 ParsesAs line (parsed_lines.Head (head_lines.Data sectors)) = ParsesAsNumber (codes "data") line sectors
-ParsesAs line (parsed_lines.Head (head_lines.Log sectors)) = ParsesAsNumber (codes "log") line sectors
+ParsesAs line (parsed_lines.Head (head_lines.Log sectors size)) = ParsesAsLog line sectors size
 ParsesAs line (parsed_lines.Head (head_lines.Layer over asked)) = ParsesAsLayer over line asked
 ParsesAs line (parsed_lines.Body (body_lines.Submit name (submits.Write first count byte options))) =
     ParsesAsWrite line name first count byte options

@@ -1,4 +1,5 @@
 pub use Rattle.bio.specs.Refusals
+pub use Rattle.bio.specs.Sizes
 pub use Rattle.table_line.specs.Ranges
 pub use Rattle.table_line.specs.Standing
 pub use Rattle.table_line.specs.TableLines

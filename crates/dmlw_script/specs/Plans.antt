@@ -1,8 +1,11 @@
 -- What a script is, apart from any text, and what its lines say.
-use Rattle.std.specs.Prelude.{◌≡◌, ℕ, ◌+◌, ◌^◌, ◌<◌, ◌≤◌, ◌==◌, nat_le, Bool, true, false, ◌&&◌, List, [], ◌∷◌, ◌++◌, Option, Some, None, is_some, Result, Ok, length, map, position, slice_index_or, count_by, if◌then◌else◌}
+use Rattle.std.specs.Prelude.{◌≡◌, ℕ, ◌+◌, ◌/◌, ◌^◌, ◌<◌, ◌≤◌, ◌==◌, nat_le, Bool, true, false, ◌&&◌, List, [], ◌∷◌, ◌++◌, Option, Some, None, is_some, Result, Ok, length, map, position, slice_index_or, count_by, if◌then◌else◌}
 use Rattle.std.specs.List.{list_any, AllByRecursion, IsDistinct}
-use Rattle.bio.specs.Check.{range_answer}
+use Rattle.bio.specs.Check.{check_sized_answer}
+use Rattle.bio.specs.Sizes.{bytes_of}
 use Rattle.bio.specs.declared.request.BadBio.{BadBio}
+use Rattle.bio.specs.declared.request.Bio.TheVariants.{Read}
+use Rattle.bio.specs.declared.sector_size.SectorSize.{SectorSize}
 use Rattle.dmlw_script.specs.declared.command.Command.{Command}
 use Rattle.dmlw_script.specs.declared.command.Command.TheVariants as commands
 use Rattle.dmlw_script.specs.declared.command.Submission.{Submission}
@@ -27,11 +30,12 @@ pub record Disk : Type 0 where
   pub sectors : ℕ
   pub layers : List LayerSpec
 
--- what a script holds: its disks, the ids of its requests in the order of their submissions, and the
--- lines of its body, and the picks of the crash of the log disk that ends it, if one does
+-- what a script holds: its disks, the size of its log's sectors, the ids of its requests in the order of their submissions, and
+-- the lines of its body, and the picks of the crash of the log disk that ends it, if one does
 pub record Plan : Type 0 where
   pub data_disk : Disk
   pub log_disk : Disk
+  pub log_size : SectorSize
   pub names : List ScriptId
   pub commands : List Command
   pub ending : Option (List ℕ)
@@ -39,6 +43,15 @@ pub record Plan : Type 0 where
 -- a disk may have so many sectors
 abbrev pub is_disk_size : ℕ → Bool
 is_disk_size sectors = nat_le 1 sectors && nat_le sectors 1048576
+
+-- a disk of so many sectors may be that of a log whose sectors are of so many bytes: one of them fits on it
+abbrev pub is_log_disk_size : ℕ → ℕ → Bool
+is_log_disk_size bytes sectors = is_disk_size sectors && nat_le (bytes / 512) sectors
+
+-- the fewest sectors of a layer over this disk: those that one of the log's sectors takes over the log disk, and one over the data disk
+abbrev pub least_sectors : DiskName → SectorSize → ℕ
+least_sectors disks.Data size = 1
+least_sectors disks.Log size = bytes_of size / 512
 
 -- the sectors of what stands on top of a disk
 abbrev pub top_of : Disk → ℕ
@@ -87,20 +100,26 @@ is_end_of request (commands.Step step) = false
 abbrev pub is_ended : ℕ → List Command → Bool
 is_ended request body = list_any (is_end_of request) body
 
--- what a test of the sectors that a submission covers answers, on a data disk of so many
-abbrev pub submission_answer : ℕ → Submission → Result (Unit {0}) BadBio
-submission_answer sectors (submits.Write first count byte options) = range_answer first count sectors
-submission_answer sectors submits.Flush = Ok tt
-submission_answer sectors (submits.Discard first count) = range_answer first count sectors
+-- what a test answers of `count` sectors from `first` on, for a log of sectors of so many bytes and a data disk of so many
+-- sectors: what it answers of a read of them
+abbrev pub range_test : (bytes sectors first count : ℕ) → Result (Unit {0}) BadBio
+range_test bytes sectors first count = check_sized_answer bytes (Read first count) sectors
+
+-- what a test of the sectors that a submission covers answers, for a log of sectors of so many bytes and a data disk of so many
+-- sectors
+abbrev pub submission_answer : (bytes sectors : ℕ) → Submission → Result (Unit {0}) BadBio
+submission_answer bytes sectors (submits.Write first count byte options) = range_test bytes sectors first count
+submission_answer bytes sectors submits.Flush = Ok tt
+submission_answer bytes sectors (submits.Discard first count) = range_test bytes sectors first count
 
 -- the same of a line that names no request
-abbrev pub step_answer : ℕ → Step → Result (Unit {0}) BadBio
-step_answer sectors steps.Close = Ok tt
-step_answer sectors (steps.Read first count) = range_answer first count sectors
-step_answer sectors steps.Turn = Ok tt
-step_answer sectors (steps.Mark text) = Ok tt
-step_answer sectors (steps.At moment) = Ok tt
-step_answer sectors (steps.Message over layer text) = Ok tt
+abbrev pub step_answer : (bytes sectors : ℕ) → Step → Result (Unit {0}) BadBio
+step_answer bytes sectors steps.Close = Ok tt
+step_answer bytes sectors (steps.Read first count) = range_test bytes sectors first count
+step_answer bytes sectors steps.Turn = Ok tt
+step_answer bytes sectors (steps.Mark text) = Ok tt
+step_answer bytes sectors (steps.At moment) = Ok tt
+step_answer bytes sectors (steps.Message over layer text) = Ok tt
 
 -- what a submission writes is a byte
 abbrev pub WritesByte : Submission → Type 0
@@ -151,33 +170,37 @@ IsInTime moment (steps.Mark text) = Unit {0}
 IsInTime moment (steps.At later) = moment ≤ later
 IsInTime moment (steps.Message over layer text) = Unit {0}
 
--- the command may come after these, for a data disk of so many sectors: what it covers passes the test of its sectors, a
--- write writes a byte, the text of a mark or of a message may stand in a line, no moment is less than before, and an end is
--- that of a request that was submitted and hasn't ended
-abbrev pub CanFollow : ℕ → List Command → Command → Type 0
-CanFollow sectors before (commands.Submit submission) = (submission_answer sectors submission ≡ Ok tt) × WritesByte submission
-CanFollow sectors before (commands.Complete request) = (request < submissions before) × (is_ended request before ≡ false)
-CanFollow sectors before (commands.Step step) = (step_answer sectors step ≡ Ok tt) × HasLineText step × IsInTime (moment_after before) step
+-- the command may come after these, for a log of sectors of so many bytes and a data disk of so many sectors: what it covers
+-- passes the test of its sectors, a write writes a byte, the text of a mark or of a message may stand in a line, no moment is
+-- less than before, and an end is that of a request that was submitted and hasn't ended
+abbrev pub CanFollow : (bytes sectors : ℕ) → List Command → Command → Type 0
+CanFollow bytes sectors before (commands.Submit submission) = (submission_answer bytes sectors submission ≡ Ok tt) × WritesByte submission
+CanFollow bytes sectors before (commands.Complete request) = (request < submissions before) × (is_ended request before ≡ false)
+CanFollow bytes sectors before (commands.Step step) =
+    (step_answer bytes sectors step ≡ Ok tt) × HasLineText step × IsInTime (moment_after before) step
 
 -- each command may come after those before it
-abbrev pub IsWellFormed : ℕ → List Command → List Command → Type 0
-IsWellFormed sectors before [] = Unit {0}
-IsWellFormed sectors before (command ∷ body) = CanFollow sectors before command × IsWellFormed sectors (before ++ command ∷ []) body
+abbrev pub IsWellFormed : (bytes sectors : ℕ) → List Command → List Command → Type 0
+IsWellFormed bytes sectors before [] = Unit {0}
+IsWellFormed bytes sectors before (command ∷ body) =
+    CanFollow bytes sectors before command × IsWellFormed bytes sectors (before ++ command ∷ []) body
 
 -- the picks of a crash are numbers of 64 bits
 abbrev pub ArePicks : Option (List ℕ) → Type 0
 ArePicks None = Unit {0}
 ArePicks (Some picks) = AllByRecursion (λ pick. pick < 2 ^ 64) picks
 
--- a script of the grammar: its disks are those of one, its ids are ids and differ, each submission has one, its commands come
--- as they may over the top of the data disk, and the picks of its crash are numbers
+-- a script of the grammar: its disks are those of one, a sector of the log fits on the top of the log disk, its ids are ids and
+-- differ, each submission has one, its commands come as they may over the top of the data disk, and the picks of its crash are
+-- numbers
 pub record IsPlan (plan : Plan) : Type 0 where
   pub data_disk : IsDisk plan.data_disk
   pub log_disk : IsDisk plan.log_disk
+  pub room : bytes_of plan.log_size / 512 ≤ top_of plan.log_disk
   pub ids : AllByRecursion IsName plan.names
   pub distinct : IsDistinct same_name plan.names
   pub numbered : length plan.names ≡ submissions plan.commands
-  pub well_formed : IsWellFormed (top_of plan.data_disk) [] plan.commands
+  pub well_formed : IsWellFormed (bytes_of plan.log_size) (top_of plan.data_disk) [] plan.commands
   pub picks : ArePicks plan.ending
 
 -- the id of a request
@@ -225,11 +248,15 @@ count_behind_head plan = length plan.commands + (if is_some plan.ending then 1 e
 abbrev pub layer_line : DiskName → LayerSpec → Said
 layer_line over spec = parsed_lines.Head (head_lines.Layer over (Ok spec))
 
--- what the lines of a head say: the sectors of the data disk and those of the log disk, then the layers of the data disk, and
--- then those of the log disk
-abbrev pub head_of : Disk → Disk → List Said
-head_of data_disk log_disk =
-    parsed_lines.Head (head_lines.Data data_disk.sectors) ∷ parsed_lines.Head (head_lines.Log log_disk.sectors)
+-- the line of the log disk: its sectors, and the size of the log's sectors
+abbrev pub log_line : ℕ → SectorSize → Said
+log_line sectors size = parsed_lines.Head (head_lines.Log sectors size)
+
+-- what the lines of a head say: the sectors of the data disk, those of the log disk and the size of the log's sectors, then the
+-- layers of the data disk, and then those of the log disk
+abbrev pub head_of : Disk → Disk → SectorSize → List Said
+head_of data_disk log_disk log_size =
+    parsed_lines.Head (head_lines.Data data_disk.sectors) ∷ log_line log_disk.sectors log_size
     ∷ (map (layer_line disks.Data) data_disk.layers ++ map (layer_line disks.Log) log_disk.layers)
 
 -- how many lines a script's head has: two, and one for each layer
@@ -238,4 +265,4 @@ head_count plan = 2 + length plan.data_disk.layers + length plan.log_disk.layers
 
 -- what the lines of a script say, in their order
 abbrev pub lines_of_script : Plan → List Said
-lines_of_script plan = head_of plan.data_disk plan.log_disk ++ lines_behind_head plan
+lines_of_script plan = head_of plan.data_disk plan.log_disk plan.log_size ++ lines_behind_head plan

@@ -1,7 +1,8 @@
 -- What reading answers to a text that is no script: the first line that is at fault, and why.
-use Rattle.std.specs.Prelude.{◌≡◌, ℕ, ◌+◌, ◌<◌, ◌≤◌, ◌⊎◌, Bool, true, false, not, List, [], ◌∷◌, ◌++◌, Option, Some, None, Err, Result, Ok, length, if◌then◌else◌}
+use Rattle.std.specs.Prelude.{◌≡◌, ℕ, ◌+◌, ◌<◌, ◌≤◌, ◌⊎◌, Bool, true, false, not, List, [], ◌∷◌, ◌++◌, Option, Some, None, Err, Result, Ok, length, nat_le, if◌then◌else◌}
 use Rattle.std.specs.List.{list_any, AllByRecursion, AllZip}
 use Rattle.bio.specs.Refusals.{bad_bio_refusal}
+use Rattle.bio.specs.Sizes.{bytes_of}
 use Rattle.refusals.specs.declared.refusal.Refusal.{Refusal}
 use Rattle.refusals.specs.declared.refusal.Refusal.TheVariants.{BadLine, BadId, Memory, OutOfRange}
 use Rattle.bio.specs.declared.request.BadBio.{BadBio}
@@ -16,7 +17,7 @@ use Rattle.dmlw_script.specs.declared.line.BodyLine.TheVariants as body_lines
 use Rattle.dmlw_script.specs.Grammar.{ParsesAs, AreLinesOf}
 use Rattle.dmlw_script.specs.Lines.{is_ascii_line, is_skipped, unskipped, lines_of}
 use Rattle.dmlw_script.specs.Ids.{same_name}
-use Rattle.dmlw_script.specs.Plans.{disk_of, is_disk_size, is_ended, is_within, moment_at_step, request_of, step_answer, submission_answer, top_of, Disk, IsInTime, Plan}
+use Rattle.dmlw_script.specs.Plans.{disk_of, is_disk_size, is_ended, is_log_disk_size, is_within, least_sectors, moment_at_step, request_of, step_answer, submission_answer, top_of, Disk, IsInTime, Plan}
 use Rattle.table_line.specs.declared.layer_spec.LayerSpec.{LayerSpec}
 use Rattle.table_line.specs.Refusals.{table_refusal}
 
@@ -52,7 +53,7 @@ moment_at_line moment (body_lines.Step step) = moment_at_step moment step
 -- how much was read with a line that says this; nothing may come behind a crash, nor behind what may not stand there
 abbrev pub next : Prefix → Said → Prefix
 next data_due (parsed_lines.Head (head_lines.Data sectors)) = log_due (bare sectors)
-next (log_due data_disk) (parsed_lines.Head (head_lines.Log sectors)) = in_head data_disk (bare sectors)
+next (log_due data_disk) (parsed_lines.Head (head_lines.Log sectors size)) = in_head data_disk (bare sectors)
 next (in_head data_disk log_disk) (parsed_lines.Head (head_lines.Layer disks.Data (Ok spec))) = in_head (with_layer data_disk spec) log_disk
 next (in_head data_disk log_disk) (parsed_lines.Head (head_lines.Layer disks.Log (Ok spec))) = in_head data_disk (with_layer log_disk spec)
 next (in_head data_disk log_disk) (parsed_lines.Body line) = in_body data_disk log_disk (moment_at_line 0 line)
@@ -71,11 +72,11 @@ ComesInTime moment (body_lines.Complete name) = Unit {0}
 ComesInTime moment (body_lines.Step step) = IsInTime moment step
 
 -- what a line says may stand behind so much, as far as its words say: first the size of the data disk, then that of the log
--- disk, then up to four layers of the data disk, then up to four of the log disk, then the body, whose moments don't go back,
--- and nothing behind a crash
+-- disk, on which one of the log's sectors fits, then up to four layers of the data disk, then up to four of the log disk, then
+-- the body, whose moments don't go back, and nothing behind a crash
 abbrev pub StandsAfter : Prefix → Said → Type 0
 StandsAfter data_due (parsed_lines.Head (head_lines.Data sectors)) = is_disk_size sectors ≡ true
-StandsAfter (log_due data_disk) (parsed_lines.Head (head_lines.Log sectors)) = is_disk_size sectors ≡ true
+StandsAfter (log_due data_disk) (parsed_lines.Head (head_lines.Log sectors size)) = is_log_disk_size (bytes_of size) sectors ≡ true
 StandsAfter (in_head data_disk log_disk) (parsed_lines.Head (head_lines.Layer disks.Data asked)) = (length data_disk.layers < 4) × (log_disk.layers ≡ [])
 StandsAfter (in_head data_disk log_disk) (parsed_lines.Head (head_lines.Layer disks.Log asked)) = length log_disk.layers < 4
 StandsAfter (in_head data_disk log_disk) (parsed_lines.Body line) = ComesInTime 0 line
@@ -106,17 +107,20 @@ test_refusal (Err bad) = Some (bad_bio_refusal bad)
 -- of a request that is open; or else its sectors don't pass the test
 abbrev pub body_refusal : Plan → BodyLine → Option Refusal
 body_refusal plan (body_lines.Submit name submission) =
-    if list_any (same_name name) plan.names then Some BadId else test_refusal (submission_answer (top_of plan.data_disk) submission)
+    if list_any (same_name name) plan.names then Some BadId
+    else test_refusal (submission_answer (bytes_of plan.log_size) (top_of plan.data_disk) submission)
 body_refusal plan (body_lines.Complete name) = if is_open (request_of name plan.names) plan then None else Some BadId
-body_refusal plan (body_lines.Step step) = test_refusal (step_answer (top_of plan.data_disk) step)
+body_refusal plan (body_lines.Step step) = test_refusal (step_answer (bytes_of plan.log_size) (top_of plan.data_disk) step)
 
 -- why a line of the head is refused after a script, if it is: its table line asks for no layer, or for one that isn't within
--- what stands beneath it
+-- what stands beneath it, or for one of too few sectors
 abbrev pub head_refusal : Plan → HeadLine → Option Refusal
 head_refusal plan (head_lines.Data sectors) = None
-head_refusal plan (head_lines.Log sectors) = None
+head_refusal plan (head_lines.Log sectors size) = None
 head_refusal plan (head_lines.Layer over (Err error)) = Some (table_refusal error)
-head_refusal plan (head_lines.Layer over (Ok spec)) = if is_within spec (top_of (disk_of over plan)) then None else Some OutOfRange
+head_refusal plan (head_lines.Layer over (Ok spec)) =
+    if is_within spec (top_of (disk_of over plan)) then (if nat_le (least_sectors over plan.log_size) spec.length then None else Some BadLine)
+    else Some OutOfRange
 
 -- why a line is refused after a script, if it is
 abbrev pub line_refusal : Plan → Said → Option Refusal

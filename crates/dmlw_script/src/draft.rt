@@ -1,5 +1,6 @@
 ghost use Rattle.std.specs.Prelude.{◌≡◌, ◌<◌, ◌+◌, ℕ, [], Ok, OnOk, false, length, option_map};
-ghost use Rattle.dmlw_script.specs.Plans.{moment_at, submission_answer};
+ghost use Rattle.bio.specs.Sizes.{bytes_of};
+ghost use Rattle.dmlw_script.specs.Plans.{moment_at, range_test, submission_answer};
 ghost use Rattle.dmlw_script.specs.inside.Drafts.{as_refusal, step_test, Follows};
 
 use crate::command::{Command, Step, Submission};
@@ -8,7 +9,7 @@ use crate::line::BodyLine;
 use crate::line_error::LineError;
 use crate::script::Script;
 use crate::script_id::ScriptId;
-use bio::{Bio, Ms, check};
+use bio::{BadBio, Bio, Ms, SectorSize, check_sized};
 use indexmap::IndexSet;
 use refusals::Refusal;
 use std::alloc::Global;
@@ -41,16 +42,23 @@ impl Draft {
         }
     }
 
-    /// Reads the next line, for a data disk of so many sectors.
-    pub(crate) fn read(&mut self, parsed: BodyLine, sectors: u64) -> Result<(), LineError>
+    /// Reads the next line, for a data disk of so many sectors and a log of such sectors.
+    pub(crate) fn read(
+        &mut self,
+        parsed: BodyLine,
+        sectors: u64,
+        log_size: SectorSize,
+    ) -> Result<(), LineError>
         requires { IsDraft self.old }
         ensures draft { OnOk result (IsDraft self.new) }
-        ensures step { Follows result (body_of self.new) (body_step sectors (body_of self.old) parsed) }
+        ensures step { Follows result (body_of self.new) (body_step (bytes_of log_size) sectors (body_of self.old) parsed) }
     {
         match parsed {
-            BodyLine::Submit { name, submission } => self.submit(name, submission, sectors),
+            BodyLine::Submit { name, submission } => {
+                self.submit(name, submission, sectors, log_size)
+            }
             BodyLine::Complete { name } => self.complete(name),
-            BodyLine::Step(step) => self.step(step, sectors),
+            BodyLine::Step(step) => self.step(step, sectors, log_size),
         }
     }
 
@@ -60,13 +68,14 @@ impl Draft {
         name: ScriptId,
         submission: Submission,
         sectors: u64,
+        log_size: SectorSize,
     ) -> Result<(), LineError>
         requires { IsDraft self.old }
         ensures draft { OnOk result (IsDraft self.new) }
-        ensures step { Follows result (body_of self.new) (body_step sectors (body_of self.old) (BodyLine.Submit name submission)) }
+        ensures step { Follows result (body_of self.new) (body_step (bytes_of log_size) sectors (body_of self.old) (BodyLine.Submit name submission)) }
     {
         self.name_next(name)?;
-        check_submission(submission, sectors)?;
+        check_submission(submission, sectors, log_size)?;
         self.say(Command::Submit(submission))
     }
 
@@ -74,7 +83,7 @@ impl Draft {
     fn complete(&mut self, name: ScriptId) -> Result<(), LineError>
         requires { IsDraft self.old }
         ensures draft { OnOk result (IsDraft self.new) }
-        ensures step { Follows result (body_of self.new) (body_step 0 (body_of self.old) (BodyLine.Complete name)) }
+        ensures step { Follows result (body_of self.new) (body_step 0 0 (body_of self.old) (BodyLine.Complete name)) }
     {
         let request = self.names.get_index_of(&name).ok_or(Refusal::BadId)?;
         if self.has_ended[request] {
@@ -84,24 +93,25 @@ impl Draft {
     }
 
     // A line that names no request.
-    fn step(&mut self, step: Step, sectors: u64) -> Result<(), LineError>
+    fn step(&mut self, step: Step, sectors: u64, log_size: SectorSize) -> Result<(), LineError>
         requires { IsDraft self.old }
         ensures draft { OnOk result (IsDraft self.new) }
-        ensures step { Follows result (body_of self.new) (body_step sectors (body_of self.old) (BodyLine.Step step)) }
+        ensures step { Follows result (body_of self.new) (body_step (bytes_of log_size) sectors (body_of self.old) (BodyLine.Step step)) }
     {
-        check_step(&step, sectors, self.moment)?;
+        check_step(&step, sectors, log_size, self.moment)?;
         self.say(Command::Step(step))
     }
 
-    /// The script over these disks, and the picks of the crash that ends it, if one does.
+    /// The script over these disks, with a log of such sectors, and the picks of the crash that ends it, if one does.
     pub(crate) fn into_script(
         self,
         data_disk: DiskSpec,
         log_disk: DiskSpec,
+        log_size: SectorSize,
         ending: Option<Vec<u64>>,
     ) -> Script
-        requires { IsPlan (record { data_disk = data_disk; log_disk = log_disk; names = (body_of self).names; commands = (body_of self).body; ending = option_map (λ picks. picks.items) ending }) }
-        ensures { result ≡ record { data_disk = data_disk; log_disk = log_disk; names = (body_of self).names; commands = (body_of self).body; ending = option_map (λ picks. picks.items) ending } }
+        requires { IsPlan (record { data_disk = data_disk; log_disk = log_disk; log_size = log_size; names = (body_of self).names; commands = (body_of self).body; ending = option_map (λ picks. picks.items) ending }) }
+        ensures { result ≡ record { data_disk = data_disk; log_disk = log_disk; log_size = log_size; names = (body_of self).names; commands = (body_of self).body; ending = option_map (λ picks. picks.items) ending } }
     {
         let Draft {
             names,
@@ -109,7 +119,7 @@ impl Draft {
             commands,
             moment: _,
         } = self;
-        Script::new(data_disk, log_disk, names, commands, ending)
+        Script::new(data_disk, log_disk, log_size, names, commands, ending)
     }
 
     // The next request has this id.
@@ -151,30 +161,35 @@ impl Draft {
     }
 }
 
-// What is asked of the sectors that a submission covers, on a disk of so many.
-fn check_submission(submission: Submission, sectors: u64) -> Result<(), LineError>
-    ensures { Follows result tt (as_refusal (submission_answer sectors submission)) }
+// What is asked of the sectors that a submission covers, on a disk of so many, with a log of such sectors.
+fn check_submission(
+    submission: Submission,
+    sectors: u64,
+    log_size: SectorSize,
+) -> Result<(), LineError>
+    ensures { Follows result tt (as_refusal (submission_answer (bytes_of log_size) sectors submission)) }
 {
     match submission {
         Submission::Write { first, count, .. } | Submission::Discard { first, count } => {
-            Ok(check(&Bio::Read { first, count }, sectors)?)
+            Ok(check_range(first, count, sectors, log_size)?)
         }
         Submission::Flush => Ok(()),
     }
 }
 
+// What is asked of `count` sectors from sector `first` on, on a disk of so many, with a log of such sectors.
+fn check_range(first: u64, count: u64, sectors: u64, log_size: SectorSize) -> Result<(), BadBio>
+    ensures { result ≡ range_test (bytes_of log_size) sectors first count }
+{
+    check_sized(&Bio::Read { first, count }, sectors, log_size)
+}
+
 // What is asked of a line that names no request, at this moment: no less of an `at`, and the same of sectors.
-fn check_step(step: &Step, sectors: u64, moment: Ms) -> Result<(), LineError>
-    ensures { Follows result tt (step_test sectors moment step.now) }
+fn check_step(step: &Step, sectors: u64, log_size: SectorSize, moment: Ms) -> Result<(), LineError>
+    ensures { Follows result tt (step_test (bytes_of log_size) sectors moment step.now) }
 {
     match step {
-        Step::Read { first, count } => {
-            let read = Bio::Read {
-                first: *first,
-                count: *count,
-            };
-            Ok(check(&read, sectors)?)
-        }
+        Step::Read { first, count } => Ok(check_range(*first, *count, sectors, log_size)?),
         Step::At { moment: later } if later.milliseconds() < moment.milliseconds() => {
             Err(LineError::Refused(Refusal::BadLine))
         }

@@ -1,5 +1,6 @@
 ghost use Rattle.std.specs.Prelude.{◌≡◌, List, false, ℕ};
-ghost use Rattle.dmlw_script.specs.Plans.{is_disk_size as is_a_disk_size, is_within as is_within_them};
+ghost use Rattle.bio.specs.Sizes.{bytes_of};
+ghost use Rattle.dmlw_script.specs.Plans.{is_disk_size as is_a_disk_size, is_log_disk_size as is_a_log_disk_size, is_within as is_within_them};
 ghost use Rattle.dmlw_script.specs.inside.Drafts.{Follows};
 ghost use Rattle.dmlw_script.specs.inside.Heads.{head_step, layer_in, layer_step, stage_of};
 ghost use Rattle.dmlw_script.specs.inside.Stages as heads;
@@ -8,6 +9,7 @@ use crate::disk::DiskSpec;
 use crate::disk_name::DiskName;
 use crate::line::HeadLine;
 use crate::line_error::LineError;
+use bio::SectorSize;
 use refusals::Refusal;
 use sectors::MAX_DEVICE_SECTORS;
 use std::alloc::Global;
@@ -37,6 +39,8 @@ pub(crate) struct Head {
     pub(crate) data_disk: DiskSpec,
     /// The log disk, the same.
     pub(crate) log_disk: DiskSpec,
+    /// The size of the log's sectors, 512 bytes where the log disk's line wasn't read.
+    pub(crate) log_size: SectorSize,
 }
 
 impl Head {
@@ -47,6 +51,7 @@ impl Head {
             part: Part::Nothing,
             data_disk: DiskSpec::new(alloc, 0),
             log_disk: DiskSpec::new(alloc, 0),
+            log_size: SectorSize::B512,
         }
     }
 
@@ -65,8 +70,9 @@ impl Head {
                 self.part = Part::Data;
                 Ok(())
             }
-            (Part::Data, HeadLine::Log { sectors }) if is_disk_size(sectors) => {
+            (Part::Data, HeadLine::Log { sectors, size }) if is_log_disk_size(sectors, size) => {
                 self.log_disk = DiskSpec::new(alloc, sectors);
+                self.log_size = size;
                 self.part = Part::Whole;
                 Ok(())
             }
@@ -82,21 +88,25 @@ impl Head {
         asked: Result<LayerSpec, TableError>,
     ) -> Result<(), LineError>
         requires { self.old.part ≡ Part.Whole }
-        ensures { (picks : List ℕ) → Follows result (stage_of picks self.new) (layer_in false self.old.data_disk self.old.log_disk over asked) }
+        ensures { (picks : List ℕ) → Follows result (stage_of picks self.new) (layer_in false self.old.data_disk self.old.log_disk self.old.log_size over asked) }
     {
         match over {
             DiskName::Data if self.log_disk.layers().is_empty() => {
-                push_layer(&mut self.data_disk, asked)
+                push_layer(&mut self.data_disk, asked, 1)
             }
             DiskName::Data => Err(LineError::Refused(Refusal::BadLine)),
-            DiskName::Log => push_layer(&mut self.log_disk, asked),
+            DiskName::Log => push_layer(&mut self.log_disk, asked, self.log_size.sectors()),
         }
     }
 }
 
-// Puts the layer that a line asks for over a disk.
-fn push_layer(disk: &mut DiskSpec, asked: Result<LayerSpec, TableError>) -> Result<(), LineError>
-    ensures { Follows result disk.new (layer_step disk.old asked) }
+// Puts the layer that a line asks for over a disk, whose layers have at least so many sectors.
+fn push_layer(
+    disk: &mut DiskSpec,
+    asked: Result<LayerSpec, TableError>,
+    least: u64,
+) -> Result<(), LineError>
+    ensures { Follows result disk.new (layer_step least disk.old asked) }
 {
     if disk.layers().len() >= MAX_LAYERS {
         return Err(LineError::Refused(Refusal::BadLine));
@@ -104,6 +114,9 @@ fn push_layer(disk: &mut DiskSpec, asked: Result<LayerSpec, TableError>) -> Resu
     let layer = asked?;
     if !is_within(layer, disk.top_sectors()) {
         return Err(LineError::Refused(Refusal::OutOfRange));
+    }
+    if layer.length < least {
+        return Err(LineError::Refused(Refusal::BadLine));
     }
     disk.push(layer)?;
     Ok(())
@@ -121,4 +134,11 @@ fn is_disk_size(sectors: u64) -> bool
     ensures { result ≡ is_a_disk_size sectors }
 {
     0 < sectors && sectors <= MAX_DEVICE_SECTORS
+}
+
+// A log disk may have so many sectors: one of the log's sectors fits on it.
+fn is_log_disk_size(sectors: u64, size: SectorSize) -> bool
+    ensures { result ≡ is_a_log_disk_size (bytes_of size) sectors }
+{
+    is_disk_size(sectors) && size.sectors() <= sectors
 }

@@ -1,6 +1,7 @@
 //! Laws of the grammar, apart from the code: each function does nothing, and its clause is the law.
 ghost use Rattle.std.specs.Prelude.{◌≡◌, ◌≢◌, ◌^◌, ◌<◌, ◌≤◌, ◌+◌, ◌++◌, ◌∷◌, ◌⊎◌, [], None, Some, decimal, length, true, ℕ, List};
 ghost use Rattle.std.specs.List.{AllByRecursion};
+ghost use Rattle.bio.specs.Sizes.{bytes_of};
 ghost use Rattle.refusals.specs.declared.refusal.Refusal.{Refusal};
 ghost use Rattle.dmlw_script.specs.declared.command.Command.{Command};
 ghost use Rattle.dmlw_script.specs.declared.command.Command.TheVariants.{Complete};
@@ -63,7 +64,8 @@ pub fn lines_are_those_of_commands()
 #[tactic(auto, using(crate::proofs::ScriptLaws::can_follow, crate::proofs::ScriptLaws::ends_once))]
 pub fn requests_end_once()
     ensures can_follow { (plan : Plan) (before : List Command) (command : Command) (rest : List Command) →
-        IsPlan plan → plan.commands ≡ before ++ command ∷ rest → CanFollow (top_of plan.data_disk) before command }
+        IsPlan plan → plan.commands ≡ before ++ command ∷ rest →
+        CanFollow (bytes_of plan.log_size) (top_of plan.data_disk) before command }
     ensures once { (plan : Plan) (before between rest : List Command) (request : ℕ) → IsPlan plan →
         plan.commands ≡ before ++ Complete request ∷ (between ++ Complete request ∷ rest) → ⊥ }
 {}

@@ -1,5 +1,5 @@
-//! The scripts of `dmlw record`: texts that say the sizes of the disks, which layers stand over them, which
-//! requests are made, and when they end.
+//! The scripts of `dmlw record`: texts that say the sizes of the disks and of the log's sectors, which layers stand
+//! over them, which requests are made, and when they end.
 //!
 //! `read_script` reads a text, or answers the first line that is wrong. A request's number is the place of its
 //! submission among the script's submissions, counted from 0, so whoever goes over the commands needs no map of ids.

@@ -1,14 +1,14 @@
 ghost use Rattle.std.specs.Prelude.{◌≡◌, option_copied, option_map};
 ghost use Rattle.dmlw_script.specs.Said.{as_said};
 ghost use Rattle.dmlw_script.specs.Lines.{is_line_byte as is_a_line_byte, is_line_text as is_a_line_text};
-ghost use Rattle.dmlw_script.specs.inside.Parsing.{body_words, discard_of as the_discard, disk_of_word, layer_of as the_layer, lone_word, message_of as the_message, parse_words, plain_parts, read_of as the_read, step, write_of as the_write};
+ghost use Rattle.dmlw_script.specs.inside.Parsing.{body_words, discard_of as the_discard, disk_of_word, layer_of as the_layer, log_of as the_log, lone_word, message_of as the_message, parse_words, plain_parts, read_of as the_read, size_of as the_size, step, write_of as the_write};
 
 use crate::command::{Step, Submission};
 use crate::disk_name::DiskName;
 use crate::options::options_of;
 use crate::script_id::ScriptId;
 use crate::values::byte_of;
-use bio::Ms;
+use bio::{Ms, SectorSize};
 use table_line::{LayerSpec, TableError, parse_line};
 use words::{cut, number_of};
 
@@ -28,9 +28,10 @@ pub(crate) enum HeadLine {
     Data {
         sectors: u64,
     },
-    /// `log <sectors>`
+    /// `log <sectors> [4096]`
     Log {
         sectors: u64,
+        size: SectorSize,
     },
     /// `data-layer <table line>`, or `log-layer <table line>`: the layer that is asked for, or why none is
     Layer {
@@ -86,15 +87,35 @@ fn parse_words(verb: &[u8], words: &[u8]) -> Option<Line>
             sectors: number_of(words)?,
         }))
     } else if verb == b"log".as_slice() {
-        Some(Line::Head(HeadLine::Log {
-            sectors: number_of(words)?,
-        }))
+        log_of(words)
     } else if verb == b"data-layer".as_slice() {
         Some(layer_of(DiskName::Data, words))
     } else if verb == b"log-layer".as_slice() {
         Some(layer_of(DiskName::Log, words))
     } else {
         body_words(verb, words)
+    }
+}
+
+// The line of the log disk whose sectors and whose log's sector size these words are.
+fn log_of(words: &[u8]) -> Option<Line>
+    ensures { option_map as_said result ≡ the_log words.now }
+{
+    let (sectors, size) = cut(words, b' ');
+    Some(Line::Head(HeadLine::Log {
+        sectors: number_of(sectors)?,
+        size: size_of(size)?,
+    }))
+}
+
+// The size of a log's sectors that a word says, or 512 bytes where there is none.
+fn size_of(word: Option<&[u8]>) -> Option<SectorSize>
+    ensures { result ≡ the_size (option_copied word.entry) }
+{
+    match word {
+        None => Some(SectorSize::B512),
+        Some(b"4096") => Some(SectorSize::B4096),
+        Some(_) => None,
     }
 }
 

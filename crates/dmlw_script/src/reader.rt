@@ -197,7 +197,8 @@ impl Reader {
     {
         match (self.kind, self.head.part) {
             (Kind::Record, Part::Whole) => {
-                self.draft.read(line, self.head.data_disk.top_sectors())
+                let sectors = self.head.data_disk.top_sectors();
+                self.draft.read(line, sectors, self.head.log_size)
             }
             _ => Err(LineError::Refused(Refusal::BadLine)),
         }
@@ -219,10 +220,15 @@ impl Reader {
             part,
             data_disk,
             log_disk,
+            log_size,
         } = head;
-        match (kind, part) {
-            (Kind::Record, Part::Whole) => Ok(draft.into_script(data_disk, log_disk, None)),
-            (Kind::Record, Part::Ended) => Ok(draft.into_script(data_disk, log_disk, Some(picks))),
+        match (part, kind) {
+            (Part::Whole, Kind::Record) => {
+                Ok(draft.into_script(data_disk, log_disk, log_size, None))
+            }
+            (Part::Ended, Kind::Record) => {
+                Ok(draft.into_script(data_disk, log_disk, log_size, Some(picks)))
+            }
             _ => Err(LineError::Refused(Refusal::BadLine)),
         }
     }
@@ -234,9 +240,10 @@ impl Reader {
 /// in a comment, if a byte is zero or not ASCII; at an `at` that goes back; at a layer's line out of its
 /// place, or a fifth one for its disk; and after the last line, where the head isn't whole), as
 /// `UnknownTarget`, `WrongCount`, `BadNumber`, `BadFeature` or `OutOfRange` where the table line of a layer
-/// asks for none, as `OutOfRange` where a layer isn't within what stands beneath it, as `BadId` where an id
-/// is submitted again or isn't open at its end, and as `NotWhole`, `TooLong` or `PastEnd` where
-/// `bio::check` refuses the sectors of a write, a discard or a read for the top of the data disk.
+/// asks for none, as `OutOfRange` where a layer isn't within what stands beneath it, as `BadLine` where a layer of
+/// the log disk is shorter than a sector of the log, as `BadId` where an id is submitted again or isn't open at its
+/// end, and as `NotWhole`, `TooLong`, `PastEnd` or `Unaligned` where `bio::check_sized` refuses the sectors of a
+/// write, a discard or a read for the top of the data disk and the log's sector size.
 /// Want of memory is `Memory`, and names no line.
 pub fn read_script(alloc: Global, text: &[u8], kind: Kind) -> Result<Script, Fault>
     // What is read is a recorder's script, and this is a text of it.

@@ -1,8 +1,9 @@
-ghost use Rattle.std.specs.Prelude.{◌≡◌, ◌≤◌, option_copied, option_map};
+ghost use Rattle.std.specs.Prelude.{◌≡◌, ◌≤◌, ◌/◌, option_copied, option_map};
 
 use crate::command::Command;
 use crate::disk::DiskSpec;
 use crate::script_id::ScriptId;
+use bio::SectorSize;
 use indexmap::IndexSet;
 use std::marker::Model;
 
@@ -12,6 +13,7 @@ use std::marker::Model;
 pub struct Script {
     data_disk: DiskSpec,
     log_disk: DiskSpec,
+    log_size: SectorSize,
     names: IndexSet<ScriptId>,
     commands: Vec<Command>,
     ending: Option<Vec<u64>>,
@@ -23,28 +25,31 @@ impl Model for Script {
 
     ghost Value = { Plan };
 
-    ghost view = { λ s. record { data_disk = s.data_disk; log_disk = s.log_disk; names = s.names.keys; commands = s.commands.items; ending = option_map (λ picks. picks.items) s.ending } };
+    ghost view = { λ s. record { data_disk = s.data_disk; log_disk = s.log_disk; log_size = s.log_size; names = s.names.keys; commands = s.commands.items; ending = option_map (λ picks. picks.items) s.ending } };
 
-    ghost invariant = { λ s. IsPlan (record { data_disk = s.data_disk; log_disk = s.log_disk; names = s.names.keys; commands = s.commands.items; ending = option_map (λ picks. picks.items) s.ending }) };
+    ghost invariant = { λ s. IsPlan (record { data_disk = s.data_disk; log_disk = s.log_disk; log_size = s.log_size; names = s.names.keys; commands = s.commands.items; ending = option_map (λ picks. picks.items) s.ending }) };
 }
 
 impl Script {
-    ghost use Rattle.dmlw_script.specs.Plans.{head_count, IsPlan};
+    ghost use Rattle.bio.specs.Sizes.{bytes_of};
+    ghost use Rattle.dmlw_script.specs.Plans.{head_count, top_of, IsPlan};
 
     /// The script of these parts.
     pub(crate) fn new(
         data_disk: DiskSpec,
         log_disk: DiskSpec,
+        log_size: SectorSize,
         names: IndexSet<ScriptId>,
         commands: Vec<Command>,
         ending: Option<Vec<u64>>,
     ) -> Script
-        requires { IsPlan (record { data_disk = data_disk; log_disk = log_disk; names = names.keys; commands = commands.items; ending = option_map (λ picks. picks.items) ending }) }
-        ensures { result ≡ record { data_disk = data_disk; log_disk = log_disk; names = names.keys; commands = commands.items; ending = option_map (λ picks. picks.items) ending } }
+        requires { IsPlan (record { data_disk = data_disk; log_disk = log_disk; log_size = log_size; names = names.keys; commands = commands.items; ending = option_map (λ picks. picks.items) ending }) }
+        ensures { result ≡ record { data_disk = data_disk; log_disk = log_disk; log_size = log_size; names = names.keys; commands = commands.items; ending = option_map (λ picks. picks.items) ending } }
     {
         Script {
             data_disk,
             log_disk,
+            log_size,
             names,
             commands,
             ending,
@@ -59,12 +64,20 @@ impl Script {
         &self.data_disk
     }
 
-    /// The log disk, of 1 to 1,048,576 sectors, with up to four layers.
+    /// The log disk, of 1 to 1,048,576 sectors, with up to four layers. Its top has room for one of the log's sectors.
     pub fn log(&self) -> &DiskSpec
         ensures disk { result.now ≡ self.now.log_disk }
         ensures script { IsPlan self.now }
     {
         &self.log_disk
+    }
+
+    /// The size of the log's sectors: 512 bytes, or 4,096. One of them fits on the top of the log disk.
+    pub fn log_size(&self) -> SectorSize
+        ensures size { result ≡ self.now.log_size }
+        ensures room { bytes_of result / 512 ≤ top_of self.now.log_disk }
+    {
+        self.log_size
     }
 
     /// How many lines its head has, 2 to 10: those of both disks, and one for each layer.

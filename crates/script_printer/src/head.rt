@@ -1,8 +1,9 @@
 ghost use Rattle.std.specs.Prelude.{◌≡◌, ◌++◌, flat_map, map, OnOk};
-ghost use Rattle.dmlw_script.specs.Plans.{head_of, layer_line};
-ghost use Rattle.dmlw_script.specs.CanonicalText.{ended_line};
+ghost use Rattle.dmlw_script.specs.CanonicalText.{ended_line, line_text};
+ghost use Rattle.dmlw_script.specs.Plans.{head_of, layer_line, log_line};
 
 use crate::parts::push_value;
+use bio::SectorSize;
 use dmlw_script::{DiskName, DiskSpec};
 use std::alloc::AllocError;
 use table_line::{LayerSpec, push_line};
@@ -12,14 +13,27 @@ pub(crate) fn push_head(
     out: &mut Vec<u8>,
     data_disk: &DiskSpec,
     log_disk: &DiskSpec,
+    log_size: SectorSize,
 ) -> Result<(), AllocError>
-    ensures { OnOk result (out.new.items ≡ out.old.items ++ flat_map ended_line (head_of data_disk.now log_disk.now)) }
+    ensures { OnOk result (out.new.items ≡ out.old.items ++ flat_map ended_line (head_of data_disk.now log_disk.now log_size)) }
 {
     push_value(out, b"data ", data_disk.sectors())?;
-    push_value(out, b"\nlog ", log_disk.sectors())?;
+    out.push(b'\n')?;
+    push_log(out, log_disk.sectors(), log_size)?;
     out.push(b'\n')?;
     push_layers(out, DiskName::Data, data_disk.layers())?;
     push_layers(out, DiskName::Log, log_disk.layers())
+}
+
+// The line of the log disk, but for its line feed: the size of the log's sectors is named where it isn't 512 bytes.
+fn push_log(out: &mut Vec<u8>, sectors: u64, size: SectorSize) -> Result<(), AllocError>
+    ensures { OnOk result (out.new.items ≡ out.old.items ++ line_text (log_line sectors size)) }
+{
+    push_value(out, b"log ", sectors)?;
+    match size {
+        SectorSize::B512 => Ok(()),
+        SectorSize::B4096 => out.extend_from_slice(b" 4096"),
+    }
 }
 
 // The lines of a disk's layers.

@@ -21,7 +21,7 @@ pub fn print_script(alloc: Global, script: &Script) -> Result<Vec<u8>, AllocErro
 {
     dmlw_script::laws::each_script_has_a_text();
     let mut out = Vec::new(alloc);
-    push_head(&mut out, script.data(), script.log())?;
+    push_head(&mut out, script.data(), script.log(), script.log_size())?;
     push_body(&mut out, script)?;
     push_ending(&mut out, script)?;
     Ok(out)

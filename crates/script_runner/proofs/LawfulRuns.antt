@@ -7,6 +7,7 @@ use Rattle.bio.specs.declared.event.CoreEvent.TheVariants as events
 use Rattle.bio.specs.declared.outcome.End.{End}
 use Rattle.bio.specs.declared.request.Bio.{Bio}
 use Rattle.bio.specs.Check.{check_answer}
+use Rattle.bio.specs.Sizes.{bytes_of}
 use Rattle.bio.specs.Events.{is_open_at}
 use Rattle.bio.specs.EventLaws.{well_formed-lawful}
 use Rattle.bio.specs.Lawful.{has_no_close, is_lawful, is_recording, is_text, is_well_formed, is_within}
@@ -192,19 +193,19 @@ step_within {D} {L} {d} {l} m sectors (steps.Message disks.Log layer asked) text
     same_within sectors (core_of old.recorder) (core_of new.recorder) does.core within
 
 -- the lines of a script, where each request fits a device of so many sectors
-lines_within : {D L : Type 0} {d : Ghosts D} {l : Ghosts L} (m : Answering D L) (sectors : ℕ) (names : List ScriptId) (before body : List Command) (text : List ℕ) (old new : Running D L d l)
-    → IsWellFormed sectors before body → RunsLines m names body text old new → AreWithin sectors (core_of old.recorder).events → AreWithin sectors (core_of new.recorder).events
-lines_within {D} {L} {d} {l} m sectors names before [] text old new fit ran within =
+lines_within : {D L : Type 0} {d : Ghosts D} {l : Ghosts L} (m : Answering D L) (bytes sectors : ℕ) (names : List ScriptId) (before body : List Command) (text : List ℕ) (old new : Running D L d l)
+    → IsWellFormed bytes sectors before body → RunsLines m names body text old new → AreWithin sectors (core_of old.recorder).events → AreWithin sectors (core_of new.recorder).events
+lines_within {D} {L} {d} {l} m bytes sectors names before [] text old new fit ran within =
     subst (λ (run : Running D L d l). AreWithin sectors (core_of run.recorder).events) (sym ran.1) within
-lines_within {D} {L} {d} {l} m sectors names before (commands.Submit submission ∷ body) text old new fit ran within =
+lines_within {D} {L} {d} {l} m bytes sectors names before (commands.Submit submission ∷ body) text old new fit ran within =
     let does = ran.4.does in
-    lines_within {d = d} {l = l} m sectors names (before ++ commands.Submit submission ∷ []) body ran.2 ran.0 new fit.1 ran.5
-    (asked_within {l = l} sectors (bio_of submission) does.request old.recorder ran.0.recorder does.asks (bio_passes sectors submission fit.0.0) within)
-lines_within {D} {L} {d} {l} m sectors names before (commands.Complete request ∷ body) text old new fit ran within =
-    lines_within {d = d} {l = l} m sectors names (before ++ commands.Complete request ∷ []) body ran.2 ran.0 new fit.1 ran.5
+    lines_within {d = d} {l = l} m bytes sectors names (before ++ commands.Submit submission ∷ []) body ran.2 ran.0 new fit.1 ran.5
+    (asked_within {l = l} sectors (bio_of submission) does.request old.recorder ran.0.recorder does.asks (bio_passes bytes sectors submission fit.0.0) within)
+lines_within {D} {L} {d} {l} m bytes sectors names before (commands.Complete request ∷ body) text old new fit ran within =
+    lines_within {d = d} {l = l} m bytes sectors names (before ++ commands.Complete request ∷ []) body ran.2 ran.0 new fit.1 ran.5
     (ended_within {d = d} {l = l} sectors (slice_get old.requests.items request) (name_at names request) ran.1 old ran.0 ran.4.does within)
-lines_within {D} {L} {d} {l} m sectors names before (commands.Step step ∷ body) text old new fit ran within =
-    lines_within {d = d} {l = l} m sectors names (before ++ commands.Step step ∷ []) body ran.2 ran.0 new fit.1 ran.5
+lines_within {D} {L} {d} {l} m bytes sectors names before (commands.Step step ∷ body) text old new fit ran within =
+    lines_within {d = d} {l = l} m bytes sectors names (before ++ commands.Step step ∷ []) body ran.2 ran.0 new fit.1 ran.5
     (step_within {d = d} {l = l} m sectors step ran.1 old ran.0 ran.4.does within)
 
 -- the events of a script's run are lawful
@@ -213,5 +214,5 @@ pub run_lawful : (plan : Plan) (text : List ℕ) (start last : DiskRun) → IsPl
 run_lawful plan text start last is starts ran well_formed =
     let none : AreWithin (top_of plan.data_disk) (core_of start.recorder).events =
     subst (λ (c : CoreState). AreWithin (top_of plan.data_disk) c.events) (sym starts.log_disk.begun.core) (λ place. refl) in
-    let within = lines_within stack_answering (top_of plan.data_disk) plan.names [] plan.commands text start last is.well_formed ran none in
+    let within = lines_within stack_answering (bytes_of plan.log_size) (top_of plan.data_disk) plan.names [] plan.commands text start last is.well_formed ran none in
     well_formed-lawful (top_of plan.data_disk) (core_of last.recorder).events well_formed (λ place here. within place)

@@ -1,15 +1,17 @@
 -- The start of a run on disks in memory, and what its log's disk holds at the end.
-use Rattle.std.proofs.Common.{◌≡◌, ◌∙◌, ◌*◌, ◌+◌, ℕ, Option, None, Some, List, [], ◌∷◌, false, length, refl, sym, ap, subst, arith}
-use Rattle.std.proofs.Math.Nat.{mul-div_cancel}
+use Rattle.std.proofs.Common.{◌≡◌, ◌∙◌, ◌*◌, ◌+◌, ◌/◌, ◌<◌, ◌≤◌, ℕ, Option, None, Some, List, [], ◌∷◌, false, length, take, refl, sym, ap, subst, arith}
 use Rattle.bio.specs.declared.outcome.Status.{Status}
 use Rattle.bio.specs.Lawful.{has_no_close}
+use Rattle.bio.specs.Sizes.{bytes_of}
+use Rattle.bio.specs.declared.sector_size.SectorSize.{SectorSize}
+use Rattle.bio.specs.declared.sector_size.SectorSize.TheVariants as sizes
 use Rattle.sectors.specs.Content.{AgreeBelow, Content, sector_of, writes}
 use Rattle.blockdev.specs.declared.device.BlockDev.{Ghosts}
 use Rattle.blockdev.specs.Law.{Goes}
 use Rattle.blockdev.specs.View.{Place}
 use Rattle.layer_table.specs.declared.stack.Stack.{Stack}
 use Rattle.layer_table.specs.Layers.{disk_of, layers_of, layers_under, stack_shown, AreOver, IsSeenAs, Layer}
-use Rattle.layer_table.specs.StackLaws.{part_of_disk, stack_lawful}
+use Rattle.layer_table.specs.StackLaws.{part_of_disk}
 use Rattle.table_line.specs.declared.layer_spec.LayerSpec.{LayerSpec}
 use Rattle.table_line.specs.Ranges.{IsLayerSpec}
 use Rattle.table_line.specs.Standing.{top_origin, top_sectors, CanStand}
@@ -26,7 +28,7 @@ use Rattle.log_format.specs.Placing.{first_sector}
 use Rattle.log_store.specs.declared.store.LogStore.{LogStore}
 use Rattle.log_store.specs.Shown.{store_of}
 use Rattle.log_store.specs.Store.{entries_of}
-use Rattle.pending.specs.CoreState.{CoreState, new_state}
+use Rattle.pending.specs.CoreState.{CoreState, sized_state}
 use Rattle.recorder.specs.declared.recorder.Recorder.{Recorder}
 use Rattle.recorder.specs.Growth.{HasWholeLog, RecorderGoes}
 use Rattle.recorder.specs.Recording.{log_of}
@@ -85,19 +87,24 @@ stack_place : (disk : Disk) (stack : Stack) → IsStackOf disk stack
 stack_place disk stack is = is.over.place ∙ ap (λ (n : ℕ). record { origin = top_origin 0 disk.layers; disk = n }) is.blank.size
 
 -- a recorder over a log that was made on a device is new
-pub new_log : {L : Type 0} {l : Ghosts L} (device : L) (store : LogStore L l) (recorder : Recorder L l)
-    → store.placed ≡ 0 → store.moment ≡ 0 → Goes (writes 0 (first_sector 512 0)) (l.shown device) (l.shown store.device)
-    → ((l.shown store.device).lies ≡ 0 → (left : Content) → (l.shown store.device).crash left → IsLogOf (l.shown store.device).size left 512 [])
-    → (core_of recorder ≡ new_state) × (recorder.store ≡ store) × (recorder.end ≡ None) → IsNewOn device recorder
-new_log {L} {l} device store recorder none start goes empty (core, same, end) = record {
-  core = core;
+pub new_log : {L : Type 0} {l : Ghosts L} (bytes : ℕ) (device : L) (store : LogStore L l) (recorder : Recorder L l)
+    → (store_of store).sector_bytes ≡ bytes → store.placed ≡ 0 → store.moment ≡ 0 → Goes (writes 0 (first_sector bytes 0)) (l.shown device) (l.shown store.device)
+    → ((l.shown store.device).lies ≡ 0 → (left : Content) → (l.shown store.device).crash left → IsLogOf (l.shown store.device).size left bytes [])
+    → (core_of recorder ≡ sized_state (store_of store).sector_bytes) × (recorder.store ≡ store) × (recorder.end ≡ None) → IsNewOn bytes device recorder
+new_log {L} {l} bytes device store recorder size none start goes empty (core, same, end) = record {
+  core = core ∙ ap sized_state size;
   end = end;
   placed = ap (λ (s : LogStore L l). s.placed) same ∙ none;
   moment = ap (λ (s : LogStore L l). s.moment) same ∙ start;
-  made = subst (λ (s : LogStore L l). Goes (writes 0 (first_sector 512 0)) (l.shown device) (l.shown s.device)) (sym same) goes;
-  empty = subst (λ (s : LogStore L l). (l.shown s.device).lies ≡ 0 → (left : Content) → (l.shown s.device).crash left → IsLogOf (l.shown s.device).size left 512 [])
+  made = subst (λ (s : LogStore L l). Goes (writes 0 (first_sector bytes 0)) (l.shown device) (l.shown s.device)) (sym same) goes;
+  empty = subst (λ (s : LogStore L l). (l.shown s.device).lies ≡ 0 → (left : Content) → (l.shown s.device).crash left → IsLogOf (l.shown s.device).size left bytes [])
       (sym same) empty;
 }
+
+-- a device on which one of the log's sectors fits has one
+one_fits : (size : SectorSize) (sectors : ℕ) → bytes_of size / 512 ≤ sectors → 0 < log_sectors (bytes_of size) sectors
+one_fits sizes.B512 sectors room = omega (arith, room)
+one_fits sizes.B4096 sectors room = omega (arith, room)
 
 -- what is on a disk a crash may leave
 may_leave : (ending : Option (List ℕ)) (disk : SectorDisk) → (shown_of disk).crash (left_on ending disk)
@@ -106,20 +113,20 @@ may_leave (Some picks) disk = picks_leave_one (cache_of disk) picks (is_current 
 
 -- a log that is seen of a disk's content is seen of its image too
 image_log : (plan : Plan) (device : Stack) (seen : Content) (image : List ℕ)
+    → bytes_of plan.log_size / 512 ≤ top_of plan.log_disk
     → (stack_shown device).size ≡ top_of plan.log_disk
     → (stack_shown device).place ≡ record { origin = top_origin 0 plan.log_disk.layers; disk = plan.log_disk.sectors }
     → AgreeBelow plan.log_disk.sectors (left_on plan.ending (disk_of device)) (sector_of image)
     → ((sector : ℕ) → seen sector ≡ left_on plan.ending (disk_of device) ((stack_shown device).place.origin + sector))
-    → {es : List _} → IsLogOf (stack_shown device).size seen 512 es → IsLogOf (stack_shown device).size (seen_on plan.log_disk image) 512 es
-image_log plan device seen image size place agree looks {es} log_c =
-    let some = (stack_lawful device).some_sectors in
+    → {es : List _} → IsLogOf (stack_shown device).size seen (bytes_of plan.log_size) es → IsLogOf (stack_shown device).size (seen_on plan.log_disk image) (bytes_of plan.log_size) es
+image_log plan device seen image room size place agree looks {es} log_c =
     let part = part_of_disk device in
     let within = part.within in
     let left = left_on plan.ending (disk_of device) in
     let origin : (stack_shown device).place.origin ≡ top_origin 0 plan.log_disk.layers = ap (λ (p : Place). p.origin) place in
     let disk : (shown_of (disk_of device)).size ≡ plan.log_disk.sectors = sym part.disk ∙ ap (λ (p : Place). p.disk) place in
-    let count : log_sectors 512 (stack_shown device).size ≡ (stack_shown device).size = mul-div_cancel (stack_shown device).size (omega arith) in
-    log_within (stack_shown device).size seen (seen_on plan.log_disk image) 512 es (omega arith)
+    let some : 0 < log_sectors (bytes_of plan.log_size) (stack_shown device).size = one_fits plan.log_size (stack_shown device).size (omega (arith, room, size)) in
+    log_within (stack_shown device).size seen (seen_on plan.log_disk image) (bytes_of plan.log_size) es some
     (λ sector h. agree (top_origin 0 plan.log_disk.layers + sector) (omega arith) ∙ ap (λ (n : ℕ). left (n + sector)) (sym origin) ∙ sym (looks sector)) log_c
 
 -- lies that are equal, each for its disk
@@ -128,15 +135,16 @@ pub same_lies : (lies : Lies) (over_data over_log : ℕ) → lies.data_disk ≡ 
 same_lies lies over_data over_log here there = rw (sym here, sym there) refl
 
 -- nothing has to be placed where nothing is recorded
-new_written : (disk : Disk) (recorder : DiskRecorder) → IsNew disk recorder → IsWritten recorder
-new_written disk recorder new = λ closed on. absurd (let recording = ap (λ (c : CoreState). has_no_close c.events) new.begun.core in cc)
+new_written : (bytes : ℕ) (disk : Disk) (recorder : DiskRecorder) → IsNew bytes disk recorder → IsWritten recorder
+new_written bytes disk recorder new = λ closed on. absurd (let recording = ap (λ (c : CoreState). has_no_close c.events) new.begun.core in cc)
 
 -- what a script's recording leaves
 pub is_recorded : (plan : Plan) (text : List ℕ) (start last : DiskRun) (log : Stack) (status : Status) (lies : Lies) (image : List ℕ) (picks : Option (List ℕ))
+    → bytes_of plan.log_size / 512 ≤ top_of plan.log_disk
     → Starts plan start → RunsLines stack_answering plan.names plan.commands text start last
     → RecorderGoes (recording_of start.recorder) (recording_of last.recorder)
     → IsCounted status last.recorder
-    → ((stack_shown last.recorder.store.device).lies ≡ 0 → status ≡ status_of 512 (entries_of (store_of last.recorder.store)) last.recorder.end)
+    → ((stack_shown last.recorder.store.device).lies ≡ 0 → status ≡ status_of (core_of last.recorder).sector_bytes (entries_of (store_of last.recorder.store)) last.recorder.end)
     → log ≡ last.recorder.store.device
     → lies ≡ record { data_disk = (stack_shown last.disk).lies; log_disk = (stack_shown log).lies }
     → length image ≡ 512 * (shown_of (disk_of log)).size
@@ -147,17 +155,18 @@ pub is_recorded : (plan : Plan) (text : List ℕ) (start last : DiskRun) (log : 
     → (IsWritten start.recorder → last.recorder.end ≡ None → has_no_close (core_of last.recorder).events ≡ false → (stack_shown last.recorder.store.device).lies ≡ 0
     → HasWholeLog (recording_of last.recorder))
     → IsRecorded plan text status lies image
-is_recorded plan text start last log status lies image picks starts ran goes counted tells same lied count ending bytes reopens whole =
+is_recorded plan text start last log status lies image picks room starts ran goes counted tells same lied count ending agrees reopens whole =
     let device = last.recorder.store.device in
     let new = starts.log_disk in
     let size : (stack_shown device).size ≡ top_of plan.log_disk = goes.size ∙ new.begun.made.size ∙ stack_size plan.log_disk new.stack new.blank in
     let place : (stack_shown device).place ≡ record { origin = top_origin 0 plan.log_disk.layers; disk = plan.log_disk.sectors } =
     goes.place ∙ new.begun.made.place ∙ stack_place plan.log_disk new.stack new.blank in
+    let bytes : (core_of last.recorder).sector_bytes ≡ bytes_of plan.log_size = goes.sector_bytes ∙ ap (λ (c : CoreState). c.sector_bytes) new.begun.core in
     let part = part_of_disk device in
     let sectors : (shown_of (disk_of device)).size ≡ plan.log_disk.sectors = sym part.disk ∙ ap (λ (p : Place). p.disk) place in
     let here : AgreeBelow (shown_of (disk_of device)).size (left_on plan.ending (disk_of device)) (sector_of image) =
     subst (λ (s : Stack). AgreeBelow (shown_of (disk_of s)).size (left_on plan.ending (disk_of s)) (sector_of image)) same
-    (subst (λ (o : Option (List ℕ)). AgreeBelow (shown_of (disk_of log)).size (left_on o (disk_of log)) (sector_of image)) ending bytes) in
+    (subst (λ (o : Option (List ℕ)). AgreeBelow (shown_of (disk_of log)).size (left_on o (disk_of log)) (sector_of image)) ending agrees) in
     let agree : AgreeBelow plan.log_disk.sectors (left_on plan.ending (disk_of device)) (sector_of image) =
     subst (λ (n : ℕ). AgreeBelow n (left_on plan.ending (disk_of device)) (sector_of image)) sectors here in
     let seen = part.crash (left_on plan.ending (disk_of device)) (may_leave plan.ending (disk_of device)) in
@@ -169,8 +178,9 @@ is_recorded plan text start last log status lies image picks starts ran goes cou
       starts = starts;
       last = last;
       ran = ran;
+      sector_bytes = bytes;
       counted = counted;
-      tells = λ none. tells (honest none);
+      tells = λ none. subst (λ (n : ℕ). status ≡ status_of n (entries_of (store_of last.recorder.store)) last.recorder.end) bytes (tells (honest none));
       lied = told;
       honest = λ none.
           let below = new.blank.over.can_lie none in
@@ -180,15 +190,19 @@ is_recorded plan text start last log status lies image picks starts ran goes cou
       beginning = λ none.
           let reopened = reopens (honest none) seen.0 seen.1 in
           record {
+            some = reopened.some;
             count = reopened.count;
             least = reopened.least;
             most = reopened.most;
-            log = image_log plan device seen.0 image size place agree seen.2 reopened.log;
+            log = subst (λ (n : ℕ). IsLogOf (stack_shown device).size (seen_on plan.log_disk image) n (take reopened.count (log_of (core_of last.recorder)))) (sym bytes)
+                (image_log plan device seen.0 image room size place agree seen.2
+                (subst (λ (n : ℕ). IsLogOf (stack_shown device).size seen.0 n (take reopened.count (log_of (core_of last.recorder)))) bytes reopened.log));
             acknowledged = reopened.acknowledged;
             possible = reopened.possible;
           };
       whole = λ none closed on.
-          subst (λ (n : ℕ). IsLogOf n (seen_on plan.log_disk image) 512 (log_of (core_of last.recorder))) size
-          (image_log plan device seen.0 image size place agree seen.2
-          ((whole (new_written plan.log_disk start.recorder new) on closed (honest none)).crash seen.0 seen.1));
+          subst (λ (n : ℕ). IsLogOf n (seen_on plan.log_disk image) (bytes_of plan.log_size) (log_of (core_of last.recorder))) size
+          (image_log plan device seen.0 image room size place agree seen.2
+          (subst (λ (n : ℕ). IsLogOf (stack_shown device).size seen.0 n (log_of (core_of last.recorder))) bytes
+          ((whole (new_written (bytes_of plan.log_size) plan.log_disk start.recorder new) on closed (honest none)).crash seen.0 seen.1)));
     }

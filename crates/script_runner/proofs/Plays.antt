@@ -1,10 +1,14 @@
 -- What playing a script comes to, from the run of its lines up to two disks in memory.
-use Rattle.std.proofs.Common.{◌≡◌, ◌⊎◌, ℕ, List, Option, inl, inr, subst, sym}
+use Rattle.std.proofs.Common.{◌≡◌, ◌⊎◌, ℕ, List, Option, inl, inr, ap, subst, sym}
 use Rattle.std.specs.Prelude.{Err, IfOk, Ok, Result}
+use Rattle.bio.specs.Sizes.{bytes_of}
+use Rattle.bio.specs.declared.sector_size.SectorSize.{SectorSize}
 use Rattle.blockdev.specs.declared.device.BlockDev.{Ghosts}
 use Rattle.dmlw_script.specs.Plans.{Disk, Plan}
 use Rattle.layer_table.specs.declared.stack.Stack.{Stack}
+use Rattle.pending.specs.CoreState.{CoreState}
 use Rattle.recorder.specs.declared.recorder.Recorder.{Recorder}
+use Rattle.recorder.specs.Shown.{core_of}
 use Rattle.run_error.specs.declared.run_error.RunError.{RunError}
 use Rattle.run_error.specs.Errors.{memory_error}
 use Rattle.script_runner.specs.CallLaws.{keeps_same}
@@ -44,10 +48,25 @@ pub fails_at_start : {D L : Type 0} {d : Ghosts D} {l : Ghosts L} (m : Answering
 fails_at_start m text plan Unmade Start known fault (inl memory) = file fault (inr memory)
 fails_at_start m text plan Unmade Start known fault (inr none) = unmade fault none (keeps_same known)
 
+-- a start with a log of one sector size is one of the size that it is
+pub started : {D L : Type 0} {d : Ghosts D} {l : Ghosts L} (size other : SectorSize) (disk : D) (log : L) (now : Running D L d l) → size ≡ other → StartsOn (bytes_of size) disk log now
+    → StartsOn (bytes_of other) disk log now
+started {d = d} {l = l} size other disk log now same starts = subst (λ (s : SectorSize). StartsOn {d = d} {l = l} (bytes_of s) disk log now) same starts
+
+-- so is a start that failed
+pub unstarted : {L : Type 0} (l : Ghosts L) (size other : SectorSize) (log : L) (fault : RunError) → size ≡ other → (fault ≡ memory_error) ⊎ IsUnmadeOn l (bytes_of size) log fault
+    → (fault ≡ memory_error) ⊎ IsUnmadeOn l (bytes_of other) log fault
+unstarted l size other log fault same fails = subst (λ (s : SectorSize). (fault ≡ memory_error) ⊎ IsUnmadeOn l (bytes_of s) log fault) same fails
+
+-- the recorder of a start counts in the sectors of its log
+pub start_bytes : {D L : Type 0} {d : Ghosts D} {l : Ghosts L} (bytes : ℕ) (disk : D) (log : L) (now : Running D L d l) → StartsOn bytes disk log now
+    → (core_of now.recorder).sector_bytes ≡ bytes
+start_bytes bytes disk log now starts = let begun = starts.begun in ap (λ (c : CoreState). c.sector_bytes) begun.core
+
 -- a start on a stack is one beside it
-pub on_beside : {L : Type 0} {l : Ghosts L} (disk : Disk) (stack : Stack) (log : L) → IsStackOf disk stack → (run : Running Stack L on_stack l) → StartsOn stack log run
-    → StartsBeside disk log run
-on_beside disk stack log is now starts = record {
+pub on_beside : {L : Type 0} {l : Ghosts L} (bytes : ℕ) (disk : Disk) (stack : Stack) (log : L) → IsStackOf disk stack → (run : Running Stack L on_stack l) → StartsOn bytes stack log run
+    → StartsBeside bytes disk log run
+on_beside bytes disk stack log is now starts = record {
   stack = subst (λ (s : Stack). IsStackOf disk s) (sym starts.disk_is) is;
   begun = starts.begun;
   none = starts.none;
@@ -55,7 +74,7 @@ on_beside disk stack log is now starts = record {
 }
 
 -- a start beside a log's stack is one on two disks
-pub beside_starts : (plan : Plan) (log : Stack) → IsStackOf plan.log_disk log → (run : DiskRun) → StartsBeside plan.data_disk log run → Starts plan run
+pub beside_starts : (plan : Plan) (log : Stack) → IsStackOf plan.log_disk log → (run : DiskRun) → StartsBeside (bytes_of plan.log_size) plan.data_disk log run → Starts plan run
 beside_starts plan log is now starts = record {
   data_disk = starts.stack;
   log_disk = record { stack = log; blank = is; begun = starts.begun };
@@ -65,7 +84,7 @@ beside_starts plan log is now starts = record {
 
 -- and a failure on it is one on two disks
 pub fails_on_disks : (text : List ℕ) (plan : Plan) (log : Stack) (before after : Option (List ℕ)) (fault : RunError) → IsStackOf plan.log_disk log
-    → FailsPlaying {d = on_stack} {l = on_stack} stack_answering text plan (IsUnmadeOn on_stack log) (StartsBeside plan.data_disk log) before after fault → FailsOnDisks text plan before after fault
+    → FailsPlaying {d = on_stack} {l = on_stack} stack_answering text plan (IsUnmadeOn on_stack (bytes_of plan.log_size) log) (StartsBeside (bytes_of plan.log_size) plan.data_disk log) before after fault → FailsOnDisks text plan before after fault
 fails_on_disks text plan log before after fault is (file f fails) = no_file f fails
 fails_on_disks text plan log before after fault is (unmade f refused kept) = no_log f (record { stack = log; blank = is; refused = refused }) kept
 fails_on_disks text plan log before after fault is (run start f starts ends) = no_run start f (beside_starts plan log is start starts) ends

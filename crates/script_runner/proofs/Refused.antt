@@ -1,5 +1,5 @@
 -- For each definition of a script's run, what breaks it, and is refused by it, and what holds.
-use Rattle.std.proofs.Common.{◌≡◌, ◌∙◌, ◌+◌, ◌<◌, ◌++◌, ℕ, suc, Bool, true, false, List, [], ◌∷◌, Option, Some, None, Result, Ok, Err, ap, arith, inl, inr, length, refl, replicate, slice_index_or, subst, sym}
+use Rattle.std.proofs.Common.{◌≡◌, ◌∙◌, ◌+◌, ◌*◌, ◌<◌, ◌++◌, ℕ, suc, Bool, true, false, List, [], ◌∷◌, Option, Some, None, Result, Ok, Err, ap, arith, inl, inr, length, refl, replicate, slice_index_or, subst, sym}
 use Rattle.std.specs.Prelude.{codes, decimal, is_ok, slice_get}
 use Rattle.std.proofs.lemmas.List.{length-replicate}
 use Rattle.sectors.specs.Content.{AgreeBelow, Content, moved, sector_of}
@@ -14,6 +14,7 @@ use Rattle.bio.specs.declared.outcome.Status.{Status}
 use Rattle.bio.specs.declared.request.Bio.{Bio}
 use Rattle.bio.specs.declared.request.Bio.TheVariants as bios
 use Rattle.bio.specs.Causes.{end_cause}
+use Rattle.bio.specs.Sizes.{bytes_of}
 use Rattle.bio.specs.Events.{is_open_at}
 use Rattle.bio.specs.Lawful.{has_no_close, none_open}
 use Rattle.blockdev.specs.declared.device.BlockDev.{Ghosts}
@@ -25,13 +26,13 @@ use Rattle.sector_disk.specs.Shown.{cache_of, shown_of}
 use Rattle.table_line.specs.Standing.{some_drops, top_origin}
 use Rattle.layer_table.specs.declared.stack.Stack.{Stack}
 use Rattle.layer_table.specs.Layers.{disk_of, layers_of, layers_under, stack_shown}
+use Rattle.log_format.specs.Entries.{sectors_per}
 use Rattle.log_format.specs.LogOf.{IsLogOf, status_of}
 use Rattle.log_format.specs.Placing.{first_sector}
 use Rattle.log_store.specs.Calls.{HasFaulted}
 use Rattle.log_store.specs.Shown.{store_of}
 use Rattle.log_store.specs.Store.{entries_of}
-use Rattle.pending.specs.CoreState.{CoreState, added_to, new_state, records}
-use Rattle.pending.specs.QueueEvent.{recorded}
+use Rattle.pending.specs.CoreState.{CoreState, added_to, new_state, records, sized_state}
 use Rattle.dmlw_script.specs.declared.command.Command.{Command}
 use Rattle.dmlw_script.specs.declared.command.Command.TheVariants as commands
 use Rattle.dmlw_script.specs.declared.command.Step.TheVariants as steps
@@ -482,19 +483,19 @@ close_printing {D} {L} {d} {l} m text plan old fault alone (run_file again is) b
 -- ---- on disks
 
 -- a new log has no entry, logging goes on, and where its device told no lie a crash leaves an empty log
-new_nothing : {L : Type 0} {l : Ghosts L} (device : L) (recorder : Recorder L l) → IsNewOn device recorder
-    → (recorder.store.placed ≡ 0) × (recorder.end ≡ None) × (core_of recorder ≡ new_state)
-new_nothing device recorder told = (told.placed, told.end, told.core)
+new_nothing : {L : Type 0} {l : Ghosts L} (bytes : ℕ) (device : L) (recorder : Recorder L l) → IsNewOn bytes device recorder
+    → (recorder.store.placed ≡ 0) × (recorder.end ≡ None) × (core_of recorder ≡ sized_state bytes)
+new_nothing bytes device recorder told = (told.placed, told.end, told.core)
 
-new_empty : {L : Type 0} {l : Ghosts L} (device : L) (recorder : Recorder L l) (left : Content) → IsNewOn device recorder
-    → (l.shown recorder.store.device).lies ≡ 0 → (l.shown recorder.store.device).crash left → IsLogOf (l.shown recorder.store.device).size left 512 []
-new_empty device recorder left told honest may = told.empty honest left may
+new_empty : {L : Type 0} {l : Ghosts L} (bytes : ℕ) (device : L) (recorder : Recorder L l) (left : Content) → IsNewOn bytes device recorder
+    → (l.shown recorder.store.device).lies ≡ 0 → (l.shown recorder.store.device).crash left → IsLogOf (l.shown recorder.store.device).size left bytes []
+new_empty bytes device recorder left told honest may = told.empty honest left may
 
 -- where no log could be made, its device answered so to the write of the super block, and where it failed it had a fault
-unmade_answered : {L : Type 0} {l : Ghosts L} (device : L) (fault : RunError) → (told : IsUnmadeOn l device fault)
-    → l.does device (Writes 0 (first_sector 512 0) true) 0 (Err told.error) told.last × (fault ≡ faults.LoggingEnded (end_cause told.error))
+unmade_answered : {L : Type 0} {l : Ghosts L} (bytes : ℕ) (device : L) (fault : RunError) → (told : IsUnmadeOn l bytes device fault)
+    → l.does device (Writes 0 (first_sector bytes 0) true) 0 (Err told.error) told.last × (fault ≡ faults.LoggingEnded (end_cause told.error))
     × (told.error ≡ Io → HasFaulted (l.shown device) (l.shown told.last))
-unmade_answered device fault told = (told.answered, told.ends_by, told.failed)
+unmade_answered bytes device fault told = (told.answered, told.ends_by, told.failed)
 
 -- a disk begins with zeroes, at moment 0, under its layers, which were loaded then
 stack_begins : (disk : Disk) (stack : Stack) → 0 < disk.sectors → IsStackOf disk stack
@@ -508,7 +509,7 @@ starts_first plan run told = (told.moment, told.none, told.data_disk)
 
 -- what a status counts
 status_counts : (status : Status) (recorder : DiskRecorder) → IsCounted status recorder
-    → (status.entries ≡ recorder.store.placed) × (status.end ≡ recorder.end) × (0 < recorder.store.placed → status.sector + 1 ≡ recorder.store.next)
+    → (status.entries ≡ recorder.store.placed) × (status.end ≡ recorder.end) × (0 < recorder.store.placed → status.sector + 1 ≡ recorder.store.next * sectors_per (core_of recorder).sector_bytes)
 status_counts status recorder told = (told.entries, told.end, told.last)
 
 -- a script of no lines prints nothing; of it there is no entry, no end of logging and no lie of the data disk's layers
@@ -555,10 +556,10 @@ image_size plan text status lies one told = let size = told.size in let count = 
 -- where the log's device told no lie, the status is that of what is placed, and the image has a log of what could be; the whole list where the script closed
 honest_log : (plan : Plan) (text : List ℕ) (status : Status) (lies : Lies) (image : List ℕ) → lies.log_disk ≡ 0
     → (told : IsRecorded plan text status lies image)
-    → (status ≡ status_of 512 (entries_of (store_of told.last.recorder.store)) told.last.recorder.end)
+    → (status ≡ status_of (bytes_of plan.log_size) (entries_of (store_of told.last.recorder.store)) told.last.recorder.end)
     × ReplaysToWhatCouldBe (recording_of told.last.recorder) (recording_of told.last.recorder) (moved (top_origin 0 plan.log_disk.layers) (sector_of image))
     × (has_no_close (core_of told.last.recorder).events ≡ false → told.last.recorder.end ≡ None
-    → IsLogOf (top_of plan.log_disk) (moved (top_origin 0 plan.log_disk.layers) (sector_of image)) 512 (log_of (core_of told.last.recorder)))
+    → IsLogOf (top_of plan.log_disk) (moved (top_origin 0 plan.log_disk.layers) (sector_of image)) (bytes_of plan.log_size) (log_of (core_of told.last.recorder)))
 honest_log plan text status lies image honest told = (told.tells honest, told.beginning honest, told.whole honest)
 
 -- a recording ends by the end of logging only where its log can't be made, and then it has printed nothing
@@ -579,7 +580,7 @@ unmade_printing text plan fault end is (disk_run start again starts (message pla
 unmade_printing text plan fault end is (disk_run start again starts (run_file other file)) = not_file other end is file
 
 -- what is no file's fault and no log's is a line's, of a run that began as its script says
-fails_by_run : (text : List ℕ) (plan : Plan) (before after : Option (List ℕ)) (fault : RunError) → (IsFileError fault → ⊥) → (IsUnmade plan.log_disk fault → ⊥)
+fails_by_run : (text : List ℕ) (plan : Plan) (before after : Option (List ℕ)) (fault : RunError) → (IsFileError fault → ⊥) → (IsUnmade (bytes_of plan.log_size) plan.log_disk fault → ⊥)
     → FailsOnDisks text plan before after fault → (start : DiskRun) × Starts plan start × EndsRun stack_answering text plan before after start fault
 fails_by_run text plan before after fault other made (disk_file again file) = absurd (other file)
 fails_by_run text plan before after fault other made (unmade again none kept) = absurd (made none)

@@ -4,12 +4,14 @@ use Rattle.std.proofs.Math.Seq.{drop-cons, take-suc}
 use Rattle.std.proofs.lemmas.List.{length-take, take-append-drop}
 use Rattle.std.proofs.lemmas.List.Sums.{sum_by-append}
 use Rattle.refusals.specs.declared.refusal.Refusal.{Refusal}
+use Rattle.bio.specs.Sizes.{bytes_of}
 use Rattle.blockdev.specs.declared.device.BlockDev.{Ghosts}
 use Rattle.dmlw_script.specs.declared.command.Command.{Command}
 use Rattle.dmlw_script.specs.declared.command.Command.TheVariants as commands
 use Rattle.dmlw_script.specs.declared.script_id.ScriptId.{ScriptId}
 use Rattle.dmlw_script.specs.Lines.{command_line}
 use Rattle.dmlw_script.specs.Plans.{head_count, top_of, CanFollow, HasName, IsPlan, Plan, submissions}
+use Rattle.recorder.specs.Shown.{core_of}
 use Rattle.run_error.specs.declared.run_error.RunError.{RunError}
 use Rattle.run_error.specs.declared.run_error.RunError.TheVariants.{Refused}
 use Rattle.script_runner.specs.CallLaws.{appends_kept, appends_twice}
@@ -23,13 +25,13 @@ use Rattle.script_runner.proofs.Chaining.{chain_snoc}
 -- each command of a script may come after those before it
 abbrev pub IsOrderlyScript : Plan → Type 0
 IsOrderlyScript plan = (before : List Command) (command : Command) (rest : List Command) → plan.commands ≡ before ++ command ∷ rest
-    → CanFollow (top_of plan.data_disk) before command
+    → CanFollow (bytes_of plan.log_size) (top_of plan.data_disk) before command
 
 -- The next command of a script, after as many as have run.
 pub record ComesNext (plan : Plan) (place : ℕ) (command : Command) : Type 0 where
   pub rest : List Command
   pub split : plan.commands ≡ take place plan.commands ++ command ∷ rest
-  pub comes : CanFollow (top_of plan.data_disk) (take place plan.commands) command
+  pub comes : CanFollow (bytes_of plan.log_size) (top_of plan.data_disk) (take place plan.commands) command
 
 -- the command at a place comes next
 pub command_next : (plan : Plan) (items : List Command) (place : ℕ) (other : Command) → items ≡ plan.commands → IsOrderlyScript plan → place < length items
@@ -50,23 +52,23 @@ command_next plan items place other same orderly within =
         }
 
 -- what it covers is within the data device
-pub next_fits : (sectors : ℕ) (before : List Command) (command : Command) → CanFollow sectors before command → FitsDevice sectors command
-next_fits sectors before (commands.Submit submission) comes = comes.0
-next_fits sectors before (commands.Complete request) comes = tt
-next_fits sectors before (commands.Step step) comes = comes.0
+pub next_fits : (bytes sectors : ℕ) (before : List Command) (command : Command) → CanFollow bytes sectors before command → FitsDevice bytes sectors command
+next_fits bytes sectors before (commands.Submit submission) comes = comes.0
+next_fits bytes sectors before (commands.Complete request) comes = tt
+next_fits bytes sectors before (commands.Step step) comes = comes.0
 
 -- its text is one of a script
-pub next_text : (sectors : ℕ) (before : List Command) (command : Command) → CanFollow sectors before command → HasScriptText command
-next_text sectors before (commands.Submit submission) comes = tt
-next_text sectors before (commands.Complete request) comes = tt
-next_text sectors before (commands.Step step) comes = comes.1
+pub next_text : (bytes sectors : ℕ) (before : List Command) (command : Command) → CanFollow bytes sectors before command → HasScriptText command
+next_text bytes sectors before (commands.Submit submission) comes = tt
+next_text bytes sectors before (commands.Complete request) comes = tt
+next_text bytes sectors before (commands.Step step) comes = comes.1
 
 -- the request that it ends was submitted
-pub next_submitted : (sectors : ℕ) (before : List Command) (command : Command) → CanFollow sectors before command
+pub next_submitted : (bytes sectors : ℕ) (before : List Command) (command : Command) → CanFollow bytes sectors before command
     → EndsSubmitted (submissions before) command
-next_submitted sectors before (commands.Submit submission) comes = tt
-next_submitted sectors before (commands.Complete request) comes = comes.0
-next_submitted sectors before (commands.Step step) comes = tt
+next_submitted bytes sectors before (commands.Submit submission) comes = tt
+next_submitted bytes sectors before (commands.Complete request) comes = comes.0
+next_submitted bytes sectors before (commands.Step step) comes = tt
 
 -- one more command before others, and after others
 submissions_cons : (command : Command) (body : List Command) → submissions (command ∷ body) ≡ count_of command + submissions body
@@ -131,26 +133,32 @@ count_more_of plan items place old new other same within counted more =
     one_more (λ (body : List Command). new ≡ submissions body) items plan.commands place other same within
     (count_more (take place plan.commands) (slice_index_or items place other) old new counted more)
 
+-- where a line was run, the recorder's log has the sectors that it had
+pub bytes_more : {D L : Type 0} {d : Ghosts D} {l : Ghosts L} (m : Answering D L) (names : List ScriptId) (command : Command) (before after : Option (List ℕ)) (old new : Running D L d l) {bytes : ℕ}
+    → PrintsLine m names command before after old new → (core_of old.recorder).sector_bytes ≡ bytes → (core_of new.recorder).sector_bytes ≡ bytes
+bytes_more m names command before after old new line had = let ran = line.1 in ran.goes.sector_bytes ∙ had
+
 -- what is asked of a line that comes next
-pub next_line_fits : (plan : Plan) (items : List Command) (place sectors : ℕ) (other : Command) → items ≡ plan.commands → IsOrderlyScript plan → place < length items
-    → sectors ≡ top_of plan.data_disk → FitsDevice sectors (slice_index_or items place other)
-next_line_fits plan items place sectors other same orderly within size =
+pub next_line_fits : (plan : Plan) (items : List Command) (place bytes sectors : ℕ) (other : Command) → items ≡ plan.commands → IsOrderlyScript plan → place < length items
+    → bytes ≡ bytes_of plan.log_size → sectors ≡ top_of plan.data_disk → FitsDevice bytes sectors (slice_index_or items place other)
+next_line_fits plan items place bytes sectors other same orderly within log_size size =
     let next = command_next plan items place other same orderly within in
-    subst (λ (n : ℕ). FitsDevice n (slice_index_or items place other)) (sym size)
-    (next_fits (top_of plan.data_disk) (take place plan.commands) (slice_index_or items place other) next.comes)
+    subst (λ (n : ℕ). FitsDevice bytes n (slice_index_or items place other)) (sym size)
+    (subst (λ (n : ℕ). FitsDevice n (top_of plan.data_disk) (slice_index_or items place other)) (sym log_size)
+    (next_fits (bytes_of plan.log_size) (top_of plan.data_disk) (take place plan.commands) (slice_index_or items place other) next.comes))
 
 pub next_line_text : (plan : Plan) (items : List Command) (place : ℕ) (other : Command) → items ≡ plan.commands → IsOrderlyScript plan → place < length items
     → HasScriptText (slice_index_or items place other)
 next_line_text plan items place other same orderly within =
     let next = command_next plan items place other same orderly within in
-    next_text (top_of plan.data_disk) (take place plan.commands) (slice_index_or items place other) next.comes
+    next_text (bytes_of plan.log_size) (top_of plan.data_disk) (take place plan.commands) (slice_index_or items place other) next.comes
 
 pub next_line_submitted : (plan : Plan) (items : List Command) (place requests : ℕ) (other : Command) → items ≡ plan.commands → IsOrderlyScript plan → place < length items
     → requests ≡ submissions (take place plan.commands) → EndsSubmitted requests (slice_index_or items place other)
 next_line_submitted plan items place requests other same orderly within counted =
     let next = command_next plan items place other same orderly within in
     subst (λ (n : ℕ). EndsSubmitted n (slice_index_or items place other)) (sym counted)
-    (next_submitted (top_of plan.data_disk) (take place plan.commands) (slice_index_or items place other) next.comes)
+    (next_submitted (bytes_of plan.log_size) (top_of plan.data_disk) (take place plan.commands) (slice_index_or items place other) next.comes)
 
 pub next_line_named : (plan : Plan) (items : List Command) (names : List ScriptId) (place requests : ℕ) (other : Command) → items ≡ plan.commands → IsPlan plan
     → IsOrderlyScript plan → place < length items → names ≡ plan.names → requests ≡ submissions (take place plan.commands)

@@ -12,6 +12,7 @@ use Rattle.bio.specs.Events.{is_close, is_open_at}
 use Rattle.bio.specs.EventLaws.{is_well_formed-snoc}
 use Rattle.bio.specs.Lawful.{can_follow, has_no_close, has_no_stop, is_recording, is_text, is_well_formed}
 use Rattle.bio.specs.Requests.{is_tracked}
+use Rattle.bio.specs.SizeLaws.{lawful_parts}
 use Rattle.blockdev.specs.declared.device.BlockDev.{Ghosts}
 use Rattle.log_format.specs.declared.entry.Entry.{Entry}
 use Rattle.pending.specs.CoreState.{CoreState, added_to, records}
@@ -67,7 +68,7 @@ pub kept_complete : {L : Type 0} {l : Ghosts L} (id : ℕ) (ok : Bool) (reply : 
 kept_complete {L} {l} id ok reply old new completes written = elim (bool_cases (is_open_at (core_of old).events id)) [
   | inl opened ↦
       let is = (completes.recorded opened).1 in
-      let lawful = (and_parts (is_well_formed (core_of new).events) _ new.kept.lawful).0 in
+      let lawful = (and_parts (is_well_formed (core_of new).events) _ (lawful_parts _ 1048576 (core_of new).events new.kept.lawful).0).0 in
       let well_formed : is_well_formed ((core_of old).events ++ events.Complete id ok ∷ []) ≡ true = ap (λ (c : CoreState). is_well_formed c.events) (sym is) ∙ lawful in
       let parts = and_parts (is_well_formed (core_of old).events) (can_follow (core_of old).events (Some (events.Complete id ok)))
       (sym (is_well_formed-snoc (core_of old).events (events.Complete id ok)) ∙ well_formed) in

@@ -1,5 +1,5 @@
 -- A recorder over a log that is made on a device, and why none can be made.
-use Rattle.std.specs.Prelude.{◌≡◌, true, Err, [], None}
+use Rattle.std.specs.Prelude.{◌≡◌, ℕ, true, Err, [], None}
 use Rattle.bio.specs.Causes.{end_cause}
 use Rattle.bio.specs.declared.outcome.DevError.{DevError}
 use Rattle.bio.specs.declared.outcome.DevError.TheVariants.{Io}
@@ -10,26 +10,28 @@ use Rattle.blockdev.specs.Law.{Goes}
 use Rattle.log_format.specs.LogOf.{IsLogOf}
 use Rattle.log_format.specs.Placing.{first_sector}
 use Rattle.log_store.specs.Calls.{HasFaulted}
-use Rattle.pending.specs.CoreState.{new_state}
+use Rattle.pending.specs.CoreState.{sized_state}
 use Rattle.recorder.specs.declared.recorder.Recorder.{Recorder}
 use Rattle.run_error.specs.declared.run_error.RunError.{RunError}
 use Rattle.run_error.specs.declared.run_error.RunError.TheVariants.{LoggingEnded}
 use Rattle.recorder.specs.Shown.{core_of}
 
--- Nothing is recorded yet, and a log of no entries was made on this device: unless it lied, a crash leaves just that.
-pub record IsNewOn {L : Type 0} {l : Ghosts L} (device : L) (recorder : Recorder L l) : Type 0 where
-  pub core : core_of recorder ≡ new_state
+-- Nothing is recorded yet, and a log of no entries, with sectors of so many bytes, was made on this device: unless it lied, a crash
+-- leaves just that.
+pub record IsNewOn {L : Type 0} {l : Ghosts L} (bytes : ℕ) (device : L) (recorder : Recorder L l) : Type 0 where
+  pub core : core_of recorder ≡ sized_state bytes
   pub end : recorder.end ≡ None
   pub placed : recorder.store.placed ≡ 0
   pub moment : recorder.store.moment ≡ 0
-  pub made : Goes (writes 0 (first_sector 512 0)) (l.shown device) (l.shown recorder.store.device)
+  pub made : Goes (writes 0 (first_sector bytes 0)) (l.shown device) (l.shown recorder.store.device)
   pub empty : (l.shown recorder.store.device).lies ≡ 0 → (left : Content) → (l.shown recorder.store.device).crash left →
-      IsLogOf (l.shown recorder.store.device).size left 512 []
+      IsLogOf (l.shown recorder.store.device).size left bytes []
 
--- No log could be made on this device: the write of its super block was answered by this error, and that is the cause.
-pub record IsUnmadeOn {L : Type 0} (l : Ghosts L) (device : L) (fault : RunError) : Type 0 where
+-- No log with sectors of so many bytes could be made on this device: the write of its super block was answered by this error, and
+-- that is the cause.
+pub record IsUnmadeOn {L : Type 0} (l : Ghosts L) (bytes : ℕ) (device : L) (fault : RunError) : Type 0 where
   pub last : L
   pub error : DevError
-  pub answered : l.does device (Writes 0 (first_sector 512 0) true) 0 (Err error) last
+  pub answered : l.does device (Writes 0 (first_sector bytes 0) true) 0 (Err error) last
   pub failed : error ≡ Io → HasFaulted (l.shown device) (l.shown last)
   pub ends_by : fault ≡ LoggingEnded (end_cause error)

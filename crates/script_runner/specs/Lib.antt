@@ -1,5 +1,6 @@
 pub use Rattle.bio.specs.Check
 pub use Rattle.bio.specs.Lawful
+pub use Rattle.bio.specs.Sizes as LogSizes
 pub use Rattle.blockdev.specs.Calls
 pub use Rattle.dmlw_script.specs.Plans
 pub use Rattle.recorder.specs.Calls as RecorderCalls

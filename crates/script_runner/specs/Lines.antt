@@ -201,11 +201,11 @@ PrintsLine m names command before after old new = (text : List ℕ) × RunsLine 
 abbrev pub count_of : Command → ℕ
 count_of command = if is_submission command then 1 else 0
 
--- what a line covers is within a data device of so many sectors
-abbrev pub FitsDevice : ℕ → Command → Type 0
-FitsDevice sectors (commands.Submit submission) = submission_answer sectors submission ≡ Ok tt
-FitsDevice sectors (commands.Complete request) = Unit {0}
-FitsDevice sectors (commands.Step step) = step_answer sectors step ≡ Ok tt
+-- what a line covers is within a data device of so many sectors, and aligned to a log's sectors of so many bytes
+abbrev pub FitsDevice : (bytes sectors : ℕ) → Command → Type 0
+FitsDevice bytes sectors (commands.Submit submission) = submission_answer bytes sectors submission ≡ Ok tt
+FitsDevice bytes sectors (commands.Complete request) = Unit {0}
+FitsDevice bytes sectors (commands.Step step) = step_answer bytes sectors step ≡ Ok tt
 
 -- a mark's text may stand in a line of a script
 abbrev pub HasScriptText : Command → Type 0

@@ -3,11 +3,13 @@ use Rattle.std.specs.Prelude.{◌≡◌, ℕ, ◌*◌, ◌+◌, ◌<◌, false, 
 use Rattle.std.specs.Io.KnownBytes.{Keeps}
 use Rattle.bio.specs.declared.outcome.Status.{Status}
 use Rattle.bio.specs.Lawful.{has_no_close}
+use Rattle.bio.specs.Sizes.{bytes_of}
 use Rattle.sectors.specs.Content.{AgreeBelow, Content, moved, sector_of}
 use Rattle.sector_disk.specs.declared.disk.SectorDisk.{SectorDisk}
 use Rattle.sector_disk.specs.Candidates.{left_by}
 use Rattle.sector_disk.specs.Shown.{cache_of, shown_of}
 use Rattle.sector_disk.specs.Sizes.{Begins}
+use Rattle.log_format.specs.Entries.{sectors_per}
 use Rattle.log_format.specs.LogOf.{IsLogOf, status_of}
 use Rattle.layer_table.specs.declared.stack.Stack.{Stack}
 use Rattle.layer_table.specs.Layers.{disk_of, layers_of, layers_under, on_stack, stack_shown, AreOver}
@@ -51,22 +53,23 @@ pub record IsStackOf (disk : Disk) (stack : Stack) : Type 0 where
   pub layers : layers_of stack ≡ layers_under disk.layers 0 []
   pub over : AreOver disk.layers (shown_of (disk_of stack)) (stack_shown stack)
 
--- Nothing is recorded yet, and a log of no entries was made on the top of a disk of zeroes and its layers.
-pub record IsNew (disk : Disk) (recorder : DiskRecorder) : Type 0 where
+-- Nothing is recorded yet, and a log of no entries, with sectors of so many bytes, was made on the top of a disk of zeroes and its layers.
+pub record IsNew (bytes : ℕ) (disk : Disk) (recorder : DiskRecorder) : Type 0 where
   pub stack : Stack
   pub blank : IsStackOf disk stack
-  pub begun : IsNewOn stack recorder
+  pub begun : IsNewOn bytes stack recorder
 
--- No log could be made on the top of a disk of zeroes and its layers.
-pub record IsUnmade (disk : Disk) (fault : RunError) : Type 0 where
+-- No log with sectors of so many bytes could be made on the top of a disk of zeroes and its layers.
+pub record IsUnmade (bytes : ℕ) (disk : Disk) (fault : RunError) : Type 0 where
   pub stack : Stack
   pub blank : IsStackOf disk stack
-  pub refused : IsUnmadeOn on_stack stack fault
+  pub refused : IsUnmadeOn on_stack bytes stack fault
 
--- A script's run before its first line, at moment 0: on a data disk of zeroes and a new log, both of the sizes and under the layers that the script names.
+-- A script's run before its first line, at moment 0: on a data disk of zeroes and a new log, both of the sizes and under the layers that the script names,
+-- the log with sectors of the size that it names.
 pub record Starts (plan : Plan) (run : DiskRun) : Type 0 where
   pub data_disk : IsStackOf plan.data_disk run.disk
-  pub log_disk : IsNew plan.log_disk run.recorder
+  pub log_disk : IsNew (bytes_of plan.log_size) plan.log_disk run.recorder
   pub none : run.requests.items ≡ []
   pub moment : run.moment ≡ 0
 
@@ -75,12 +78,13 @@ abbrev pub left_on : Option (List ℕ) → SectorDisk → Content
 left_on None disk = (shown_of disk).content
 left_on (Some picks) disk = left_by (cache_of disk) picks
 
--- The status tells how many entries are placed, the highest sector that they use (0 where there are none), and the cause that ended logging.
+-- The status tells how many entries are placed, the highest sector of 512 bytes that they use (0 where there are none), and the cause that ended
+-- logging.
 pub record IsCounted (status : Status) (recorder : DiskRecorder) : Type 0 where
   pub entries : status.entries ≡ recorder.store.placed
   pub end : status.end ≡ recorder.end
   pub none : recorder.store.placed ≡ 0 → status.sector ≡ 0
-  pub last : 0 < recorder.store.placed → status.sector + 1 ≡ recorder.store.next
+  pub last : 0 < recorder.store.placed → status.sector + 1 ≡ recorder.store.next * sectors_per (core_of recorder).sector_bytes
 
 -- what the bytes of a disk say at the place of the top of its layers, counted from the top's first sector
 abbrev pub seen_on : Disk → List ℕ → Content
@@ -93,6 +97,8 @@ pub record IsRecorded (plan : Plan) (text : List ℕ) (status : Status) (lies : 
   pub starts : Starts plan start
   pub last : DiskRun
   pub ran : RunsLines stack_answering plan.names plan.commands text start last
+  -- the recorder counts in the log's sectors, which are of the size that the script names
+  pub sector_bytes : (core_of last.recorder).sector_bytes ≡ bytes_of plan.log_size
   pub counted : IsCounted status last.recorder
   pub lied : lies ≡ record { data_disk = (stack_shown last.disk).lies; log_disk = (stack_shown last.recorder.store.device).lies }
   pub size : length image ≡ 512 * plan.log_disk.sectors
@@ -100,18 +106,18 @@ pub record IsRecorded (plan : Plan) (text : List ℕ) (status : Status) (lies : 
   -- where none of the log's layers may drop writes, none of them lied
   pub honest : some_drops plan.log_disk.layers ≡ false → lies.log_disk ≡ 0
   -- unless the log's device lied, the status is that of what is placed
-  pub tells : lies.log_disk ≡ 0 → status ≡ status_of 512 (entries_of (store_of last.recorder.store)) last.recorder.end
+  pub tells : lies.log_disk ≡ 0 → status ≡ status_of (bytes_of plan.log_size) (entries_of (store_of last.recorder.store)) last.recorder.end
   -- unless it lied, the bytes have a log, as seen through its layers, which is a beginning of the completion list of the recorder's
   -- events with all that is settled and all that is acknowledged; each beginning of it replays to what the recorded device could hold
   pub beginning : lies.log_disk ≡ 0 →
       ReplaysToWhatCouldBe (recording_of last.recorder) (recording_of last.recorder) (seen_on plan.log_disk image)
   -- where the script closed and logging goes on, it is the whole list
   pub whole : lies.log_disk ≡ 0 → has_no_close (core_of last.recorder).events ≡ false → last.recorder.end ≡ None →
-      IsLogOf (top_of plan.log_disk) (seen_on plan.log_disk image) 512 (log_of (core_of last.recorder))
+      IsLogOf (top_of plan.log_disk) (seen_on plan.log_disk image) (bytes_of plan.log_size) (log_of (core_of last.recorder))
 
 -- Why recording a script, which was read from a text, fails: there is no memory, or the output can't be written; no log could be made, and nothing
 -- was printed; or its run ends before its last line.
 pub data FailsOnDisks (text : List ℕ) (plan : Plan) (before after : Option (List ℕ)) : RunError → Type 0 where
   file : (fault : RunError) → IsFileError fault → FailsOnDisks text plan before after fault
-  unmade : (fault : RunError) → IsUnmade plan.log_disk fault → Keeps before after → FailsOnDisks text plan before after fault
+  unmade : (fault : RunError) → IsUnmade (bytes_of plan.log_size) plan.log_disk fault → Keeps before after → FailsOnDisks text plan before after fault
   run : (start : DiskRun) (fault : RunError) → Starts plan start → EndsRun stack_answering text plan before after start fault → FailsOnDisks text plan before after fault

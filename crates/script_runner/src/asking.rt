@@ -1,7 +1,7 @@
 ghost use Rattle.std.specs.Prelude.{◌≡◌, ◌≤◌, Ok, ℕ};
 ghost use Rattle.dmlw_script.specs.Plans.{submission_answer};
 ghost use Rattle.recorder.specs.Growth.{RecorderGoes};
-ghost use Rattle.recorder.specs.Shown.{recording_of};
+ghost use Rattle.recorder.specs.Shown.{core_of, recording_of};
 ghost use Rattle.script_runner.specs.Lines.{Asks, HearsEnd};
 ghost use Rattle.script_runner.specs.Submitted.{bio_of};
 
@@ -12,13 +12,13 @@ use dmlw_script::Submission;
 use recorder::{Recorder, Reply};
 use std::alloc::Global;
 
-// Asks the recorder of the request that a line submits.
+// Asks the recorder of the request that a line submits, which suits its log's sectors.
 pub(crate) fn ask<L: BlockDev + Drop>(
     recorder: &mut Recorder<L>,
     alloc: Global,
     submission: Submission,
 ) -> Request
-    requires { submission_answer 1048576 submission ≡ Ok tt }
+    requires { submission_answer (core_of recorder.old).sector_bytes 1048576 submission ≡ Ok tt }
     ensures asks { Asks (bio_of submission) result recorder.old recorder.new }
     ensures goes { RecorderGoes (recording_of recorder.old) (recording_of recorder.new) }
     ensures log_moment { recorder.new.store.moment ≡ recorder.old.store.moment }

@@ -46,9 +46,9 @@ pub fn headline()
     recorder::laws::crashed_logs_replay_to_what_could_be::<Stack>();
 }
 
-/// A log on a disk under no layers can always be made, unless there is no memory for it.
+/// A log on a disk under no layers can always be made, of either sector size, unless there is no memory for it.
 pub fn bare_logs_fail_by_memory_alone()
-    ensures { (disk : Disk) (fault : RunError) → disk.layers ≡ [] → IsUnmade disk fault → fault ≡ LoggingEnded ends.Memory }
+    ensures { (bytes : ℕ) (disk : Disk) (fault : RunError) → disk.layers ≡ [] → IsUnmade bytes disk fault → fault ≡ LoggingEnded ends.Memory }
 {
     layer_table::laws::stacks_do_what_their_layers_do();
 }
@@ -96,7 +96,7 @@ pub fn crashes_of_a_run_leave_beginnings<D: Message + Drop, L: Message + Drop>()
         RunsLines (answering D.answers L.answers) names body text old new → (recording_of new.recorder).store.device.lies ≡ 0 →
         (recording_of new.recorder).store.device.since (recording_of old.recorder).store.device.moment left →
         (count : ℕ) × (old.recorder.store.settled ≤ count) × (count ≤ length (log_of (core_of new.recorder)))
-        × IsLogOf (recording_of new.recorder).store.device.size left 512 (take count (log_of (core_of new.recorder))) }
+        × IsLogOf (recording_of new.recorder).store.device.size left (core_of new.recorder).sector_bytes (take count (log_of (core_of new.recorder))) }
 {
     lines_go_as_one_call::<D, L>();
     recorder::laws::crashes_leave_beginnings::<L>();

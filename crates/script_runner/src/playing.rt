@@ -1,4 +1,5 @@
-ghost use Rattle.std.specs.Prelude.{◌≡◌, ◌⊎◌, IfErr, IfOk};
+ghost use Rattle.std.specs.Prelude.{◌≡◌, ◌≤◌, ◌/◌, ◌⊎◌, IfErr, IfOk};
+ghost use Rattle.bio.specs.Sizes.{bytes_of};
 ghost use Rattle.dmlw_script.specs.Plans.{IsDisk, top_of};
 ghost use Rattle.layer_table.specs.StackMessages.{StackAnswers};
 ghost use Rattle.run_error.specs.Errors.{memory_error};
@@ -9,7 +10,7 @@ ghost use Rattle.script_runner.specs.inside.Played.{FailsPlaying, IsPlayed, Star
 
 use crate::run_script::run;
 use crate::running::Running;
-use bio::{End, Ms};
+use bio::{End, Ms, SectorSize};
 use blockdev::{BlockDev, Message};
 use dmlw_script::{DiskSpec, Script};
 use layer_table::Stack;
@@ -52,14 +53,15 @@ fn play_beside<L: Message + Drop, O: Write>(
     log: L,
     out: &mut O,
 ) -> Result<Played<L>, RunError>
-    ensures played { IfOk result (λ played. IsPlayed {l = L.BlockDev} (answering StackAnswers L.answers) script.now (StartsBeside script.now.data_disk log) (O.contents out.old) (O.contents out.new) played.recorder played.data_lies) }
-    ensures faults { IfErr result (FailsPlaying {l = L.BlockDev} (answering StackAnswers L.answers) text.now script.now (IsUnmadeOn L.BlockDev log) (StartsBeside script.now.data_disk log) (O.contents out.old) (O.contents out.new)) }
+    requires { bytes_of script.now.log_size / 512 ≤ (L.shown log).size }
+    ensures played { IfOk result (λ played. IsPlayed {l = L.BlockDev} (answering StackAnswers L.answers) script.now (StartsBeside (bytes_of script.now.log_size) script.now.data_disk log) (O.contents out.old) (O.contents out.new) played.recorder played.data_lies) }
+    ensures faults { IfErr result (FailsPlaying {l = L.BlockDev} (answering StackAnswers L.answers) text.now script.now (IsUnmadeOn L.BlockDev (bytes_of script.now.log_size) log) (StartsBeside (bytes_of script.now.log_size) script.now.data_disk log) (O.contents out.old) (O.contents out.new)) }
 {
     let data = new_stack(alloc, script.data())?;
     play(alloc, text, script, log, data, out)
 }
 
-// Runs a script on a new log on one device and on another device.
+// Runs a script on a new log on one device, on which one of its sectors fits, and on another device.
 fn play<D: Message + Drop, L: Message + Drop, O: Write>(
     alloc: Global,
     text: &[u8],
@@ -68,11 +70,12 @@ fn play<D: Message + Drop, L: Message + Drop, O: Write>(
     disk: D,
     out: &mut O,
 ) -> Result<Played<L>, RunError>
-    requires { (D.shown disk).size ≡ top_of script.now.data_disk }
-    ensures played { IfOk result (λ played. IsPlayed {d = D.BlockDev} {l = L.BlockDev} (answering D.answers L.answers) script.now (StartsOn disk log) (O.contents out.old) (O.contents out.new) played.recorder played.data_lies) }
-    ensures faults { IfErr result (FailsPlaying {d = D.BlockDev} {l = L.BlockDev} (answering D.answers L.answers) text.now script.now (IsUnmadeOn L.BlockDev log) (StartsOn disk log) (O.contents out.old) (O.contents out.new)) }
+    requires size { (D.shown disk).size ≡ top_of script.now.data_disk }
+    requires room { bytes_of script.now.log_size / 512 ≤ (L.shown log).size }
+    ensures played { IfOk result (λ played. IsPlayed {d = D.BlockDev} {l = L.BlockDev} (answering D.answers L.answers) script.now (StartsOn (bytes_of script.now.log_size) disk log) (O.contents out.old) (O.contents out.new) played.recorder played.data_lies) }
+    ensures faults { IfErr result (FailsPlaying {d = D.BlockDev} {l = L.BlockDev} (answering D.answers L.answers) text.now script.now (IsUnmadeOn L.BlockDev (bytes_of script.now.log_size) log) (StartsOn (bytes_of script.now.log_size) disk log) (O.contents out.old) (O.contents out.new)) }
 {
-    let mut running = start_on(alloc, log, disk, script.names().len())?;
+    let mut running = start_on(alloc, log, script.log_size(), disk, script.names().len())?;
     run(text, script, &mut running, out)?;
     let (recorder, disk) = running.into_parts();
     Ok(Played {
@@ -81,26 +84,33 @@ fn play<D: Message + Drop, L: Message + Drop, O: Write>(
     })
 }
 
-// A run before its first line, over a new log on one device and over another device, with room for so many requests.
+// A run before its first line, over a new log with such sectors on one device and over another device, with room for so many requests.
 fn start_on<D: BlockDev + Drop, L: BlockDev + Drop>(
     alloc: Global,
     log: L,
+    size: SectorSize,
     disk: D,
     requests: usize,
 ) -> Result<Running<D, L>, RunError>
-    ensures starts { IfOk result (StartsOn disk log) }
-    ensures faults { IfErr result (λ fault. (fault ≡ memory_error) ⊎ IsUnmadeOn L.BlockDev log fault) }
+    requires { bytes_of size / 512 ≤ (L.shown log).size }
+    ensures starts { IfOk result (StartsOn (bytes_of size) disk log) }
+    ensures faults { IfErr result (λ fault. (fault ≡ memory_error) ⊎ IsUnmadeOn L.BlockDev (bytes_of size) log fault) }
 {
-    let recorder = new_recorder(alloc, log)?;
+    let recorder = new_recorder(alloc, log, size)?;
     Ok(Running::new(alloc, recorder, disk, requests)?)
 }
 
-// A recorder over a new log on a device.
-fn new_recorder<L: BlockDev + Drop>(alloc: Global, device: L) -> Result<Recorder<L>, RunError>
-    ensures made { IfOk result (IsNewOn device) }
-    ensures faults { IfErr result (λ fault. (fault ≡ memory_error) ⊎ IsUnmadeOn L.BlockDev device fault) }
+// A recorder over a new log with such sectors on a device.
+fn new_recorder<L: BlockDev + Drop>(
+    alloc: Global,
+    device: L,
+    size: SectorSize,
+) -> Result<Recorder<L>, RunError>
+    requires { bytes_of size / 512 ≤ (L.shown device).size }
+    ensures made { IfOk result (IsNewOn (bytes_of size) device) }
+    ensures faults { IfErr result (λ fault. (fault ≡ memory_error) ⊎ IsUnmadeOn L.BlockDev (bytes_of size) device fault) }
 {
-    match LogStore::create(device) {
+    match LogStore::create_sized(device, size) {
         Ok(store) => match Recorder::new(alloc, store) {
             Ok(recorder) => Ok(recorder),
             Err(_store) => Err(RunError::from(Refusal::Memory)),

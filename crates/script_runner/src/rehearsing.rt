@@ -1,8 +1,10 @@
 ghost use Rattle.std.specs.Prelude.{◌≡◌, IfErr, IfOk, true};
-ghost use Rattle.bio.specs.Lawful.{is_lawful};
+ghost use Rattle.bio.specs.Lawful.{all_aligned, is_lawful};
+ghost use Rattle.bio.specs.Sizes.{bytes_of};
 ghost use Rattle.dmlw_script.specs.Plans.{top_of};
 ghost use Rattle.script_runner.specs.Rehearsals.{FailsRehearsal, IsRehearsed};
 
+use crate::laws::lines_go_as_one_call;
 use crate::playing::play_on_disks;
 use bio::CoreEvent;
 use dmlw_script::Script;
@@ -45,8 +47,11 @@ pub fn rehearse(alloc: Global, text: &[u8], script: &Script) -> Result<Rehearsed
     ensures rehearsed { IfOk result (IsRehearsed script.now) }
     // They are events of a device of the size of the data disk's top.
     ensures lawful { IfOk result (λ events. is_lawful (top_of script.now.data_disk) events ≡ true) }
+    // Each request among them is aligned to the log's sectors.
+    ensures aligned { IfOk result (λ events. all_aligned (bytes_of script.now.log_size) events ≡ true) }
     ensures faults { IfErr result (FailsRehearsal text.now script.now) }
 {
+    lines_go_as_one_call::<Stack, Stack>();
     let _commands = script.commands();
     let played = play_on_disks(alloc, text, script, &mut io::sink())?;
     let _events = played.recorder.events();

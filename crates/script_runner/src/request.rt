@@ -22,7 +22,7 @@ pub enum Request {
 
 // The request that a script's line submits. Its bytes lie in memory once however many hold them.
 pub(crate) fn bio_of(alloc: Global, submission: Submission) -> Result<Bio, AllocError>
-    requires { (sectors : ℕ) × (submission_answer sectors submission ≡ Ok tt) }
+    requires { (bytes sectors : ℕ) × (submission_answer bytes sectors submission ≡ Ok tt) }
     ensures made { IfOk result (λ bio. bio ≡ bio_of submission) }
     ensures no_data { has_data (bio_of submission) ≡ false → IsOk result }
 {

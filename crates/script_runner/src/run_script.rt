@@ -1,4 +1,6 @@
+ghost use Rattle.bio.specs.Sizes.{bytes_of};
 ghost use Rattle.dmlw_script.specs.Plans.{top_of};
+ghost use Rattle.recorder.specs.Shown.{core_of};
 ghost use Rattle.std.specs.Prelude.{◌≡◌, IfErr, OnOk, []};
 ghost use Rattle.script_runner.specs.Lines.{answering};
 ghost use Rattle.script_runner.specs.Runs.{EndsRun, PrintsLines};
@@ -11,7 +13,7 @@ use refusals::Fault;
 use run_error::RunError;
 use std::io::Write;
 
-/// Runs a script, which was read from `text`, on a data device of the size of its data disk's top, from before its first line on. What its lines print is
+/// Runs a script, which was read from `text`, on a data device of the size of its data disk's top, beside a log with sectors of its log's size, from before its first line on. What its lines print is
 /// written to `out`. A close or a message that is refused ends the run at its line; so does an output that can't be written, and memory that runs out for what the
 /// run itself keeps.
 pub fn run<D: Message + Drop, L: Message + Drop, O: Write>(
@@ -21,6 +23,7 @@ pub fn run<D: Message + Drop, L: Message + Drop, O: Write>(
     out: &mut O,
 ) -> Result<(), RunError>
     requires size { (D.shown running.old.disk).size ≡ top_of script.now.data_disk }
+    requires sectors { (core_of running.old.recorder).sector_bytes ≡ bytes_of script.now.log_size }
     requires first { running.old.requests.items ≡ [] }
     ensures runs { OnOk result (PrintsLines (answering D.answers L.answers) script.now.names script.now.commands (O.contents out.old) (O.contents out.new) running.old running.new) }
     ensures size { (D.shown running.new.disk).size ≡ (D.shown running.old.disk).size }

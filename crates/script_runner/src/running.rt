@@ -78,7 +78,7 @@ impl<D: Message + Drop, L: Message + Drop> Running<D, L> {
     ghost use Rattle.recorder.specs.declared.reply.Reply.TheVariants as replies;
     ghost use Rattle.recorder.specs.Calls.{Closes};
     ghost use Rattle.recorder.specs.Growth.{RecorderGoes};
-    ghost use Rattle.recorder.specs.Shown.{recording_of};
+    ghost use Rattle.recorder.specs.Shown.{core_of, recording_of};
     ghost use Rattle.script_runner.specs.declared.step_error.StepError.TheVariants.{AtLine};
     ghost use Rattle.script_runner.specs.Lines.{EndsRecording, EndsSubmitted, FitsDevice, GivesTurn, HasScriptText, PrintsLine, ReadsData, RefusesMessage, SetsMoment, StopsForFile, StopsLine, TellsLayer, TellsMark, answering, count_of};
 
@@ -89,7 +89,7 @@ impl<D: Message + Drop, L: Message + Drop> Running<D, L> {
         names: &[ScriptId],
         out: &mut O,
     ) -> Result<(), StepError>
-        requires fits { submission_answer (D.shown self.old.disk).size submission ≡ Ok tt }
+        requires fits { submission_answer (core_of self.old.recorder).sector_bytes (D.shown self.old.disk).size submission ≡ Ok tt }
         requires named { length self.old.requests.items < length names.now }
         requires ids { AllByRecursion IsName names.now }
         ensures runs { OnOk result (PrintsLine (answering D.answers L.answers) names.now (Command.Submit submission) (O.contents out.old) (O.contents out.new) self.old self.new) }
@@ -239,7 +239,7 @@ impl<D: Message + Drop, L: Message + Drop> Running<D, L> {
         names: &[ScriptId],
         out: &mut O,
     ) -> Result<(), StepError>
-        requires fits { FitsDevice (D.shown self.old.disk).size command.now }
+        requires fits { FitsDevice (core_of self.old.recorder).sector_bytes (D.shown self.old.disk).size command.now }
         requires text { HasScriptText command.now }
         requires named { HasName (length names.now) (length self.old.requests.items) command.now }
         requires submitted { EndsSubmitted (length self.old.requests.items) command.now }

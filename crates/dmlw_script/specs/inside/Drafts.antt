@@ -60,28 +60,28 @@ as_refusal (Ok fine) = Ok tt
 as_refusal (Err bad) = Err (bad_bio_refusal bad)
 
 -- the test of a line that names no request, at this moment: no `at` goes back, and sectors pass their test
-abbrev pub step_test : ℕ → ℕ → Step → Result (Unit {0}) Refusal
-step_test sectors moment steps.Close = Ok tt
-step_test sectors moment (steps.Read first count) = as_refusal (step_answer sectors (steps.Read first count))
-step_test sectors moment steps.Turn = Ok tt
-step_test sectors moment (steps.Mark text) = Ok tt
-step_test sectors moment (steps.At later) = if nat_lt later moment then Err BadLine else Ok tt
-step_test sectors moment (steps.Message over layer text) = Ok tt
+abbrev pub step_test : (bytes sectors moment : ℕ) → Step → Result (Unit {0}) Refusal
+step_test bytes sectors moment steps.Close = Ok tt
+step_test bytes sectors moment (steps.Read first count) = as_refusal (step_answer bytes sectors (steps.Read first count))
+step_test bytes sectors moment steps.Turn = Ok tt
+step_test bytes sectors moment (steps.Mark text) = Ok tt
+step_test bytes sectors moment (steps.At later) = if nat_lt later moment then Err BadLine else Ok tt
+step_test bytes sectors moment (steps.Message over layer text) = Ok tt
 
 -- an end, whose request must be open
 abbrev pub ended_next : Option ℕ → Body → Result Body Refusal
 ended_next None b = Err BadId
 ended_next (Some request) b = if is_ended request b.body then Err BadId else Ok (with_command b (commands.Complete request))
 
--- the body after one more line, for a data disk of so many sectors
-abbrev pub body_step : ℕ → Body → BodyLine → Result Body Refusal
-body_step sectors b (body_lines.Submit name submission) = do
+-- the body after one more line, for a log of sectors of so many bytes and a data disk of so many sectors
+abbrev pub body_step : (bytes sectors : ℕ) → Body → BodyLine → Result Body Refusal
+body_step bytes sectors b (body_lines.Submit name submission) = do
   submitted ← with_name b name
-  fine ← as_refusal (submission_answer sectors submission)
+  fine ← as_refusal (submission_answer bytes sectors submission)
   Ok (with_command submitted (commands.Submit submission))
-body_step sectors b (body_lines.Complete name) = ended_next (request_of name b.names) b
-body_step sectors b (body_lines.Step step) = do
-  fine ← step_test sectors (moment_after b.body) step
+body_step bytes sectors b (body_lines.Complete name) = ended_next (request_of name b.names) b
+body_step bytes sectors b (body_lines.Step step) = do
+  fine ← step_test bytes sectors (moment_after b.body) step
   Ok (with_command b (commands.Step step))
 
 -- what a call answers that leaves this value, where a step says what it should come to

@@ -4,6 +4,8 @@ use Rattle.std.proofs.Common.{inl, inr}
 use Rattle.std.specs.List.{slice_split}
 use Rattle.std.specs.Option.{option_map}
 use Rattle.std.specs.Str.{bytes_eq}
+use Rattle.bio.specs.declared.sector_size.SectorSize.{SectorSize}
+use Rattle.bio.specs.declared.sector_size.SectorSize.TheVariants as sizes
 use Rattle.dmlw_script.specs.declared.disk_name.DiskName.{DiskName}
 use Rattle.dmlw_script.specs.declared.disk_name.DiskName.TheVariants as disks
 use Rattle.dmlw_script.specs.Said.{Said}
@@ -120,11 +122,23 @@ asked_of text = asked_from (asks_or_fails (words_of text))
 abbrev pub layer_of : DiskName → List ℕ → Said
 layer_of over text = parsed_lines.Head (head_lines.Layer over (asked_of text))
 
+-- the size of a log's sectors that a word says, or 512 bytes where there is none
+abbrev pub size_of : Option (List ℕ) → Option SectorSize
+size_of None = Some sizes.B512
+size_of (Some word) = if bytes_eq word (codes "4096") then Some sizes.B4096 else None
+
+-- the line of the log disk that these words say: its sectors and the size of the log's sectors
+abbrev pub log_of : List ℕ → Option Said
+log_of words = do
+  sectors ← number_of (before_byte 32 words)
+  size ← size_of (after_byte 32 words)
+  Some (parsed_lines.Head (head_lines.Log sectors size))
+
 -- what a line of this first word says, whose other words are these
 abbrev pub parse_words : List ℕ → List ℕ → Option Said
 parse_words verb words =
     if bytes_eq verb (codes "data") then option_map (λ n. parsed_lines.Head (head_lines.Data n)) (number_of words)
-    else if bytes_eq verb (codes "log") then option_map (λ n. parsed_lines.Head (head_lines.Log n)) (number_of words)
+    else if bytes_eq verb (codes "log") then log_of words
     else if bytes_eq verb (codes "data-layer") then Some (layer_of disks.Data words)
     else if bytes_eq verb (codes "log-layer") then Some (layer_of disks.Log words)
     else body_words verb words

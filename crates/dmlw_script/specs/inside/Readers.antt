@@ -1,5 +1,6 @@
 -- The steps of the reader over lines. `Grammar` and `Reading` say in the grammar's words what they come to.
 use Rattle.std.specs.Prelude.{◌≡◌, ℕ, ◌+◌, Bool, true, false, not, List, [], ◌∷◌, Option, Some, None, Result, Ok, Err, if◌then◌else◌}
+use Rattle.bio.specs.Sizes.{bytes_of}
 use Rattle.refusals.specs.declared.refusal.Refusal.{Refusal}
 use Rattle.refusals.specs.declared.refusal.Refusal.TheVariants.{BadLine, Memory}
 use Rattle.dmlw_script.specs.declared.command.Command.{Command}
@@ -50,18 +51,19 @@ with_body p (Ok body) = Ok (record p { body = body })
 
 -- one more line of the body, which comes after a whole head; a run's body has none yet
 abbrev pub body_line : Kind → Stage → Progress → BodyLine → Result Progress Refusal
-body_line kinds.Record (heads.Whole data_disk log_disk) p line = with_body p (body_step (top_of data_disk) p.body line)
+body_line kinds.Record (heads.Whole data_disk log_disk log_size) p line =
+    with_body p (body_step (bytes_of log_size) (top_of data_disk) p.body line)
 body_line kinds.Record (heads.Data data_disk) p line = Err BadLine
 body_line kinds.Record heads.Empty p line = Err BadLine
-body_line kinds.Record (heads.Ended data_disk log_disk picks) p line = Err BadLine
+body_line kinds.Record (heads.Ended data_disk log_disk log_size picks) p line = Err BadLine
 body_line kinds.Run head p line = Err BadLine
 
 -- a crash, which comes after a whole head
 abbrev pub crash_line : Kind → Stage → Progress → List ℕ → Result Progress Refusal
-crash_line kinds.Record (heads.Whole data_disk log_disk) p picks = Ok (record p { head = heads.Ended data_disk log_disk picks })
+crash_line kinds.Record (heads.Whole data_disk log_disk log_size) p picks = Ok (record p { head = heads.Ended data_disk log_disk log_size picks })
 crash_line kinds.Record (heads.Data data_disk) p picks = Err BadLine
 crash_line kinds.Record heads.Empty p picks = Err BadLine
-crash_line kinds.Record (heads.Ended data_disk log_disk ended) p picks = Err BadLine
+crash_line kinds.Record (heads.Ended data_disk log_disk log_size ended) p picks = Err BadLine
 crash_line kinds.Run head p picks = Err BadLine
 
 -- one more line that is none to skip
@@ -84,10 +86,10 @@ line_step kind p line =
 
 -- the text ends here: a whole head stands before it, and a run's script isn't whole yet
 abbrev pub finished : Kind → Stage → Body → Result Plan Refusal
-finished kinds.Record (heads.Whole data_disk log_disk) body =
-    Ok (record { data_disk = data_disk; log_disk = log_disk; names = body.names; commands = body.body; ending = None })
-finished kinds.Record (heads.Ended data_disk log_disk picks) body =
-    Ok (record { data_disk = data_disk; log_disk = log_disk; names = body.names; commands = body.body; ending = Some picks })
+finished kinds.Record (heads.Whole data_disk log_disk log_size) body =
+    Ok (record { data_disk = data_disk; log_disk = log_disk; log_size = log_size; names = body.names; commands = body.body; ending = None })
+finished kinds.Record (heads.Ended data_disk log_disk log_size picks) body =
+    Ok (record { data_disk = data_disk; log_disk = log_disk; log_size = log_size; names = body.names; commands = body.body; ending = Some picks })
 finished kinds.Record (heads.Data data_disk) body = Err BadLine
 finished kinds.Record heads.Empty body = Err BadLine
 finished kinds.Run head body = Err BadLine

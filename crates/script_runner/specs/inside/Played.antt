@@ -14,17 +14,18 @@ use Rattle.layer_table.specs.Layers.{on_stack}
 use Rattle.script_runner.specs.OnDisks.{IsStackOf}
 use Rattle.script_runner.specs.Runs.{EndsRun, RunsLines}
 
--- A script's run before its first line, at moment 0: on this data device, and on a new log on this device.
-pub record StartsOn {D L : Type 0} {d : Ghosts D} {l : Ghosts L} (disk : D) (log : L) (run : Running D L d l) : Type 0 where
+-- A script's run before its first line, at moment 0: on this data device, and on a new log on this device, with sectors of so many
+-- bytes.
+pub record StartsOn {D L : Type 0} {d : Ghosts D} {l : Ghosts L} (bytes : ℕ) (disk : D) (log : L) (run : Running D L d l) : Type 0 where
   pub disk_is : run.disk ≡ disk
-  pub begun : IsNewOn log run.recorder
+  pub begun : IsNewOn bytes log run.recorder
   pub none : run.requests.items ≡ []
   pub moment : run.moment ≡ 0
 
 -- The same, on a data disk of zeroes under its layers.
-pub record StartsBeside {L : Type 0} {l : Ghosts L} (data_disk : Disk) (log : L) (run : Running Stack L on_stack l) : Type 0 where
+pub record StartsBeside {L : Type 0} {l : Ghosts L} (bytes : ℕ) (data_disk : Disk) (log : L) (run : Running Stack L on_stack l) : Type 0 where
   pub stack : IsStackOf data_disk run.disk
-  pub begun : IsNewOn log run.recorder
+  pub begun : IsNewOn bytes log run.recorder
   pub none : run.requests.items ≡ []
   pub moment : run.moment ≡ 0
 

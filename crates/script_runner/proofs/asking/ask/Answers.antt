@@ -1,15 +1,23 @@
-use Rattle.std.proofs.Common.{◌∙◌, ap, inl, inr, refl, subst, sym}
+use Rattle.std.proofs.Common.{◌≡◌, ◌∙◌, Ok, ap, inl, inr, refl, subst, sym}
 use Rattle.bio.specs.declared.request.Bio.{Bio}
+use Rattle.bio.specs.Check.{check_sized_answer}
 use Rattle.bio.specs.Requests.{has_data}
 use Rattle.recorder.specs.Calls.{Submits}
+use Rattle.recorder.specs.Shown.{core_of}
 use Rattle.refusals.specs.declared.refusal.Refusal.TheVariants.{Memory}
 use Rattle.recorder.specs.declared.reply.Reply.TheVariants as replies
 use Rattle.script_runner.proofs.Stepping.{refused-only}
-use Rattle.script_runner.proofs.Submitting.{has_some}
+use Rattle.script_runner.proofs.Submitting.{bio_suits, has_some}
 use Rattle.script_runner.proofs.asking.ask.Goals as goal
 
 pub bio_of-requires : goal.bio_of-requires
-bio_of-requires g c = (1048576, c.requires)
+bio_of-requires g c = ((core_of c.args.recorder.now).sector_bytes, 1048576, c.requires)
+
+pub event-requires : goal.event-requires
+event-requires g c =
+    let bytes = (core_of c.args.recorder.now).sector_bytes in
+    subst (λ (bio : Bio). check_sized_answer bytes bio 1048576 ≡ Ok tt) (sym (c.in-Ok-clone.ensures.made ∙ c.in-Ok.ensures.made))
+    (bio_suits bytes 1048576 c.args.submission c.requires)
 
 pub returns-in_default-clause-asks : goal.returns-in_default-clause-asks
 returns-in_default-clause-asks g c = inl (has_some _ c.in_default.ensures.no_data, refl)

@@ -1,8 +1,9 @@
-use Rattle.std.proofs.Common.{inr, subst, sym}
-use Rattle.dmlw_script.specs.Plans.{Disk}
+use Rattle.std.proofs.Common.{◌≡◌, arith, inr, subst, sym}
+use Rattle.dmlw_script.specs.Plans.{top_of, Disk}
 use Rattle.script_runner.specs.CallLaws.{on_error}
-use Rattle.layer_table.specs.Layers.{on_stack}
+use Rattle.layer_table.specs.Layers.{on_stack, stack_shown}
 use Rattle.script_runner.specs.OnDisks.{stack_answering, FailsOnDisks, IsStackOf, file}
+use Rattle.script_runner.proofs.OnDisks.{stack_size}
 use Rattle.script_runner.proofs.Plays.{all_played, beside_starts, fails_on_disks}
 use Rattle.script_runner.proofs.Stepping.{if_err, if_failed}
 use Rattle.script_runner.proofs.playing.play_on_disks.Goals as goal
@@ -14,6 +15,14 @@ pub returns-in_err-log-clause-faults : goal.returns-in_err-log-clause-faults
 returns-in_err-log-clause-faults g c =
     on_error c.from_residual.result c.from_residual.ensures.1
     (λ fault is. subst (FailsOnDisks _ _ _ _) (sym is) (file _ (inr c.in_err-log.ensures.faults)))
+
+pub play_beside-requires : goal.play_beside-requires
+play_beside-requires g c =
+    let plan = c.args.script.now in
+    let size : (stack_shown c.in_ok-log.log).size ≡ top_of plan.log_disk =
+    stack_size plan.log_disk c.in_ok-log.log (subst (λ (disk : Disk). IsStackOf disk c.in_ok-log.log) c.log.ensures.disk c.in_ok-log.ensures.stack) in
+    let room = c.log.ensures.script.room in
+    omega (arith, size, room)
 
 pub returns-clause-played : goal.returns-clause-played
 returns-clause-played g c =

@@ -33,8 +33,8 @@ returns-clause-recorded g c =
     let played = c.in_ok-played.ensures.played in
     let script = c.args.script.now in
     let last = played.last in
-    let told : (stack_shown last.recorder.store.device).lies ≡ 0 → c.status-status.result ≡ status_of 512 (entries_of (store_of last.recorder.store)) last.recorder.end =
-    subst (λ (r : DiskRecorder). (stack_shown r.store.device).lies ≡ 0 → c.status-status.result ≡ status_of 512 (entries_of (store_of r.store)) r.end) played.left c.status-status.ensures.status in
+    let told : (stack_shown last.recorder.store.device).lies ≡ 0 → c.status-status.result ≡ status_of (core_of last.recorder).sector_bytes (entries_of (store_of last.recorder.store)) last.recorder.end =
+    subst (λ (r : DiskRecorder). (stack_shown r.store.device).lies ≡ 0 → c.status-status.result ≡ status_of (core_of r).sector_bytes (entries_of (store_of r.store)) r.end) played.left c.status-status.ensures.status in
     let says = c.status-status.ensures in
     let counted = subst (λ (r : DiskRecorder). IsCounted c.status-status.result r) played.left
     (record { entries = says.counts; end = says.end; none = says.none; last = says.last }) in
@@ -45,7 +45,7 @@ returns-clause-recorded g c =
     let lied = same_lies (record { data_disk = c.in_ok-played.played.data_lies; log_disk = c.lies.result }) (stack_shown last.disk).lies (stack_shown c.into_device-log.result).lies
     played.lied c.lies.ensures in (
       played.text,
-      is_recorded script played.text played.start last c.into_device-log.result c.status-status.result _ c.in_ok-image.image.items _ played.starts played.ran
+      is_recorded script played.text played.start last c.into_device-log.result c.status-status.result _ c.in_ok-image.image.items _ c.crash.ensures.script.room played.starts played.ran
           (c.lines_go_as_one_call.ensures script.names script.commands played.text played.start last played.ran)
           counted told same lied c.in_ok-image.ensures.size c.crash.ensures.picks c.in_ok-image.ensures.bytes replays
           (λ written on closed honest. c.closed_runs_leave_whole_logs.ensures.whole script.names script.commands played.text played.start last played.ran written sound on closed honest),

@@ -3,18 +3,19 @@ use Rattle.dmlw_script.specs.declared.command.Command.{Command}
 use Rattle.dmlw_script.specs.Lines.{command_line}
 use Rattle.dmlw_script.specs.Plans.{HasName}
 use Rattle.refusals.specs.declared.refusal.Refusal.{Refusal}
+use Rattle.recorder.specs.Shown.{core_of}
 use Rattle.run_error.specs.declared.run_error.RunError.TheVariants.{Refused}
 use Rattle.script_runner.specs.declared.step_error.StepError.TheVariants.{AtLine}
 use Rattle.script_runner.specs.Lines.{answering, EndsSubmitted, FitsDevice, HasScriptText, PrintsLine, StopsLine, count_of}
 use Rattle.script_runner.specs.Runs.{EndsRun}
-use Rattle.script_runner.proofs.Scripts.{command_next, count_more_of, lines_more_of, lines_run, next_line_fits, next_line_named, next_line_submitted, next_line_text, of_item, of_place, stops_at_line, stops_whole}
+use Rattle.script_runner.proofs.Scripts.{bytes_more, command_next, count_more_of, lines_more_of, lines_run, next_line_fits, next_line_named, next_line_submitted, next_line_text, of_item, of_place, stops_at_line, stops_whole}
 use Rattle.script_runner.proofs.run_script.run.Goals as goal
 
 pub run_line-requires-clause-fits : goal.run_line-requires-clause-fits
-run_line-requires-clause-fits g c = of_item (λ (command : Command). FitsDevice (g.D.BlockDev.shown c.loop-place.running.disk).size command) c.commands-command-items.result.now c.loop-place.place c.command-item.result c.command-item.is
-    (next_line_fits c.args.script.now c.commands-command-items.result.now c.loop-place.place _ _ c.commands-command-items.ensures.commands
+run_line-requires-clause-fits g c = of_item (λ (command : Command). FitsDevice (core_of c.loop-place.running.recorder).sector_bytes (g.D.BlockDev.shown c.loop-place.running.disk).size command) c.commands-command-items.result.now c.loop-place.place c.command-item.result c.command-item.is
+    (next_line_fits c.args.script.now c.commands-command-items.result.now c.loop-place.place _ _ _ c.commands-command-items.ensures.commands
     (λ before command rest split. c.requests_end_once.ensures.can_follow c.args.script.now before command rest c.commands-command-items.ensures.script split)
-    (omega arith) c.loop-place.invariant.3)
+    (omega arith) c.loop-place.invariant.4 c.loop-place.invariant.3)
 
 pub run_line-requires-clause-text : goal.run_line-requires-clause-text
 run_line-requires-clause-text g c = of_item (λ (command : Command). HasScriptText command) c.commands-command-items.result.now c.loop-place.place c.command-item.result c.command-item.is
@@ -75,4 +76,5 @@ loop-place-preserved g c =
           (of_place (λ (command : Command). length c.run_line.new.self.requests.items ≡ length c.loop-place.running.requests.items + count_of command) items c.loop-place.place
           c.command-item.result c.command-item.is c.in-Ok.ensures.count),
       c.run_line.ensures.size ∙ c.loop-place.invariant.3,
+      bytes_more (answering g.D.Message.answers g.L.Message.answers) c.names.result.now _ _ _ c.loop-place.running c.run_line.new.self c.in-Ok.ensures.runs c.loop-place.invariant.4,
     )

@@ -10,7 +10,7 @@ use Rattle.script_runner.proofs.Submitting.{fits_larger, pushed_fit}
 use Rattle.script_runner.proofs.running.Running.submit.Goals as goal
 
 pub ask-request-requires : goal.ask-request-requires
-ask-request-requires g c = fits_larger c.args.submission _ 1048576 (g.met.D.BlockDev.lawful c.args.self.now.disk).few_sectors c.requires.fits
+ask-request-requires g c = fits_larger _ c.args.submission _ 1048576 (g.met.D.BlockDev.lawful c.args.self.now.disk).few_sectors c.requires.fits
 
 pub name_of-requires-clause-named : goal.name_of-requires-clause-named
 name_of-requires-clause-named g c = omega (arith, c.args.self.now.requests.ok.0)
@@ -20,7 +20,7 @@ invariant_of-self g c = record { fits = c.args.self.now.fits }
 
 pub invariant_of-self-2 : goal.invariant_of-self-2
 invariant_of-self-2 g c = record {
-  fits = pushed_fit {l = g.L.BlockDev} _ c.args.submission c.ask-request.result c.args.self.now.recorder c.ask-request.new.recorder c.args.self.now.requests.items c.push.new.self.items (is_ok c.push.result)
+  fits = pushed_fit {l = g.L.BlockDev} _ _ c.args.submission c.ask-request.result c.args.self.now.recorder c.ask-request.new.recorder c.args.self.now.requests.items c.push.new.self.items (is_ok c.push.result)
       c.requires.fits c.ask-request.ensures.asks c.push.ensures.items c.args.self.now.fits;
 }
 

@@ -1,0 +1,4 @@
+mod Ends
+mod Copied
+mod Alike
+mod Refused

@@ -12,7 +12,14 @@ use Rattle.dmlw_commands.specs.declared.ending.Ended.{Ended}
 use Rattle.dmlw_commands.specs.Endings.{Telling, Tells, TellsLine}
 use Rattle.dmlw_files.specs.Files.{AsksFor, KeepsFiles, Write}
 use Rattle.dmlw_commands.specs.Records.{HoldsLog, Records, WritesLog}
-use Rattle.dmlw_judge.specs.Judgements.{exit_judged}
+use Rattle.log_copy.specs.Refusals.{copy_refusal}
+use Rattle.dmlw_copy.specs.CopiesLog.{Copies, PrintsCopy, copy_exit, copy_line}
+use Rattle.dmlw_copy.specs.declared.stop.Stop.{Stop as CopyStop}
+use Rattle.dmlw_copy.specs.declared.stop.Stop.TheVariants as copy_stops
+use Rattle.dmlw_judge.specs.declared.finding.Finding.{Finding}
+use Rattle.dmlw_judge.specs.declared.finding.Finding.TheVariants as findings
+use Rattle.dmlw_judge.specs.Judgements.{exit_answered, exit_judged}
+use Rattle.dmlw_judge.specs.Paths.{finding_meaning}
 use Rattle.dmlw_replay.specs.Replays.{PrintsReplay, Replays, replay_exit, replay_line}
 use Rattle.dmlw_replay.specs.declared.stop.Stop.{Stop}
 use Rattle.dmlw_replay.specs.declared.stop.Stop.TheVariants as stops
@@ -106,6 +113,38 @@ ends_replayed log_file first_file name upto writes_old writes_new old new (Err s
 ends_replayed log_file first_file name upto writes_old writes_new old new (Err stop) (inr (inr (file, count, prints))) =
     replay_asks writes_old writes_new (Err stop) (inr (printed_asks log_file first_file name upto writes_old writes_new old new count prints))
 
+-- a copy ends by no usage fault
+copied_known : (done : Result ℕ CopyStop) → (status_of (copy_exit done) ≤ 3) × (status_of (copy_exit done) ≡ 2 → ⊥)
+copied_known (Ok count) = (omega arith, λ usage. absurd (omega arith))
+copied_known (Err (copy_stops.Fault (faults.Refused fault))) = (omega arith, λ usage. absurd (omega arith))
+copied_known (Err (copy_stops.Fault (faults.LoggingEnded end))) = (omega arith, λ usage. absurd (omega arith))
+copied_known (Err (copy_stops.Copy fault)) = (omega arith, λ usage. absurd (omega arith))
+
+-- a copy that has asked for nothing, or for its image
+copy_asks : (writes_old writes_new : Option (List Write)) (done : Result ℕ CopyStop) → ((writes_new ≡ writes_old) ⊎ AsksForOne writes_old writes_new)
+    → EndsCommand writes_old writes_new (status_of (copy_exit done))
+copy_asks writes_old writes_new done asks =
+    let known = copied_known done in
+    record { known = known.0; once = asks; unwritten = λ usage. absurd (known.1 usage) }
+
+-- a copy that was printed has asked for its image
+copied_asks : (log_file : Option (List ℕ)) (name : List ℕ) (sectors : ℕ) (writes_old writes_new : Option (List Write)) (old new : Option (List ℕ))
+    (count : ℕ) → PrintsCopy log_file name sectors writes_old writes_new old new count → AsksForOne writes_old writes_new
+copied_asks log_file name sectors writes_old writes_new old new count prints = (name, (prints.image, prints.asked))
+
+-- every copy ends so
+ends_copied : (log_file : Option (List ℕ)) (name : List ℕ) (sectors : ℕ) (writes_old writes_new : Option (List Write)) (old new : Option (List ℕ))
+    (done : Result ℕ CopyStop) → Copies log_file name sectors writes_old writes_new old new done
+    → EndsCommand writes_old writes_new (status_of (copy_exit done))
+ends_copied log_file name sectors writes_old writes_new old new (Ok count) prints =
+    copy_asks writes_old writes_new (Ok count) (inr (copied_asks log_file name sectors writes_old writes_new old new count prints))
+ends_copied log_file name sectors writes_old writes_new old new (Err stop) (inl (fails, kept, same)) =
+    copy_asks writes_old writes_new (Err stop) (inl same)
+ends_copied log_file name sectors writes_old writes_new old new (Err stop) (inr (inl (file, same))) =
+    copy_asks writes_old writes_new (Err stop) (inl same)
+ends_copied log_file name sectors writes_old writes_new old new (Err stop) (inr (inr (file, count, prints))) =
+    copy_asks writes_old writes_new (Err stop) (inr (copied_asks log_file name sectors writes_old writes_new old new count prints))
+
 -- every task ends so
 pub ends_task : (task : Task) (contents : List ℕ → Option (List ℕ)) (writes_old writes_new : Option (List Write)) (old new : Option (List ℕ))
     (t : Telling) (ended : Ended) → EndsTask task contents writes_old writes_new old new t ended → EndsCommand writes_old writes_new (status_of ended.exit)
@@ -117,7 +156,11 @@ ends_task (tasks.Status log) contents writes_old writes_new old new t ended ends
 ends_task (tasks.Replay files upto) contents writes_old writes_new old new t ended ends =
     subst (λ (e : Exit). EndsCommand writes_old writes_new (status_of e)) (sym ends.tells.exits)
     (ends_replayed (contents files.log.now) (contents files.first.now) files.out.now upto writes_old writes_new old new ends.done ends.replayed)
+ends_task (tasks.Copy files sectors) contents writes_old writes_new old new t ended ends =
+    subst (λ (e : Exit). EndsCommand writes_old writes_new (status_of e)) (sym ends.tells.exits)
+    (ends_copied (contents files.log.now) files.out.now sectors writes_old writes_new old new ends.done ends.copied)
 ends_task (tasks.Judge script moment image) contents writes_old writes_new old new t ended ends = ends_silently writes_old writes_new ended.exit ends.unwritten
+ends_task (tasks.Path script moment image) contents writes_old writes_new old new t ended ends = ends_silently writes_old writes_new ended.exit ends.unwritten
 ends_task (tasks.Formats page) contents writes_old writes_new old new t ended ends = ends_silently writes_old writes_new ended.exit ends.unwritten
 ends_task (tasks.Show error) contents writes_old writes_new old new t ended ends = ends_silently writes_old writes_new ended.exit ends.unwritten
 ends_task (tasks.Flawed flaw) contents writes_old writes_new old new t ended ends = ends_silently writes_old writes_new ended.exit ends.unwritten
@@ -174,6 +217,15 @@ told_replay t (Err (stops.Replay stop)) ended off tells =
     subst (λ (e : Exit). TellsBy e ended t.before t.after) (sym tells.exits)
     (told_one_line t Refused (replay_line (Err (stops.Replay stop))) ended off (of_replay stop.applied (replay_refusal stop.cause) refl refl) tells)
 
+-- what a copy tells
+told_copy : (t : Telling) (done : Result ℕ CopyStop) (ended : Ended) → t.explains ≡ false → TellsLine t (copy_exit done) (copy_line done) ended
+    → TellsBy ended.exit ended t.before t.after
+told_copy t (Ok count) ended off tells = subst (λ (e : Exit). TellsBy e ended t.before t.after) (sym tells.exits) (tells.quiet off refl)
+told_copy t (Err (copy_stops.Fault cause)) ended off tells = told_fault t cause ended off tells
+told_copy t (Err (copy_stops.Copy stop)) ended off tells =
+    subst (λ (e : Exit). TellsBy e ended t.before t.after) (sym tells.exits)
+    (told_one_line t Refused (copy_line (Err (copy_stops.Copy stop))) ended off (of_replay stop.applied (copy_refusal stop.cause) refl refl) tells)
+
 -- what a judging tells
 told_judging : (t : Telling) (done : Result Verdict RunError) (ended : Ended) → t.explains ≡ false → TellsLine t (exit_judged done) (told_line done) ended
     → TellsBy ended.exit ended t.before t.after
@@ -181,6 +233,15 @@ told_judging t (Ok verdicts.Yes) ended off tells = subst (λ (e : Exit). TellsBy
 told_judging t (Ok (verdicts.No sector by)) ended off tells =
     subst (λ (e : Exit). TellsBy e ended t.before t.after) (sym tells.exits) (tells.quiet off refl)
 told_judging t (Err cause) ended off tells = told_fault t cause ended off tells
+
+-- what the finding of a path tells
+told_finding : (t : Telling) (done : Result Finding RunError) (ended : Ended) → t.explains ≡ false
+    → TellsLine t (exit_answered finding_meaning done) (told_line done) ended → TellsBy ended.exit ended t.before t.after
+told_finding t (Ok (findings.Run run)) ended off tells =
+    subst (λ (e : Exit). TellsBy e ended t.before t.after) (sym tells.exits) (tells.quiet off refl)
+told_finding t (Ok (findings.RuledOut sector by)) ended off tells =
+    subst (λ (e : Exit). TellsBy e ended t.before t.after) (sym tells.exits) (tells.quiet off refl)
+told_finding t (Err cause) ended off tells = told_fault t cause ended off tells
 
 -- what a text tells
 text_tells : (kind : ErrorKind) (t : Telling) (ended : Ended) → EndsUntasked kind ended.exit → TellsUntasked kind t ended → t.explains ≡ false
@@ -198,7 +259,9 @@ task_tells (tasks.Record script log) contents writes_old writes_new old new t en
 task_tells (tasks.List log) contents writes_old writes_new old new t ended ends off = told_by t ends.done ended off ends.tells
 task_tells (tasks.Status log) contents writes_old writes_new old new t ended ends off = told_by t ends.done ended off ends.tells
 task_tells (tasks.Replay files upto) contents writes_old writes_new old new t ended ends off = told_replay t ends.done ended off ends.tells
+task_tells (tasks.Copy files sectors) contents writes_old writes_new old new t ended ends off = told_copy t ends.done ended off ends.tells
 task_tells (tasks.Judge script moment image) contents writes_old writes_new old new t ended ends off = told_judging t ends.done ended off ends.tells
+task_tells (tasks.Path script moment image) contents writes_old writes_new old new t ended ends off = told_finding t ends.done ended off ends.tells
 task_tells (tasks.Formats page) contents writes_old writes_new old new t ended ends off = told_by t ends.told.done ended off ends.told.tells
 task_tells (tasks.Show error) contents writes_old writes_new old new t ended ends off = text_tells (kind_of error) t ended ends.ends ends.tells off
 task_tells (tasks.Flawed flaw) contents writes_old writes_new old new t ended ends off =

@@ -21,7 +21,9 @@ shown_for_memory names.Record rows error is = is
 shown_for_memory names.List rows error is = is
 shown_for_memory names.Status rows error is = is
 shown_for_memory names.Replay rows error is = is
+shown_for_memory names.Copy rows error is = is
 shown_for_memory names.Judge rows error is = is
+shown_for_memory names.Path rows error is = is
 
 -- what words are read as is what they ask for
 pub read_asks : (words : List Text) (task : Task) (entered : Entered) → IsReadByClap words task → Enters words entered → IsComplete entered

@@ -1,5 +1,5 @@
 -- Plain words are read as the command that they name.
-use Rattle.std.proofs.Common.{◌≡◌, ◌∙◌, ◌==◌, ℕ, Bool, List, [], ◌∷◌, Option, Err, arith, ap, false, inl, inr, not, refl, subst, sym, true}
+use Rattle.std.proofs.Common.{◌≡◌, ◌∙◌, ◌==◌, ℕ, Bool, List, [], ◌∷◌, Option, Some, Err, arith, ap, false, inl, inr, not, refl, subst, sym, true}
 use Rattle.std.proofs.lemmas.Bool.{and_parts}
 use Rattle.std.proofs.lemmas.Bool.Decides.{nat_tests}
 use Rattle.std.specs.Char.{is_ascii_digit}
@@ -15,8 +15,13 @@ use Rattle.dmlw_commands.specs.Endings.{EndsRecording, EndsShowing, Telling, tel
 use Rattle.dmlw_files.specs.Files.{Write}
 use Rattle.dmlw_commands.specs.Lists.{ListsImage, Shows, ShowsStatus}
 use Rattle.dmlw_commands.specs.Records.{file}
-use Rattle.dmlw_judge.specs.Judgements.{EndsJudging, Question, file as unjudged}
+use Rattle.dmlw_judge.specs.Judgements.{EndsAnswering, EndsJudging, Meaning, Question, file as unjudged, verdict_meaning}
+use Rattle.dmlw_judge.specs.Paths.{EndsFinding, finding_meaning}
+use Rattle.dmlw_explain.specs.declared.explaining.CopyNames.{CopyNames}
 use Rattle.dmlw_explain.specs.declared.explaining.ReplayNames.{ReplayNames}
+use Rattle.dmlw_copy.specs.CopiesLog.{EndsCopying, HoldsCopied, file as uncopied}
+use Rattle.dmlw_copy.specs.declared.stop.Stop.TheVariants as copy_stops
+use Rattle.dmlw_dispatch.specs.Counts.{IsSectorCount}
 use Rattle.dmlw_replay.specs.declared.stop.Stop.TheVariants as stops
 use Rattle.dmlw_replay.specs.Replays.{EndsReplaying, HoldsReplayed, file as unreplayed}
 use Rattle.dmlw_replay.specs.Whats.{IsWhat}
@@ -34,7 +39,7 @@ use Rattle.dmlw_dispatch.specs.declared.task.Task.{Task}
 use Rattle.dmlw_dispatch.specs.declared.task.Task.TheVariants as tasks
 use Rattle.dmlw_dispatch.proofs.Entering.{asks_for, read_asks}
 use Rattle.dmlw_dispatch.proofs.Naming.{same_some}
-use Rattle.dmlw_dispatch.proofs.PlainWords.{judge_enters, list_enters, plain_rows, record_enters, replay_enters, status_enters}
+use Rattle.dmlw_dispatch.proofs.PlainWords.{copy_enters, judge_enters, list_enters, path_enters, plain_rows, record_enters, replay_enters, status_enters}
 use Rattle.dmlw_dispatch.proofs.Walks.{ArePlain, is_other}
 
 -- ---- words without `--explain`
@@ -60,7 +65,9 @@ name_plain names.Record = refl
 name_plain names.List = refl
 name_plain names.Status = refl
 name_plain names.Replay = refl
+name_plain names.Copy = refl
 name_plain names.Judge = refl
+name_plain names.Path = refl
 
 -- so a command's plain words stand as they are
 stays_plain : (name : Name) (program : Text) (words : List Text) → ArePlain words
@@ -78,7 +85,9 @@ names_help names.Record program (word ∷ []) task read = read
 names_help names.List program (word ∷ []) task read = read
 names_help names.Status program (word ∷ []) task read = read
 names_help names.Replay program (word ∷ []) task read = read
+names_help names.Copy program (word ∷ []) task read = read
 names_help names.Judge program (word ∷ []) task read = read
+names_help names.Path program (word ∷ []) task read = read
 names_help name program (word ∷ next ∷ words) task read = read
 
 -- what a command with plain words is read as is what it asks for
@@ -133,10 +142,19 @@ replay_refused log first out upto before after old new t ended ends = record {
   tells = ends.tells;
 }
 
--- a judging for which there was no memory
-judging_refused : (asked : Question) (before after : Option (List Write)) (old new : Option (List ℕ)) (t : Telling) (ended : Ended)
-    → EndsText OutOfMemory before after old new t ended → EndsJudging asked before after old new t ended
-judging_refused asked before after old new t ended ends = record {
+-- a copy for which there was no memory
+copy_refused : (log : Option (List ℕ)) (out : List ℕ) (sectors : ℕ) (before after : Option (List Write)) (old new : Option (List ℕ)) (t : Telling)
+    (ended : Ended) → EndsText OutOfMemory before after old new t ended → EndsCopying log out sectors before after old new t ended
+copy_refused log out sectors before after old new t ended ends = record {
+  done = Err (copy_stops.Fault memory_error);
+  copied = inl (uncopied memory_error (inr refl), ends.silent refl, ends.unwritten);
+  tells = ends.tells;
+}
+
+-- an answer on an image for which there was no memory
+answer_refused : {A : Type 0} (meaning : Meaning A) (asked : Question) (before after : Option (List Write)) (old new : Option (List ℕ)) (t : Telling)
+    (ended : Ended) → EndsText OutOfMemory before after old new t ended → EndsAnswering meaning asked before after old new t ended
+answer_refused meaning asked before after old new t ended ends = record {
   unwritten = ends.unwritten;
   done = Err memory_error;
   judged = (unjudged memory_error (inr refl), inl (ends.silent refl));
@@ -235,9 +253,69 @@ image_left (tasks.Show error) log first out what given contents later before aft
     absurd (not_done ended.exit (memory_ends (kind_of error) before after old new t ended asks ends).ends done)
 image_left task log first out what given contents later before after old new t ended is asks ends leaves done = absurd asks
 
+-- what is said of the names and the number that a copy's task has is said of the words that ask for it
+of_copy : (files : CopyNames) (asked : ℕ) (log out word : Text) (sectors : ℕ) (P : Text → Text → ℕ → Type 0) → IsSectorCount word sectors
+    → AsksBy names.Copy (plain_rows names.Copy (log ∷ out ∷ word ∷ [])) (tasks.Copy files asked)
+    → P files.log.now files.out.now asked → P log out sectors
+of_copy files asked log out word sectors P is asks says =
+    let (is_log, is_out, found, is_word, named) = asks in
+    let log_name : files.log.now ≡ log = sym (same_some log files.log.now is_log) in
+    let out_name : files.out.now ≡ out = sym (same_some out files.out.now is_out) in
+    let same : asked ≡ sectors = sym named.number.1 ∙ ap number_value (sym (same_some word found is_word)) ∙ is.number.1 in
+    subst (P log out) same
+    (subst (λ (name : Text). P log name asked) out_name (subst (λ (name : Text). P name files.out.now asked) log_name says))
+
+-- a word that is such a number isn't told to be none
+copy_named : (word : Text) (sectors : ℕ) (found : Text) → IsSectorCount word sectors → Some word ≡ Some found
+    → ((n : ℕ) → IsSectorCount found n → ⊥) → ⊥
+copy_named word sectors found is same none = none sectors (subst (λ (w : Text). IsSectorCount w sectors) (same_some word found same) is)
+
+-- a task that `copy LOG OUT SECTORS` asks for ends as the copy does
+copy_ends : (task : Task) (log out word : Text) (sectors : ℕ) (contents : List ℕ → Option (List ℕ)) (before after : Option (List Write))
+    (old new : Option (List ℕ)) (t : Telling) (ended : Ended) → IsSectorCount word sectors
+    → AsksBy names.Copy (plain_rows names.Copy (log ∷ out ∷ word ∷ [])) task → EndsTask task contents before after old new t ended
+    → EndsCopying (contents log) out sectors before after old new t ended
+copy_ends (tasks.Copy files asked) log out word sectors contents before after old new t ended is asks ends =
+    of_copy files asked log out word sectors (λ l o n. EndsCopying (contents l) o n before after old new t ended) is asks ends
+copy_ends (tasks.Flawed flaws.Sectors) log out word sectors contents before after old new t ended is asks ends =
+    let (found, is_word, none) = asks in absurd (copy_named word sectors found is is_word none)
+copy_ends (tasks.Show error) log out word sectors contents before after old new t ended is asks ends =
+    copy_refused (contents log) out sectors before after old new t ended (memory_ends (kind_of error) before after old new t ended asks ends)
+copy_ends task log out word sectors contents before after old new t ended is asks ends = absurd asks
+
+-- and leaves the new log
+copy_left : (task : Task) (log out word : Text) (sectors : ℕ) (contents later : List ℕ → Option (List ℕ)) (before after : Option (List Write))
+    (old new : Option (List ℕ)) (t : Telling) (ended : Ended) → IsSectorCount word sectors
+    → AsksBy names.Copy (plain_rows names.Copy (log ∷ out ∷ word ∷ [])) task → EndsTask task contents before after old new t ended
+    → TaskLeaves task contents later old new ended.exit → ended.exit ≡ Done → HoldsCopied (contents log) sectors (later out)
+copy_left (tasks.Copy files asked) log out word sectors contents later before after old new t ended is asks ends leaves done =
+    of_copy files asked log out word sectors (λ l o n. HoldsCopied (contents l) n (later o)) is asks (leaves done)
+copy_left (tasks.Flawed flaws.Sectors) log out word sectors contents later before after old new t ended is asks ends leaves done =
+    let (found, is_word, none) = asks in absurd (copy_named word sectors found is is_word none)
+copy_left (tasks.Show error) log out word sectors contents later before after old new t ended is asks ends leaves done =
+    absurd (not_done ended.exit (memory_ends (kind_of error) before after old new t ended asks ends).ends done)
+copy_left task log out word sectors contents later before after old new t ended is asks ends leaves done = absurd asks
+
 -- the question of a judging by names of files
 abbrev pub asked_of : (List ℕ → Option (List ℕ)) → Text → ℕ → Text → Question
 asked_of contents script moment image = record { script = contents script; image = contents image; moment = moment }
+
+-- what is said of the names and the number that a question's task has is said of the words that ask for it
+of_question : (contents : List ℕ → Option (List ℕ)) (script image m s i word : Text) (moment n : ℕ) (P : Question → Type 0) → IsNumber m moment
+    → Some script ≡ Some s → Some image ≡ Some i → Some m ≡ Some word → IsNumber word n → P (asked_of contents s n i) → P (asked_of contents script moment image)
+of_question contents script image m s i word moment n P number is_script is_image is_word named says =
+    let script_name : s ≡ script = sym (same_some script s is_script) in
+    let image_name : i ≡ image = sym (same_some image i is_image) in
+    let same : n ≡ moment = sym named.1 ∙ ap number_value (sym (same_some m word is_word)) ∙ number.1 in
+    subst (λ (k : ℕ). P (asked_of contents script k image)) same
+    (subst (λ (name : Text). P (asked_of contents script n name)) image_name
+    (subst (λ (name : Text). P (asked_of contents name n i)) script_name says))
+
+-- a word that is a number isn't told to be none
+number_named : (m word : Text) (moment : ℕ) → IsNumber m moment → Some m ≡ Some word → is_number word ≡ false → ⊥
+number_named m word moment number is_word none =
+    let is : is_number word ≡ true = ap is_number (sym (same_some m word is_word)) ∙ number.0 in
+    cc
 
 -- a task that `judge SCRIPT M IMAGE` asks for ends as the judging does
 judge_ends : (task : Task) (script m image : Text) (moment : ℕ) (contents : List ℕ → Option (List ℕ)) (before after : Option (List Write))
@@ -246,19 +324,30 @@ judge_ends : (task : Task) (script m image : Text) (moment : ℕ) (contents : Li
     → EndsJudging (asked_of contents script moment image) before after old new t ended
 judge_ends (tasks.Judge s n i) script m image moment contents before after old new t ended number asks ends =
     let (is_script, is_image, word, is_word, named) = asks in
-    let script_name : s.now ≡ script = sym (same_some script s.now is_script) in
-    let image_name : i.now ≡ image = sym (same_some image i.now is_image) in
-    let same : n ≡ moment = sym named.1 ∙ ap number_value (sym (same_some m word is_word)) ∙ number.1 in
-    subst (λ (k : ℕ). EndsJudging (asked_of contents script k image) before after old new t ended) same
-    (subst (λ (name : Text). EndsJudging (asked_of contents script n name) before after old new t ended) image_name
-    (subst (λ (name : Text). EndsJudging (asked_of contents name n i.now) before after old new t ended) script_name ends))
+    of_question contents script image m s.now i.now word moment n (λ asked. EndsJudging asked before after old new t ended) number is_script is_image is_word
+    named ends
 judge_ends (tasks.Flawed flaws.Moment) script m image moment contents before after old new t ended number asks ends =
-    let (word, is_word, none) = asks in
-    let is : is_number word ≡ true = ap is_number (sym (same_some m word is_word)) ∙ number.0 in
-    absurd (cc)
+    let (word, is_word, none) = asks in absurd (number_named m word moment number is_word none)
 judge_ends (tasks.Show error) script m image moment contents before after old new t ended number asks ends =
-    judging_refused (asked_of contents script moment image) before after old new t ended (memory_ends (kind_of error) before after old new t ended asks ends)
+    answer_refused verdict_meaning (asked_of contents script moment image) before after old new t ended
+    (memory_ends (kind_of error) before after old new t ended asks ends)
 judge_ends task script m image moment contents before after old new t ended number asks ends = absurd asks
+
+-- a task that `path SCRIPT M IMAGE` asks for ends as the finding does
+path_ends : (task : Task) (script m image : Text) (moment : ℕ) (contents : List ℕ → Option (List ℕ)) (before after : Option (List Write))
+    (old new : Option (List ℕ)) (t : Telling) (ended : Ended) → IsNumber m moment
+    → AsksBy names.Path (plain_rows names.Path (script ∷ m ∷ image ∷ [])) task → EndsTask task contents before after old new t ended
+    → EndsFinding (asked_of contents script moment image) before after old new t ended
+path_ends (tasks.Path s n i) script m image moment contents before after old new t ended number asks ends =
+    let (is_script, is_image, word, is_word, named) = asks in
+    of_question contents script image m s.now i.now word moment n (λ asked. EndsFinding asked before after old new t ended) number is_script is_image is_word
+    named ends
+path_ends (tasks.Flawed flaws.Moment) script m image moment contents before after old new t ended number asks ends =
+    let (word, is_word, none) = asks in absurd (number_named m word moment number is_word none)
+path_ends (tasks.Show error) script m image moment contents before after old new t ended number asks ends =
+    answer_refused finding_meaning (asked_of contents script moment image) before after old new t ended
+    (memory_ends (kind_of error) before after old new t ended asks ends)
+path_ends task script m image moment contents before after old new t ended number asks ends = absurd asks
 
 -- ---- words that are plain since they say something
 
@@ -357,6 +446,32 @@ replay_leaves contents later before after old new errors_old errors_new ended pr
     (replay_enters program log first out what plain_log plain_first plain_out plain_what) (refl, (refl, (refl, (refl, tt)))) does.read in
     image_left does.task log first out what given contents later before after old new _ ended is asks does.ends does.leaves
 
+-- where these words are done, the log was copied
+pub copy_done : (contents later : List ℕ → Option (List ℕ)) (before after : Option (List Write)) (old new errors_old errors_new : Option (List ℕ)) (ended : Ended)
+    (program log out word : List ℕ) (sectors : ℕ) → is_positional log ≡ true → is_positional out ≡ true → IsSectorCount word sectors
+    → DoesWords (command_words program names.Copy (log ∷ out ∷ word ∷ [])) contents later before after old new errors_old errors_new ended
+    → EndsCopying (contents log) out sectors before after old new (telling false errors_old errors_new) ended
+copy_done contents later before after old new errors_old errors_new ended program log out word sectors plain_log plain_out is does =
+    let plain_word = number_plain word sectors is.number in
+    let plain : ArePlain (log ∷ out ∷ word ∷ []) = (plain_log, (plain_out, (plain_word, tt))) in
+    let asks = plain_asks names.Copy program (log ∷ out ∷ word ∷ []) (plain_rows names.Copy (log ∷ out ∷ word ∷ [])) does.task plain
+    (copy_enters program log out word plain_log plain_out plain_word) (refl, (refl, (refl, tt))) does.read in
+    subst (λ (explains : Bool). EndsCopying (contents log) out sectors before after old new (telling explains errors_old errors_new) ended)
+    (stays_silent names.Copy program (log ∷ out ∷ word ∷ []) plain)
+    (copy_ends does.task log out word sectors contents before after old new _ ended is asks does.ends)
+
+-- and its file holds the new log
+pub copy_leaves : (contents later : List ℕ → Option (List ℕ)) (before after : Option (List Write)) (old new errors_old errors_new : Option (List ℕ)) (ended : Ended)
+    (program log out word : List ℕ) (sectors : ℕ) → is_positional log ≡ true → is_positional out ≡ true → IsSectorCount word sectors
+    → DoesWords (command_words program names.Copy (log ∷ out ∷ word ∷ [])) contents later before after old new errors_old errors_new ended
+    → ended.exit ≡ Done → HoldsCopied (contents log) sectors (later out)
+copy_leaves contents later before after old new errors_old errors_new ended program log out word sectors plain_log plain_out is does =
+    let plain_word = number_plain word sectors is.number in
+    let plain : ArePlain (log ∷ out ∷ word ∷ []) = (plain_log, (plain_out, (plain_word, tt))) in
+    let asks = plain_asks names.Copy program (log ∷ out ∷ word ∷ []) (plain_rows names.Copy (log ∷ out ∷ word ∷ [])) does.task plain
+    (copy_enters program log out word plain_log plain_out plain_word) (refl, (refl, (refl, tt))) does.read in
+    copy_left does.task log out word sectors contents later before after old new _ ended is asks does.ends does.leaves
+
 -- where these words are done, the image was judged
 pub judge_done : (contents later : List ℕ → Option (List ℕ)) (before after : Option (List Write)) (old new errors_old errors_new : Option (List ℕ)) (ended : Ended)
     (program script m image : List ℕ) (moment : ℕ) → is_positional script ≡ true → IsNumber m moment → is_positional image ≡ true
@@ -370,3 +485,17 @@ judge_done contents later before after old new errors_old errors_new ended progr
     subst (λ (explains : Bool). EndsJudging (asked_of contents script moment image) before after old new (telling explains errors_old errors_new) ended)
     (stays_silent names.Judge program (script ∷ m ∷ image ∷ []) plain)
     (judge_ends does.task script m image moment contents before after old new _ ended number asks does.ends)
+
+-- where these words are done, a path was told
+pub path_done : (contents later : List ℕ → Option (List ℕ)) (before after : Option (List Write)) (old new errors_old errors_new : Option (List ℕ)) (ended : Ended)
+    (program script m image : List ℕ) (moment : ℕ) → is_positional script ≡ true → IsNumber m moment → is_positional image ≡ true
+    → DoesWords (command_words program names.Path (script ∷ m ∷ image ∷ [])) contents later before after old new errors_old errors_new ended
+    → EndsFinding (asked_of contents script moment image) before after old new (telling false errors_old errors_new) ended
+path_done contents later before after old new errors_old errors_new ended program script m image moment plain_script number plain_image does =
+    let plain_m = number_plain m moment number in
+    let plain : ArePlain (script ∷ m ∷ image ∷ []) = (plain_script, (plain_m, (plain_image, tt))) in
+    let asks = plain_asks names.Path program (script ∷ m ∷ image ∷ []) (plain_rows names.Path (script ∷ m ∷ image ∷ [])) does.task plain
+    (path_enters program script m image plain_script plain_m plain_image) (refl, (refl, (refl, tt))) does.read in
+    subst (λ (explains : Bool). EndsFinding (asked_of contents script moment image) before after old new (telling explains errors_old errors_new) ended)
+    (stays_silent names.Path program (script ∷ m ∷ image ∷ []) plain)
+    (path_ends does.task script m image moment contents before after old new _ ended number asks does.ends)

@@ -42,7 +42,9 @@ meets names.Record = refl
 meets names.List = refl
 meets names.Status = refl
 meets names.Replay = refl
+meets names.Copy = refl
 meets names.Judge = refl
+meets names.Path = refl
 
 -- the name of a command is no fault
 name_faultless : (name : Name) → turn_fault top (names_of (built program_app)) (walk_from nothing_held) (name_text name) ≡ []
@@ -51,7 +53,9 @@ name_faultless names.Record = refl
 name_faultless names.List = refl
 name_faultless names.Status = refl
 name_faultless names.Replay = refl
+name_faultless names.Copy = refl
 name_faultless names.Judge = refl
+name_faultless names.Path = refl
 
 -- the walk over a command's name and its words
 walk_met : (name : Name) (words : List Text) → program_walk (name_text name ∷ words) ≡ met name words
@@ -76,7 +80,9 @@ fault_met names.Record words = refl
 fault_met names.List words = refl
 fault_met names.Status words = refl
 fault_met names.Replay words = refl
+fault_met names.Copy words = refl
 fault_met names.Judge words = refl
+fault_met names.Path words = refl
 
 -- and what is entered has the rows of its own level
 entered_met : (name : Name) (words : List Text)
@@ -85,7 +91,9 @@ entered_met names.Record words = refl
 entered_met names.List words = refl
 entered_met names.Status words = refl
 entered_met names.Replay words = refl
+entered_met names.Copy words = refl
 entered_met names.Judge words = refl
+entered_met names.Path words = refl
 
 -- the rows of a command that is entered with plain words
 abbrev pub plain_rows : Name → List Text → List Row
@@ -136,9 +144,23 @@ unfolding clap_on_literals
 replay_enters program log first out what plain_log plain_first plain_out plain_what =
     plain_enters names.Replay program (log ∷ first ∷ out ∷ what ∷ []) (plain_log, (plain_first, (plain_out, (plain_what, tt)))) refl refl
 
+-- a plain line asks to copy
+pub copy_enters : (program log out sectors : Text) → is_positional log ≡ true → is_positional out ≡ true → is_positional sectors ≡ true
+    → Enters (command_words program names.Copy (log ∷ out ∷ sectors ∷ [])) (codes "copy", plain_rows names.Copy (log ∷ out ∷ sectors ∷ []))
+unfolding clap_on_literals
+copy_enters program log out sectors plain_log plain_out plain_sectors =
+    plain_enters names.Copy program (log ∷ out ∷ sectors ∷ []) (plain_log, (plain_out, (plain_sectors, tt))) refl refl
+
 -- a plain line asks to judge
 pub judge_enters : (program script m image : Text) → is_positional script ≡ true → is_positional m ≡ true → is_positional image ≡ true
     → Enters (command_words program names.Judge (script ∷ m ∷ image ∷ [])) (codes "judge", plain_rows names.Judge (script ∷ m ∷ image ∷ []))
 unfolding clap_on_literals
 judge_enters program script m image plain_script plain_m plain_image =
     plain_enters names.Judge program (script ∷ m ∷ image ∷ []) (plain_script, (plain_m, (plain_image, tt))) refl refl
+
+-- a plain line asks for a path
+pub path_enters : (program script m image : Text) → is_positional script ≡ true → is_positional m ≡ true → is_positional image ≡ true
+    → Enters (command_words program names.Path (script ∷ m ∷ image ∷ [])) (codes "path", plain_rows names.Path (script ∷ m ∷ image ∷ []))
+unfolding clap_on_literals
+path_enters program script m image plain_script plain_m plain_image =
+    plain_enters names.Path program (script ∷ m ∷ image ∷ []) (plain_script, (plain_m, (plain_image, tt))) refl refl

@@ -87,8 +87,14 @@ text_status = refl
 text_replay : name_text names.Replay ≡ codes "replay"
 text_replay = refl
 
+text_copy : name_text names.Copy ≡ codes "copy"
+text_copy = refl
+
 text_judge : name_text names.Judge ≡ codes "judge"
 text_judge = refl
+
+text_path : name_text names.Path ≡ codes "path"
+text_path = refl
 
 name_help : name_of (codes "help") ≡ None
 name_help = refl
@@ -96,8 +102,8 @@ name_help = refl
 name_shorter : name_of (codes "rec") ≡ None
 name_shorter = refl
 
-all_five : all_names ≡ names.Record ∷ names.List ∷ names.Status ∷ names.Replay ∷ names.Judge ∷ []
-all_five = refl
+all_seven : all_names ≡ names.Record ∷ names.List ∷ names.Status ∷ names.Replay ∷ names.Copy ∷ names.Judge ∷ names.Path ∷ []
+all_seven = refl
 
 -- the words that a command takes
 arguments_record : arguments names.Record ≡ codes "SCRIPT" ∷ codes "LOG" ∷ []
@@ -112,8 +118,14 @@ arguments_status = refl
 arguments_replay : arguments names.Replay ≡ codes "LOG" ∷ codes "FIRST" ∷ codes "OUT" ∷ codes "WHAT" ∷ []
 arguments_replay = refl
 
+arguments_copy : arguments names.Copy ≡ codes "LOG" ∷ codes "OUT" ∷ codes "SECTORS" ∷ []
+arguments_copy = refl
+
 arguments_judge : arguments names.Judge ≡ codes "SCRIPT" ∷ codes "M" ∷ codes "IMAGE" ∷ []
 arguments_judge = refl
+
+arguments_path : arguments names.Path ≡ codes "SCRIPT" ∷ codes "M" ∷ codes "IMAGE" ∷ []
+arguments_path = refl
 
 -- a word of an argument
 abbrev row : List ℕ → List ℕ → Row
@@ -127,6 +139,9 @@ log_rows = row (codes "LOG") (codes "b") ∷ []
 
 abbrev replay_rows : List ℕ → List Row
 replay_rows what = row (codes "LOG") (codes "b") ∷ row (codes "FIRST") (codes "c") ∷ row (codes "OUT") (codes "d") ∷ row (codes "WHAT") what ∷ []
+
+abbrev copy_rows : List ℕ → List Row
+copy_rows sectors = row (codes "LOG") (codes "b") ∷ row (codes "OUT") (codes "d") ∷ row (codes "SECTORS") sectors ∷ []
 
 abbrev judge_rows : List ℕ → List Row
 judge_rows m = row (codes "SCRIPT") (codes "a") ∷ row (codes "M") m ∷ row (codes "IMAGE") (codes "c") ∷ []
@@ -327,6 +342,28 @@ asks_what_fine (what, is, none) = none Flush (sym (same_some _ _ is))
 asks_what_moment : AsksBy names.Replay (replay_rows (codes "x")) (tasks.Flawed flaws.Moment) → ⊥
 asks_what_moment asks = asks
 
+-- a copy of this file for that one, on a disk of so many sectors, and others
+asks_copy : AsksBy names.Copy (copy_rows (codes "48")) (tasks.Copy (record { log = str (codes "b"); out = str (codes "d") }) 48)
+asks_copy = (refl, refl, codes "48", refl, record { number = (refl, refl); least = omega arith; most = omega arith })
+
+asks_copy_out : AsksBy names.Copy (copy_rows (codes "48")) (tasks.Copy (record { log = str (codes "b"); out = str (codes "b") }) 48) → ⊥
+asks_copy_out (log, out, word, is, count) = let byte = same_number 100 98 (one_byte _ _ (same_some _ _ out)) in omega arith
+
+asks_copy_sectors : AsksBy names.Copy (copy_rows (codes "48")) (tasks.Copy (record { log = str (codes "b"); out = str (codes "d") }) 49) → ⊥
+asks_copy_sectors (log, out, word, is, count) =
+    let same = same_number 48 49 (ap number_value (same_some _ _ is) ∙ count.number.1) in omega arith
+
+-- a SECTORS below 8 and one past 1,048,576, and one that may be, told as none
+asks_sectors : AsksBy names.Copy (copy_rows (codes "7")) (tasks.Flawed flaws.Sectors)
+asks_sectors = (codes "7", refl, λ n count. let same = same_number 7 n count.number.1 in let least = count.least in omega arith)
+
+asks_sectors_past : AsksBy names.Copy (copy_rows (codes "1048577")) (tasks.Flawed flaws.Sectors)
+asks_sectors_past = (codes "1048577", refl, λ n count. let same = same_number 1048577 n count.number.1 in let most = count.most in omega arith)
+
+asks_sectors_fine : AsksBy names.Copy (copy_rows (codes "8")) (tasks.Flawed flaws.Sectors) → ⊥
+asks_sectors_fine (word, is, none) =
+    none 8 (record { number = (ap is_number (sym (same_some _ _ is)), ap number_value (sym (same_some _ _ is))); least = omega arith; most = omega arith })
+
 -- a judging of these files at this moment, and of others
 asks_judge : AsksBy names.Judge (judge_rows (codes "12")) (tasks.Judge (str (codes "a")) 12 (str (codes "c")))
 asks_judge = (refl, refl, codes "12", refl, (refl, refl))
@@ -343,6 +380,13 @@ asks_judge_moment (script, image, m, is, number) =
 
 asks_judge_digits : AsksBy names.Judge (judge_rows (codes "1x")) (tasks.Judge (str (codes "a")) 12 (str (codes "c"))) → ⊥
 asks_judge_digits (script, image, m, is, number) = let same : false ≡ true = ap is_number (same_some _ _ is) ∙ number.0 in cc
+
+-- a path of these files at this moment, and a judging of them
+asks_path : AsksBy names.Path (judge_rows (codes "12")) (tasks.Path (str (codes "a")) 12 (str (codes "c")))
+asks_path = (refl, refl, codes "12", refl, (refl, refl))
+
+asks_path_judge : AsksBy names.Path (judge_rows (codes "12")) (tasks.Judge (str (codes "a")) 12 (str (codes "c"))) → ⊥
+asks_path_judge asks = asks
 
 -- an M that is no number, and one that is, told as none
 asks_moment : AsksBy names.Judge (judge_rows (codes "1x")) (tasks.Flawed flaws.Moment)

@@ -22,6 +22,8 @@ use Rattle.dmlw_files.specs.Files.{AsksFor, KeepsFiles, Write}
 use Rattle.dmlw_commands.specs.Lists.{ListsImage, ShowsStatus}
 use Rattle.dmlw_commands.specs.Records.{HoldsLog}
 use Rattle.dmlw_judge.specs.Judgements.{EndsJudging}
+use Rattle.dmlw_judge.specs.Paths.{EndsFinding}
+use Rattle.dmlw_copy.specs.CopiesLog.{EndsCopying, HoldsCopied}
 use Rattle.dmlw_replay.specs.Replays.{EndsReplaying, HoldsReplayed}
 use Rattle.dmlw_replay.specs.Whats.{IsWhat}
 use Rattle.replay.specs.declared.upto.Upto.{Upto}
@@ -102,6 +104,7 @@ LeavesReplayed what log_file first_file written = (upto : Upto) × IsWhat what u
 -- what a user is told of a word that is none of those that stand in its place
 abbrev pub flaw_text : Flaw → List ℕ
 flaw_text flaws.What = codes "error: <WHAT> is entries:<n>, mark:<text> or flush\n"
+flaw_text flaws.Sectors = codes "error: <SECTORS> is a number from 8 to 1048576\n"
 flaw_text flaws.Moment = codes "error: <M> is a number of 1 to 20 digits, below 2^64\n"
 
 -- How a command line ends that has such a word: as a usage fault, of which the text was told. Nothing was printed on the output, and no file
@@ -120,8 +123,12 @@ EndsTask (tasks.List log) contents writes_old writes_new old new t ended = EndsS
 EndsTask (tasks.Status log) contents writes_old writes_new old new t ended = EndsShowing ShowsStatus (contents log.now) writes_old writes_new old new t ended
 EndsTask (tasks.Replay files upto) contents writes_old writes_new old new t ended =
     EndsReplaying (contents files.log.now) (contents files.first.now) files.out.now upto writes_old writes_new old new t ended
+EndsTask (tasks.Copy files sectors) contents writes_old writes_new old new t ended =
+    EndsCopying (contents files.log.now) files.out.now sectors writes_old writes_new old new t ended
 EndsTask (tasks.Judge script moment image) contents writes_old writes_new old new t ended =
     EndsJudging (record { script = contents script.now; image = contents image.now; moment = moment }) writes_old writes_new old new t ended
+EndsTask (tasks.Path script moment image) contents writes_old writes_new old new t ended =
+    EndsFinding (record { script = contents script.now; image = contents image.now; moment = moment }) writes_old writes_new old new t ended
 EndsTask (tasks.Formats page) contents writes_old writes_new old new t ended = EndsPage page.now writes_old writes_new old new t ended
 EndsTask (tasks.Show error) contents writes_old writes_new old new t ended = EndsText (kind_of error) writes_old writes_new old new t ended
 EndsTask (tasks.Flawed flaw) contents writes_old writes_new old new t ended = EndsFlawed flaw writes_old writes_new old new t ended
@@ -132,11 +139,13 @@ pub record LeavesLog (script log : List ℕ) (contents later : List ℕ → Opti
   pub done : exit ≡ Done → HoldsLog (contents script) Done old new (later log)
   pub ended : exit ≡ LoggingEnded → KeepsFiles contents later ⊎ HoldsLog (contents script) LoggingEnded old new (later log)
 
--- what a task leaves in the file that it asks to be written: a recording its log, and a replay that is done the image that came of it
+-- what a task leaves in the file that it asks to be written: a recording its log, a replay that is done the image that came of it, and a copy that
+-- is done the new log
 abbrev pub TaskLeaves : Task → (List ℕ → Option (List ℕ)) → (List ℕ → Option (List ℕ)) → Option (List ℕ) → Option (List ℕ) → Exit → Type 0
 TaskLeaves (tasks.Record script log) contents later old new exit = LeavesLog script.now log.now contents later old new exit
 TaskLeaves (tasks.Replay files upto) contents later old new exit =
     exit ≡ Done → HoldsReplayed (contents files.log.now) (contents files.first.now) upto (later files.out.now)
+TaskLeaves (tasks.Copy files sectors) contents later old new exit = exit ≡ Done → HoldsCopied (contents files.log.now) sectors (later files.out.now)
 TaskLeaves task contents later old new exit = Unit {0}
 
 -- What doing a command line comes to, over files that hold this and then that: its words but `--explain` are read as a task, and that task
@@ -148,7 +157,7 @@ pub record DoesWords (words : List (List ℕ)) (contents later : List ℕ → Op
   pub ends : EndsTask task contents writes_old writes_new old new (telling (has_explain words) errors_old errors_new) ended
   pub leaves : TaskLeaves task contents later old new ended.exit
 
--- The line of a fault by which a command ends so: of the fault itself, or of a replay that it refused after so many entries.
+-- The line of a fault by which a command ends so: of the fault itself, or of a replay or a copy that it refused after so many entries.
 pub data IsFaultLine (exit : Exit) (line : List ℕ) : Type 0 where
   of_fault : (cause : RunError) → exit ≡ exit_of cause → line ≡ fault_line cause → IsFaultLine exit line
   of_replay : (applied : ℕ) (cause : Refusal) → exit ≡ Refused → line ≡ stopped_line applied cause → IsFaultLine exit line

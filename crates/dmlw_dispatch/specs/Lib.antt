@@ -1,4 +1,5 @@
 pub mod Names
+pub mod Counts
 pub mod CommandLine
 pub mod Tasks
 pub mod Commands

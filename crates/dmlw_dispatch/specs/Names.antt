@@ -16,7 +16,9 @@ name_text names.Record = codes "record"
 name_text names.List = codes "list"
 name_text names.Status = codes "status"
 name_text names.Replay = codes "replay"
+name_text names.Copy = codes "copy"
 name_text names.Judge = codes "judge"
+name_text names.Path = codes "path"
 
 -- the command, where the word is its name; else what the word is otherwise
 abbrev pub named_or : Name → List ℕ → Option Name → Option Name
@@ -25,11 +27,12 @@ named_or name word other = if is_same word (name_text name) then Some name else 
 -- the command that a word names
 abbrev pub name_of : List ℕ → Option Name
 name_of word =
-    named_or names.Record word (named_or names.List word (named_or names.Status word (named_or names.Replay word (named_or names.Judge word None))))
+    named_or names.Record word (named_or names.List word (named_or names.Status word (named_or names.Replay word
+    (named_or names.Copy word (named_or names.Judge word (named_or names.Path word None))))))
 
 -- the commands, in the order of the help
 abbrev pub all_names : List Name
-all_names = names.Record ∷ names.List ∷ names.Status ∷ names.Replay ∷ names.Judge ∷ []
+all_names = names.Record ∷ names.List ∷ names.Status ∷ names.Replay ∷ names.Copy ∷ names.Judge ∷ names.Path ∷ []
 
 -- the arguments of a command, in their order
 abbrev pub arguments : Name → List Text
@@ -37,7 +40,9 @@ arguments names.Record = codes "SCRIPT" ∷ codes "LOG" ∷ []
 arguments names.List = codes "LOG" ∷ []
 arguments names.Status = codes "LOG" ∷ []
 arguments names.Replay = codes "LOG" ∷ codes "FIRST" ∷ codes "OUT" ∷ codes "WHAT" ∷ []
+arguments names.Copy = codes "LOG" ∷ codes "OUT" ∷ codes "SECTORS" ∷ []
 arguments names.Judge = codes "SCRIPT" ∷ codes "M" ∷ codes "IMAGE" ∷ []
+arguments names.Path = codes "SCRIPT" ∷ codes "M" ∷ codes "IMAGE" ∷ []
 
 -- each argument of a command has a word among these rows
 abbrev pub HasWords : Name → List Row → Type 0

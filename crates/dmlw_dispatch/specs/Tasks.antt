@@ -1,9 +1,10 @@
-use Rattle.std.specs.Prelude.{◌≡◌, Bool, List, [], Option, Some, false, true}
+use Rattle.std.specs.Prelude.{◌≡◌, ℕ, Bool, List, [], Option, Some, false, true}
 use Rattle.clap.specs.Words.{IsAmong, Row, Text, fault_of, first_of, kind_of, subcommand_of}
 use Rattle.std.specs.Prelude.{codes}
 use Rattle.clap.specs.declared.error.kind.ErrorKind.{ErrorKind}
 use Rattle.clap.specs.declared.error.kind.ErrorKind.TheVariants.{MissingRequiredArgument, OutOfMemory}
 use Rattle.dmlw_dispatch.specs.CommandLine.{Entered, Enters, is_formats, program_app}
+use Rattle.dmlw_dispatch.specs.Counts.{IsSectorCount}
 use Rattle.dmlw_dispatch.specs.Names.{HasWords, name_text}
 use Rattle.dmlw_dispatch.specs.declared.name.Name.{Name}
 use Rattle.dmlw_dispatch.specs.declared.name.Name.TheVariants as names
@@ -17,7 +18,7 @@ use Rattle.words.specs.Words.{IsNumber, is_number}
 abbrev pub IsWord : List Row → Text → Text → Type 0
 IsWord rows argument word = first_of argument rows ≡ Some word
 
--- The task is what a command asks for with the words of these rows: by a WHAT or an M that is none, to tell so; or there was no memory
+-- The task is what a command asks for with the words of these rows: by a WHAT, a SECTORS or an M that is none, to tell so; or there was no memory
 -- to read the command line.
 abbrev pub AsksBy : Name → List Row → Task → Type 0
 AsksBy names.Record rows (tasks.Record script log) = IsWord rows (codes "SCRIPT") script.now × IsWord rows (codes "LOG") log.now
@@ -26,9 +27,16 @@ AsksBy names.Status rows (tasks.Status log) = IsWord rows (codes "LOG") log.now
 AsksBy names.Replay rows (tasks.Replay files upto) = IsWord rows (codes "LOG") files.log.now × IsWord rows (codes "FIRST") files.first.now
     × IsWord rows (codes "OUT") files.out.now × (what : Text) × IsWord rows (codes "WHAT") what × IsWhat what upto
 AsksBy names.Replay rows (tasks.Flawed flaws.What) = (what : Text) × IsWord rows (codes "WHAT") what × IsNoWhat what
+AsksBy names.Copy rows (tasks.Copy files sectors) = IsWord rows (codes "LOG") files.log.now × IsWord rows (codes "OUT") files.out.now
+    × (word : Text) × IsWord rows (codes "SECTORS") word × IsSectorCount word sectors
+AsksBy names.Copy rows (tasks.Flawed flaws.Sectors) =
+    (word : Text) × IsWord rows (codes "SECTORS") word × ((sectors : ℕ) → IsSectorCount word sectors → ⊥)
 AsksBy names.Judge rows (tasks.Judge script moment image) = IsWord rows (codes "SCRIPT") script.now × IsWord rows (codes "IMAGE") image.now
     × (m : Text) × IsWord rows (codes "M") m × IsNumber m moment
 AsksBy names.Judge rows (tasks.Flawed flaws.Moment) = (m : Text) × IsWord rows (codes "M") m × (is_number m ≡ false)
+AsksBy names.Path rows (tasks.Path script moment image) = IsWord rows (codes "SCRIPT") script.now × IsWord rows (codes "IMAGE") image.now
+    × (m : Text) × IsWord rows (codes "M") m × IsNumber m moment
+AsksBy names.Path rows (tasks.Flawed flaws.Moment) = (m : Text) × IsWord rows (codes "M") m × (is_number m ≡ false)
 AsksBy name rows (tasks.Show error) = kind_of error ≡ OutOfMemory
 AsksBy name rows task = ⊥
 

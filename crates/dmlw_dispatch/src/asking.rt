@@ -4,9 +4,10 @@ ghost use Rattle.dmlw_dispatch.specs.Names.{HasWords};
 ghost use Rattle.dmlw_dispatch.specs.Tasks.{AsksBy};
 ghost use Rattle.dmlw_dispatch.specs.declared.name.Name.TheVariants as names;
 
+use crate::sector_count::SectorCount;
 use crate::task::{Flaw, Task};
 use clap::ArgMatches;
-use dmlw_explain::ReplayNames;
+use dmlw_explain::{CopyNames, ReplayNames};
 use dmlw_replay::upto_of;
 use words::number_of;
 
@@ -56,6 +57,23 @@ pub fn replay_task<'a>(found: &ArgMatches<'a>) -> Option<Task<'a>>
     }
 }
 
+/// The task that `copy` asks for: by a SECTORS that is no number of them, to tell so.
+pub fn copy_task<'a>(found: &ArgMatches<'a>) -> Option<Task<'a>>
+    ensures asks { IfSome result (AsksBy names.Copy (rows_of (found_of found.now))) }
+    ensures complete { HasWords names.Copy (rows_of (found_of found.now)) → is_some result ≡ true }
+{
+    let log = word_of(found, "LOG")?;
+    let out = word_of(found, "OUT")?;
+    let sectors = word_of(found, "SECTORS")?;
+    match SectorCount::of(sectors.as_bytes()) {
+        Some(sectors) => {
+            let names = CopyNames { log, out };
+            Some(Task::Copy { names, sectors })
+        }
+        None => Some(Task::Flawed(Flaw::Sectors)),
+    }
+}
+
 /// The task that `judge` asks for: by an M that is no number, to tell so.
 pub fn judge_task<'a>(found: &ArgMatches<'a>) -> Option<Task<'a>>
     ensures asks { IfSome result (AsksBy names.Judge (rows_of (found_of found.now))) }
@@ -66,6 +84,24 @@ pub fn judge_task<'a>(found: &ArgMatches<'a>) -> Option<Task<'a>>
     let image = word_of(found, "IMAGE")?;
     match number_of(moment.as_bytes()) {
         Some(moment) => Some(Task::Judge {
+            script,
+            moment,
+            image,
+        }),
+        None => Some(Task::Flawed(Flaw::Moment)),
+    }
+}
+
+/// The task that `path` asks for: by an M that is no number, to tell so.
+pub fn path_task<'a>(found: &ArgMatches<'a>) -> Option<Task<'a>>
+    ensures asks { IfSome result (AsksBy names.Path (rows_of (found_of found.now))) }
+    ensures complete { HasWords names.Path (rows_of (found_of found.now)) → is_some result ≡ true }
+{
+    let script = word_of(found, "SCRIPT")?;
+    let moment = word_of(found, "M")?;
+    let image = word_of(found, "IMAGE")?;
+    match number_of(moment.as_bytes()) {
+        Some(moment) => Some(Task::Path {
             script,
             moment,
             image,

@@ -5,7 +5,9 @@ ghost use Rattle.dmlw_dispatch.specs.CommandLine.{Entered, has_explain, is_expla
 ghost use Rattle.dmlw_dispatch.specs.Names.{HasWords};
 ghost use Rattle.dmlw_dispatch.specs.Tasks.{AsksBy, IsAskedBy, IsComplete, IsRead, IsReadByClap};
 
-use crate::asking::{judge_task, list_task, record_task, replay_task, status_task};
+use crate::asking::{
+    copy_task, judge_task, list_task, path_task, record_task, replay_task, status_task,
+};
 use crate::formats::FORMATS;
 use crate::name::Name;
 use crate::program::program_command;
@@ -44,7 +46,9 @@ fn task_by<'a>(name: Name, found: &ArgMatches<'a>) -> Option<Task<'a>>
         Name::List => list_task(found),
         Name::Status => status_task(found),
         Name::Replay => replay_task(found),
+        Name::Copy => copy_task(found),
         Name::Judge => judge_task(found),
+        Name::Path => path_task(found),
     }
 }
 

@@ -18,8 +18,9 @@ use dmlw_commands::list::list;
 use dmlw_commands::record::record;
 use dmlw_commands::status::status;
 use dmlw_commands::{Ended, Exit, end, report};
+use dmlw_copy::copy;
 use dmlw_files::Files;
-use dmlw_judge::judge;
+use dmlw_judge::{judge, path};
 use dmlw_replay::replay;
 use refusals::Refusal;
 use run_error::RunError;
@@ -88,11 +89,19 @@ fn perform<F: Files, O: Write, E: Write>(
         Task::List { log } => list(alloc, explains, log, files, out, err),
         Task::Status { log } => status(alloc, explains, log, files, out, err),
         Task::Replay { names, upto } => replay(alloc, explains, names, &upto, files, out, err),
+        Task::Copy { names, sectors } => {
+            copy(alloc, explains, names, sectors.sectors(), files, out, err)
+        }
         Task::Judge {
             script,
             moment,
             image,
         } => judge(alloc, explains, script, moment, image, files, out, err),
+        Task::Path {
+            script,
+            moment,
+            image,
+        } => path(alloc, explains, script, moment, image, files, out, err),
         Task::Formats(page) => print_page(alloc, page, out, err),
         Task::Show(text) => show(alloc, text, out, err),
         Task::Flawed(flaw) => tell_flaw(flaw, err),

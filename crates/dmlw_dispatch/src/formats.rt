@@ -14,7 +14,7 @@ stands, and a layer's table line, whose words one or more spaces part.
 | Line | Meaning | Range |
 |---|---|---|
 | `data <sectors>` | the data disk's size; the first line | 1 to 1,048,576 |
-| `log <sectors>` | the log's size; the second line | 1 to 1,048,576 |
+| `log <sectors> [4096]` | the log's size, and with that word log sectors of 4,096 bytes; the second line | 1 to 1,048,576; with the word from 8 |
 | `data-layer <table line>` | a layer over what stands over the data disk so far | up to four, behind `log` |
 | `log-layer <table line>` | the same for the log's disk | up to four, behind those of the data disk |
 | `at <ms>` | the moment from here on, in milliseconds; at first 0 | no less than before |
@@ -34,7 +34,9 @@ Sizes and places are in sectors of 512 bytes. An id is 1 to 16 of `a` to `z` and
 ends as it stands, and that is no fault: what wasn't written to the log by then isn't in it.
 
 With `flush` the data disk is flushed and then written, where the flush succeeded; a flush makes sure what ended before it. With `fua` the write is
-sure at its own end. `meta` is a note in the log. A mark waits for nothing, and has no `c`; a log keeps the first 479 bytes of its text.
+sure at its own end. `meta` is a note in the log. A mark waits for nothing, and has no `c`; a log keeps the first 479 bytes of its text, and one with
+sectors of 4,096 bytes the first 4,063. With such sectors each request begins and ends at a multiple of 8 sectors, else it is refused as 28 Unaligned at its line;
+a layer over the log has at least 8.
 
 A table line is `0 <length> <target> ..`, with a length of 1 to 1,048,576 sectors. The word behind the target is any word, and the offset is where the
 layer begins on what stands beneath it, within which it lies. Requests are within the top layer's length.
@@ -68,7 +70,9 @@ takes is refused as 6 BadMessage at its line, a listed block that is added as 7 
 | `list` | `super version 1 entries <n> sectorsize <S>`, then a line of each entry: `<number> @<log sector>`, and `mark <text>`, `discard <sector>+<sectors>`, `flush` or `write <sector>+<sectors>`, the last two with ` flush` (of a write), ` fua`, ` meta` where set |
 | `status` | `<entries> <sector>`: how many entries the log counts, and the highest sector of 512 bytes that they use; `0 0` of an empty log |
 | `replay` | `replayed <n>`: how many entries of the log were applied to the image FIRST. Then the image is written as OUT |
+| `copy` | `copied <n>`: how many entries were copied. Then the new log is written as OUT |
 | `judge` | `yes`, or `no sector <s> ruled out by event <p>`, or `no sector <s> holds no submitted value` where no durable request covers the sector |
+| `path` | a run of a device with a cache, a step a line: `submit <id>`, `land <id> <sector>`, `destage <sector>`, `end <id> ok` or `end <id> failed`, and at the end `power`, the ids being places of events; or `judge`'s line where that is a no |
 
 `help formats` prints this page.
 
@@ -76,11 +80,20 @@ takes is refused as 6 BadMessage at its line, a listed block that is added as 7 
 of exactly this text; `flush`, all up to the first flush. OUT is of the size of FIRST, and is written only where all of them were applied; it may be
 the file FIRST, and isn't written over LOG. FIRST is whole sectors, at most 1,048,576. The images have sectors of 512 bytes, also where the log's are larger.
 
+`copy LOG OUT SECTORS` copies a log to a new one with sectors of 4,096 bytes, on a disk of SECTORS sectors of 512 bytes, 8 to 1,048,576: each entry with its flags,
+its data or text, and its place and length in bytes, in their order. So each beginning of the copy replays to what that beginning of LOG replays to. OUT is written only
+where all entries were copied, and isn't written over LOG.
+
 `judge SCRIPT M IMAGE` runs the script as `record` does, writes no log, and judges whether the image could have been on the data disk, as seen from the top of its
 layers, had power failed after M of the recorder's events; at first the disk holds zeroes. The events are the submissions, ends, marks and the close,
 counted from 0, and where logging ends before its time that.
 
-M, and n of `entries:<n>`, are 1 to 20 decimal digits of a value below 2^64. Another M, or a WHAT of no such form, is a usage fault, told before a file is read.
+`path SCRIPT M IMAGE` tells how the image could have come to the disk, where `judge` says yes: a run that submits and ends the requests of the first M events in their order,
+and after which the disk holds the image. A request's value lands in the cache, sector for sector, a sector is destaged from there to what power leaves, and `power` is the end. Which
+of the runs is printed is left open.
+
+M, and n of `entries:<n>`, are 1 to 20 decimal digits of a value below 2^64. Another M, a WHAT of no such form, or another SECTORS is a
+usage fault, told before a file is read.
 
 Each beginning of a recorded log replays to a content that flush, FUA and completion allow a disk to hold, to which these requests were sent, had power failed
 there.
@@ -93,14 +106,14 @@ and two lower case hexadecimal digits.
 | Status | Meaning |
 |---|---|
 | 0 | done |
-| 1 | refused: a line on standard error says by which number and name; or `judge` has printed a `no`, and nothing stands on standard error |
+| 1 | refused: a line on standard error says by which number and name; or `judge` or `path` has printed a `no`, and nothing stands on standard error |
 | 2 | the command line isn't one of the program's |
 | 3 | logging ended before its time: the log is full, its device failed, or memory ran out; it is written as far as it came, unless it couldn't be made |
 
 ## Faults
 
 A fault is one line on standard error: `dmlw: <number> <name>`, or `dmlw: line <n>: <number> <name>` of a script's line, or
-`dmlw: <number> <name> after <n> entries` of a replay that stopped there.
+`dmlw: <number> <name> after <n> entries` of a replay or a copy that stopped there.
 
 | No | Name | When a command tells it |
 |---|---|---|
@@ -110,11 +123,13 @@ A fault is one line on standard error: `dmlw: <number> <name>`, or `dmlw: line <
 | 12, 29 | OutOfRange, BadFeature | a table line's number, or a layer past the end of what stands beneath it; a flakey layer's feature |
 | 13, 14, 15 | BadMagic, BadVersion, BadSectorSize | the image isn't a log, or is of another version, or has log sectors that aren't 512, 1024, 2048 or 4096 bytes |
 | 16, 17 | BadMark, TooLarge | an entry that no log can have |
+| 18 | Full | a copy to a disk on which the next entry doesn't fit |
 | 19, 20 | Device, Memory | no log could be made, since its device failed, or memory ran out (status 3) |
 | 21 | CutShort | the log is shorter than it says |
 | 24 | Busy | a `close` where a request is open |
 | 25, 26 | NoSuchMark, NoFlush | a replay up to a mark, or a flush, that the log doesn't have |
 | 27 | PastTarget | a replay of an entry past the end of the image |
+| 28 | Unaligned | with log sectors of 4,096 bytes: a request whose first sector or count is no multiple of 8; a copy of an entry whose place or length is no multiple of 4,096 bytes |
 | 30 | BadLine | a line that isn't one of a script's, or isn't in its place; a fifth layer of a disk; a moment that goes back |
 | 31 | BadId | an id that is submitted twice, or ended where it isn't open |
 | 32 | File | a file or the output can't be read or written; a script that is too long; an image that isn't 512 to 536,870,912 bytes in whole sectors; a log that is its own script; an image that is its own log |

@@ -9,7 +9,10 @@ ghost use Rattle.dmlw_commands.specs.declared.exit.Exit.TheVariants.{Done};
 ghost use Rattle.dmlw_commands.specs.Endings.{EndsRecording, EndsShowing, telling};
 ghost use Rattle.dmlw_files.specs.Files.{Write};
 ghost use Rattle.dmlw_commands.specs.Lists.{ListsImage, ShowsStatus};
+ghost use Rattle.dmlw_copy.specs.CopiesLog.{EndsCopying, HoldsCopied};
+ghost use Rattle.dmlw_dispatch.specs.Counts.{IsSectorCount};
 ghost use Rattle.dmlw_judge.specs.Judgements.{EndsJudging};
+ghost use Rattle.dmlw_judge.specs.Paths.{EndsFinding};
 ghost use Rattle.dmlw_replay.specs.Whats.{IsWhat};
 ghost use Rattle.replay.specs.declared.upto.Upto.{Upto};
 ghost use Rattle.words.specs.Words.{IsNumber};
@@ -67,6 +70,20 @@ pub fn plain_words_replay()
         ended.exit ≡ Done → LeavesReplayed what (contents log) (contents first) (later out) }
 {}
 
+/// Where `copy LOG OUT SECTORS` is done, the log in that file was copied to a new one with sectors of 4,096 bytes, on a disk of as many sectors as
+/// SECTORS says, for the file OUT.
+pub fn plain_words_copy()
+    ensures ends { (contents later : List ℕ → Option (List ℕ)) (before after : Option (List Write)) (old new errors_old errors_new : Option (List ℕ)) (ended : Ended)
+        (program log out word : List ℕ) (sectors : ℕ) → is_positional log ≡ true → is_positional out ≡ true → IsSectorCount word sectors →
+        DoesWords (command_words program names.Copy (log ∷ out ∷ word ∷ [])) contents later before after old new errors_old errors_new ended →
+        EndsCopying (contents log) out sectors before after old new (telling false errors_old errors_new) ended }
+    // And the file OUT holds the new log.
+    ensures leaves { (contents later : List ℕ → Option (List ℕ)) (before after : Option (List Write)) (old new errors_old errors_new : Option (List ℕ)) (ended : Ended)
+        (program log out word : List ℕ) (sectors : ℕ) → is_positional log ≡ true → is_positional out ≡ true → IsSectorCount word sectors →
+        DoesWords (command_words program names.Copy (log ∷ out ∷ word ∷ [])) contents later before after old new errors_old errors_new ended →
+        ended.exit ≡ Done → HoldsCopied (contents log) sectors (later out) }
+{}
+
 /// Where `judge SCRIPT M IMAGE` is done, the image in that file was judged by the script in that file, after as many
 /// events as M says.
 pub fn plain_words_judge()
@@ -74,5 +91,15 @@ pub fn plain_words_judge()
         (program script m image : List ℕ) (moment : ℕ) → is_positional script ≡ true → IsNumber m moment → is_positional image ≡ true →
         DoesWords (command_words program names.Judge (script ∷ m ∷ image ∷ [])) contents later before after old new errors_old errors_new ended →
         EndsJudging (record { script = contents script; image = contents image; moment = moment }) before after old new
+        (telling false errors_old errors_new) ended }
+{}
+
+/// Where `path SCRIPT M IMAGE` is done, it was told how the image in that file could have come to the device of the script in that file,
+/// after as many events as M says.
+pub fn plain_words_path()
+    ensures { (contents later : List ℕ → Option (List ℕ)) (before after : Option (List Write)) (old new errors_old errors_new : Option (List ℕ)) (ended : Ended)
+        (program script m image : List ℕ) (moment : ℕ) → is_positional script ≡ true → IsNumber m moment → is_positional image ≡ true →
+        DoesWords (command_words program names.Path (script ∷ m ∷ image ∷ [])) contents later before after old new errors_old errors_new ended →
+        EndsFinding (record { script = contents script; image = contents image; moment = moment }) before after old new
         (telling false errors_old errors_new) ended }
 {}

@@ -8,7 +8,9 @@ pub enum Name {
     List,
     Status,
     Replay,
+    Copy,
     Judge,
+    Path,
 }
 
 impl Name {
@@ -28,8 +30,14 @@ impl Name {
         if word == "replay" {
             return Some(Name::Replay);
         }
+        if word == "copy" {
+            return Some(Name::Copy);
+        }
         if word == "judge" {
             return Some(Name::Judge);
+        }
+        if word == "path" {
+            return Some(Name::Path);
         }
         None
     }

@@ -23,7 +23,9 @@ pub fn program_command<'a>(alloc: Global) -> Result<Command<'a>, AllocError>
     let status = log_command(alloc, "status", "Tells how far a log has come");
     let program = with_command(program, status)?;
     let program = with_command(program, replay_command(alloc))?;
-    with_command(program, judge_command(alloc))
+    let program = with_command(program, copy_command(alloc))?;
+    let program = with_command(program, judge_command(alloc))?;
+    with_command(program, path_command(alloc))
 }
 
 // The program's command without those that it is asked by.
@@ -86,11 +88,31 @@ fn replay_command<'a>(alloc: Global) -> Result<Command<'a>, AllocError>
         .arg(argument(alloc, "WHAT", "entries:<n>, mark:<text> or flush"))
 }
 
+fn copy_command<'a>(alloc: Global) -> Result<Command<'a>, AllocError>
+    ensures { IfOk result (IsCommandOf (command_app names.Copy)) }
+{
+    Command::new(alloc, "copy")
+        .about("Copies a log to one with sectors of 4096 bytes")
+        .arg(argument(alloc, "LOG", "The log to read"))?
+        .arg(argument(alloc, "OUT", "The log to write"))?
+        .arg(argument(alloc, "SECTORS", "The sectors of the new log's disk"))
+}
+
 fn judge_command<'a>(alloc: Global) -> Result<Command<'a>, AllocError>
     ensures { IfOk result (IsCommandOf (command_app names.Judge)) }
 {
     Command::new(alloc, "judge")
         .about("Judges whether an image could have been on the device")
+        .arg(argument(alloc, "SCRIPT", "The script to read"))?
+        .arg(argument(alloc, "M", "The number of events before the power failure"))?
+        .arg(argument(alloc, "IMAGE", "The image to judge"))
+}
+
+fn path_command<'a>(alloc: Global) -> Result<Command<'a>, AllocError>
+    ensures { IfOk result (IsCommandOf (command_app names.Path)) }
+{
+    Command::new(alloc, "path")
+        .about("Tells how an image could have come to the device")
         .arg(argument(alloc, "SCRIPT", "The script to read"))?
         .arg(argument(alloc, "M", "The number of events before the power failure"))?
         .arg(argument(alloc, "IMAGE", "The image to judge"))

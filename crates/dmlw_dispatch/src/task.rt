@@ -1,8 +1,9 @@
 ghost use Rattle.std.specs.Prelude.{◌≡◌};
 ghost use Rattle.dmlw_dispatch.specs.Commands.{flaw_text};
 
+use crate::sector_count::SectorCount;
 use clap::Error;
-use dmlw_explain::ReplayNames;
+use dmlw_explain::{CopyNames, ReplayNames};
 use replay::Upto;
 
 /// What a command line asks for. `script`, `log` and `image` are names of files.
@@ -26,8 +27,19 @@ pub enum Task<'a> {
         names: ReplayNames<'a>,
         upto: Upto<'a>,
     },
+    /// To copy a log to a new one with sectors of 4,096 bytes, on a disk of so many sectors of 512.
+    Copy {
+        names: CopyNames<'a>,
+        sectors: SectorCount,
+    },
     /// To judge whether an image could have been on the disk of a script after so many events.
     Judge {
+        script: &'a str,
+        moment: u64,
+        image: &'a str,
+    },
+    /// To tell how an image could have come to the disk of a script after so many events.
+    Path {
         script: &'a str,
         moment: u64,
         image: &'a str,
@@ -45,6 +57,8 @@ pub enum Task<'a> {
 pub enum Flaw {
     /// WHAT names no end of a replay.
     What,
+    /// SECTORS is no number from 8 to 1,048,576.
+    Sectors,
     /// M is no number of 1 to 20 decimal digits below 2^64.
     Moment,
 }
@@ -56,6 +70,7 @@ impl Flaw {
     {
         match self {
             Flaw::What => "error: <WHAT> is entries:<n>, mark:<text> or flush\n",
+            Flaw::Sectors => "error: <SECTORS> is a number from 8 to 1048576\n",
             Flaw::Moment => "error: <M> is a number of 1 to 20 digits, below 2^64\n",
         }
     }

@@ -1,4 +1,5 @@
 mod Stopping
-mod Verdicts
+mod Answered
+mod Agreeing
 mod Replaying
 mod Refused

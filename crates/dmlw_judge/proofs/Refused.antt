@@ -1,8 +1,15 @@
 -- For each definition of a judging, what breaks it, and is refused by it.
-use Rattle.std.proofs.Common.{◌≡◌, ◌∙◌, ◌⊎◌, ℕ, ◌*◌, ◌<◌, ◌≤◌, ◌++◌, false, Option, Some, None, List, [], ◌∷◌, Result, Ok, Err, ap, arith, inl, inr, length, refl, replicate, slice_index_or, subst, sym}
+use Rattle.std.proofs.Common.{Bool, true, ◌≡◌, ◌∙◌, ◌⊎◌, ℕ, ◌*◌, ◌<◌, ◌≤◌, ◌++◌, false, Option, Some, None, List, [], ◌∷◌, Result, Ok, Err, ap, arith, inl, inr, length, refl, replicate, slice_index_or, subst, sym}
 use Rattle.std.specs.Prelude.{codes, decimal}
 use Rattle.bio.specs.declared.event.CoreEvent.{CoreEvent}
 use Rattle.bio.specs.declared.event.CoreEvent.TheVariants.{Mark, Stop}
+use Rattle.bio.specs.declared.event.CoreEvent.TheVariants as core_events
+use Rattle.bio.specs.declared.request.Bio.TheVariants.{Flush}
+use Rattle.sectors.specs.Content.{Content}
+use Rattle.world.specs.declared.step.Step.{Step}
+use Rattle.world.specs.declared.step.Step.TheVariants as moves
+use Rattle.world.specs.Machine.{start as fresh}
+use Rattle.world.specs.Runs.{is_run, taken}
 use Rattle.bio.specs.declared.outcome.End.{End}
 use Rattle.bio.specs.declared.outcome.End.TheVariants.{Full}
 use Rattle.refusals.specs.declared.refusal.Refusal.{Refusal}
@@ -27,8 +34,21 @@ use Rattle.dmlw_commands.specs.Endings.{Telling, TellsLine, telling}
 use Rattle.dmlw_commands.specs.Exits.{told_line}
 use Rattle.dmlw_files.specs.Files.{Write}
 use Rattle.dmlw_judge.specs.Beginnings.{BeginsLog, IsReplayedTo}
-use Rattle.dmlw_judge.specs.Judgements.{AreRead, CanJudge, CannotJudge, EndsJudging, HasNoVerdict, HasVerdict, IsJudged, Judges, Question, exit_judged, file, moment as no_moment, question, run, text, verdict_line}
+use Rattle.dmlw_judge.specs.declared.finding.Finding.{Finding}
+use Rattle.dmlw_judge.specs.declared.finding.Finding.TheVariants as findings
+use Rattle.dmlw_judge.specs.Paths.{IsFinding, exit_by_finding, finding_text, step_line, verdict_of}
+use Rattle.dmlw_judge.specs.Judgements.{Answers, AreRead, CanJudge, CannotJudge, EndsAnswering, EndsJudging, HasAnswer, HasNoVerdict, IsAnswered, Judges, Meaning, Question, exit_judged, file, moment as no_moment, question, run, text, verdict_line, verdict_meaning}
 use Rattle.recorder.specs.Shown.{core_of}
+
+-- a finding is a run of these steps
+abbrev IsRunOf : List Step → Finding → Type 0
+IsRunOf steps (findings.Run steps_found) = steps_found.items ≡ steps
+IsRunOf steps (findings.RuledOut sector by) = ⊥
+
+-- the first of these steps ends a request well
+abbrev ok_of : List Step → Bool
+ok_of (moves.End id ok ∷ steps) = ok
+ok_of steps = true
 
 same_number : (a b : ℕ) → a ≡ b → a ≡ b
 same_number a b same = same
@@ -65,14 +85,14 @@ no_events plan events none rehearsed =
     rehearsed.recorded ∙ ap (λ (r : DiskRun). (core_of r.recorder).events) ran.1 ∙ ap (λ core. core.events) rehearsed.starts.log_disk.begun.core
 
 -- so its moment 1 isn't judged
-judged_later : (plan : Plan) (image : List ℕ) (verdict : Verdict) → plan.commands ≡ [] → IsJudged plan 1 image verdict → ⊥
-judged_later plan image verdict none judged =
+judged_later : {A : Type 0} (meaning : Meaning A) (plan : Plan) (image : List ℕ) (answer : A) → plan.commands ≡ [] → IsAnswered meaning plan 1 image answer → ⊥
+judged_later meaning plan image answer none judged =
     let moment : 1 ≤ last_moment [] = subst (λ (es : List CoreEvent). 1 ≤ last_moment es) (no_events plan judged.events none judged.rehearsed) judged.can_judge.0 in
     omega arith
 
 -- nor is an image of another size than the disk's top
-judged_size : (plan : Plan) (verdict : Verdict) → top_of plan.data_disk ≡ 1 → IsJudged plan 0 [] verdict → ⊥
-judged_size plan verdict one judged = let size = same_number 0 (512 * top_of plan.data_disk) judged.can_judge.1 in omega arith
+judged_size : {A : Type 0} (meaning : Meaning A) (plan : Plan) (answer : A) → top_of plan.data_disk ≡ 1 → IsAnswered meaning plan 0 [] answer → ⊥
+judged_size meaning plan answer one judged = let size = same_number 0 (512 * top_of plan.data_disk) judged.can_judge.1 in omega arith
 
 -- files that hold other bytes, and bytes that are no image
 read_script : (image : List ℕ) → AreRead (question (1 ∷ []) image 0) (2 ∷ []) image → ⊥
@@ -84,19 +104,21 @@ read_image script read = let same = read.image_holds in cc
 read_nothing : (asked : Question) (script : List ℕ) → AreRead asked script [] → ⊥
 read_nothing asked script read = let least = read.whole.least in omega arith
 
--- there is no verdict on an image's file that holds nothing, by a script's file that holds nothing, or at a moment that the script's run hasn't
-verdict_no_image : (script : Option (List ℕ)) (verdict : Verdict) → HasVerdict (record { script = script; image = Some []; moment = 0 }) verdict → ⊥
-verdict_no_image script verdict has = let least = has.read.whole.least in let same = ap length has.read.image_holds in omega arith
+-- there is no answer on an image's file that holds nothing, by a script's file that holds nothing, or at a moment that the script's run hasn't
+answer_no_image : {A : Type 0} (meaning : Meaning A) (script : Option (List ℕ)) (answer : A)
+    → HasAnswer meaning (record { script = script; image = Some []; moment = 0 }) answer → ⊥
+answer_no_image meaning script answer has = let least = has.read.whole.least in let same = ap length has.read.image_holds in omega arith
 
 no_script : (plan : Plan) → IsTextOf [] plan → ⊥
 no_script plan spelled = spelled.says
 
-verdict_no_script : (image : Option (List ℕ)) (verdict : Verdict) → HasVerdict (record { script = Some []; image = image; moment = 0 }) verdict → ⊥
-verdict_no_script image verdict has = no_script has.plan (subst (λ (text : List ℕ). IsTextOf text has.plan) has.read.script_holds has.spelled)
+answer_no_script : {A : Type 0} (meaning : Meaning A) (image : Option (List ℕ)) (answer : A)
+    → HasAnswer meaning (record { script = Some []; image = image; moment = 0 }) answer → ⊥
+answer_no_script meaning image answer has = no_script has.plan (subst (λ (text : List ℕ). IsTextOf text has.plan) has.read.script_holds has.spelled)
 
-verdict_later : (script image : Option (List ℕ)) (verdict : Verdict) → (has : HasVerdict (record { script = script; image = image; moment = 1 }) verdict)
-    → has.plan.commands ≡ [] → ⊥
-verdict_later script image verdict has none = judged_later has.plan has.image verdict none has.judged
+answer_later : {A : Type 0} (meaning : Meaning A) (script image : Option (List ℕ)) (answer : A)
+    → (has : HasAnswer meaning (record { script = script; image = image; moment = 1 }) answer) → has.plan.commands ≡ [] → ⊥
+answer_later meaning script image answer has none = judged_later meaning has.plan has.image answer none has.judged
 
 -- an image's file that holds nothing is refused as a file, whatever the script
 none_by_file : (script : List ℕ) (fault : RunError) → HasNoVerdict (question script [] 0) fault → IsFileError fault
@@ -209,17 +231,18 @@ none_by_moment bytes image plan fault spelled none size (no_moment again shown o
 judges_silent : (asked : Question) → Judges asked (Some []) (Some []) (Ok verdicts.Yes) → ⊥
 judges_silent asked (has, printed) = cc
 
-judges_printing : (asked : Question) → Judges asked (Some []) (Some (1 ∷ [])) (Err (refused_by refusals.BadMoment)) → ⊥
-judges_printing asked (none, inl kept) = cc
-judges_printing asked (none, inr (inl is)) = let same : refusals.BadMoment ≡ refusals.File = ap told is in cc
-judges_printing asked (none, inr (inr is)) = let same : refusals.BadMoment ≡ refusals.Memory = ap told is in cc
+answers_printing : {A : Type 0} (meaning : Meaning A) (asked : Question) → Answers meaning asked (Some []) (Some (1 ∷ [])) (Err (refused_by refusals.BadMoment)) → ⊥
+answers_printing meaning asked (none, inl kept) = cc
+answers_printing meaning asked (none, inr (inl is)) = let same : refusals.BadMoment ≡ refusals.File = ap told is in cc
+answers_printing meaning asked (none, inr (inr is)) = let same : refusals.BadMoment ≡ refusals.Memory = ap told is in cc
 
--- a verdict on what is no image, and a fault that isn't why there is none
-judges_no_image : (script : Option (List ℕ)) (verdict : Verdict) → Judges (record { script = script; image = Some []; moment = 0 }) None None (Ok verdict) → ⊥
-judges_no_image script verdict (has, printed) = verdict_no_image script verdict has
+-- an answer on what is no image, and a fault that isn't why there is none
+answers_no_image : {A : Type 0} (meaning : Meaning A) (script : Option (List ℕ)) (answer : A)
+    → Answers meaning (record { script = script; image = Some []; moment = 0 }) None None (Ok answer) → ⊥
+answers_no_image meaning script answer (has, printed) = answer_no_image meaning script answer has
 
-judges_moment : (script : List ℕ) → Judges (question script [] 0) None None (Err (refused_by refusals.BadMoment)) → ⊥
-judges_moment script (none, kept) = file_told (refused_by refusals.BadMoment) (none_by_file script (refused_by refusals.BadMoment) none) refl
+answers_moment : {A : Type 0} (meaning : Meaning A) (script : List ℕ) → Answers meaning (question script [] 0) None None (Err (refused_by refusals.BadMoment)) → ⊥
+answers_moment meaning script (none, kept) = file_told (refused_by refusals.BadMoment) (none_by_file script (refused_by refusals.BadMoment) none) refl
 
 -- the lines of verdicts, and how they end
 line_yes : verdict_line verdicts.Yes ≡ codes "yes\n"
@@ -247,8 +270,9 @@ exit_ended end = refl
 a_write : Write
 a_write = record { name = []; bytes = [] }
 
-ends_asking : (asked : Question) (t : Telling) (ended : Ended) → EndsJudging asked (Some []) (Some (a_write ∷ [])) None None t ended → ⊥
-ends_asking asked t ended told = let unwritten = told.unwritten in cc
+ends_asking : {A : Type 0} (meaning : Meaning A) (asked : Question) (t : Telling) (ended : Ended)
+    → EndsAnswering meaning asked (Some []) (Some (a_write ∷ [])) None None t ended → ⊥
+ends_asking meaning asked t ended told = let unwritten = told.unwritten in cc
 
 ends_usage : (asked : Question) (t : Telling) (ended : Ended) → EndsJudging asked None None None None t ended → ended.exit ≡ exits.Usage → ⊥
 ends_usage asked t ended told is = ends told.done (sym told.tells.exits ∙ is)
@@ -266,7 +290,7 @@ ends_no_image script t ended told is = ends told.done told.judged told.tells.exi
   where
     ends : (done : Result Verdict RunError) → Judges (question script [] 0) None None done → ended.exit ≡ exit_judged done
         → (ended.exit ≡ exits.Done) ⊎ (ended.exit ≡ exits.RuledOut) → ⊥
-    ends (Ok verdict) judges same is = judges_no_image (Some script) verdict judges
+    ends (Ok verdict) judges same is = answers_no_image verdict_meaning (Some script) verdict judges
     ends (Err (faults.Refused fault)) judges same (inl is) = let both : exits.Refused ≡ exits.Done = sym same ∙ is in cc
     ends (Err (faults.Refused fault)) judges same (inr is) = let both : exits.Refused ≡ exits.RuledOut = sym same ∙ is in cc
     ends (Err (faults.LoggingEnded end)) judges same (inl is) = let both : exits.LoggingEnded ≡ exits.Done = sym same ∙ is in cc
@@ -283,33 +307,70 @@ ends_telling asked ended told is = ends told.done told.tells
     ends (Err (faults.LoggingEnded end)) tells = let both : exits.LoggingEnded ≡ exits.RuledOut = sym tells.exits ∙ is in cc
 
 -- no entry of no events belongs to their first moment, and of a mark its one entry belongs to the moment before it and to the one behind
-begins_none : BeginsLog [] 0 0
+begins_none : BeginsLog 512 [] 0 0
 begins_none = record { safe = omega arith; belongs = record { from = omega arith; to = omega arith } }
 
 abbrev marked : List CoreEvent
 marked = Mark (97 ∷ []) ∷ []
 
-begins_before : BeginsLog marked 0 1
+begins_before : BeginsLog 512 marked 0 1
 begins_before = record { safe = omega arith; belongs = record { from = omega arith; to = omega arith } }
 
-begins_behind : BeginsLog marked 1 1
+begins_behind : BeginsLog 512 marked 1 1
 begins_behind = record { safe = omega arith; belongs = record { from = omega arith; to = omega arith } }
 
-begins_fewer : BeginsLog marked 1 0 → ⊥
+begins_fewer : BeginsLog 512 marked 1 0 → ⊥
 begins_fewer begins = let from = begins.belongs.from in omega arith
 
-replayed_none : IsReplayedTo [] 0 0 (replicate 512 0)
+replayed_none : IsReplayedTo 512 [] 0 0 (replicate 512 0)
 replayed_none = record { begins = begins_none; content = λ sector there. refl }
 
 -- of no events, no entry belongs to the first moment, nor is there a later one; what no entry was replayed on is zeroes
-begins_late : BeginsLog [] 1 0 → ⊥
+begins_late : BeginsLog 512 [] 1 0 → ⊥
 begins_late begins = let safe = begins.safe in omega arith
 
-begins_more : BeginsLog [] 0 1 → ⊥
+begins_more : BeginsLog 512 [] 0 1 → ⊥
 begins_more begins = let to = begins.belongs.to in omega arith
 
-replayed_changed : IsReplayedTo [] 0 0 (replicate 512 1) → ⊥
+replayed_changed : IsReplayedTo 512 [] 0 0 (replicate 512 1) → ⊥
 replayed_changed told = let same = same_number 1 0 (ap (λ (xs : List ℕ). slice_index_or xs 0 0) (told.content 0 (omega arith))) in omega arith
 
-replayed_late : (image : List ℕ) → IsReplayedTo [] 1 0 image → ⊥
+replayed_late : (image : List ℕ) → IsReplayedTo 512 [] 1 0 image → ⊥
 replayed_late image told = begins_late told.begins
+
+-- a run that misses its last step, and one for no event after it ended
+path_of_nothing : (finding : Finding) (first now : Content) → IsRunOf [] finding → IsFinding 1 [] first now finding → ⊥
+path_of_nothing (findings.Run steps_found) first now none found =
+    let off : false ≡ true = subst (λ (steps : List Step). (taken fresh steps).off ≡ true) none found.off in cc
+path_of_nothing (findings.RuledOut sector by) first now none found = none
+
+path_too_long : (finding : Finding) (first now : Content) → IsRunOf (moves.Power ∷ moves.Power ∷ []) finding → IsFinding 1 [] first now finding → ⊥
+path_too_long (findings.Run steps_found) first now steps found =
+    let runs : false ≡ true = subst (λ (taken_steps : List Step). is_run [] fresh taken_steps ≡ true) steps found.runs in cc
+path_too_long (findings.RuledOut sector by) first now steps found = steps
+
+-- one that ends a request otherwise than the events do
+path_of_failed : (finding : Finding) (first now : Content) → IsRunOf (moves.Submit 0 ∷ moves.End 0 false ∷ moves.Power ∷ []) finding
+    → IsFinding 1 (core_events.Submit Flush ∷ core_events.Complete 0 true ∷ []) first now finding → ⊥
+path_of_failed (findings.Run steps_found) first now steps found =
+    let ends : (moves.End 0 false ∷ moves.Submit 0 ∷ []) ≡ (moves.End 0 true ∷ moves.Submit 0 ∷ []) =
+    subst (λ (taken_steps : List Step). (taken fresh taken_steps).calls ≡ (moves.End 0 true ∷ moves.Submit 0 ∷ [])) steps found.fits in
+    let other : false ≡ true = ap ok_of ends in cc
+path_of_failed (findings.RuledOut sector by) first now steps found = steps
+
+-- no value of no event has ruled an image of zeroes out
+path_ruled_out : (sector : ℕ) (by : Option ℕ) (first : Content) → IsFinding 1 [] first first (findings.RuledOut sector by) → ⊥
+path_ruled_out sector by first found = found.fails (inl (refl, refl))
+
+-- the lines of findings, their verdicts, and how they end
+path_line : step_line (moves.End 4 false) ≡ (codes "end " ++ decimal 4 ++ codes " " ++ codes "failed") ++ codes "\n"
+path_line = refl
+
+path_text_none : finding_text (findings.RuledOut 3 None) ≡ (codes "no sector " ++ decimal 3 ++ codes " " ++ codes "holds no submitted value") ++ codes "\n"
+path_text_none = refl
+
+path_no : verdict_of (findings.RuledOut 3 None) ≡ verdicts.No 3 None
+path_no = refl
+
+path_exit_none : exit_by_finding (findings.RuledOut 3 None) ≡ exits.RuledOut
+path_exit_none = refl

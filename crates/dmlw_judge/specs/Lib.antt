@@ -1,2 +1,3 @@
 pub mod Judgements
+pub mod Paths
 pub mod Beginnings

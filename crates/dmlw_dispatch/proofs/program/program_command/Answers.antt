@@ -9,9 +9,13 @@ returns c =
     let list = command_app names.List in
     let status = command_app names.Status in
     let replay = command_app names.Replay in
+    let copy = command_app names.Copy in
     let judge = command_app names.Judge in
-    chained c.with_command-5.result _ judge _ (c.with_command-5.ensures judge c.judge_command.ensures)
+    let path = command_app names.Path in
+    chained c.with_command-7.result _ path _ (c.with_command-7.ensures path c.path_command.ensures)
+    (chained_is _ _ judge _ (c.in_ok-program-6.ensures judge c.judge_command.ensures)
+    (chained_is _ _ copy _ (c.in_ok-program-5.ensures copy c.copy_command.ensures)
     (chained_is _ _ replay _ (c.in_ok-program-4.ensures replay c.replay_command.ensures)
     (chained_is _ _ status _ (c.in_ok-program-3.ensures status c.log_command-status.ensures)
     (chained_is _ _ list _ (c.in_ok-program-2.ensures list c.log_command-list.ensures)
-    (chained_is _ _ record_app _ (c.in_ok-program.ensures record_app c.record_command.ensures) c.bare_command.ensures))))
+    (chained_is _ _ record_app _ (c.in_ok-program.ensures record_app c.record_command.ensures) c.bare_command.ensures))))))

@@ -2,16 +2,16 @@ use Rattle.std.proofs.Common.{List, Option, subst, sym, ℕ}
 use Rattle.run_error.specs.Errors.{IsFileError}
 use Rattle.dmlw_files.specs.Files.{MatchesContents}
 use Rattle.dmlw_judge.specs.Judgements.{file}
-use Rattle.dmlw_judge.proofs.Verdicts.{failed_file, judged_files, judged_none}
-use Rattle.dmlw_judge.proofs.judging.judge_files.Goals as goal
+use Rattle.dmlw_judge.proofs.Answered.{answered_files, answered_none, failed_file}
+use Rattle.dmlw_judge.proofs.answering.answer_files.Goals as goal
 
 pub returns-in_err-text-clause-judged : goal.returns-in_err-text-clause-judged
 returns-in_err-text-clause-judged g c =
-    judged_none _ _ c.from_residual.result c.from_residual.ensures.1 (λ fault is. failed_file _ _ fault is)
+    answered_none _ _ _ c.from_residual.result c.from_residual.ensures.1 (λ fault is. failed_file _ _ fault is)
 
 pub returns-in_err-image-clause-judged : goal.returns-in_err-image-clause-judged
 returns-in_err-image-clause-judged g c =
-    judged_none _ _ c.from_residual-in_err-image.result c.from_residual-in_err-image.ensures.1
+    answered_none _ _ _ c.from_residual-in_err-image.result c.from_residual-in_err-image.ensures.1
     (λ fault is. file fault (subst IsFileError (sym is) c.in_err-image.ensures.fault))
 
 pub returns-clause-judged : goal.returns-clause-judged
@@ -19,5 +19,5 @@ returns-clause-judged g c =
     let script = subst (MatchesContents (g.F.Files.contents c.args.files.now c.args.script.now)) (sym c.deref.ensures.value) c.in_ok-text.ensures.contents in
     let bytes = subst (λ (known : Option (List ℕ)). MatchesContents known c.in_ok-image.image.items) (c.in_ok-text.ensures.kept c.args.image.now) c.in_ok-image.ensures.contents in
     let image = subst (MatchesContents (g.F.Files.contents c.args.files.now c.args.image.now)) (sym c.deref-2.ensures.value) bytes in
-    judged_files _ c.deref.result.now c.deref-2.result.now _ _ c.judge_text.result c.print_judged.result script image
-    c.judge_text.ensures.verdict c.judge_text.ensures.faults c.print_judged.ensures.printed c.print_judged.ensures.faults
+    answered_files _ _ c.deref.result.now c.deref-2.result.now _ _ c.answer_text.result c.print_answer.result script image
+    c.answer_text.ensures.verdict c.answer_text.ensures.faults c.print_answer.ensures.printed c.print_answer.ensures.faults

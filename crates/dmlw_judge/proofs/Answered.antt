@@ -1,18 +1,17 @@
--- What a judging comes to.
+-- What a question on an image comes to.
 use Rattle.std.proofs.Common.{◌≡◌, ◌∙◌, ◌⊎◌, ℕ, true, Option, Some, None, List, Result, Ok, Err, IfErr, IfOk, ap, inl, inr, length, refl, subst, sym}
 use Rattle.std.specs.Prelude.{take}
 use Rattle.std.specs.Io.KnownBytes.{Appends, Keeps}
 use Rattle.std.specs.Result.{IsErrAnd}
 use Rattle.bio.specs.declared.event.CoreEvent.{CoreEvent}
-use Rattle.bio.specs.Lawful.{is_lawful}
+use Rattle.bio.specs.Lawful.{all_aligned, is_lawful}
+use Rattle.bio.specs.Sizes.{bytes_of}
 use Rattle.sectors.specs.Content.{sector_of}
 use Rattle.refusals.specs.declared.fault.Fault.{Fault}
 use Rattle.refusals.specs.declared.refusal.Refusal.TheVariants as refusals
 use Rattle.dmlw_script.specs.Grammar.{IsTextOf}
 use Rattle.dmlw_script.specs.Plans.{Plan, top_of}
 use Rattle.dmlw_script.specs.Reading.{IsFaultOf, is_memory}
-use Rattle.judge.specs.declared.verdict.Verdict.{Verdict}
-use Rattle.judge.specs.Verdicts.{IsVerdict}
 use Rattle.run_error.specs.declared.run_error.RunError.{RunError}
 use Rattle.run_error.specs.declared.run_error.RunError.TheVariants.{Refused}
 use Rattle.script_runner.specs.CallLaws.{keeps_same, keeps_twice, appends_kept}
@@ -26,31 +25,31 @@ use Rattle.dmlw_commands.specs.Exits.{told_line}
 use Rattle.dmlw_files.specs.FileErrors.{file_refusal}
 use Rattle.dmlw_files.specs.Files.{MatchesContents, Write}
 use Rattle.dmlw_files.specs.Images.{IsImage}
-use Rattle.dmlw_judge.specs.Judgements.{CanJudge, CannotJudge, EndsJudging, HasNoVerdict, HasVerdict, Judges, Question, blank, exit_judged, file, moment as no_moment, question, run as no_run, text as unread, verdict_line}
+use Rattle.dmlw_judge.specs.Judgements.{Answers, CanJudge, CannotJudge, EndsAnswering, HasAnswer, HasNoVerdict, Meaning, Question, blank, exit_answered, file, moment as no_moment, question, run as no_run, text as unread}
 
--- a verdict after these events is one of the script's run
-pub judged_by : (text image : List ℕ) (asked sectors : ℕ) (plan : Plan) (events : List CoreEvent) (r : Result Verdict RunError) → IsImage image → IsTextOf text plan
-    → IsRehearsed plan events → is_lawful (top_of plan.data_disk) events ≡ true → sectors ≡ top_of plan.data_disk
-    → IfOk r (λ verdict. CanJudge sectors events asked image × IsVerdict sectors (take asked events) (blank (length image)) (sector_of image) verdict)
-    → IfOk r (HasVerdict (question text image asked))
-judged_by text image asked sectors plan events (Err fault) whole spelled rehearsed lawful same judged = tt
-judged_by text image asked sectors plan events (Ok verdict) whole spelled rehearsed lawful same judged =
-    let here = subst (λ (n : ℕ). CanJudge n events asked image × IsVerdict n (take asked events) (blank (length image)) (sector_of image) verdict) same judged in
+-- an answer after these events is one of the script's run
+pub judged_by : {A : Type 0} (meaning : Meaning A) (text image : List ℕ) (asked sectors : ℕ) (plan : Plan) (events : List CoreEvent) (r : Result A RunError) → IsImage image → IsTextOf text plan
+    → IsRehearsed plan events → is_lawful (top_of plan.data_disk) events ≡ true → all_aligned (bytes_of plan.log_size) events ≡ true → sectors ≡ top_of plan.data_disk
+    → IfOk r (λ answer. CanJudge sectors events asked image × meaning.says sectors (take asked events) (blank (length image)) (sector_of image) answer)
+    → IfOk r (HasAnswer meaning (question text image asked))
+judged_by meaning text image asked sectors plan events (Err fault) whole spelled rehearsed lawful aligned same judged = tt
+judged_by meaning text image asked sectors plan events (Ok answer) whole spelled rehearsed lawful aligned same judged =
+    let here = subst (λ (n : ℕ). CanJudge n events asked image × meaning.says n (take asked events) (blank (length image)) (sector_of image) answer) same judged in
     record {
       text = text;
       image = image;
       read = record { script_holds = refl; image_holds = refl; whole = whole };
       plan = plan;
       spelled = spelled;
-      judged = record { events = events; rehearsed = rehearsed; lawful = lawful; can_judge = here.0; holds = here.1 };
+      judged = record { events = events; rehearsed = rehearsed; lawful = lawful; aligned = aligned; can_judge = here.0; holds = here.1 };
     }
 
 -- and so is a fault
-pub faulted_by : (text image : List ℕ) (asked sectors : ℕ) (plan : Plan) (events : List CoreEvent) (r : Result Verdict RunError) → IsImage image → IsTextOf text plan
+pub faulted_by : {A : Type 0} (text image : List ℕ) (asked sectors : ℕ) (plan : Plan) (events : List CoreEvent) (r : Result A RunError) → IsImage image → IsTextOf text plan
     → IsRehearsed plan events → sectors ≡ top_of plan.data_disk
     → IfErr r (λ fault. (fault ≡ memory_error) ⊎ ((fault ≡ refused_by refusals.BadMoment) × CannotJudge sectors events asked image))
     → IfErr r (HasNoVerdict (question text image asked))
-faulted_by text image asked sectors plan events (Ok verdict) whole spelled rehearsed same fails = tt
+faulted_by text image asked sectors plan events (Ok answer) whole spelled rehearsed same fails = tt
 faulted_by text image asked sectors plan events (Err fault) whole spelled rehearsed same (inl memory) = file fault (inr memory)
 faulted_by text image asked sectors plan events (Err fault) whole spelled rehearsed same (inr (is, cannot)) =
     subst (HasNoVerdict (question text image asked)) (sym is)
@@ -89,10 +88,10 @@ failed_file asked error fault is = file fault (subst IsFileError (sym is) (file_
 match_some : (contents : Option (List ℕ)) (bytes known : List ℕ) → MatchesContents contents bytes → known ≡ bytes → MatchesContents contents known
 match_some contents bytes known is same = subst (MatchesContents contents) (sym same) is
 
--- a verdict on what was read of files is one on the files
-pub verdict_of_files : (asked : Question) (text image : List ℕ) (verdict : Verdict) → MatchesContents asked.script text → MatchesContents asked.image image
-    → HasVerdict (question text image asked.moment) verdict → HasVerdict asked verdict
-verdict_of_files asked text image verdict script bytes has = record {
+-- an answer on what was read of files is one on the files
+pub answer_of_files : {A : Type 0} (meaning : Meaning A) (asked : Question) (text image : List ℕ) (answer : A) → MatchesContents asked.script text
+    → MatchesContents asked.image image → HasAnswer meaning (question text image asked.moment) answer → HasAnswer meaning asked answer
+answer_of_files meaning asked text image answer script bytes has = record {
   text = has.text;
   image = has.image;
   read = record {
@@ -128,43 +127,45 @@ fault_of_files asked text image fault script bytes (no_moment known seen plan ev
       whole = read.whole;
     }) spelled rehearsed cannot
 
--- what was judged and printed
-pub judged_files : (asked : Question) (text image : List ℕ) (before after : Option (List ℕ)) (judged done : Result Verdict RunError)
+-- what was answered and printed
+pub answered_files : {A : Type 0} (meaning : Meaning A) (asked : Question) (text image : List ℕ) (before after : Option (List ℕ)) (answered done : Result A RunError)
     → MatchesContents asked.script text → MatchesContents asked.image image
-    → IfOk judged (HasVerdict (question text image asked.moment)) → IfErr judged (HasNoVerdict (question text image asked.moment))
-    → IfOk done (λ verdict. (judged ≡ Ok verdict) × Appends before after (verdict_line verdict))
-    → IfErr done (λ fault. IsFileError fault ⊎ ((judged ≡ Err fault) × Keeps before after)) → Judges asked before after done
-judged_files asked text image before after judged (Ok verdict) script bytes has none printed fails = (
-  verdict_of_files asked text image verdict script bytes
-      (subst (λ (r : Result Verdict RunError). IfOk r (HasVerdict (question text image asked.moment))) printed.0 has),
+    → IfOk answered (HasAnswer meaning (question text image asked.moment)) → IfErr answered (HasNoVerdict (question text image asked.moment))
+    → IfOk done (λ answer. (answered ≡ Ok answer) × Appends before after (meaning.printed answer))
+    → IfErr done (λ fault. IsFileError fault ⊎ ((answered ≡ Err fault) × Keeps before after)) → Answers meaning asked before after done
+answered_files {A = A} meaning asked text image before after answered (Ok answer) script bytes has none printed fails = (
+  answer_of_files meaning asked text image answer script bytes
+      (subst (λ (r : Result A RunError). IfOk r (HasAnswer meaning (question text image asked.moment))) printed.0 has),
   printed.1,
 )
-judged_files asked text image before after judged (Err fault) script bytes has none printed (inl is) = (file fault is, inr is)
-judged_files asked text image before after judged (Err fault) script bytes has none printed (inr (same, kept)) = (
+answered_files meaning asked text image before after answered (Err fault) script bytes has none printed (inl is) = (file fault is, inr is)
+answered_files {A = A} meaning asked text image before after answered (Err fault) script bytes has none printed (inr (same, kept)) = (
   fault_of_files asked text image fault script bytes
-      (subst (λ (r : Result Verdict RunError). IfErr r (HasNoVerdict (question text image asked.moment))) same none),
+      (subst (λ (r : Result A RunError). IfErr r (HasNoVerdict (question text image asked.moment))) same none),
   inl kept,
 )
 
--- a judging that ended before anything was printed
-pub judged_none : (asked : Question) (known : Option (List ℕ)) {Q : RunError → Type 0} (r : Result Verdict RunError) → IsErrAnd r Q
-    → ((fault : RunError) → Q fault → HasNoVerdict asked fault) → Judges asked known known r
-judged_none asked known (Ok verdict) fails why = absurd fails
-judged_none asked known (Err fault) fails why = (why fault fails, inl (keeps_same known))
+-- a question that ended before anything was printed
+pub answered_none : {A : Type 0} (meaning : Meaning A) (asked : Question) (known : Option (List ℕ)) {Q : RunError → Type 0} (r : Result A RunError) → IsErrAnd r Q
+    → ((fault : RunError) → Q fault → HasNoVerdict asked fault) → Answers meaning asked known known r
+answered_none meaning asked known (Ok answer) fails why = absurd fails
+answered_none meaning asked known (Err fault) fails why = (why fault fails, inl (keeps_same known))
 
--- what is kept after a judging
-judges_kept : (asked : Question) (old mid new : Option (List ℕ)) (done : Result Verdict RunError) → Judges asked old mid done → Keeps mid new → Judges asked old new done
-judges_kept asked old mid new (Ok verdict) (has, printed) kept = (has, appends_kept old mid new _ printed kept)
-judges_kept asked old mid new (Err fault) (none, inl same) kept = (none, inl (keeps_twice old mid new same kept))
-judges_kept asked old mid new (Err fault) (none, inr is) kept = (none, inr is)
+-- what is kept after an answer
+answers_kept : {A : Type 0} (meaning : Meaning A) (asked : Question) (old mid new : Option (List ℕ)) (done : Result A RunError) → Answers meaning asked old mid done
+    → Keeps mid new → Answers meaning asked old new done
+answers_kept meaning asked old mid new (Ok answer) (has, printed) kept = (has, appends_kept old mid new _ printed kept)
+answers_kept meaning asked old mid new (Err fault) (none, inl same) kept = (none, inl (keeps_twice old mid new same kept))
+answers_kept meaning asked old mid new (Err fault) (none, inr is) kept = (none, inr is)
 
 -- how the command ends
-pub judging_ends : (asked : Question) (writes_old writes_mid writes_new : Option (List Write)) (old mid new : Option (List ℕ)) (t : Telling) (done : Result Verdict RunError) (ended : Ended)
-    → Judges asked old mid done → Keeps mid new → writes_mid ≡ writes_old → writes_new ≡ writes_mid
-    → TellsLine t (exit_judged done) (told_line done) ended → EndsJudging asked writes_old writes_new old new t ended
-judging_ends asked writes_old writes_mid writes_new old mid new t done ended judged kept first second tells = record {
+pub answering_ends : {A : Type 0} (meaning : Meaning A) (asked : Question) (writes_old writes_mid writes_new : Option (List Write)) (old mid new : Option (List ℕ)) (t : Telling)
+    (done : Result A RunError) (ended : Ended)
+    → Answers meaning asked old mid done → Keeps mid new → writes_mid ≡ writes_old → writes_new ≡ writes_mid
+    → TellsLine t (exit_answered meaning done) (told_line done) ended → EndsAnswering meaning asked writes_old writes_new old new t ended
+answering_ends meaning asked writes_old writes_mid writes_new old mid new t done ended judged kept first second tells = record {
   unwritten = second ∙ first;
   done = done;
-  judged = judges_kept asked old mid new done judged kept;
+  judged = answers_kept meaning asked old mid new done judged kept;
   tells = tells;
 }

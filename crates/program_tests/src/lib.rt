@@ -5,6 +5,8 @@
 #[cfg(test)]
 mod commands;
 #[cfg(test)]
+mod copied_logs;
+#[cfg(test)]
 mod crashed_logs;
 #[cfg(test)]
 mod forced;

@@ -137,7 +137,7 @@ What --explain adds behind a fault.
   !   line 3 of script: markx
   !   no line begins with the word `markx`; the lines are:
   !     data <sectors>
-  !     log <sectors>
+  !     log <sectors> [4096]
   !     data-layer 0 <length> <target> ..
   !     log-layer 0 <length> <target> ..
   !     at <ms>
@@ -192,7 +192,7 @@ What --explain adds behind a fault.
   !   line 3 of script: write a 5 1 41
   !   no line begins with the word `write`; the lines are:
   !     data <sectors>
-  !     log <sectors>
+  !     log <sectors> [4096]
   !     data-layer 0 <length> <target> ..
   !     log-layer 0 <length> <target> ..
   !     at <ms>
@@ -217,7 +217,7 @@ What --explain adds behind a fault.
   !   it has an upper case letter: words are in lower case
   !   no line begins with the word `W`; the lines are:
   !     data <sectors>
-  !     log <sectors>
+  !     log <sectors> [4096]
   !     data-layer 0 <length> <target> ..
   !     log-layer 0 <length> <target> ..
   !     at <ms>

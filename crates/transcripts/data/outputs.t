@@ -287,7 +287,9 @@ Texts that are shown are flushed too, and so are faults.
     list    Lists the entries of a log
     status  Tells how far a log has come
     replay  Replays the beginning of a log on an image
+    copy    Copies a log to one with sectors of 4096 bytes
     judge   Judges whether an image could have been on the device
+    path    Tells how an image could have come to the device
     help    Print this message or the help of the given subcommand(s)
   
   Options:

@@ -832,3 +832,238 @@ Texts of scripts, as they are read and printed again.
   data 16
   log 32
   w 0123456789abcdez 5 1 41
+
+The log's sectors are of 512 bytes, or of 4,096 where the line of its disk ends by that number; of that size its disk has one at least.
+
+  $ write script
+  > data 16
+  > log 256 4096
+  > w a 8 8 41
+  > d b 0 16
+  > r 8 8
+  > f c
+  > close
+  $ print script
+  data 16
+  log 256 4096
+  w a 8 8 41
+  d b 0 16
+  r 8 8
+  f c
+  close
+  $ write script
+  > data 16
+  > log 008 4096
+  $ print script
+  data 16
+  log 8 4096
+  $ write script
+  > data 16
+  > log 1048576 4096
+  $ print script
+  data 16
+  log 1048576 4096
+  $ write script
+  > data 16
+  > log 7 4096
+  $ print script
+  line 2: 30 BadLine
+  $ write script
+  > data 16
+  > log 0 4096
+  $ print script
+  line 2: 30 BadLine
+  $ write script
+  > data 16
+  > log 1048577 4096
+  $ print script
+  line 2: 30 BadLine
+  $ write script
+  > data 16
+  > log 8 512
+  $ print script
+  line 2: 30 BadLine
+  $ write script
+  > data 16
+  > log 8 1024
+  $ print script
+  line 2: 30 BadLine
+  $ write script
+  > data 16
+  > log 8 04096
+  $ print script
+  line 2: 30 BadLine
+  $ write script
+  > data 16
+  > log 8 4096 x
+  $ print script
+  line 2: 30 BadLine
+  $ write script
+  > data 16
+  > log 8 4096 
+  $ print script
+  line 2: 30 BadLine
+  $ write script
+  > data 16
+  > log 8  4096
+  $ print script
+  line 2: 30 BadLine
+  $ write script
+  > data 16
+  > log 8 x
+  $ print script
+  line 2: 30 BadLine
+  $ write script
+  > data 16 4096
+  > log 8
+  $ print script
+  line 1: 30 BadLine
+
+A layer of the log's disk has room for one of its sectors too: that is tested behind all else of its line.
+
+  $ write script
+  > data 16
+  > log 16 4096
+  > data-layer 0 7 error
+  > log-layer 0 9 linear disk 7
+  > log-layer 0 8 error
+  $ print script
+  data 16
+  log 16 4096
+  data-layer 0 7 error
+  log-layer 0 9 linear disk 7
+  log-layer 0 8 error
+  $ write script
+  > data 16
+  > log 16 4096
+  > log-layer 0 7 error
+  $ print script
+  line 3: 30 BadLine
+  $ write script
+  > data 16
+  > log 16 4096
+  > log-layer 0 9 error
+  > log-layer 0 7 linear disk 2
+  $ print script
+  line 4: 30 BadLine
+  $ write script
+  > data 16
+  > log 8 4096
+  > log-layer 0 7 linear disk 2
+  $ print script
+  line 3: 12 OutOfRange
+  $ write script
+  > data 16
+  > log 16 4096
+  > log-layer 0 7 zero
+  $ print script
+  line 3: 9 UnknownTarget
+  $ write script
+  > data 16
+  > log 16 4096
+  > log-layer 0 7
+  $ print script
+  line 3: 10 WrongCount
+  $ write script
+  > data 16
+  > log 16
+  > log-layer 0 1 error
+  $ print script
+  data 16
+  log 16
+  log-layer 0 1 error
+
+A request begins and ends at a sector of the log, a read too: that is tested behind the other tests of its sectors.
+
+  $ write script
+  > data 16
+  > log 8 4096
+  > w a 8 7 41
+  $ print script
+  line 3: 28 Unaligned
+  $ write script
+  > data 16
+  > log 8 4096
+  > w a 7 8 41
+  $ print script
+  line 3: 28 Unaligned
+  $ write script
+  > data 16
+  > log 8 4096
+  > w a 8 1 41
+  $ print script
+  line 3: 28 Unaligned
+  $ write script
+  > data 16
+  > log 8 4096
+  > d a 0 4
+  $ print script
+  line 3: 28 Unaligned
+  $ write script
+  > data 16
+  > log 8 4096
+  > r 4 8
+  $ print script
+  line 3: 28 Unaligned
+  $ write script
+  > data 16
+  > log 8 4096
+  > r 0 15
+  $ print script
+  line 3: 28 Unaligned
+  $ write script
+  > data 16
+  > log 8 4096
+  > w a 8 9 41
+  $ print script
+  line 3: 3 PastEnd
+  $ write script
+  > data 16
+  > log 8 4096
+  > w a 7 0 41
+  $ print script
+  line 3: 5 NotWhole
+  $ write script
+  > data 4096
+  > log 8 4096
+  > d a 0 2048
+  > d b 7 2049
+  $ print script
+  line 4: 4 TooLong
+  $ write script
+  > data 16
+  > log 8 4096
+  > f a
+  > w a 8 7 41
+  $ print script
+  line 4: 31 BadId
+  $ write script
+  > data 20
+  > log 8 4096
+  > w a 8 8 41
+  > w b 16 4 41
+  $ print script
+  line 4: 28 Unaligned
+  $ write script
+  > data 20
+  > log 8 4096
+  > data-layer 0 16 linear disk 3
+  > w a 8 8 41
+  > r 1 8
+  $ print script
+  line 5: 28 Unaligned
+  $ dmlw record script log
+  ! dmlw: line 5: 28 Unaligned
+  [1]
+  $ write script
+  > data 16
+  > log 8
+  > w a 8 7 41
+  > r 4 8
+  > d b 0 1
+  $ print script
+  data 16
+  log 8
+  w a 8 7 41
+  r 4 8
+  d b 0 1

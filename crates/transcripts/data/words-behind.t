@@ -6,7 +6,7 @@ Command lines with `--explain`, behind two hyphens, and of words that are none.
   ! dmlw: line 1: 30 BadLine
   !   script ends before its line 1; a script begins with the lines `data` and `log`:
   !     data <sectors>
-  !     log <sectors>
+  !     log <sectors> [4096]
   !     data-layer 0 <length> <target> ..
   !     log-layer 0 <length> <target> ..
   !     at <ms>
@@ -25,7 +25,7 @@ Command lines with `--explain`, behind two hyphens, and of words that are none.
   ! dmlw: line 1: 30 BadLine
   !   script ends before its line 1; a script begins with the lines `data` and `log`:
   !     data <sectors>
-  !     log <sectors>
+  !     log <sectors> [4096]
   !     data-layer 0 <length> <target> ..
   !     log-layer 0 <length> <target> ..
   !     at <ms>
@@ -44,7 +44,7 @@ Command lines with `--explain`, behind two hyphens, and of words that are none.
   ! dmlw: line 1: 30 BadLine
   !   script ends before its line 1; a script begins with the lines `data` and `log`:
   !     data <sectors>
-  !     log <sectors>
+  !     log <sectors> [4096]
   !     data-layer 0 <length> <target> ..
   !     log-layer 0 <length> <target> ..
   !     at <ms>
@@ -90,7 +90,9 @@ Command lines with `--explain`, behind two hyphens, and of words that are none.
   !   list    Lists the entries of a log
   !   status  Tells how far a log has come
   !   replay  Replays the beginning of a log on an image
+  !   copy    Copies a log to one with sectors of 4096 bytes
   !   judge   Judges whether an image could have been on the device
+  !   path    Tells how an image could have come to the device
   !   help    Print this message or the help of the given subcommand(s)
   ! 
   ! Options:
@@ -206,7 +208,7 @@ What editors do to a script.
   !   it has a tab: one space stands between words
   !   no line begins with the word `data\t16`; the lines are:
   !     data <sectors>
-  !     log <sectors>
+  !     log <sectors> [4096]
   !     data-layer 0 <length> <target> ..
   !     log-layer 0 <length> <target> ..
   !     at <ms>
@@ -227,7 +229,7 @@ What editors do to a script.
   ! dmlw: line 2: 30 BadLine
   !   script ends before its line 2; a script begins with the lines `data` and `log`:
   !     data <sectors>
-  !     log <sectors>
+  !     log <sectors> [4096]
   !     data-layer 0 <length> <target> ..
   !     log-layer 0 <length> <target> ..
   !     at <ms>
@@ -251,7 +253,7 @@ What editors do to a script.
   !   it begins with a byte order mark (ef bb bf): save the script as text without one
   !   no line begins with the word `\xef\xbb\xbfdata`; the lines are:
   !     data <sectors>
-  !     log <sectors>
+  !     log <sectors> [4096]
   !     data-layer 0 <length> <target> ..
   !     log-layer 0 <length> <target> ..
   !     at <ms>

@@ -10,7 +10,9 @@ Command lines and their texts.
     list    Lists the entries of a log
     status  Tells how far a log has come
     replay  Replays the beginning of a log on an image
+    copy    Copies a log to one with sectors of 4096 bytes
     judge   Judges whether an image could have been on the device
+    path    Tells how an image could have come to the device
     help    Print this message or the help of the given subcommand(s)
   
   Options:
@@ -31,7 +33,9 @@ Command lines and their texts.
     list    Lists the entries of a log
     status  Tells how far a log has come
     replay  Replays the beginning of a log on an image
+    copy    Copies a log to one with sectors of 4096 bytes
     judge   Judges whether an image could have been on the device
+    path    Tells how an image could have come to the device
     help    Print this message or the help of the given subcommand(s)
   
   Options:
@@ -63,7 +67,9 @@ Command lines and their texts.
     list    Lists the entries of a log
     status  Tells how far a log has come
     replay  Replays the beginning of a log on an image
+    copy    Copies a log to one with sectors of 4096 bytes
     judge   Judges whether an image could have been on the device
+    path    Tells how an image could have come to the device
     help    Print this message or the help of the given subcommand(s)
   
   Options:
@@ -84,7 +90,9 @@ Command lines and their texts.
     list    Lists the entries of a log
     status  Tells how far a log has come
     replay  Replays the beginning of a log on an image
+    copy    Copies a log to one with sectors of 4096 bytes
     judge   Judges whether an image could have been on the device
+    path    Tells how an image could have come to the device
     help    Print this message or the help of the given subcommand(s)
   
   Options:
@@ -127,7 +135,9 @@ Command lines and their texts.
     list    Lists the entries of a log
     status  Tells how far a log has come
     replay  Replays the beginning of a log on an image
+    copy    Copies a log to one with sectors of 4096 bytes
     judge   Judges whether an image could have been on the device
+    path    Tells how an image could have come to the device
     help    Print this message or the help of the given subcommand(s)
   
   Options:
@@ -148,7 +158,9 @@ Command lines and their texts.
     list    Lists the entries of a log
     status  Tells how far a log has come
     replay  Replays the beginning of a log on an image
+    copy    Copies a log to one with sectors of 4096 bytes
     judge   Judges whether an image could have been on the device
+    path    Tells how an image could have come to the device
     help    Print this message or the help of the given subcommand(s)
   
   Options:
@@ -169,7 +181,9 @@ Command lines and their texts.
     list    Lists the entries of a log
     status  Tells how far a log has come
     replay  Replays the beginning of a log on an image
+    copy    Copies a log to one with sectors of 4096 bytes
     judge   Judges whether an image could have been on the device
+    path    Tells how an image could have come to the device
     help    Print this message or the help of the given subcommand(s)
   
   Options:
@@ -190,7 +204,9 @@ Command lines and their texts.
     list    Lists the entries of a log
     status  Tells how far a log has come
     replay  Replays the beginning of a log on an image
+    copy    Copies a log to one with sectors of 4096 bytes
     judge   Judges whether an image could have been on the device
+    path    Tells how an image could have come to the device
     help    Print this message or the help of the given subcommand(s)
   
   Options:
@@ -211,7 +227,9 @@ Command lines and their texts.
     list    Lists the entries of a log
     status  Tells how far a log has come
     replay  Replays the beginning of a log on an image
+    copy    Copies a log to one with sectors of 4096 bytes
     judge   Judges whether an image could have been on the device
+    path    Tells how an image could have come to the device
     help    Print this message or the help of the given subcommand(s)
   
   Options:
@@ -402,7 +420,9 @@ Command lines and their texts.
     list    Lists the entries of a log
     status  Tells how far a log has come
     replay  Replays the beginning of a log on an image
+    copy    Copies a log to one with sectors of 4096 bytes
     judge   Judges whether an image could have been on the device
+    path    Tells how an image could have come to the device
     help    Print this message or the help of the given subcommand(s)
   
   Options:
@@ -423,7 +443,9 @@ Command lines and their texts.
     list    Lists the entries of a log
     status  Tells how far a log has come
     replay  Replays the beginning of a log on an image
+    copy    Copies a log to one with sectors of 4096 bytes
     judge   Judges whether an image could have been on the device
+    path    Tells how an image could have come to the device
     help    Print this message or the help of the given subcommand(s)
   
   Options:

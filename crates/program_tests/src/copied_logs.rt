@@ -1,0 +1,81 @@
+// On generated scripts: each beginning of a copied log replays to what that beginning of the log replays to.
+use crate::crashed_logs::{SECTORS, Sizes, log_of, script_of};
+use bio::SectorSize;
+use blockdev::BlockDev;
+use log_copy::copy_log;
+use log_reader::LogReader;
+use log_store::LogStore;
+use replay::{Upto, replay};
+use sector_disk::SectorDisk;
+use std::alloc::Global;
+use std::io::Print;
+use std::process::Abort;
+use std::test::Fail;
+use test_asserts::is_same;
+
+// Logs with sectors of 512 bytes, of which each request is whole sectors of 4,096.
+const WIDE: Sizes = Sizes {
+    log: SectorSize::B512,
+    unit: 8,
+};
+
+// The copy of a log, in sectors of 4,096 bytes: as many entries as the log has.
+fn copy_of<L: BlockDev + Drop>(
+    rt: &impl Abort,
+    alloc: Global,
+    log: &mut LogReader<L>,
+) -> Result<LogReader<SectorDisk>, Fail> {
+    let mut store = LogStore::create_sized(SectorDisk::new(alloc, 1024)?, SectorSize::B4096)
+        .ok()
+        .expect(rt, "a new log");
+    let count = log.head().count;
+    assert!(rt; log.head().sectorsize <= store.sector_size().bytes());
+    assert!(rt; copy_log(log, &mut store) == Ok(count));
+    Ok(
+        LogReader::open(alloc, store.into_device())
+            .ok()
+            .expect(rt, "a copy"),
+    )
+}
+
+// Replays both logs one entry after another, each on a disk of zeroes, and compares what they leave after each.
+fn compare<L: BlockDev + Drop, M: BlockDev + Drop>(
+    rt: &impl Abort,
+    alloc: Global,
+    log: &mut LogReader<L>,
+    copy: &mut LogReader<M>,
+) -> Result<u64, Fail> {
+    let mut left = SectorDisk::new(alloc, SECTORS * 8)?;
+    let mut of_copy = SectorDisk::new(alloc, SECTORS * 8)?;
+    let count = log.head().count;
+    assert!(rt; copy.head().count == count && copy.head().sectorsize == 4096);
+    for _ in 0..count {
+        assert!(rt; replay(log, &mut left, &Upto::Count(1)).is_ok());
+        assert!(rt; replay(copy, &mut of_copy, &Upto::Count(1)).is_ok());
+        assert!(rt; left.bytes()?.as_slice() == of_copy.bytes()?.as_slice());
+    }
+    Ok(count)
+}
+
+// How many beginnings were compared of the log of a seed.
+fn compare_seed(rt: &(impl Abort + Print), alloc: Global, seed: u64) -> Result<u64, Fail> {
+    let steps = script_of(alloc, seed)?;
+    let mut copied = log_of(rt, alloc, &steps, WIDE)?;
+    let mut copy = copy_of(rt, alloc, &mut copied)?;
+    let mut log = log_of(rt, alloc, &steps, WIDE)?;
+    let count = compare(rt, alloc, &mut log, &mut copy)?;
+    let seed = seed.to_string(alloc)?;
+    assert!(rt; is_same(rt, &(count > 0), &true, seed.as_str()));
+    Ok(count)
+}
+
+#[test]
+fn copies_replay_alike(rt: HostRuntime) -> Result<(), Fail> {
+    let alloc = rt.alloc();
+    let mut compared = 0_u64;
+    for seed in 1..=200 {
+        compared = compared.saturating_add(compare_seed(&rt, alloc, seed)?);
+    }
+    assert!(rt; compared > 800);
+    Ok(())
+}

@@ -1,0 +1,5 @@
+use Rattle.holders.proofs.Moves.{begins}
+use Rattle.holders.proofs.Fresh.new.Goals as goal
+
+pub of_words-requires : goal.of_words-requires
+of_words-requires c = begins

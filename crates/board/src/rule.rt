@@ -1,0 +1,79 @@
+// The rule over the passes of a board's writer and readers, and the steps that they take under it.
+ghost use Rattle.std.specs.Prelude.{ℕ};
+
+use atomic_table::{Join, Play, Split, Table, TableRule};
+use bio::Status;
+use std::alloc::Global;
+use std::collections::LinkedList;
+
+// What a pass knows: the statuses that it has seen, and those that another pass told it of; the writer's has seen all. No value of it is made.
+pub struct Knows {
+    pub writes: bool,
+    pub seen: LinkedList<Status>,
+    pub told: LinkedList<Status>,
+}
+
+// The word is the last of all statuses, of which each pass has seen a beginning.
+pub struct Law;
+
+impl TableRule<(), Knows, ()> for Law {
+    ghost use Rattle.std.specs.Prelude.{[], ◌∷◌};
+    ghost use Rattle.board.specs.Posts.{opening};
+    ghost use Rattle.board.specs.Rules.{IsPosted, writer_of};
+
+    ghost holds = { λ _ state. IsPosted state.words state.views };
+
+    ghost first = { λ _. writer_of (opening ∷ []) };
+}
+
+pub type Post = Table<(), Knows, (), Law, Global>;
+
+// The writer posts a status.
+pub struct Publish;
+
+impl Play<(), Knows> for Publish {
+    ghost use Rattle.board.specs.Rules.{Publishes};
+
+    ghost then = { Publishes };
+}
+
+// A reader looks at the last status.
+pub struct Look;
+
+impl Play<(), Knows> for Look {
+    ghost use Rattle.board.specs.Rules.{Looks};
+
+    ghost then = { Looks };
+}
+
+// The writer compares what it was told with what it posted.
+pub struct Compare;
+
+impl Play<(), Knows> for Compare {
+    ghost use Rattle.board.specs.Rules.{Compares};
+
+    ghost then = { Compares };
+}
+
+// A new pass has seen as much as another.
+pub struct Copied;
+
+impl Split<Knows> for Copied {
+    ghost use Rattle.board.specs.Rules.{as_reader};
+
+    ghost left = { λ pass. pass };
+
+    ghost right = { as_reader };
+}
+
+// A pass is told what another has seen.
+pub struct Told;
+
+impl Join<Knows> for Told {
+    ghost use Rattle.std.specs.Prelude.{[]};
+    ghost use Rattle.board.specs.Rules.{told_by, reader_of};
+
+    ghost both = { told_by };
+
+    ghost spent = { reader_of [] };
+}

@@ -1,0 +1,9 @@
+pub mod Lists
+pub mod Opening
+pub mod Ending
+pub mod Growing
+pub mod Calling
+pub mod Matching
+pub mod Serving
+pub mod Taking
+pub mod Examples

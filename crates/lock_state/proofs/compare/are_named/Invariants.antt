@@ -1,0 +1,5 @@
+use Rattle.lock_state.specs.Comparing.{EachTo, Names}
+use Rattle.lock_state.proofs.compare.are_named.Given as goal
+
+abbrev pub invariant-loop-receipt : goal.invariant-loop-receipt
+invariant-loop-receipt l = EachTo (Names l.placed l.settled) l.receipt-index l.receipts

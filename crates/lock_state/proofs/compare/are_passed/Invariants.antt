@@ -1,0 +1,6 @@
+use Rattle.std.proofs.Common.{◌≡◌, ℕ, Some}
+use Rattle.lock_state.specs.Comparing.{EachTo}
+use Rattle.lock_state.proofs.compare.are_passed.Given as goal
+
+abbrev pub invariant-loop-place : goal.invariant-loop-place
+invariant-loop-place l = EachTo (λ (place : ℕ). l.end ≡ Some place) l.place-index l.passed

@@ -1,0 +1,5 @@
+use Rattle.lock_state.proofs.Matching.{Matched}
+use Rattle.lock_state.proofs.compare.is_list_of.Given as goal
+
+abbrev pub invariant-loop-place : goal.invariant-loop-place
+invariant-loop-place l = Matched l.events l.by l.seat l.list l.place l.found

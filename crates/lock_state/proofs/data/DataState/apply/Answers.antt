@@ -1,0 +1,16 @@
+use Rattle.std.proofs.Common.{◌≡◌, ◌++◌, ◌∷◌, [], List, sym, ap, ◌∙◌}
+use Rattle.bio.specs.declared.request.Bio.{Bio}
+use Rattle.lock_state.specs.declared.note.Done.{Done}
+use Rattle.lock_state.specs.Calls.{done_call}
+use Rattle.lock_state.proofs.Calling.{kept_call, on_ok}
+use Rattle.lock_state.proofs.data.DataState.apply.Goals as goal
+
+pub invariant_of-self-2 : goal.invariant_of-self-2
+invariant_of-self-2 g c =
+    let ensured = c.hand_over-result.ensures in
+    let shown = g.D.BlockDev.shown in
+    let noted : c.push_reserved.new.self.items ≡ c.self.inside.done.items ++ done_call c.args.id c.args.bio.now c.is_ok.result ∷ [] =
+    c.push_reserved.ensures.items ∙ ap (λ (x : List Done × Bio). x.0 ++ done_call c.args.id x.1 c.is_ok.result ∷ []) (λ i. (c.reserve.ensures.items i, c.in_ok-bio_kept.ensures.made i)) in
+    kept_call _ (shown c.self.inside.device) _ c.self.inside.done.items _ (done_call c.args.id c.args.bio.now c.is_ok.result) c.self.invariant noted
+    ensured.size ensured.lies ensured.patched
+    (λ ok. on_ok c.hand_over-result.result _ (sym c.is_ok.ensures.value ∙ ok) ensured.whole)

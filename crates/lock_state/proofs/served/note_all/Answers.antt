@@ -1,0 +1,25 @@
+use Rattle.std.proofs.Common.{◌≡◌, ◌+◌, ◌<◌, suc, List, length, take, sym, ◌∙◌, subst, arith}
+use Rattle.sectors.specs.PlaceLaws.{stands_there}
+use Rattle.lock_state.specs.declared.note.Done.{Done}
+use Rattle.lock_state.specs.Comparing.{AllTell}
+use Rattle.lock_state.proofs.Lists.{take_next}
+use Rattle.lock_state.proofs.Matching.{take_length, take_past}
+use Rattle.lock_state.proofs.Serving.{all_tell-push}
+use Rattle.lock_state.proofs.served.note_all.Goals as goal
+
+pub loop-place-preserved : goal.loop-place-preserved
+loop-place-preserved c =
+    let calls = c.args.calls.now in
+    let place = c.loop-place.place in
+    let call = c.index-calls-place.result in
+    let within : place < length calls = omega arith in
+    let there = stands_there calls place call within c.index-calls-place.is in
+    let next : place + 1 ≡ suc place = omega arith in (
+      subst (λ (cs : List Done). AllTell cs c.note.new.notes) (sym (take_next calls place (place + 1) call next there))
+          (all_tell-push (take place calls) call c.loop-place.notes c.note.new.notes place (sym (take_length calls place (omega arith))) c.loop-place.invariant.0 c.note.ensures.noted),
+      c.note.ensures.size ∙ c.loop-place.invariant.1,
+    )
+
+pub returns-clause-told : goal.returns-clause-told
+returns-clause-told c =
+    subst (λ (cs : List Done). AllTell cs c.loop-place.notes) (take_past c.args.calls.now c.loop-place.place (omega arith)) c.loop-place.invariant.0

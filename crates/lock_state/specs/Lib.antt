@@ -1,0 +1,4 @@
+pub mod Calls
+pub mod Comparing
+pub mod History
+pub mod Placed

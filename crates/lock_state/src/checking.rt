@@ -1,0 +1,125 @@
+// What the queue compares with its history when a recorder closes.
+ghost use Rattle.std.specs.Prelude.{◌≡◌, ◌≢◌, ◌<◌, ◌≤◌, ℕ, IfOk, MatchBool, Option, Some, length, slice_get};
+ghost use Rattle.pending.specs.CoreState.{items_of};
+ghost use Rattle.lock_state.specs.Comparing.{AreCauses, BeginsTaken, Each, Fails, IsItem, IsList, IsServed, listed, stop_cause_at};
+ghost use Rattle.lock_state.specs.History.{end_place, stop_of};
+
+use crate::compare::{are_causes, are_passed, is_list_of};
+use crate::entry_of::is_entry_of;
+use crate::note::{Done, Item};
+use crate::part::SeatPart;
+use crate::queue::QueueState;
+use crate::run::Run;
+use crate::served::{Seen, is_served};
+use bio::{CoreEvent, End, Id};
+use pending::laws::list_has_what_is_queued;
+use std::alloc::{AllocError, Global};
+
+// The size of a log sector.
+const LOG_SECTOR_BYTES: u64 = 512;
+
+impl<R: Run> QueueState<R> {
+    /// Whether the seat's list is what the history has of it.
+    pub fn has_list(&self, seat: &SeatPart<R>) -> bool
+        ensures { MatchBool result (IsList self.now seat.now) (IsList self.now seat.now → ⊥) }
+    {
+        is_list_of(
+            self.core.events(),
+            self.by.as_slice(),
+            seat.number,
+            seat.own.as_slice(),
+        )
+    }
+
+    /// Whether the seat's passed calls found where recording ended.
+    pub fn has_passed(&self, seat: &SeatPart<R>) -> bool
+        ensures { MatchBool result (Each (λ place. end_place self.now.core.events ≡ Some place) seat.now.passed) (Fails (λ place. end_place self.now.core.events ≡ Some place) seat.now.passed) }
+    {
+        are_passed(&self.end, seat.passed.as_slice())
+    }
+
+    /// Whether each cause that the seat was told is that of the first stop, or this one.
+    pub fn has_told(&self, seat: &SeatPart<R>, end: Option<End>) -> bool
+        ensures { MatchBool result (AreCauses seat.now.told self.now.stop end) (AreCauses seat.now.told self.now.stop end → ⊥) }
+    {
+        are_causes(&seat.told, self.stop, end)
+    }
+
+    // Whether this item was taken as number k.
+    fn is_taken_as(&self, k: usize, item: &Item) -> bool
+        requires { k < self.now.core.taken }
+        ensures { MatchBool result (slice_get (items_of self.now.core) k ≡ Some (listed item.now)) (slice_get (items_of self.now.core) k ≢ Some (listed item.now)) }
+    {
+        list_has_what_is_queued();
+        let id = self.taken[k];
+        match self.core.events().get(id.place() as usize) {
+            None => unreachable!(),
+            Some(event) => is_item(item, id, event),
+        }
+    }
+
+    /// Whether these items are a beginning of what was taken.
+    pub fn has_taken(&self, placed: &[Item]) -> bool
+        ensures { MatchBool result (BeginsTaken self.now.core placed.now) (BeginsTaken self.now.core placed.now → ⊥) }
+    {
+        if placed.len() > self.taken.len() {
+            return false;
+        }
+        for k in 0..placed.len() {
+            if !self.is_taken_as(k, &placed[k]) {
+                return false;
+            }
+        }
+        true
+    }
+
+    /// How many items were taken.
+    pub fn taken_count(&self) -> usize
+        ensures { result ≡ self.now.core.taken }
+    {
+        self.taken.len()
+    }
+
+    /// A note for each event, for `is_served`. `Err` where there is no memory.
+    pub fn notes(&self, alloc: Global) -> Result<Vec<Seen>, AllocError>
+        ensures { IfOk result (λ notes. length notes.items ≡ length self.now.core.events) }
+    {
+        vec![in alloc; Seen::Never; self.core.events().len()]
+    }
+
+    /// Whether each request that ended Ok stands just once among these calls, as a call that ended Ok. There is to be a note for each event; what the notes
+    /// were doesn't matter. Takes no memory.
+    pub fn is_served(&self, calls: &[Done], notes: &mut [Seen]) -> bool
+        requires { length self.now.core.events ≤ length notes.old }
+        ensures { MatchBool result (Each (IsServed self.now.core.events calls.now) self.now.core.events) (Fails (IsServed self.now.core.events calls.now) self.now.core.events) }
+    {
+        is_served(self.core.events(), calls, notes)
+    }
+
+    /// The cause of the Stop that stands in the history: none where there is none, also where logging stopped after the Close.
+    pub fn recorded_stop(&self) -> Option<End>
+        ensures { result ≡ stop_of self.now.core.events }
+    {
+        match self.end {
+            None => None,
+            Some(place) => stop_at(self.core.events(), place),
+        }
+    }
+}
+
+// The cause of the Stop that stands at this place, where one does.
+fn stop_at(events: &[CoreEvent], place: Id) -> Option<End>
+    ensures { result ≡ stop_cause_at (slice_get events.now place) }
+{
+    match events.get(place.place() as usize) {
+        Some(CoreEvent::Stop(cause)) => Some(*cause),
+        _ => None,
+    }
+}
+
+// Whether the item is of this id, with the entry of this event.
+fn is_item(item: &Item, id: Id, event: &CoreEvent) -> bool
+    ensures { MatchBool result (IsItem item.now id event.now) (IsItem item.now id event.now → ⊥) }
+{
+    item.id == id && is_entry_of(event, &item.entry, LOG_SECTOR_BYTES)
+}

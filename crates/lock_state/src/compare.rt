@@ -1,0 +1,227 @@
+// What is compared when a recorder closes, as functions of lists.
+ghost use Rattle.std.specs.Prelude.{◌≡◌, ◌≢◌, ◌⊎◌, ◌&&◌, MatchBool, Option, Some, slice_get, length};
+ghost use Rattle.bio.specs.declared.request.Bio.TheVariants.{Discard, Flush, Read, Write};
+ghost use Rattle.lock_state.specs.Comparing.{AreCauses, Each, Fails, MayBeTold, Names, is_of, of};
+ghost use Rattle.lock_state.specs.History.{own_at};
+
+use crate::note::{Item, Own, Receipt, Told};
+use bio::{Bio, CoreEvent, End, Id};
+
+// Whether the request is this write.
+fn is_write(bio: &Bio, first: u64, bytes: &[u8], flush: bool, fua: bool, meta: bool) -> bool
+    ensures { MatchBool result (bio.now ≡ Write first bytes.now flush fua meta) (bio.now ≢ Write first bytes.now flush fua meta) }
+{
+    match bio {
+        Bio::Write {
+            first: other_first,
+            bytes: other_bytes,
+            flush: other_flush,
+            fua: other_fua,
+            meta: other_meta,
+        } => {
+            *other_first == first
+                && *other_flush == flush
+                && *other_fua == fua
+                && *other_meta == meta
+                && other_bytes.as_slice() == bytes
+        }
+        _ => false,
+    }
+}
+
+// Whether the request is this discard.
+fn is_discard(bio: &Bio, first: u64, count: u64) -> bool
+    ensures { MatchBool result (bio.now ≡ Discard first count) (bio.now ≢ Discard first count) }
+{
+    match bio {
+        Bio::Discard {
+            first: other_first,
+            count: other_count,
+        } => *other_first == first && *other_count == count,
+        _ => false,
+    }
+}
+
+// Whether the request is this read.
+fn is_read(bio: &Bio, first: u64, count: u64) -> bool
+    ensures { MatchBool result (bio.now ≡ Read first count) (bio.now ≢ Read first count) }
+{
+    match bio {
+        Bio::Read {
+            first: other_first,
+            count: other_count,
+        } => *other_first == first && *other_count == count,
+        _ => false,
+    }
+}
+
+// Whether the request is a flush.
+fn is_flush(bio: &Bio) -> bool
+    ensures { MatchBool result (bio.now ≡ Flush) (bio.now ≢ Flush) }
+{
+    match bio {
+        Bio::Flush => true,
+        _ => false,
+    }
+}
+
+// Whether two requests are one.
+pub(crate) fn same_bio(one: &Bio, other: &Bio) -> bool
+    ensures { MatchBool result (one.now ≡ other.now) (one.now ≢ other.now) }
+{
+    match other {
+        Bio::Write {
+            first,
+            bytes,
+            flush,
+            fua,
+            meta,
+        } => is_write(one, *first, bytes.as_slice(), *flush, *fua, *meta),
+        Bio::Flush => is_flush(one),
+        Bio::Discard { first, count } => is_discard(one, *first, *count),
+        Bio::Read { first, count } => is_read(one, *first, *count),
+    }
+}
+
+// Whether two events are one.
+fn same_event(one: &CoreEvent, other: &CoreEvent) -> bool
+    ensures { MatchBool result (one.now ≡ other.now) (one.now ≢ other.now) }
+{
+    match one {
+        CoreEvent::Submit(bio) => match other {
+            CoreEvent::Submit(other_bio) => same_bio(bio, other_bio),
+            _ => false,
+        },
+        CoreEvent::Complete { id, ok } => match other {
+            CoreEvent::Complete {
+                id: other_id,
+                ok: other_ok,
+            } => id.place() == other_id.place() && ok == other_ok,
+            _ => false,
+        },
+        CoreEvent::Mark(text) => match other {
+            CoreEvent::Mark(other_text) => text.as_slice() == other_text.as_slice(),
+            _ => false,
+        },
+        CoreEvent::Stop(cause) => match other {
+            CoreEvent::Stop(other_cause) => cause == other_cause,
+            _ => false,
+        },
+        CoreEvent::Close => matches!(other, CoreEvent::Close),
+    }
+}
+
+// Whether the list has this event, with its place, at this number.
+fn is_at(list: &[Own], number: usize, place: u64, event: &CoreEvent) -> bool
+    ensures { MatchBool result (slice_get list.now number ≡ Some (own_at place event.now)) (slice_get list.now number ≢ Some (own_at place event.now)) }
+{
+    match list.get(number) {
+        None => false,
+        Some(own) => own.place.place() == place && same_event(&own.event, event),
+    }
+}
+
+/// Whether a list is what the history has of a seat.
+pub fn is_list_of(events: &[CoreEvent], by: &[Option<u64>], seat: u64, list: &[Own]) -> bool
+    requires { length by.now ≡ length events.now }
+    ensures { MatchBool result (of events.now by.now seat ≡ list.now) (of events.now by.now seat ≢ list.now) }
+{
+    let mut found = 0;
+    for place in 0..events.len() {
+        if is_seat(seat, by[place]) {
+            if !is_at(list, found, place as u64, &events[place]) {
+                return false;
+            }
+            found += 1;
+        }
+    }
+    found == list.len()
+}
+
+// Whether the name is this seat's.
+fn is_seat(seat: u64, name: Option<u64>) -> bool
+    ensures { result ≡ is_of seat name }
+{
+    match name {
+        None => false,
+        Some(other) => other == seat,
+    }
+}
+
+// Whether recording ended at this place.
+fn is_end(end: &Option<Id>, place: Id) -> bool
+    ensures { MatchBool result (end.now ≡ Some place) (end.now ≢ Some place) }
+{
+    match end {
+        None => false,
+        Some(found) => found.place() == place.place(),
+    }
+}
+
+/// Whether each passed call found that recording had ended at this place.
+pub fn are_passed(end: &Option<Id>, passed: &[Id]) -> bool
+    ensures { MatchBool result (Each (λ place. end.now ≡ Some place) passed.now) (Fails (λ place. end.now ≡ Some place) passed.now) }
+{
+    for place in passed {
+        if !is_end(end, *place) {
+            return false;
+        }
+    }
+    true
+}
+
+// Whether this cause is one of the two.
+fn is_cause(cause: End, stop: Option<End>, end: Option<End>) -> bool
+    ensures { MatchBool result ((stop ≡ Some cause) ⊎ (end ≡ Some cause)) (((stop ≡ Some cause) ⊎ (end ≡ Some cause)) → ⊥) }
+{
+    stop == Some(cause) || end == Some(cause)
+}
+
+// Whether this cause is one of the two, where it was told.
+fn may_be_told(told: bool, cause: End, stop: Option<End>, end: Option<End>) -> bool
+    ensures { MatchBool result (MayBeTold told cause stop end) (MayBeTold told cause stop end → ⊥) }
+{
+    !told || is_cause(cause, stop, end)
+}
+
+/// Whether each cause that a seat was told is one of these two.
+pub fn are_causes(told: &Told, stop: Option<End>, end: Option<End>) -> bool
+    ensures { MatchBool result (AreCauses told.now stop end) (AreCauses told.now stop end → ⊥) }
+{
+    let full = may_be_told(told.full, End::Full, stop, end);
+    let device = may_be_told(told.device, End::Device, stop, end);
+    let memory = may_be_told(told.memory, End::Memory, stop, end);
+    are_all(full, device, memory)
+}
+
+// Whether all three are so.
+fn are_all(one: bool, two: bool, three: bool) -> bool
+    ensures { result ≡ (one && (two && three)) }
+{
+    one && two && three
+}
+
+/// Whether a receipt names a settled item of its id.
+pub fn names(placed: &[Item], settled: u64, receipt: &Receipt) -> bool
+    ensures { MatchBool result (Names placed.now settled receipt.now) (Names placed.now settled receipt.now → ⊥) }
+{
+    if receipt.number >= settled {
+        return false;
+    }
+    match placed.get(receipt.number as usize) {
+        None => false,
+        Some(item) => item.id == receipt.id,
+    }
+}
+
+/// Whether each receipt names a settled item of its id.
+pub fn are_named(placed: &[Item], settled: u64, receipts: &[Receipt]) -> bool
+    ensures { MatchBool result (Each (Names placed.now settled) receipts.now) (Fails (Names placed.now settled) receipts.now) }
+{
+    for receipt in receipts {
+        if !names(placed, settled, receipt) {
+            return false;
+        }
+    }
+    true
+}

@@ -1,0 +1,26 @@
+//! What a recorder that threads share keeps under its three locks, and the steps that are taken under each. No function of this crate waits or starts a thread.
+//!
+//! When a lock is taken, nothing is known of the value under it but its type's invariant. So the whole truth about threads stands here: what holds under each lock,
+//! and what each step changes, of the value under the lock and of the caller's own seat.
+#![tactic(auto)]
+
+pub use compare::{are_causes, are_named, are_passed, is_list_of, names};
+pub use data::DataState;
+pub use entry_of::is_entry_of;
+pub use log::{LogParts, LogState};
+pub use note::{Done, Item, Own, Receipt, Told, Unplaced, Unrecorded};
+pub use part::{SeatPart, WriterPart};
+pub use queue::{QueueParts, QueueState};
+pub use run::Run;
+pub use served::{Seen, is_served};
+
+mod checking;
+mod compare;
+mod data;
+mod entry_of;
+mod log;
+mod note;
+mod part;
+mod queue;
+mod run;
+mod served;

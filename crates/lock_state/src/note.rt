@@ -1,0 +1,58 @@
+// What seats note, and why a step wasn't taken.
+use bio::{Bio, CoreEvent, End, Id};
+use log_format::Entry;
+
+/// An event of the history, with its place there.
+#[derive(Debug, Drop)]
+pub struct Own {
+    pub place: Id,
+    pub event: CoreEvent,
+}
+
+/// An entry of the log, with the place of its submission in the history.
+#[derive(Debug, Drop)]
+pub struct Item {
+    pub id: Id,
+    pub entry: Entry,
+}
+
+/// A request that was handed to the recorded device: its id, where it is recorded, and whether it succeeded.
+#[derive(Debug, Drop)]
+pub struct Done {
+    pub id: Option<Id>,
+    pub bio: Bio,
+    pub ok: bool,
+}
+
+/// The causes that a seat was told as those by which logging ended.
+#[derive(Clone, Copy, Debug, PartialEq, Eq)]
+pub struct Told {
+    pub full: bool,
+    pub device: bool,
+    pub memory: bool,
+}
+
+/// Why a request wasn't recorded.
+#[derive(Clone, Copy, Debug, PartialEq, Eq)]
+pub enum Unrecorded {
+    /// There was no memory beside the core: nothing is changed.
+    NoRoom,
+    /// There was no memory in the core: logging has ended.
+    Stopped,
+}
+
+/// Why an item wasn't placed.
+#[derive(Clone, Copy, Debug, PartialEq, Eq)]
+pub enum Unplaced {
+    /// There was no memory for the list of items: nothing is changed.
+    NoRoom,
+    /// Logging has ended, by this cause.
+    Ended(End),
+}
+
+/// Says that the entry of this request or mark stands in each log that a crash leaves, as the entry of this number, counted from 0.
+#[derive(Clone, Copy, Debug, PartialEq, Eq)]
+pub struct Receipt {
+    pub id: Id,
+    pub number: u64,
+}

@@ -1,0 +1,140 @@
+// What a seat keeps of its own calls.
+ghost use Rattle.std.specs.Prelude.{◌≡◌, ◌==◌, ℕ, None, is_none, length, true, false};
+ghost use Rattle.lock_state.specs.History.{new_part, told_also, with_calls};
+ghost use Rattle.lock_state.specs.Placed.{settles_hand};
+
+use crate::note::{Item, Own, Told};
+use crate::run::Run;
+use bio::{End, Id};
+use holders::Holder;
+use std::alloc::Global;
+use std::marker::Model;
+use std::mem::swap;
+use std::sync::ledger::Share;
+
+/// A seat's part: its number, its recorded events with their places, the places at which its passed calls found that recording had ended, the causes that it
+/// was told, and its request that is under way.
+#[derive(Drop)]
+pub struct SeatPart<R: Run> {
+    pub(crate) number: u64,
+    pub(crate) own: Vec<Own>,
+    pub(crate) passed: Vec<Id>,
+    pub(crate) told: Told,
+    pub(crate) under_way: Option<Id>,
+    pub(crate) share: Share<R>,
+    pub(crate) holder: Holder<R>,
+}
+
+impl<R: Run> Model for SeatPart<R> {
+    ghost use Rattle.std.specs.Prelude.{◌≡◌, ◌<◌, length, IsSome, vec_len, vec_capacity};
+    ghost use Rattle.lock_state.specs.History.{Part};
+
+    ghost Value = { Part };
+
+    ghost view = { λ s. record { number = s.number; own = s.own.items; passed = s.passed.items; told = s.told; under_way = s.under_way } };
+
+    ghost invariant = { λ s. (s.share.amount ≡ length s.own.items) × (s.share.parts ≡ 1) × (IsSome s.under_way → vec_len s.own < vec_capacity s.own)
+        × (s.holder.number ≡ s.number) × (s.holder.held ≡ s.under_way) };
+}
+
+impl<R: Run> SeatPart<R> {
+    /// A seat of this number, with no call yet.
+    pub fn new(alloc: Global, number: u64, share: Share<R>, holder: Holder<R>) -> SeatPart<R>
+        requires share { (share.parts ≡ 1) × (share.amount ≡ 0) }
+        requires holder { (holder.number ≡ number) × (holder.held ≡ None) }
+        ensures { result ≡ new_part number }
+    {
+        SeatPart {
+            number,
+            own: Vec::new(alloc),
+            passed: Vec::new(alloc),
+            told: Told {
+                full: false,
+                device: false,
+                memory: false,
+            },
+            under_way: None,
+            share,
+            holder,
+        }
+    }
+
+    /// Two seats' events and passed calls change places, where they have as many events; else nothing changes. So a seat's list may be that of another
+    /// recorder, which a recorder that closes is to find.
+    pub fn exchange_calls<C: Run>(&mut self, other: &mut SeatPart<C>) -> bool
+        requires idle { (self.old.under_way ≡ None) × (other.old.under_way ≡ None) }
+        ensures why { result ≡ (length self.old.own == length other.old.own) }
+        ensures changed { result ≡ true → (self.new ≡ with_calls self.old other.old) × (other.new ≡ with_calls other.old self.old) }
+        ensures same { result ≡ false → (self.new ≡ self.old) × (other.new ≡ other.old) }
+    {
+        if self.own.len() != other.own.len() {
+            return false;
+        }
+        swap(&mut self.own, &mut other.own);
+        swap(&mut self.passed, &mut other.passed);
+        true
+    }
+
+    // A share of the seat's ledger that has no part and counts nothing.
+    pub(crate) fn no_share(&mut self) -> Share<R>
+        ensures share { (result.parts ≡ 0) × (result.amount ≡ 0) }
+        ensures same { self.new ≡ self.old }
+    {
+        self.share.empty()
+    }
+
+    /// Notes a cause that the seat is told. Takes no memory.
+    pub fn tell(&mut self, cause: End)
+        ensures { self.new ≡ told_also self.old cause }
+    {
+        match cause {
+            End::Full => self.told.full = true,
+            End::Device => self.told.device = true,
+            End::Memory => self.told.memory = true,
+        }
+    }
+}
+
+/// The writer's part: the item that it took and hasn't placed yet, if there is one. Contracts see it as that.
+#[derive(Drop)]
+pub struct WriterPart {
+    pub(crate) hand: Option<Item>,
+}
+
+impl Model for WriterPart {
+    ghost use Rattle.std.specs.Prelude.{Option};
+    ghost use Rattle.lock_state.specs.declared.note.Item.{Item};
+    ghost use Rattle.lock_state.specs.History.{IsReadable};
+
+    ghost Value = { Option Item };
+
+    ghost view = { λ w. w.hand };
+
+    ghost invariant = { λ w. IsReadable w.hand };
+}
+
+impl WriterPart {
+    /// Nothing in hand.
+    pub fn new() -> WriterPart
+        ensures { result ≡ None }
+    {
+        WriterPart { hand: None }
+    }
+
+    /// Whether nothing is in hand.
+    pub fn is_empty(&self) -> bool
+        ensures { result ≡ is_none self.now }
+    {
+        self.hand.is_none()
+    }
+
+    /// Whether what is in hand is to be settled at once: a write with FUA, or a mark.
+    pub fn settles(&self) -> bool
+        ensures { result ≡ settles_hand self.now }
+    {
+        match &self.hand {
+            None => false,
+            Some(item) => item.entry.flags.fua || item.entry.flags.mark,
+        }
+    }
+}

@@ -1,0 +1,121 @@
+// Whether each request that ended Ok was done just once. One walk over the calls and one over the events, with a note for each event.
+ghost use Rattle.std.specs.Prelude.{◌≡◌, ◌≤◌, ℕ, [], MatchBool, Some, length, slice_get};
+ghost use Rattle.lock_state.specs.declared.served.Seen.{Seen as Noted};
+ghost use Rattle.lock_state.specs.Comparing.{AllTell, Each, Fails, IsDoneOnce, IsNoted, IsServed, Tells, is_ok_of, seen_more};
+
+use crate::compare::same_bio;
+use crate::note::Done;
+use bio::CoreEvent;
+
+/// How often a request's call was seen to end Ok.
+#[derive(Clone, Copy, Debug, PartialEq, Eq)]
+pub enum Seen {
+    /// Not yet.
+    Never,
+    /// Once, at this place of the calls.
+    Once(usize),
+    /// More than once.
+    Again,
+}
+
+/// Whether each request that ended Ok was done just once, as that request. There is to be a note for each event; what the notes were doesn't matter.
+pub fn is_served(events: &[CoreEvent], calls: &[Done], notes: &mut [Seen]) -> bool
+    requires { length events.now ≤ length notes.old }
+    ensures { MatchBool result (Each (IsServed events.now calls.now) events.now) (Fails (IsServed events.now calls.now) events.now) }
+{
+    note_all(calls, notes);
+    for event in events {
+        if !is_event_served(events, calls, notes, event) {
+            return false;
+        }
+    }
+    true
+}
+
+// Notes of each request how often it was done.
+fn note_all(calls: &[Done], notes: &mut [Seen])
+    ensures told { AllTell calls.now notes.new }
+    ensures size { length notes.new ≡ length notes.old }
+{
+    clear(notes);
+    for place in 0..calls.len() {
+        note(notes, place, &calls[place]);
+    }
+}
+
+// Nothing is noted yet.
+fn clear(notes: &mut [Seen])
+    ensures told { AllTell [] notes.new }
+    ensures size { length notes.new ≡ length notes.old }
+{
+    for k in 0..notes.len() {
+        notes[k] = Seen::Never;
+    }
+}
+
+// Notes a call, that stands at this place.
+fn note(notes: &mut [Seen], place: usize, call: &Done)
+    ensures noted { (id : ℕ) (seen : Noted) → slice_get notes.new id ≡ Some seen → IsNoted notes.old place call.now id seen }
+    ensures size { length notes.new ≡ length notes.old }
+{
+    let Some(id) = call.id else {
+        return;
+    };
+    let id = id.place() as usize;
+    if !call.ok {
+        return;
+    }
+    if id >= notes.len() {
+        return;
+    }
+    notes[id] = more(notes[id], place);
+}
+
+// A call more that ended Ok.
+fn more(seen: Seen, place: usize) -> Seen
+    ensures { result ≡ seen_more seen place }
+{
+    match seen {
+        Seen::Never => Seen::Once(place),
+        Seen::Once(_) | Seen::Again => Seen::Again,
+    }
+}
+
+// Whether the event's request was done just once, where the event is an end with success.
+fn is_event_served(events: &[CoreEvent], calls: &[Done], notes: &[Seen], event: &CoreEvent) -> bool
+    requires told { AllTell calls.now notes.now }
+    requires size { length events.now ≤ length notes.now }
+    ensures { MatchBool result (IsServed events.now calls.now event.now) (IsServed events.now calls.now event.now → ⊥) }
+{
+    match event {
+        CoreEvent::Complete { id, ok: true } => is_done_once(events, calls, notes, id.place()),
+        _ => true,
+    }
+}
+
+// Whether the request of this id was done just once.
+fn is_done_once(events: &[CoreEvent], calls: &[Done], notes: &[Seen], id: u64) -> bool
+    requires told { AllTell calls.now notes.now }
+    requires size { length events.now ≤ length notes.now }
+    ensures { MatchBool result (IsDoneOnce calls.now id (slice_get events.now id)) (IsDoneOnce calls.now id (slice_get events.now id) → ⊥) }
+{
+    let at = id as usize;
+    if at >= events.len() {
+        return false;
+    }
+    is_done_as(&events[at], calls, notes[at], id)
+}
+
+// Whether a request was done just once, of which this was seen, as this event submits it.
+fn is_done_as(event: &CoreEvent, calls: &[Done], seen: Seen, id: u64) -> bool
+    requires { Tells calls.now id seen }
+    ensures { MatchBool result (IsDoneOnce calls.now id (Some event.now)) (IsDoneOnce calls.now id (Some event.now) → ⊥) }
+{
+    let Seen::Once(place) = seen else {
+        return false;
+    };
+    match event {
+        CoreEvent::Submit(bio) => same_bio(bio, &calls[place].bio),
+        _ => false,
+    }
+}

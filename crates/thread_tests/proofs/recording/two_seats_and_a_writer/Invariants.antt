@@ -1,0 +1,10 @@
+use Rattle.thread_tests.proofs.recording.two_seats_and_a_writer.Given as goal
+
+abbrev pub ghosts-two_seats_record-R-Ledger : goal.ghosts-two_seats_record-R-Ledger
+ghosts-two_seats_record-R-Ledger g a = record { name = a.blank.name; parts = a.blank.parts }
+
+abbrev pub ghosts-two_seats_record-R-Whose : goal.ghosts-two_seats_record-R-Whose
+ghosts-two_seats_record-R-Whose g a = record { table = a.fresh }
+
+abbrev pub ghosts-two_seats_record-R-Run : goal.ghosts-two_seats_record-R-Run
+ghosts-two_seats_record-R-Run g a = record { sectors = 64 }

@@ -1,0 +1,120 @@
+//! What readers read of a board.
+ghost use Rattle.std.specs.Prelude.{◌≡◌};
+
+use bio::{End, Status};
+use board::{Blank, Board, Names, StatusSeat, WriterSeat};
+use std::alloc::{AllocError, Global};
+use std::io::Print;
+use std::marker::Brand;
+use std::test::*;
+use test_asserts::is_same;
+
+// Statuses that are to be posted in turn, and whether each may be.
+const ROWS: [(u64, u64, Option<End>, bool); 12] = [
+    (0, 0, None, true),
+    (3, 4, None, true),
+    (2, 4, None, false),
+    (3, 4, None, true),
+    (1_048_577, 4, None, false),
+    (3, 1_048_577, None, false),
+    (1_048_576, 1_048_576, None, true),
+    (1_048_576, 0, Some(End::Full), true),
+    (1_048_576, 0, None, false),
+    (1_048_576, 0, Some(End::Device), false),
+    (1_048_575, 0, Some(End::Full), false),
+    (1_048_576, 1_048_576, Some(End::Full), true),
+];
+
+// Posts the status where that is allowed, and says whether it was.
+fn post<N: Names>(board: &Board<N>, writer: &mut WriterSeat<N>, status: Status) -> bool {
+    let may_publish = writer.may_publish(status);
+    if may_publish {
+        board.publish(writer, status);
+    }
+    may_publish
+}
+
+// What readers read after each row: one that reads each time, and one that is made then.
+fn rows_are_read<N: Names>(rt: &impl Print, blank: Blank) -> bool
+    requires { blank ≡ N.board }
+{
+    let (board, mut writer) = blank.named::<N>();
+    let mut reader = board.reader(&mut writer);
+    let mut last = board.read(&mut reader);
+    let mut are_read = is_same(
+        rt,
+        &last,
+        &Status {
+            entries: 0,
+            sector: 0,
+            end: None,
+        },
+        "at first",
+    );
+    for (entries, sector, end, may_post) in ROWS {
+        let status = Status {
+            entries,
+            sector,
+            end,
+        };
+        if is_same(
+            rt,
+            &post(&board, &mut writer, status),
+            &may_post,
+            "is posted",
+        ) && may_post
+        {
+            last = status;
+        }
+        let found = board.read(&mut reader);
+        let mut late = board.reader(&mut writer);
+        board.agree(&mut writer, &mut reader);
+        are_read = is_same(rt, &found, &last, "the reader") && are_read;
+        are_read = is_same(rt, &board.read(&mut late), &last, "a late reader") && are_read;
+    }
+    are_read
+}
+
+// A reader, and what it read last.
+#[derive(Drop)]
+struct Reader<N: Names> {
+    seat: StatusSeat<N>,
+    last: Status,
+}
+
+// Whether so many readers read a status that is posted after they were made.
+fn are_reading<N: Names>(alloc: Global, blank: Blank, count: usize) -> Result<bool, AllocError>
+    requires { blank ≡ N.board }
+{
+    let (board, mut writer) = blank.named::<N>();
+    let last = writer.last();
+    let mut readers = Vec::new(alloc);
+    for _ in 0..count {
+        let seat = board.reader(&mut writer);
+        readers.push(Reader { seat, last })?;
+    }
+    let status = Status {
+        entries: 3,
+        sector: 4,
+        end: None,
+    };
+    post(&board, &mut writer, status);
+    for reader in readers.iter_mut() {
+        reader.last = board.read(&mut reader.seat);
+    }
+    Ok(readers.iter().all(|reader| reader.last == status))
+}
+
+#[test]
+fn a_reader_reads_what_was_posted_last(rt: HostRuntime) -> Result<(), Fail> {
+    let blank = Blank::new(rt.alloc())?;
+    assert!(rt; rows_are_read::<Brand>(&rt, blank));
+    Ok(())
+}
+
+#[test]
+fn sixty_four_readers_read_the_same(rt: HostRuntime) -> Result<(), Fail> {
+    let blank = Blank::new(rt.alloc())?;
+    assert!(rt; are_reading::<Brand>(rt.alloc(), blank, 64)?);
+    Ok(())
+}

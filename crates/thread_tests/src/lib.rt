@@ -1,0 +1,10 @@
+//! Tests of `holders` and `board`, through what these make public. They stand apart from the crates that they test, so that these aren't proved a second
+//! time with their tests.
+#![tactic(auto)]
+
+#[cfg(test)]
+mod boards;
+#[cfg(test)]
+mod holding;
+#[cfg(test)]
+mod recording;

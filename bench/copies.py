@@ -3,7 +3,7 @@
 the same requests. Prints CPU times, the ratio to the log before of the same kind, the ratio to the plain Rust program of bench/peer.rs, and the peak memory beside
 the two logs; of `record` the CPU time for each byte of the log, and how many times that with 512 it is. Needs Python 3, and for the peer a rustc.
 
-usage: bench/copy.py [PROGRAM]    (builds the program where none is given, by ./dmlw)
+usage: bench/copies.py [PROGRAM]    (builds the program where none is given, by ./dmlw)
 """
 
 import os

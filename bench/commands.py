@@ -11,6 +11,7 @@ import os
 import sys
 import tempfile
 
+from copies import KINDS, room_of
 from judge import script_of
 from logs import writes
 from measure import MIB, build, build_peer, measure
@@ -19,7 +20,7 @@ from replay import log_of
 
 
 def works():
-    """Of each row its name, the program's words, the peer's command, and the files."""
+    """Of each row its name, the program's words, the peer's command where it has one, and the files."""
     script = {"script": small(4 * MIB, 0).text}
     recorded = ["record", "script", "log"]
     yield "record", "4 MiB, writes of a sector", recorded, "record", script
@@ -33,6 +34,11 @@ def works():
     yield "replay", "64 MiB of writes over 256 MiB", ["replay", "log", "first", "out", f"entries:{entries}"], "replay", files
     script, image = script_of(100_000, 65_536)
     yield "judge", "100,000 events, 32 MiB", ["judge", "script", "100000", "image"], "judge", {"script": script, "image": image}
+    yield "path", "100,000 events, 32 MiB", ["path", "script", "100000", "image"], None, {"script": script, "image": image}
+    for kind, sectors in KINDS.items():
+        log, entries = log_of(256 * MIB, sectors)
+        words = ["copy", "log", "out", str(room_of(256 * MIB, entries))]
+        yield "copy", f"256 MiB, {kind}, to sectors of 4,096 bytes", words, "copy", {"log": log}
 
 
 def main():
@@ -42,7 +48,7 @@ def main():
         peer = build_peer(folder)
         for command, work, words, theirs, files in works():
             ours = measure(program, words, files)
-            plain = peer and measure(peer, [theirs, *words[1:]], files)
+            plain = peer and theirs and measure(peer, [theirs, *words[1:]], files)
             print(f"| `{command}` | {work} | {ours.seconds:.2f} | {ours.beside(plain).strip()} | {ours.peak / MIB:,.1f} |", flush=True)
 
 

@@ -20,13 +20,18 @@ LARGE = 4096
 KINDS = {"writes of 16 sectors": 16, "writes of 1 MiB": MIB // SECTOR}
 
 
+def room_of(data, entries):
+    """How many sectors of 512 bytes a log of so many entries and bytes of data takes, with log sectors of 4,096 bytes."""
+    return ((2 + entries) * LARGE + data) // SECTOR
+
+
 def copies(program, peer):
     print("log                               CPU s  ratio  times the peer   peak MiB   of both logs")
     for kind, sectors in KINDS.items():
         before = None
         for mib in (64, 128, 256):
             log, entries = log_of(mib * MIB, sectors)
-            room = ((2 + entries) * LARGE + mib * MIB) // SECTOR
+            room = room_of(mib * MIB, entries)
             words = ["copy", "log", "out", str(room)]
             ours = measure(program, words, {"log": log})
             theirs = peer and measure(peer, words, {"log": log})

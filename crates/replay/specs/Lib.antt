@@ -5,4 +5,5 @@ pub use Rattle.sectors.specs.Content
 pub mod Refusals
 pub mod Replays
 pub mod Calls
+pub mod LogCalls
 pub mod AlikeLaws

@@ -14,6 +14,9 @@ use Rattle.judge.specs.Latest.{IsLastFlush}
 use Rattle.judge.specs.Verdicts.{FailsAt, IsLastKept, IsRuledOutBy}
 use Rattle.judge.specs.declared.accounts.Account.{Account}
 use Rattle.judge.specs.Accounts.{IsAccount, is_held_from, last_below, place_at}
+use Rattle.judge.specs.declared.first.First.{First}
+use Rattle.judge.specs.declared.first.First.TheVariants.{Zeroes}
+use Rattle.judge.specs.Firsts.{IsFirstOf, first_bytes}
 
 -- the writes have the bytes 1 and 2; the flush is submitted at the fourth moment and has ended at the sixth
 abbrev events : List CoreEvent
@@ -226,3 +229,16 @@ account-ends account ends told = none_some 1 (sym (ap (λ places. place_at place
 
 account-last : (account : Account) → account.last.items ≡ [] → IsAccount replaced (holding 2) 4 account → ⊥
 account-last account last told = none_some 2 (sym (ap (λ places. place_at places 3) last) ∙ told.last 3 (omega arith))
+
+-- zeroes were on a device of any size
+zeroes-first : first_bytes Zeroes 3 ≡ 0 ∷ 0 ∷ 0 ∷ []
+zeroes-first = refl
+
+zeroes-fit : IsFirstOf 3 Zeroes
+zeroes-fit = refl
+
+-- and an image of fewer bytes on none
+fewer-bytes : (first : First) → first_bytes first 2 ≡ 1 ∷ [] → IsFirstOf 2 first → ⊥
+fewer-bytes first is fits =
+    let one = ap length is in
+    absurd (let contra : 1 ≡ 2 = sym one ∙ fits in cc)

@@ -1,5 +1,6 @@
 -- The values that requests have for a sector.
-use Rattle.std.proofs.Common.{◌≡◌, ℕ, ◌+◌, ◌-◌, ◌*◌, ◌<◌, ◌≤◌, false, List, take, drop, ap, sym, ◌∙◌, inl, inr, arith}
+use Rattle.std.proofs.Common.{◌≡◌, ℕ, ◌+◌, ◌-◌, ◌*◌, ◌/◌, ◌<◌, ◌≤◌, false, List, take, drop, replicate, ap, sym, ◌∙◌, inl, inr, arith}
+use Rattle.std.proofs.lemmas.List.{drop-replicate, take-replicate}
 use Rattle.std.specs.Prelude.{◌⊎◌}
 use Rattle.std.specs.Str.{bytes_eq}
 use Rattle.sectors.specs.Content.{over, sector_of}
@@ -28,3 +29,8 @@ pub some_value : (first count sector place : ℕ) (part : ℕ → List ℕ) (val
 some_value first count sector place part value bytes is within same =
     ap (λ (xs : List ℕ). bytes_eq xs value) same
     ∙ sym (ap (λ (s : ℕ). is_value (over first count part s) value) is ∙ ap (λ o. is_value o value) (over-in first count part place within))
+
+-- a sector of zeroes is zeroes
+pub zero_sector : (count sector : ℕ) → sector < count / 512 → sector_of (replicate count 0) sector ≡ replicate 512 0
+zero_sector count sector within =
+    ap (λ (bytes : List ℕ). take 512 bytes) (drop-replicate (512 * sector) count 0) ∙ take-replicate 512 (count - 512 * sector) 0 (omega (arith, within))

@@ -1,5 +1,6 @@
 pub mod Verdicts
 pub mod Accounts
+pub mod Firsts
 pub mod Laws
 pub mod Latest
 pub mod Texts

@@ -2,11 +2,14 @@ ghost use Rattle.std.specs.Prelude.{◌≡◌, ◌/◌, ◌%◌, ◌<◌, IfOk, 
 ghost use Rattle.bio.specs.declared.event.CoreEvent.{CoreEvent};
 ghost use Rattle.bio.specs.Lawful.{is_lawful};
 ghost use Rattle.sectors.specs.Content.{sector_of};
+ghost use Rattle.std.specs.Str.{bytes_eq};
 ghost use Rattle.judge.specs.Accounts.{IsAccount, place_at};
+ghost use Rattle.judge.specs.Firsts.{IsFirstOf, first_on};
 ghost use Rattle.judge.specs.Verdicts.{IsVerdict};
 ghost use Rattle.judge.specs.inside.Accounts.{IsFound, is_at_first, is_fine};
 
 use crate::ends::{end_at, ends_of};
+use crate::first::First;
 use crate::held::{SECTOR, held_values, sector_bytes};
 use crate::kept::last_kept;
 use crate::verdict::Verdict;
@@ -38,13 +41,13 @@ impl Account {
     }
 
     /// The verdict on the image that this is the account of, where `first` was on the device before the first event.
-    /// Both images are whole sectors of 512 bytes, as many in both.
-    pub fn verdict(&self, first: &[u8], image: &[u8]) -> Verdict
+    /// The image is whole sectors of 512 bytes, and `first` has as many.
+    pub fn verdict(&self, first: First, image: &[u8]) -> Verdict
         requires whole { length image.now % 512 ≡ 0 }
-        requires same { length first.now ≡ length image.now }
+        requires same { IsFirstOf (length image.now) first }
         ensures { (events : List CoreEvent) → is_lawful (length image.now / 512) events ≡ true →
             IsAccount events (sector_of image.now) (length image.now / 512) self.now →
-            IsVerdict (length image.now / 512) events (sector_of first.now) (sector_of image.now) result }
+            IsVerdict (length image.now / 512) events (first_on first.entry (length image.now)) (sector_of image.now) result }
     {
         lowest_failing(&self.held, &self.last, first, image)
     }
@@ -71,26 +74,40 @@ impl Account {
     }
 }
 
-// Whether the sector has its first value, and no durable request covers it.
-fn is_at_first(last: &[Option<usize>], first: &[u8], image: &[u8], sector: usize) -> bool
+// Whether a sector of an image has its first value.
+#[tactic(auto, using(crate::proofs::Values::zero_sector))]
+fn has_first(first: First, image: &[u8], sector: usize) -> bool
     requires within { sector < length image.now / 512 }
-    requires same { length first.now ≡ length image.now }
-    ensures { result ≡ is_at_first last.now (sector_of first.now) (sector_of image.now) sector }
+    requires same { IsFirstOf (length image.now) first }
+    ensures { result ≡ bytes_eq (sector_of image.now sector) (first_on first.entry (length image.now) sector) }
 {
-    end_at(last, sector).is_none() && sector_bytes(image, sector) == sector_bytes(first, sector)
+    let bytes = sector_bytes(image, sector);
+    match first {
+        First::Zeroes => bytes == [0; SECTOR].as_slice(),
+        First::Image(first) => bytes == sector_bytes(first, sector),
+    }
+}
+
+// Whether the sector has its first value, and no durable request covers it.
+fn is_at_first(last: &[Option<usize>], first: First, image: &[u8], sector: usize) -> bool
+    requires within { sector < length image.now / 512 }
+    requires same { IsFirstOf (length image.now) first }
+    ensures { result ≡ is_at_first last.now (first_on first.entry (length image.now)) (sector_of image.now) sector }
+{
+    end_at(last, sector).is_none() && has_first(first, image, sector)
 }
 
 // Whether the sector holds the value of a request, or has its first value and no durable request covers it.
 fn is_fine(
     held: &[Option<usize>],
     last: &[Option<usize>],
-    first: &[u8],
+    first: First,
     image: &[u8],
     sector: usize,
 ) -> bool
     requires within { sector < length image.now / 512 }
-    requires same { length first.now ≡ length image.now }
-    ensures { result ≡ is_fine held.now last.now (sector_of first.now) (sector_of image.now) sector }
+    requires same { IsFirstOf (length image.now) first }
+    ensures { result ≡ is_fine held.now last.now (first_on first.entry (length image.now)) (sector_of image.now) sector }
 {
     end_at(held, sector).is_some() || is_at_first(last, first, image, sector)
 }
@@ -109,11 +126,11 @@ fn last_over(last: &[Option<usize>], sector: usize) -> Option<Id>
 fn lowest_failing(
     held: &[Option<usize>],
     last: &[Option<usize>],
-    first: &[u8],
+    first: First,
     image: &[u8],
 ) -> Verdict
-    requires same { length first.now ≡ length image.now }
-    ensures { IsFound held.now last.now (sector_of first.now) (sector_of image.now) (length image.now / 512) result }
+    requires same { IsFirstOf (length image.now) first }
+    ensures { IsFound held.now last.now (first_on first.entry (length image.now)) (sector_of image.now) (length image.now / 512) result }
 {
     for sector in 0..image.len() / SECTOR {
         if !is_fine(held, last, first, image, sector) {

@@ -1,9 +1,11 @@
 ghost use Rattle.std.specs.Prelude.{◌≡◌, ◌/◌, ◌%◌, IfOk, length, take, true};
 ghost use Rattle.bio.specs.Lawful.{is_lawful};
 ghost use Rattle.sectors.specs.Content.{sector_of};
+ghost use Rattle.judge.specs.Firsts.{IsFirstOf, first_on};
 ghost use Rattle.judge.specs.Verdicts.{IsVerdict};
 
 use crate::accounts::Account;
+use crate::first::First;
 use crate::verdict::Verdict;
 use bio::CoreEvent;
 use std::alloc::{AllocError, Global};
@@ -11,7 +13,7 @@ use std::cmp;
 
 /// Whether a device could have held the image, had power failed after the first `moment` of the events, where `first`
 /// was on it before the first event. `events` is a list that a recorder of the device may have recorded
-/// (`is_lawful`), a later moment than its last counts as all of them; both images have the device's length
+/// (`is_lawful`), a later moment than its last counts as all of them; the image has the device's length
 /// in bytes, whole sectors of 512.
 ///
 /// A sector could hold its first value where no durable request covers it, and the value of a request that
@@ -23,14 +25,14 @@ pub fn could_hold(
     alloc: Global,
     events: &[CoreEvent],
     moment: u64,
-    first: &[u8],
+    first: First,
     image: &[u8],
 ) -> Result<Verdict, AllocError>
     requires whole { length image.now % 512 ≡ 0 }
-    requires same { length first.now ≡ length image.now }
+    requires same { IsFirstOf (length image.now) first }
     requires lawful { is_lawful (length image.now / 512) events.now ≡ true }
     ensures { IfOk result
-        (IsVerdict (length image.now / 512) (take moment events.now) (sector_of first.now) (sector_of image.now)) }
+        (IsVerdict (length image.now / 512) (take moment events.now) (first_on first.entry (length image.now)) (sector_of image.now)) }
 {
     let events = beginning(events, moment);
     Ok(Account::of(alloc, events, image)?.verdict(first, image))

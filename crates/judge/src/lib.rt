@@ -7,6 +7,7 @@
 #![tactic(auto)]
 
 pub use accounts::Account;
+pub use first::First;
 pub use held::{SECTOR, place_in, sector_bytes};
 pub use images::{beginning, could_hold};
 pub use lawful::is_lawful;
@@ -14,6 +15,7 @@ pub use verdict::Verdict;
 
 mod accounts;
 mod ends;
+mod first;
 mod held;
 mod images;
 mod kept;

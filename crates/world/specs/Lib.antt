@@ -1,9 +1,11 @@
 pub mod Machine
 pub mod Runs
+pub mod Findings
 pub mod Texts
 pub mod Cells
 pub mod Refusals
 pub mod inside
 pub use Rattle.bio.specs.Lawful
 pub use Rattle.bio.specs.Possible
+pub use Rattle.judge.specs.Firsts
 pub use Rattle.sectors.specs.Content

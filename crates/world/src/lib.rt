@@ -6,13 +6,15 @@
 #![tactic(auto)]
 
 pub use cache::World;
-pub use reaching::reach;
+pub use finding::Finding;
+pub use reaching::{find, reach};
 pub use step::Step;
 pub use step_error::StepError;
 
 mod allowed;
 mod cache;
 mod cell;
+mod finding;
 pub mod laws;
 mod plan;
 mod putting;

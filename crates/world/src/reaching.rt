@@ -6,21 +6,24 @@ ghost use Rattle.bio.specs.Events.{end_of, is_open_at};
 ghost use Rattle.bio.specs.Lawful.{is_lawful};
 ghost use Rattle.bio.specs.Possible.{ended_ok, is_success};
 ghost use Rattle.judge.specs.Accounts.{place_at};
+ghost use Rattle.judge.specs.Firsts.{IsFirstOf, first_on};
 ghost use Rattle.sectors.specs.Content.{sector_of};
 ghost use Rattle.sectors.specs.Places.{collect};
+ghost use Rattle.world.specs.Findings.{IsFinding};
 ghost use Rattle.world.specs.Runs.{IsReachable, Leaves};
 ghost use Rattle.world.specs.inside.Plan.{AllEnd, by_sector, lands_late, plan, steps_left, steps_of, sure_by};
 
 use crate::allowed::is_request;
+use crate::finding::Finding;
 use crate::plan::{land_early, land_late};
 use crate::step::Step;
 use bio::{CoreEvent, Id};
-use judge::{Account, Verdict, beginning};
+use judge::{Account, First, Verdict, beginning};
 use std::alloc::{AllocError, Global};
 
 /// A run of the machine that fits the first `moment` of the events and leaves the image, where `first` was on the
 /// device before the first event; none where there is no such run. `events` is a list that a recorder of the device
-/// may have recorded (`is_lawful`), a later moment than its last counts as all of them; both images have the
+/// may have recorded (`is_lawful`), a later moment than its last counts as all of them; the image has the
 /// device's length in bytes, whole sectors of 512.
 ///
 /// Takes memory of 32 bytes for each sector, 16 for each event and what the run's steps take, two for each sector
@@ -29,21 +32,40 @@ pub fn reach(
     alloc: Global,
     events: &[CoreEvent],
     moment: u64,
-    first: &[u8],
+    first: First,
     image: &[u8],
 ) -> Result<Option<Vec<Step>>, AllocError>
     requires whole { length image.now % 512 ≡ 0 }
-    requires same { length first.now ≡ length image.now }
+    requires same { IsFirstOf (length image.now) first }
     requires lawful { is_lawful (length image.now / 512) events.now ≡ true }
     ensures { IfOk result (λ found. MatchOption found
-        (IsReachable (take moment events.now) (sector_of first.now) (sector_of image.now) → ⊥)
-        (λ run. Leaves (take moment events.now) (sector_of first.now) run.items (sector_of image.now))) }
+        (IsReachable (take moment events.now) (first_on first.entry (length image.now)) (sector_of image.now) → ⊥)
+        (λ run. Leaves (take moment events.now) (first_on first.entry (length image.now)) run.items (sector_of image.now))) }
+{
+    match find(alloc, events, moment, first, image)? {
+        Finding::Run(run) => Ok(Some(run)),
+        Finding::RuledOut { .. } => Ok(None),
+    }
+}
+
+/// The same run; or, where there is none, the verdict that `could_hold` gives, of one account of the image.
+pub fn find(
+    alloc: Global,
+    events: &[CoreEvent],
+    moment: u64,
+    first: First,
+    image: &[u8],
+) -> Result<Finding, AllocError>
+    requires whole { length image.now % 512 ≡ 0 }
+    requires same { IsFirstOf (length image.now) first }
+    requires lawful { is_lawful (length image.now / 512) events.now ≡ true }
+    ensures { IfOk result (IsFinding (length image.now / 512) (take moment events.now) (first_on first.entry (length image.now)) (sector_of image.now)) }
 {
     let events = beginning(events, moment);
     let account = Account::of(alloc, events, image)?;
     match account.verdict(first, image) {
-        Verdict::Yes => Ok(Some(run_of(alloc, events, &account)?)),
-        Verdict::No { .. } => Ok(None),
+        Verdict::Yes => Ok(Finding::Run(run_of(alloc, events, &account)?)),
+        Verdict::No { sector, by } => Ok(Finding::RuledOut { sector, by }),
     }
 }
 

@@ -1,13 +1,14 @@
-use Rattle.std.proofs.Common.{ap, sym, ◌∙◌, inl, inr, arith}
+use Rattle.std.proofs.Common.{length, ap, sym, ◌∙◌, inl, inr, arith}
 use Rattle.sectors.specs.Content.{sector_of}
 use Rattle.sectors.specs.PlaceLaws.{last_or_below}
+use Rattle.judge.specs.Firsts.{first_on}
 use Rattle.judge.specs.inside.Accounts.{is_fine}
 use Rattle.judge.proofs.accounts.lowest_failing.Goals as goal
 
 pub loop-sector-preserved : goal.loop-sector-preserved
 loop-sector-preserved c lower h = elim (last_or_below lower c.loop-sector.sector (omega arith)) [
   | inl same ↦
-      ap (is_fine c.args.held.now c.args.last.now (sector_of c.args.first.now) (sector_of c.args.image.now)) same
+      ap (is_fine c.args.held.now c.args.last.now (first_on c.args.first (length c.args.image.now)) (sector_of c.args.image.now)) same
       ∙ (sym c.is_fine.ensures ∙ c.if-not-is_fine.false)
   | inr below ↦ c.loop-sector.invariant lower below
 ]

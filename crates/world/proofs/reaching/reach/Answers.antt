@@ -1,47 +1,16 @@
-use Rattle.std.proofs.Common.{◌/◌, List, length, take, ap, sym, ◌∙◌, subst, arith}
+use Rattle.std.proofs.Common.{◌/◌, length, subst, take}
 use Rattle.sectors.specs.Content.{sector_of}
-use Rattle.bio.specs.declared.event.CoreEvent.{CoreEvent}
-use Rattle.bio.specs.EventLaws.{lawful-take}
-use Rattle.judge.specs.declared.verdict.Verdict.{Verdict}
-use Rattle.judge.specs.Accounts.{IsAccount, place_at}
-use Rattle.judge.specs.Verdicts.{IsVerdict}
-use Rattle.world.specs.inside.Plan.{AllEnd, plan, sure_by}
-use Rattle.world.proofs.Accounting.{account_leaves, lawful_ends}
+use Rattle.judge.specs.Firsts.{first_on}
+use Rattle.world.specs.declared.finding.Finding.{Finding}
+use Rattle.world.specs.Findings.{IsFinding}
 use Rattle.world.proofs.Leaving.{reachable_possible}
 use Rattle.world.proofs.reaching.reach.Goals as goal
 
-pub run_of-requires-clause-within : goal.run_of-requires-clause-within
-run_of-requires-clause-within c =
-    let events = c.args.events.now in
-    let sectors = length c.args.image.now / 512 in
-    let size = c.type_inv.image in
-    subst AllEnd (sym c.beginning-events.ensures)
-    (lawful_ends sectors (take c.args.moment events) (lawful-take sectors events c.args.moment c.requires.lawful) (omega arith))
-
-pub returns-in-Yes : goal.returns-in-Yes
-returns-in-Yes c =
-    let events = c.args.events.now in
+pub returns-in-RuledOut : goal.returns-in-RuledOut
+returns-in-RuledOut c = λ reached.
+    let events = take c.args.moment c.args.events.now in
     let image = sector_of c.args.image.now in
-    let first = sector_of c.args.first.now in
-    let sectors = length c.args.image.now / 512 in
-    let account = c.in_ok-account.account in
-    let Told = λ (es : List CoreEvent). IsAccount es image sectors account in
-    let Judged = λ (verdict : Verdict). IsVerdict sectors (take c.args.moment events) first image verdict in
-    let told = subst Told c.beginning-events.ensures c.in_ok-account.ensures in
-    let lawful = lawful-take sectors events c.args.moment c.requires.lawful in
-    account_leaves sectors (take c.args.moment events) first image account c.in_ok-run_of-in-Yes.field-0.items lawful
-    (subst Judged c.in-Yes.is (c.verdict.ensures (take c.args.moment events) lawful told)) told
-    (c.in_ok-run_of-in-Yes.ensures ∙ ap (λ (es : List CoreEvent). plan es (place_at account.held.items) (sure_by account.last.items)) c.beginning-events.ensures)
-
-pub returns : goal.returns
-returns c = λ reached.
-    let events = c.args.events.now in
-    let image = sector_of c.args.image.now in
-    let first = sector_of c.args.first.now in
-    let sectors = length c.args.image.now / 512 in
-    let Told = λ (es : List CoreEvent). IsAccount es image sectors c.in_ok-account.account in
-    let Judged = λ (verdict : Verdict). IsVerdict sectors (take c.args.moment events) first image verdict in
-    let told = subst Told c.beginning-events.ensures c.in_ok-account.ensures in
-    let lawful = lawful-take sectors events c.args.moment c.requires.lawful in
-    let fails = subst Judged c.in-No.is (c.verdict.ensures (take c.args.moment events) lawful told) in
-    fails.fails (reachable_possible (take c.args.moment events) first image reached c.in-No.sector)
+    let first = first_on c.args.first (length c.args.image.now) in
+    let Found = λ (finding : Finding). IsFinding (length c.args.image.now / 512) events first image finding in
+    let found = subst Found c.in-RuledOut.is c.in_ok-run.ensures in
+    found.fails (reachable_possible events first image reached c.in-RuledOut.sector)

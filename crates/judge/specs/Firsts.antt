@@ -1,0 +1,18 @@
+-- What was on a device before the first event.
+use Rattle.std.specs.Prelude.{◌≡◌, ℕ, List, length, replicate}
+use Rattle.sectors.specs.Content.{Content, sector_of}
+use Rattle.judge.specs.declared.first.First.{First}
+use Rattle.judge.specs.declared.first.First.TheVariants.{Zeroes, Image}
+
+-- the bytes of it, on a device of so many bytes
+abbrev pub first_bytes : First → ℕ → List ℕ
+first_bytes Zeroes count = replicate count 0
+first_bytes (Image bytes) count = bytes.now
+
+-- the sectors of it
+abbrev pub first_on : First → ℕ → Content
+first_on first count = sector_of (first_bytes first count)
+
+-- it is that of a device of so many bytes
+abbrev pub IsFirstOf : ℕ → First → Type 0
+IsFirstOf count first = length (first_bytes first count) ≡ count

@@ -1,7 +1,7 @@
 //! Which images are judged possible, and which lists of events are lawful.
 
 use bio::{Bio, Bytes, CoreEvent, End, Id};
-use judge::{Verdict, could_hold, is_lawful};
+use judge::{First, Verdict, could_hold, is_lawful};
 use std::alloc::{AllocError, Global};
 use std::process::Abort;
 use std::test::Fail;
@@ -90,6 +90,11 @@ pub fn image_of(alloc: Global, sectors: u8, words: &str) -> Result<Vec<u8>, Allo
     Ok(image)
 }
 
+// Whether all these bytes are zeroes.
+fn has_zeroes(bytes: &[u8]) -> bool {
+    bytes.iter().all(|byte| *byte == 0)
+}
+
 // The verdict on images of one length, where the events are lawful: a sector, and the place of a request.
 fn verdict_of(
     alloc: Global,
@@ -104,7 +109,10 @@ fn verdict_of(
     {
         return String::from_str(alloc, "unlawful");
     }
-    let verdict = could_hold(alloc, events, moment, first, image)?;
+    let verdict = could_hold(alloc, events, moment, First::Image(first), image)?;
+    if has_zeroes(first) && could_hold(alloc, events, moment, First::Zeroes, image)? != verdict {
+        return String::from_str(alloc, "another one over zeroes");
+    }
     match verdict {
         Verdict::Yes => String::from_str(alloc, "yes"),
         Verdict::No { sector, by: None } => format!(in alloc; "no {sector}"),
@@ -266,7 +274,7 @@ fn verdict_on_many(
     let image = many_sectors(alloc, count)?;
     assert!(rt; image.len() % 512 == 0 && first.len() == image.len());
     assert!(rt; is_lawful(events, (image.len() / 512) as u64));
-    could_hold(alloc, events, 20_000, &first, &image)
+    could_hold(alloc, events, 20_000, First::Image(&first), &image)
 }
 
 // Of 20,000 events over 4,096 sectors the last values are possible, and an earlier one in the last sector isn't.

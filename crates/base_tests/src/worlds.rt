@@ -2,7 +2,7 @@
 
 use crate::verdicts::{ROWS, events_of, image_of};
 use bio::{CoreEvent, Id};
-use judge::is_lawful;
+use judge::{First, is_lawful};
 use refusals::{Fault, Refusal};
 use std::alloc::{AllocError, Global};
 use std::test::Fail;
@@ -66,7 +66,7 @@ fn path(
     {
         return String::from_str(alloc, "unlawful");
     }
-    match reach(alloc, events, moment, first, image)? {
+    match reach(alloc, events, moment, First::Image(first), image)? {
         Some(run) => {
             if leaves(alloc, events, first, &run, image)? {
                 run_text(alloc, &run)

@@ -20,6 +20,7 @@ use Rattle.dmlw_files.specs.declared.files.FileError.{FileError}
 use Rattle.dmlw_files.specs.declared.files.FileError.TheVariants as errors
 use Rattle.dmlw_files.specs.FileErrors.{file_refusal}
 use Rattle.dmlw_files.specs.Files.{IsTooLong, MatchesContents, Write, one_more}
+use Rattle.dmlw_files.specs.Images.{image_of}
 use Rattle.dmlw_commands.specs.Records.{FailsRecording, IsPrintedLog, WritesLog, end_lines, file, run as run_fails, text as unread}
 
 -- a file's error is printed as such
@@ -95,8 +96,8 @@ printed text plan before ran now status lies image spells (lines, recorded, firs
 
 -- what was printed of a text that is a file's was printed of the file's script
 pub printed_of_text : (contents : Option (List ℕ)) (items text : List ℕ) (before after : Option (List ℕ)) (r : Result Recorded RunError)
-    → MatchesContents contents items → text ≡ items → IfOk r (λ recorded. IsPrintedLog (Some text) recorded.status recorded.image.items before after)
-    → IfOk r (λ recorded. IsPrintedLog contents recorded.status recorded.image.items before after)
+    → MatchesContents contents items → text ≡ items → IfOk r (λ recorded. IsPrintedLog (Some text) recorded.status (image_of recorded.disk) before after)
+    → IfOk r (λ recorded. IsPrintedLog contents recorded.status (image_of recorded.disk) before after)
 printed_of_text contents items text before after (Ok recorded) is same log = record {
   text = log.text;
   script = log.script;

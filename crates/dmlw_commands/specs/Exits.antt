@@ -51,6 +51,6 @@ abbrev pub told_line : {T : Type 0} → Result T RunError → List ℕ
 told_line (Ok done) = []
 told_line (Err fault) = fault_line fault
 
--- the line that a user is told of a replay that was refused after so many entries
+-- the line that a user is told of a replay or a copy that stopped after so many entries
 abbrev pub stopped_line : ℕ → Refusal → List ℕ
 stopped_line applied refusal = codes "dmlw: " ++ refusal_text refusal ++ codes " after " ++ decimal applied ++ codes " entries\n"

@@ -97,7 +97,7 @@ fn tell_fault<E: Write>(alloc: Global, fault: RunError, more: &str, err: &mut E)
     }
 }
 
-/// Reports that a replay was refused after so many entries, by one line, and `more` behind it, all in one write where there is memory
+/// Reports that a replay or a copy stopped after so many entries, by one line, and `more` behind it, all in one write where there is memory
 /// for it.
 pub fn report_stopped<E: Write>(
     alloc: Global,
@@ -116,7 +116,7 @@ pub fn report_stopped<E: Write>(
     }
 }
 
-// Writes the line of a replay that was refused and what stands behind it: in parts where there is no memory to make them whole.
+// Writes the line of a replay or a copy that stopped and what stands behind it: in parts where there is no memory to make them whole.
 fn tell_stopped<E: Write>(
     alloc: Global,
     applied: u64,

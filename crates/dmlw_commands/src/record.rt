@@ -7,6 +7,7 @@ ghost use Rattle.dmlw_commands.specs.declared.exit.Exit.{Exit};
 ghost use Rattle.dmlw_commands.specs.Exits.{IsRefusal, exit_after, exit_at, exit_of};
 ghost use Rattle.std.specs.Result.{IsErrAnd};
 ghost use Rattle.dmlw_files.specs.Files.{AsksFor, IsTooLong, KeepsFiles};
+ghost use Rattle.dmlw_files.specs.Images.{image_of};
 ghost use Rattle.dmlw_commands.specs.Records.{FailsRecording, HoldsLog, IsPrintedLog, WritesLog, end_lines, lies_line, status_line};
 
 use crate::ending::{Ended, end_recording};
@@ -75,8 +76,8 @@ fn record_script<F: Files, O: Write>(
     if files.is_same(script, log) {
         return Err(RunError::from(Refusal::File));
     }
-    let Recorded { image, status, .. } = run_file(alloc, script, files, out)?;
-    files.write(alloc, log, &image)?;
+    let Recorded { disk, status, .. } = run_file(alloc, script, files, out)?;
+    files.write(alloc, log, disk)?;
     Ok(status)
 }
 
@@ -87,7 +88,7 @@ fn run_file<F: Files, O: Write>(
     files: &mut F,
     out: &mut O,
 ) -> Result<Recorded, RunError>
-    ensures printed { IfOk result (λ recorded. IsPrintedLog (F.contents files.old script.now) recorded.status recorded.image.items
+    ensures printed { IfOk result (λ recorded. IsPrintedLog (F.contents files.old script.now) recorded.status (image_of recorded.disk)
         (O.contents out.old) (O.contents out.new)) }
     ensures faults { IfErr result
         (FailsRecording (F.contents files.old script.now) (O.contents out.old) (O.contents out.new)) }
@@ -101,7 +102,7 @@ fn run_file<F: Files, O: Write>(
 
 // Runs the script that a text spells, and prints what happens and how far its log has come.
 fn run_text<O: Write>(alloc: Global, text: &[u8], out: &mut O) -> Result<Recorded, RunError>
-    ensures printed { IfOk result (λ recorded. IsPrintedLog (Some text.now) recorded.status recorded.image.items
+    ensures printed { IfOk result (λ recorded. IsPrintedLog (Some text.now) recorded.status (image_of recorded.disk)
         (O.contents out.old) (O.contents out.new)) }
     ensures faults { IfErr result (FailsRecording (Some text.now) (O.contents out.old) (O.contents out.new)) }
 {
@@ -117,7 +118,7 @@ fn run_script<O: Write>(
     out: &mut O,
 ) -> Result<Recorded, RunError>
     requires { IsTextOf text.now script.now }
-    ensures printed { IfOk result (λ recorded. IsPrintedLog (Some text.now) recorded.status recorded.image.items
+    ensures printed { IfOk result (λ recorded. IsPrintedLog (Some text.now) recorded.status (image_of recorded.disk)
         (O.contents out.old) (O.contents out.new)) }
     ensures faults { IfErr result (FailsRecording (Some text.now) (O.contents out.old) (O.contents out.new)) }
 {

@@ -7,6 +7,10 @@ use Rattle.std.proofs.lemmas.List.{take_all}
 use Rattle.sectors.specs.Content.{AgreeBelow, Content, HasWholeSectors, sector_of}
 use Rattle.bio.specs.declared.outcome.End.TheVariants as ends
 use Rattle.blockdev.specs.View.{IsLawful, View}
+use Rattle.sectors.specs.SectorLaws.{length-gather, sector_of-gather}
+use Rattle.sector_disk.specs.declared.disk.SectorDisk.{SectorDisk}
+use Rattle.sector_disk.specs.Shown.{shown_of}
+use Rattle.sector_disk.specs.ShownLaws.{disk_lawful}
 use Rattle.sector_disk.specs.Sizes.{Begins}
 use Rattle.log_format.specs.declared.decode.Super.{Super}
 use Rattle.log_format.specs.declared.entry.Entry.{Entry}
@@ -38,12 +42,12 @@ use Rattle.log_copy.specs.Resized.{is_aligned_to, resized}
 use Rattle.run_error.specs.declared.run_error.RunError.{RunError}
 use Rattle.run_error.specs.Errors.{refused_by}
 use Rattle.dmlw_files.specs.Files.{MatchesContents}
-use Rattle.dmlw_files.specs.Images.{IsImage}
+use Rattle.dmlw_files.specs.Images.{IsImage, image_of}
 use Rattle.dmlw_copy.specs.declared.images.Copied.{Copied}
 use Rattle.dmlw_copy.specs.declared.stop.Stop.{Stop}
 use Rattle.dmlw_copy.specs.declared.stop.Stop.TheVariants as stops
 use Rattle.dmlw_copy.specs.CopiesLog.{FailsCopy, FailsOnImage, HasStopCause, IsCopied, IsCopiedFrom, LacksRoom, StopsCopy, memory, of_image, stopped, unopened}
-use Rattle.dmlw_copy.specs.OnDisks.{IsBegun, IsCopiedOn, IsOpened, RefusesBegin, RefusesOpen}
+use Rattle.dmlw_copy.specs.OnDisks.{IsBegun, IsCopiedOn, IsOpened, RefusesOpen}
 
 -- a device that counts no faults hasn't failed
 pub never_failed : (v w : View) → v.faults ≡ 0 → w.faults ≡ 0 → HasFaulted v w → ⊥
@@ -63,7 +67,7 @@ fails_to_open log sectors fault stop (inr refuses) same = subst (FailsOnImage lo
 
 -- what came of the image in a file came of the file
 pub copied_from : (log_file : Option (List ℕ)) (log : List ℕ) (sectors : ℕ) (r : Result Copied Stop) → MatchesContents log_file log → IsImage log
-    → IfOk r (λ done. IsCopied log done.count sectors done.image.items) → IfOk r (λ done. IsCopiedFrom log_file done.count sectors done.image.items)
+    → IfOk r (λ done. IsCopied log done.count sectors (image_of done.disk)) → IfOk r (λ done. IsCopiedFrom log_file done.count sectors (image_of done.disk))
 copied_from log_file log sectors (Ok done) read image is = record { log = log; log_read = read; log_image = image; copied = is }
 copied_from log_file log sectors (Err stop) read image is = is
 
@@ -186,20 +190,22 @@ log_alike disk size c d es some agree log =
     record { super_block = reading.super_block; entries = reading.entries }
 
 -- the image of the disk that a copy left
-pub image_of : (log : List ℕ) (sectors count : ℕ) (v : View) (image : List ℕ) → 8 ≤ sectors → IsCopiedOn log count sectors v
-    → AgreeBelow v.size v.content (sector_of image) → length image ≡ 512 * v.size → IsCopied log count sectors image
-image_of log sectors count v image some done same long =
+pub image_left : (log : List ℕ) (sectors count : ℕ) (disk : SectorDisk) → 8 ≤ sectors → IsCopiedOn log count sectors (shown_of disk)
+    → IsCopied log count sectors (image_of disk)
+image_left log sectors count disk some done =
+    let v = shown_of disk in
     let size = done.size in
+    let whole = content_whole v (disk_lawful disk) in
     record {
       head = done.head;
       entries = done.entries;
       reading = done.reading;
       all = done.all;
       aligned = done.aligned;
-      size = long ∙ ap (λ (n : ℕ). 512 * n) size;
+      size = length-gather v.size v.content 0 v.size whole (omega arith) ∙ ap (λ (n : ℕ). 512 * n) size;
       copied =
-          log_alike sectors 4096 v.content (sector_of image) (map (resized done.head.sectorsize 4096) done.entries) (omega arith)
-          (λ sector below. same sector (omega arith)) done.copied;
+          log_alike sectors 4096 v.content (sector_of (image_of disk)) (map (resized done.head.sectorsize 4096) done.entries) (omega arith)
+          (λ sector below. sector_of-gather v.size v.content whole sector (omega arith)) done.copied;
     }
 
 -- the next entry doesn't fit the new log, after those that are placed
@@ -275,21 +281,3 @@ stopped_on log sectors stop r last v w image opened begun whole_sectors reader s
           cause_on sectors stop.applied es read.fault r last v w stop.cause begun first opened.fresh within reader store kept honest goes placed
           (stopping es read.fault read.reads);
     }
-
--- a new log wasn't begun, since there is no memory
-pub not_begun : (log : List ℕ) (sectors : ℕ) (stop : Stop) (r : Reader) → IsImage log → IsOpened log r → HasWholeSectors r.device.size r.device.content
-    → RefusesBegin stop → FailsOnImage log sectors stop
-not_begun log sectors stop r image opened whole_sectors (inl is) = subst (FailsOnImage log sectors) (sym is) memory
-not_begun log sectors stop r image opened whole_sectors (inr is) =
-    let read = any_reading r.device.size r.device.content r.head whole_sectors opened.super_block in
-    let fault : CopyFault = record { applied = 0; cause = copies.Store ends.Memory } in
-    subst (FailsOnImage log sectors) (sym is)
-    (stopped fault (record {
-      head = r.head;
-      entries = read.entries;
-      fault = read.fault;
-      reading = reading_on log r read.entries read.fault image opened read.reads;
-      within = omega arith;
-      aligned = refl;
-      cause = tt;
-    }))

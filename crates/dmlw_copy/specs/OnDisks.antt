@@ -2,7 +2,6 @@
 use Rattle.std.specs.Prelude.{◌≡◌, ◌⊎◌, ℕ, ◌/◌, false, IsTrue, List, length, map, None}
 use Rattle.std.specs.List.{list_all}
 use Rattle.sectors.specs.Content.{AgreeBelow, sector_of}
-use Rattle.bio.specs.declared.outcome.End.TheVariants as ends
 use Rattle.blockdev.specs.View.{View}
 use Rattle.log_format.specs.declared.entry.Entry.{Entry}
 use Rattle.log_format.specs.declared.decode.Super.{Super}
@@ -11,13 +10,10 @@ use Rattle.log_reader.specs.Reader.{Reader}
 use Rattle.log_reader.specs.Readings.{IsReading}
 use Rattle.log_reader.specs.Reads.{BeginsWith}
 use Rattle.log_store.specs.Store.{Store}
-use Rattle.log_copy.specs.declared.fault.CopyError.TheVariants as copies
 use Rattle.log_copy.specs.Resized.{is_aligned_to, resized}
 use Rattle.run_error.specs.declared.run_error.RunError.{RunError}
 use Rattle.run_error.specs.Errors.{memory_error}
 use Rattle.dmlw_commands.specs.Lists.{RefusesImage}
-use Rattle.dmlw_copy.specs.declared.stop.Stop.{Stop}
-use Rattle.dmlw_copy.specs.declared.stop.Stop.TheVariants as stops
 
 -- a reader stands before the first entry of the log that an image has, and hasn't refused
 pub record IsOpened (log : List ℕ) (reader : Reader) : Type 0 where
@@ -37,10 +33,6 @@ pub record IsBegun (sectors : ℕ) (store : Store) : Type 0 where
   pub sector_bytes : store.sector_bytes ≡ 4096
   pub placed : store.placed ≡ 0
   pub end : store.end ≡ None
-
--- why the new log isn't begun: there is no memory
-abbrev pub RefusesBegin : Stop → Type 0
-RefusesBegin stop = (stop ≡ stops.Fault memory_error) ⊎ (stop ≡ stops.Copy (record { applied = 0; cause = copies.Store ends.Memory }))
 
 -- the log of an image was copied, with so many entries, to a new log on this disk
 pub record IsCopiedOn (log : List ℕ) (count sectors : ℕ) (v : View) : Type 0 where

@@ -6,6 +6,7 @@ ghost use Rattle.dmlw_commands.specs.declared.exit.Exit.{Exit};
 ghost use Rattle.dmlw_commands.specs.Endings.{telling};
 ghost use Rattle.dmlw_commands.specs.Exits.{IsRefusal};
 ghost use Rattle.dmlw_files.specs.Files.{KeepsFiles, MatchesContents, one_more};
+ghost use Rattle.dmlw_files.specs.Images.{image_of};
 ghost use Rattle.dmlw_copy.specs.CopiesLog.{Copies, EndsCopying, FailsCopy, HoldsCopied, IsCopiedFrom, copied_line};
 
 use crate::ending::{end_copying, refusal_of};
@@ -16,6 +17,7 @@ use dmlw_explain::{CopyNames, explain_copying};
 use dmlw_files::{Files, read_image};
 use refusals::Refusal;
 use run_error::RunError;
+use sector_disk::SectorDisk;
 use std::alloc::Global;
 use std::io::Write;
 
@@ -70,8 +72,8 @@ fn copy_file<F: Files, O: Write>(
     if files.is_same(names.log, names.out) {
         return Err(Stop::Fault(RunError::from(Refusal::File)));
     }
-    let Copied { count, image } = copy_named(alloc, names.log, sectors, files)?;
-    match hand_over(alloc, count, &image, names.out, files, out) {
+    let Copied { count, disk } = copy_named(alloc, names.log, sectors, files)?;
+    match hand_over(alloc, count, disk, names.out, files, out) {
         Ok(()) => Ok(count),
         Err(fault) => Err(Stop::Fault(fault)),
     }
@@ -86,7 +88,7 @@ fn copy_named<F: Files>(
 ) -> Result<Copied, Stop>
     requires least { 8 ≤ sectors }
     requires most { sectors ≤ 1048576 }
-    ensures copied { IfOk result (λ done. IsCopiedFrom (F.contents files.old log.now) done.count sectors done.image.items) }
+    ensures copied { IfOk result (λ done. IsCopiedFrom (F.contents files.old log.now) done.count sectors (image_of done.disk)) }
     ensures fails { IfErr result (FailsCopy (F.contents files.old log.now) sectors) }
     ensures kept { KeepsFiles (F.contents files.old) (F.contents files.new) }
     ensures unwritten { F.writes files.new ≡ F.writes files.old }
@@ -99,22 +101,22 @@ fn copy_named<F: Files>(
 fn hand_over<F: Files, O: Write>(
     alloc: Global,
     count: u64,
-    image: &[u8],
+    disk: SectorDisk,
     name: &str,
     files: &mut F,
     out: &mut O,
 ) -> Result<(), RunError>
     ensures done { OnOk result (Appends (O.contents out.old) (O.contents out.new) (copied_line count)
-        × (F.writes files.new ≡ one_more (F.writes files.old) name.now image.now)) }
-    ensures held { OnOk result (MatchesContents (F.contents files.new name.now) image.now) }
+        × (F.writes files.new ≡ one_more (F.writes files.old) name.now (image_of disk))) }
+    ensures held { OnOk result (MatchesContents (F.contents files.new name.now) (image_of disk)) }
     ensures fails { IfErr result IsFileError }
     ensures asked { OnErr result ((F.writes files.new ≡ F.writes files.old)
         ⊎ (Appends (O.contents out.old) (O.contents out.new) (copied_line count)
-        × (F.writes files.new ≡ one_more (F.writes files.old) name.now image.now))) }
+        × (F.writes files.new ≡ one_more (F.writes files.old) name.now (image_of disk)))) }
     ensures kept { OnErr result (KeepsFiles (F.contents files.old) (F.contents files.new)) }
 {
     print_count(count, out)?;
-    files.write(alloc, name, image)?;
+    files.write(alloc, name, disk)?;
     Ok(())
 }
 

@@ -4,13 +4,13 @@ ghost use Rattle.sector_disk.specs.Shown.{shown_of};
 ghost use Rattle.log_reader.specs.Shown.{reader_of};
 ghost use Rattle.log_store.specs.Shown.{store_of};
 ghost use Rattle.run_error.specs.Errors.{memory_error};
-ghost use Rattle.dmlw_files.specs.Images.{IsImage};
+ghost use Rattle.dmlw_files.specs.Images.{IsImage, image_of};
 ghost use Rattle.dmlw_copy.specs.CopiesLog.{FailsOnImage, IsCopied};
-ghost use Rattle.dmlw_copy.specs.OnDisks.{IsBegun, IsCopiedOn, IsOpened, RefusesBegin, RefusesOpen};
+ghost use Rattle.dmlw_copy.specs.OnDisks.{IsBegun, IsOpened, RefusesOpen};
 
 use crate::stop::Stop;
-use bio::SectorSize;
-use log_copy::{CopyError, CopyFault, copy_log};
+use bio::{End, SectorSize};
+use log_copy::copy_log;
 use log_reader::LogReader;
 use log_store::LogStore;
 use refusals::Refusal;
@@ -23,39 +23,26 @@ use std::alloc::Global;
 pub(crate) struct Copied {
     /// How many entries were copied.
     pub(crate) count: u64,
-    /// The image of the new log's disk.
-    pub(crate) image: Vec<u8>,
+    /// The new log's disk.
+    pub(crate) disk: SectorDisk,
 }
 
 /// Copies the log that an image has to a new log with sectors of 4,096 bytes, on a disk of so many sectors of 512 bytes, 8 to 1,048,576.
-/// In memory are both disks and one entry, and after the copy the new log's disk and its image.
+/// In memory are both disks and one entry; the old log's disk is gone after it.
 pub(crate) fn copy_image(alloc: Global, log: Vec<u8>, sectors: u64) -> Result<Copied, Stop>
     requires log { IsImage log.items }
     requires least { 8 ≤ sectors }
     requires most { sectors ≤ 1048576 }
-    ensures copied { IfOk result (λ done. IsCopied log.items done.count sectors done.image.items) }
-    ensures fails { IfErr result (FailsOnImage log.items sectors) }
-{
-    let (count, disk) = copy_on_disks(alloc, log, sectors)?;
-    match disk.into_bytes() {
-        Ok(image) => Ok(Copied { count, image }),
-        Err(error) => Err(Stop::Fault(RunError::from(error))),
-    }
-}
-
-// Copies the log that an image has to a new log, and answers how many entries were copied and the new log's disk; the old log's disk is
-// gone after it.
-fn copy_on_disks(alloc: Global, log: Vec<u8>, sectors: u64) -> Result<(u64, SectorDisk), Stop>
-    requires log { IsImage log.items }
-    requires least { 8 ≤ sectors }
-    requires most { sectors ≤ 1048576 }
-    ensures copied { IfOk result (λ done. IsCopiedOn log.items done.0 sectors (shown_of done.1)) }
+    ensures copied { IfOk result (λ done. IsCopied log.items done.count sectors (image_of done.disk)) }
     ensures fails { IfErr result (FailsOnImage log.items sectors) }
 {
     let mut reader = open_log(alloc, log)?;
     let mut store = begin_log(alloc, sectors)?;
     match copy_log(&mut reader, &mut store) {
-        Ok(count) => Ok((count, store.into_device())),
+        Ok(count) => {
+            let disk = store.into_device();
+            Ok(Copied { count, disk })
+        }
         Err(fault) => Err(Stop::Copy(fault)),
     }
 }
@@ -73,20 +60,20 @@ fn open_log(alloc: Global, log: Vec<u8>) -> Result<LogReader<SectorDisk>, RunErr
     }
 }
 
-// Begins the new log, on a disk of so many sectors of zeroes.
-fn begin_log(alloc: Global, sectors: u64) -> Result<LogStore<SectorDisk>, Stop>
+// Begins the new log, on a disk of so many sectors of zeroes. Nothing was copied yet, so want of memory is told as such, and not as an end of logging.
+fn begin_log(alloc: Global, sectors: u64) -> Result<LogStore<SectorDisk>, RunError>
     requires least { 8 ≤ sectors }
     requires most { sectors ≤ 1048576 }
     ensures begun { IfOk result (λ store. IsBegun sectors (store_of store)) }
-    ensures refused { IfErr result RefusesBegin }
+    ensures memory { IfErr result (λ fault. fault ≡ memory_error) }
 {
     let disk = new_disk(alloc, sectors)?;
     match LogStore::create_sized(disk, SectorSize::B4096) {
         Ok(store) => Ok(store),
-        Err((_disk, end)) => Err(Stop::Copy(CopyFault {
-            applied: 0,
-            cause: CopyError::Store(end),
-        })),
+        Err((_disk, End::Memory)) => Err(RunError::from(Refusal::Memory)),
+        Err((_disk, End::Full | End::Device)) => unreachable!(
+            "a disk in memory never fails, and has room"
+        ),
     }
 }
 

@@ -16,8 +16,8 @@ use Rattle.log_copy.specs.Refusals.{copy_refusal}
 use Rattle.dmlw_copy.specs.CopiesLog.{Copies, PrintsCopy, copy_exit, copy_line}
 use Rattle.dmlw_copy.specs.declared.stop.Stop.{Stop as CopyStop}
 use Rattle.dmlw_copy.specs.declared.stop.Stop.TheVariants as copy_stops
-use Rattle.dmlw_judge.specs.declared.finding.Finding.{Finding}
-use Rattle.dmlw_judge.specs.declared.finding.Finding.TheVariants as findings
+use Rattle.world.specs.declared.finding.Finding.{Finding}
+use Rattle.world.specs.declared.finding.Finding.TheVariants as findings
 use Rattle.dmlw_judge.specs.Judgements.{exit_answered, exit_judged}
 use Rattle.dmlw_judge.specs.Paths.{finding_meaning}
 use Rattle.dmlw_replay.specs.Replays.{PrintsReplay, Replays, replay_exit, replay_line}

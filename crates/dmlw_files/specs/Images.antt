@@ -1,6 +1,9 @@
--- Which bytes are an image.
+-- Which bytes are an image, and which image a disk has.
 use Rattle.std.proofs.Common.{◌≡◌, ◌≤◌, ℕ, List, Option, Some, None, length, subst, sym}
 use Rattle.std.specs.Prelude.{◌%◌}
+use Rattle.sectors.specs.Content.{gather}
+use Rattle.sector_disk.specs.declared.disk.SectorDisk.{SectorDisk}
+use Rattle.sector_disk.specs.Shown.{shown_of}
 use Rattle.dmlw_files.specs.Files.{IsWithin, MatchesContents}
 
 -- the bytes are those of an image: whole sectors, at least one, and 2 ^ 29 bytes at most
@@ -8,6 +11,10 @@ pub record IsImage (bytes : List ℕ) : Type 0 where
   pub whole : length bytes % 512 ≡ 0
   pub least : 512 ≤ length bytes
   pub most : length bytes ≤ 536870912
+
+-- the image of a disk: the bytes of all its sectors, one after another
+abbrev pub image_of : SectorDisk → List ℕ
+image_of disk = gather (shown_of disk).content 0 (shown_of disk).size
 
 -- what a file holds is known, and is an image
 abbrev pub HoldsImage : Option (List ℕ) → Type 0

@@ -2,9 +2,11 @@ ghost use Rattle.std.specs.Prelude.{◌≡◌, ◌≤◌, IfErr, IfOk, List, OnE
 ghost use Rattle.run_error.specs.Errors.{refused_by};
 ghost use Rattle.dmlw_files.specs.Files.{IsWithin, KeepsFiles, MatchesContents, Write, one_more};
 ghost use Rattle.dmlw_files.specs.FileErrors.{file_error, file_refusal};
+ghost use Rattle.dmlw_files.specs.Images.{image_of};
 
 use refusals::Refusal;
 use run_error::RunError;
+use sector_disk::SectorDisk;
 use std::alloc::Global;
 use std::io;
 use thiserror::Error;
@@ -78,11 +80,12 @@ pub trait Files {
         ensures kept { KeepsFiles (contents self.old) (contents self.new) }
         ensures writes { writes self.new ≡ writes self.old };
 
-    /// Makes the file hold these bytes and no others, or, where it fails, leaves each file as it was.
-    fn write(&mut self, alloc: Global, name: &str, bytes: &[u8]) -> Result<(), FileError>
-        ensures holds { OnOk result (MatchesContents (contents self.new name.now) bytes.now) }
+    /// Makes the file hold the image of a disk and no other bytes, or, where it fails, leaves each file as it was. The disk goes: its bytes
+    /// may be taken out of it piece by piece, so that the image needs not be in memory as a whole.
+    fn write(&mut self, alloc: Global, name: &str, disk: SectorDisk) -> Result<(), FileError>
+        ensures holds { OnOk result (MatchesContents (contents self.new name.now) (image_of disk)) }
         ensures kept { OnErr result (KeepsFiles (contents self.old) (contents self.new)) }
-        ensures writes { writes self.new ≡ one_more (writes self.old) name.now bytes.now };
+        ensures writes { writes self.new ≡ one_more (writes self.old) name.now (image_of disk) };
 
     /// Why the last read or write that failed did so, where that is known.
     fn trouble(&self) -> Option<&Trouble>;

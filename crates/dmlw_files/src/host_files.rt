@@ -1,17 +1,18 @@
-ghost use Rattle.std.specs.Prelude.{◌≤◌, IfOk, IfSome, None, vec_len};
+ghost use Rattle.std.specs.Prelude.{◌≡◌, ◌≤◌, IfOk, IfSome, None, length, vec_len};
 
 use crate::files::{FileError, Files, Trouble};
+use crate::pieces::{PIECE, used_sectors, write_sectors};
+use blockdev::BlockDev;
+use sector_disk::SectorDisk;
+use sectors::SECTOR_BYTES;
 use std::alloc::Global;
 use std::fs::{File, OpenFile, OpenOptions, Permissions};
-use std::io::{Read, Write};
+use std::io::Read;
 use std::os::unix::fs::MetadataExt;
 use std::{fs, io};
 
 // How many names are tried for the file beside a log.
 const MAX_BESIDE: u32 = 1000;
-
-// Zeroes at a file's end are looked for in blocks of so many bytes.
-const BLOCK: usize = 4096;
 
 /// The system's files. No clause knows what they hold.
 ///
@@ -56,8 +57,8 @@ impl<R: std::rt::Files> Files for HostFiles<'_, R> {
         }
     }
 
-    fn write(&mut self, alloc: Global, name: &str, bytes: &[u8]) -> Result<(), FileError> {
-        match write_file(self.runtime, alloc, name, bytes) {
+    fn write(&mut self, alloc: Global, name: &str, disk: SectorDisk) -> Result<(), FileError> {
+        match write_file(self.runtime, alloc, name, disk) {
             Ok(()) => Ok(()),
             Err(error) => Err(self.keep(Trouble::Write(error))),
         }
@@ -101,28 +102,38 @@ fn read_file<R: std::rt::Files>(
     Ok(Some(bytes))
 }
 
-// Writes the file of a name, as what stands there asks for.
+// Writes the image of a disk to the file of a name. The buffer for its pieces is there before any file is touched.
 fn write_file<R: std::rt::Files>(
     runtime: &R,
     alloc: Global,
     name: &str,
-    bytes: &[u8],
+    disk: SectorDisk,
 ) -> io::Result<()> {
+    let mut disk = disk;
+    let mut buffer = vec![in alloc; 0; PIECE]?;
+    write_image(runtime, alloc, name, &mut disk, &mut buffer)
+}
+
+// Writes the file of a name, as what stands there asks for.
+fn write_image<R: std::rt::Files>(
+    runtime: &R,
+    alloc: Global,
+    name: &str,
+    disk: &mut SectorDisk,
+    buffer: &mut [u8],
+) -> io::Result<()>
+    requires { length buffer.old ≡ 262144 }
+{
     if is_stream(name) {
-        return write_through(runtime, name, bytes);
+        return write_through(runtime, name, disk, buffer);
     }
     match fs::metadata(runtime, name) {
         Ok(found) if found.is_file() => {
             let target = runtime.canonicalize(alloc, name)?;
-            replace(
-                runtime,
-                alloc,
-                target.as_str(),
-                Some(found.permissions()),
-                bytes,
-            )
+            let mode = Some(found.permissions());
+            replace(runtime, alloc, target.as_str(), mode, disk, buffer)
         }
-        Ok(_) => write_through(runtime, name, bytes),
+        Ok(_) => write_through(runtime, name, disk, buffer),
         Err(error) => {
             // A link that leads nowhere has a name, and no file.
             if error.kind() != io::ErrorKind::NotFound
@@ -130,7 +141,7 @@ fn write_file<R: std::rt::Files>(
             {
                 return Err(error);
             }
-            replace(runtime, alloc, name, None, bytes)
+            replace(runtime, alloc, name, None, disk, buffer)
         }
     }
 }
@@ -144,21 +155,31 @@ fn is_stream(name: &str) -> bool {
 }
 
 // Writes to what has no length of its own, as a pipe or a device.
-fn write_through<R: std::rt::Files>(runtime: &R, name: &str, bytes: &[u8]) -> io::Result<()> {
+fn write_through<R: std::rt::Files>(
+    runtime: &R,
+    name: &str,
+    disk: &mut SectorDisk,
+    buffer: &mut [u8],
+) -> io::Result<()>
+    requires { length buffer.old ≡ 262144 }
+{
     let mut file = OpenOptions::new().append(true).open(runtime, name)?;
-    file.write_all(bytes)
+    write_sectors(disk, disk.sectors(), buffer, &mut file)
 }
 
-// Makes a regular file hold these bytes, or leaves it as it was.
+// Makes a regular file hold the image of this disk, or leaves it as it was.
 fn replace<R: std::rt::Files>(
     runtime: &R,
     alloc: Global,
     target: &str,
     permissions: Option<Permissions>,
-    bytes: &[u8],
-) -> io::Result<()> {
+    disk: &mut SectorDisk,
+    buffer: &mut [u8],
+) -> io::Result<()>
+    requires { length buffer.old ≡ 262144 }
+{
     let (beside, file) = create_beside(runtime, alloc, target)?;
-    let mut done = fill::<R>(file, permissions, bytes);
+    let mut done = fill::<R>(file, permissions, disk, buffer);
     if done.is_ok() {
         done = fs::rename(runtime, beside.as_str(), target);
     }
@@ -192,25 +213,17 @@ fn create_beside<R: std::rt::Files>(
 fn fill<R: std::rt::Files>(
     file: R::File,
     permissions: Option<Permissions>,
-    bytes: &[u8],
-) -> io::Result<()> {
+    disk: &mut SectorDisk,
+    buffer: &mut [u8],
+) -> io::Result<()>
+    requires { length buffer.old ≡ 262144 }
+{
     let mut file = file;
-    file.write_all(without_zeroes(bytes))?;
-    file.set_len(bytes.len() as u64)?;
+    let used = used_sectors(disk, buffer);
+    write_sectors(disk, used, buffer, &mut file)?;
+    file.set_len(disk.sectors().saturating_mul(SECTOR_BYTES))?;
     if let Some(permissions) = permissions {
         let _ = file.set_permissions(permissions);
     }
     file.sync_all()
-}
-
-// The bytes up to the blocks of zeroes at their end.
-fn without_zeroes(bytes: &[u8]) -> &[u8] {
-    let mut used = bytes.len();
-    for block in bytes.rchunks(BLOCK) {
-        if block.iter().fold(0, |values: u8, byte| values | *byte) != 0 {
-            break;
-        }
-        used = used.saturating_sub(block.len());
-    }
-    bytes.get(..used).unwrap_or(bytes)
 }

@@ -14,4 +14,5 @@ mod files;
 mod host_files;
 mod image;
 mod output;
+mod pieces;
 mod text;

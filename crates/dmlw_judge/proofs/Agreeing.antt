@@ -8,10 +8,11 @@ use Rattle.dmlw_script.specs.Plans.{Plan, top_of}
 use Rattle.judge.specs.declared.verdict.Verdict.{Verdict}
 use Rattle.judge.specs.Verdicts.{IsVerdict}
 use Rattle.world.specs.Runs.{IsReachable}
-use Rattle.dmlw_judge.specs.declared.finding.Finding.{Finding}
-use Rattle.dmlw_judge.specs.declared.finding.Finding.TheVariants.{Run, RuledOut}
+use Rattle.world.specs.Findings.{IsFinding}
+use Rattle.world.specs.declared.finding.Finding.{Finding}
+use Rattle.world.specs.declared.finding.Finding.TheVariants.{Run, RuledOut}
 use Rattle.dmlw_judge.specs.Judgements.{IsJudged, blank}
-use Rattle.dmlw_judge.specs.Paths.{IsFinding, IsFound, verdict_of}
+use Rattle.dmlw_judge.specs.Paths.{IsFound, verdict_of}
 
 -- an image has one verdict
 abbrev pub OneVerdict : Type 0

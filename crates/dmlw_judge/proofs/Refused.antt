@@ -34,9 +34,10 @@ use Rattle.dmlw_commands.specs.Endings.{Telling, TellsLine, telling}
 use Rattle.dmlw_commands.specs.Exits.{told_line}
 use Rattle.dmlw_files.specs.Files.{Write}
 use Rattle.dmlw_judge.specs.Beginnings.{BeginsLog, IsReplayedTo}
-use Rattle.dmlw_judge.specs.declared.finding.Finding.{Finding}
-use Rattle.dmlw_judge.specs.declared.finding.Finding.TheVariants as findings
-use Rattle.dmlw_judge.specs.Paths.{IsFinding, exit_by_finding, finding_text, step_line, verdict_of}
+use Rattle.world.specs.Findings.{IsFinding}
+use Rattle.world.specs.declared.finding.Finding.{Finding}
+use Rattle.world.specs.declared.finding.Finding.TheVariants as findings
+use Rattle.dmlw_judge.specs.Paths.{exit_by_finding, finding_text, step_line, verdict_of}
 use Rattle.dmlw_judge.specs.Judgements.{Answers, AreRead, CanJudge, CannotJudge, EndsAnswering, EndsJudging, HasAnswer, HasNoVerdict, IsAnswered, Judges, Meaning, Question, exit_judged, file, moment as no_moment, question, run, text, verdict_line, verdict_meaning}
 use Rattle.recorder.specs.Shown.{core_of}
 

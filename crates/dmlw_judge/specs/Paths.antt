@@ -1,13 +1,9 @@
 -- What `path` answers: a run of the cache machine that leaves an image, or what rules the image out.
 use Rattle.std.specs.Prelude.{ℕ, List, ◌++◌, Option, codes}
 use Rattle.std.specs.List.{flat_map}
-use Rattle.sectors.specs.Content.{Content}
-use Rattle.bio.specs.declared.event.CoreEvent.{CoreEvent}
 use Rattle.judge.specs.declared.verdict.Verdict.{Verdict}
 use Rattle.judge.specs.declared.verdict.Verdict.TheVariants as verdicts
-use Rattle.judge.specs.Verdicts.{IsVerdict}
 use Rattle.world.specs.declared.step.Step.{Step}
-use Rattle.world.specs.Runs.{Leaves}
 use Rattle.world.specs.Texts.{step_text}
 use Rattle.dmlw_script.specs.Plans.{Plan}
 use Rattle.dmlw_commands.specs.declared.ending.Ended.{Ended}
@@ -15,15 +11,10 @@ use Rattle.dmlw_commands.specs.declared.exit.Exit.{Exit}
 use Rattle.dmlw_commands.specs.declared.exit.Exit.TheVariants as exits
 use Rattle.dmlw_commands.specs.Endings.{Telling}
 use Rattle.dmlw_files.specs.Files.{Write}
-use Rattle.dmlw_judge.specs.declared.finding.Finding.{Finding}
-use Rattle.dmlw_judge.specs.declared.finding.Finding.TheVariants.{Run, RuledOut}
+use Rattle.world.specs.Findings.{IsFinding}
+use Rattle.world.specs.declared.finding.Finding.{Finding}
+use Rattle.world.specs.declared.finding.Finding.TheVariants.{Run, RuledOut}
 use Rattle.dmlw_judge.specs.Judgements.{EndsAnswering, HasAnswer, IsAnswered, Meaning, Question, verdict_line}
-
--- what a finding on an image of so many sectors says, after these events: the run is one of the cache machine, fits the events and leaves the image;
--- or there is none, and the verdict is this no
-abbrev pub IsFinding : ℕ → List CoreEvent → Content → Content → Finding → Type 0
-IsFinding sectors events first now (Run run) = Leaves events first run.items now
-IsFinding sectors events first now (RuledOut sector by) = IsVerdict sectors events first now (verdicts.No sector by)
 
 -- the verdict that a finding has: yes where there is a run, and else its no
 abbrev pub verdict_of : Finding → Verdict

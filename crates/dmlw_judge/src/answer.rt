@@ -1,12 +1,15 @@
 //! A kind of answer to a question on an image: how it is found, printed, and ends the command.
-ghost use Rattle.std.specs.Prelude.{◌≡◌, ◌/◌, ◌%◌, IfOk, OnOk, length, take, true};
+ghost use Rattle.std.specs.Prelude.{◌≡◌, ◌/◌, ◌%◌, IfOk, OnOk, [], false, length, take, true};
+ghost use Rattle.std.specs.String.{string_bytes};
+ghost use Rattle.dmlw_files.specs.Files.{KeepsFiles};
 ghost use Rattle.std.specs.Io.KnownBytes.{Appends};
 ghost use Rattle.bio.specs.Lawful.{is_lawful};
 ghost use Rattle.sectors.specs.Content.{sector_of};
-ghost use Rattle.dmlw_judge.specs.Judgements.{Meaning};
+ghost use Rattle.dmlw_judge.specs.Judgements.{Meaning, blank};
 
 use bio::CoreEvent;
 use dmlw_commands::Exit;
+use dmlw_files::Files;
 use std::alloc::{AllocError, Global};
 use std::io;
 use std::io::Write;
@@ -16,25 +19,35 @@ pub(crate) trait Answer: Drop {
     // What an answer says, what is printed of it, and how it ends the command.
     ghost meaning: { Meaning Self };
 
-    // The answer after the first `moment` of the events, where `first` was on the device before the first event. `events` is a list that
-    // a recorder of the device may have recorded; both images have the device's length in bytes, whole sectors of 512. Want of memory is
+    // The answer after the first `moment` of the events, where zeroes were on the device before the first event. `events` is a list that
+    // a recorder of the device may have recorded; the image has the device's length in bytes, whole sectors of 512. Want of memory is
     // the only error.
     fn on_image(
         alloc: Global,
         events: &[CoreEvent],
         moment: u64,
-        first: &[u8],
         image: &[u8],
     ) -> Result<Self, AllocError>
         requires whole { length image.now % 512 ≡ 0 }
-        requires same { length first.now ≡ length image.now }
         requires lawful { is_lawful (length image.now / 512) events.now ≡ true }
         ensures { IfOk result
-            (meaning.says (length image.now / 512) (take moment events.now) (sector_of first.now) (sector_of image.now)) };
+            (meaning.says (length image.now / 512) (take moment events.now) (blank (length image.now)) (sector_of image.now)) };
 
     // Prints the answer.
     fn print<O: Write>(&self, out: &mut O) -> io::Result<()>
         ensures { OnOk result (Appends (O.contents out.old) (O.contents out.new) (meaning.printed self.now)) };
+
+    // What `--explain` adds behind the answer, by the script in a file: lines that each begin with two spaces. Empty where it isn't asked for.
+    fn explain<F: Files>(
+        &self,
+        alloc: Global,
+        explains: bool,
+        script: &str,
+        files: &mut F,
+    ) -> String
+        ensures silent { explains ≡ false → string_bytes result ≡ [] }
+        ensures kept { KeepsFiles (F.contents files.old) (F.contents files.new) }
+        ensures unwritten { F.writes files.new ≡ F.writes files.old };
 
     // How the answer ends the command.
     fn exit(&self) -> Exit

@@ -1,5 +1,6 @@
 //! The form that `judge` and `path` share: a question on an image is answered by the script in a file.
-ghost use Rattle.std.specs.Prelude.{◌≡◌, ◌⊎◌, ◌++◌, IfErr, IfOk, [], length, take, true};
+ghost use Rattle.std.specs.Prelude.{◌≡◌, ◌⊎◌, ◌++◌, IfErr, IfOk, [], false, length, take, true};
+ghost use Rattle.std.specs.String.{string_bytes};
 ghost use Rattle.std.specs.Io.KnownBytes.{Appends, Keeps};
 ghost use Rattle.bio.specs.Lawful.{is_lawful};
 ghost use Rattle.sectors.specs.Content.{sector_of};
@@ -44,15 +45,26 @@ pub(crate) fn ask<A: Answer, F: Files, O: Write, E: Write>(
     ensures kept { KeepsFiles (F.contents files.old) (F.contents files.new) }
 {
     let answered: Result<A, RunError> = answer_files(alloc, script, moment, image, files, out);
-    let more = explain_judging(alloc, explains, fault_of(&answered), script, image, files);
+    let more = explain_answered(alloc, explains, &answered, script, image, files);
     end_answering(alloc, &answered, more.as_str(), out, err)
 }
 
-// Why there is no answer.
-fn fault_of<A: Answer>(answered: &Result<A, RunError>) -> Result<(), RunError> {
+// What `--explain` adds to what a question came to: lines of the answer's own, or what helps against the fault.
+fn explain_answered<A: Answer, F: Files>(
+    alloc: Global,
+    explains: bool,
+    answered: &Result<A, RunError>,
+    script: &str,
+    image: &str,
+    files: &mut F,
+) -> String
+    ensures silent { explains ≡ false → string_bytes result ≡ [] }
+    ensures kept { KeepsFiles (F.contents files.old) (F.contents files.new) }
+    ensures unwritten { F.writes files.new ≡ F.writes files.old }
+{
     match answered {
-        Ok(_) => Ok(()),
-        Err(fault) => Err(*fault),
+        Ok(answer) => answer.explain(alloc, explains, script, files),
+        Err(fault) => explain_judging(alloc, explains, Err(*fault), script, image, files),
     }
 }
 
@@ -167,7 +179,6 @@ fn answer_events<A: Answer>(
     if moment > last_moment(events) as u64 || image.len() as u64 / SECTOR_BYTES != sectors {
         return Err(RunError::from(Refusal::BadMoment));
     }
-    let first = vec![in alloc; 0; image.len()]?;
-    let answer = A::on_image(alloc, events, moment, &first, image)?;
+    let answer = A::on_image(alloc, events, moment, image)?;
     Ok(answer)
 }

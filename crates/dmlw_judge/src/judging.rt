@@ -8,7 +8,7 @@ use crate::answering::ask;
 use bio::CoreEvent;
 use dmlw_commands::{Ended, Exit};
 use dmlw_files::Files;
-use judge::{Verdict, could_hold};
+use judge::{First, Verdict, could_hold};
 use std::alloc::{AllocError, Global};
 use std::io;
 use std::io::Write;
@@ -46,15 +46,24 @@ impl Answer for Verdict {
         alloc: Global,
         events: &[CoreEvent],
         moment: u64,
-        first: &[u8],
         image: &[u8],
     ) -> Result<Verdict, AllocError> {
-        could_hold(alloc, events, moment, first, image)
+        could_hold(alloc, events, moment, First::Zeroes, image)
     }
 
     fn print<O: Write>(&self, out: &mut O) -> io::Result<()> {
         let verdict = *self;
         writeln!(out, "{verdict}")
+    }
+
+    fn explain<F: Files>(
+        &self,
+        alloc: Global,
+        _explains: bool,
+        _script: &str,
+        _files: &mut F,
+    ) -> String {
+        String::new(alloc)
     }
 
     fn exit(&self) -> Exit {

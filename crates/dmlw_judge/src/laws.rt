@@ -8,10 +8,11 @@ ghost use Rattle.judge.specs.declared.verdict.Verdict.{Verdict};
 ghost use Rattle.judge.specs.declared.verdict.Verdict.TheVariants.{Yes};
 ghost use Rattle.judge.specs.Verdicts.{IsVerdict};
 ghost use Rattle.sectors.specs.Content.{Content};
-ghost use Rattle.dmlw_judge.specs.declared.finding.Finding.{Finding};
+ghost use Rattle.world.specs.Findings.{IsFinding};
+ghost use Rattle.world.specs.declared.finding.Finding.{Finding};
 ghost use Rattle.dmlw_judge.specs.Beginnings.{BeginsLog, IsReplayedTo, replayed_first};
 ghost use Rattle.dmlw_judge.specs.Judgements.{HasVerdict, IsJudged, Question, blank};
-ghost use Rattle.dmlw_judge.specs.Paths.{IsFinding, IsFound, verdict_of};
+ghost use Rattle.dmlw_judge.specs.Paths.{IsFound, verdict_of};
 
 use judge::laws::verdicts_differ;
 use pending::laws::beginnings_are_possible;

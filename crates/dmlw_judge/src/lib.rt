@@ -6,7 +6,6 @@
 //! `laws` says that `judge` rules out no beginning of the script's log (`specs/Beginnings`).
 #![tactic(auto)]
 
-pub use finding::Finding;
 pub use judging::judge;
 pub use pathing::path;
 
@@ -17,3 +16,4 @@ mod judging;
 pub mod laws;
 mod moments;
 mod pathing;
+mod step_lines;

@@ -4,11 +4,11 @@ ghost use Rattle.dmlw_files.specs.Files.{KeepsFiles};
 ghost use Rattle.dmlw_judge.specs.Paths.{EndsFinding};
 
 use crate::answering::ask;
-use crate::finding::Finding;
 use dmlw_commands::Ended;
 use dmlw_files::Files;
 use std::alloc::Global;
 use std::io::Write;
+use world::Finding;
 
 /// Does `path SCRIPT M IMAGE`: runs a script as `record` does, and prints a run of the cache machine that submits and ends the requests of the
 /// first `moment` of the recorder's events in their order, and leaves the image, where zeroes were on the data disk at first. Each step is a

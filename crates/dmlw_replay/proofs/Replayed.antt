@@ -2,9 +2,13 @@
 use Rattle.std.proofs.Common.{◌≡◌, ◌∙◌, ◌⊎◌, ℕ, ◌+◌, ◌*◌, ◌/◌, ◌<◌, ◌≤◌, false, List, Option, Result, Ok, Err, IfErr, IfOk, ap, arith, inl, inr, length, refl, subst, sym}
 use Rattle.std.proofs.lemmas.Option.{slice_get_within}
 use Rattle.sectors.specs.Content.{AgreeBelow, Content, sector_of}
+use Rattle.sectors.specs.SectorLaws.{length-gather, sector_of-gather}
 use Rattle.blockdev.specs.View.{View}
 use Rattle.blockdev.specs.Law.{NoLie}
 use Rattle.bio.specs.declared.outcome.DevError.TheVariants as devices
+use Rattle.sector_disk.specs.declared.disk.SectorDisk.{SectorDisk}
+use Rattle.sector_disk.specs.Shown.{shown_of}
+use Rattle.sector_disk.specs.ShownLaws.{content_whole}
 use Rattle.sector_disk.specs.Sizes.{Begins}
 use Rattle.log_format.specs.declared.decode.Super.{Super}
 use Rattle.log_format.specs.declared.entry.Entry.{Entry}
@@ -33,7 +37,7 @@ use Rattle.headline.specs.declared.reopening.ReopenError.TheVariants as reopens
 use Rattle.headline.specs.Reopened.{IsRefused, IsReplayed as IsReopened, IsStopped, first_reader}
 use Rattle.run_error.specs.declared.run_error.RunError.{RunError}
 use Rattle.run_error.specs.Errors.{memory_error, refused_by}
-use Rattle.dmlw_files.specs.Images.{IsImage}
+use Rattle.dmlw_files.specs.Images.{IsImage, image_of}
 use Rattle.dmlw_commands.specs.Lists.{RefusesImage}
 use Rattle.dmlw_files.specs.Files.{MatchesContents}
 use Rattle.dmlw_replay.specs.declared.images.Replayed.{Replayed}
@@ -60,7 +64,7 @@ fails_to_open log first upto fault stop (inr refuses) same = subst (FailsOnImage
 
 -- what came of the images in files came of the files
 pub replayed_from : (log_file first_file : Option (List ℕ)) (log first : List ℕ) (upto : Upto) (r : Result Replayed Stop) → AreImages log_file first_file log first
-    → IfOk r (λ done. IsReplayed log first upto done.count done.image.items) → IfOk r (λ done. IsReplayedFrom log_file first_file upto done.count done.image.items)
+    → IfOk r (λ done. IsReplayed log first upto done.count (image_of done.disk)) → IfOk r (λ done. IsReplayedFrom log_file first_file upto done.count (image_of done.disk))
 replayed_from log_file first_file log first upto (Ok done) are is = record { log = log; first = first; files = are; replayed = is }
 replayed_from log_file first_file log first upto (Err stop) are is = is
 
@@ -184,10 +188,12 @@ fails_on log first upto (reopens.Replay fault) stop disk last v w image log_begi
     (stopped fault (stopped_on log first upto fault disk last v w image log_begins begins reader target no_lie refused))
 
 -- the image of the disk that a replay left
-pub image_of : (log first : List ℕ) (upto : Upto) (count : ℕ) (w : View) (image : List ℕ) → IsImage first → IsReplayedOn log first upto count w
-    → AgreeBelow w.size w.content (sector_of image) → length image ≡ 512 * w.size → IsReplayed log first upto count image
-image_of log first upto count w image is done same long =
-    let size = done.size in
+pub image_left : (log first : List ℕ) (upto : Upto) (count : ℕ) (disk : SectorDisk) → IsImage first → IsReplayedOn log first upto count (shown_of disk)
+    → IsReplayed log first upto count (image_of disk)
+image_left log first upto count disk is done =
+    let w = shown_of disk in
+    let size : w.size ≡ length first / 512 = done.size in
+    let long : length (image_of disk) ≡ 512 * w.size = length-gather w.size w.content 0 w.size (content_whole disk) (omega arith) in
     let whole = is.whole in
     record {
       head = done.head;
@@ -197,5 +203,5 @@ image_of log first upto count w image is done same long =
       named = done.named;
       within = done.within;
       size = omega arith;
-      content = λ sector below. same sector (omega arith) ∙ done.content sector below;
+      content = λ sector below. sector_of-gather w.size w.content (content_whole disk) sector (omega arith) ∙ done.content sector below;
     }

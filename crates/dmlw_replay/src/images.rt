@@ -3,8 +3,8 @@ ghost use Rattle.sector_disk.specs.Shown.{shown_of};
 ghost use Rattle.sector_disk.specs.Sizes.{Begins};
 ghost use Rattle.sectors.specs.Content.{sector_of};
 ghost use Rattle.run_error.specs.Errors.{memory_error};
-ghost use Rattle.dmlw_files.specs.Images.{IsImage};
-ghost use Rattle.dmlw_replay.specs.Opened.{IsReplayedOn, stop_by};
+ghost use Rattle.dmlw_files.specs.Images.{IsImage, image_of};
+ghost use Rattle.dmlw_replay.specs.Opened.{stop_by};
 ghost use Rattle.dmlw_replay.specs.Replays.{FailsOnImages, IsReplayed};
 
 use crate::stop::Stop;
@@ -20,11 +20,12 @@ use std::alloc::Global;
 pub(crate) struct Replayed {
     /// How many entries were replayed.
     pub(crate) count: u64,
-    /// The image that came of it.
-    pub(crate) image: Vec<u8>,
+    /// The disk that has the image that came of it.
+    pub(crate) disk: SectorDisk,
 }
 
-/// Replays a log on a first image, up to the entry that is named.
+/// Replays a log on the disk that a first image is, up to the entry that is named, by the call that carries the headline; the log's disk is gone
+/// after it.
 pub(crate) fn replay_images(
     alloc: Global,
     log: Vec<u8>,
@@ -33,33 +34,14 @@ pub(crate) fn replay_images(
 ) -> Result<Replayed, Stop>
     requires log { IsImage log.items }
     requires first { IsImage first.items }
-    ensures replayed { IfOk result (λ done. IsReplayed log.items first.items upto.now done.count done.image.items) }
-    ensures fails { IfErr result (FailsOnImages log.items first.items upto.now) }
-{
-    let (count, disk) = replay_on_disks(alloc, log, first, upto)?;
-    match disk.into_bytes() {
-        Ok(image) => Ok(Replayed { count, image }),
-        Err(error) => Err(Stop::Fault(RunError::from(error))),
-    }
-}
-
-// Replays a log on the disk that a first image is, by the call that carries the headline; the log's disk is gone after it.
-fn replay_on_disks(
-    alloc: Global,
-    log: Vec<u8>,
-    first: Vec<u8>,
-    upto: &Upto,
-) -> Result<(u64, SectorDisk), Stop>
-    requires log { IsImage log.items }
-    requires first { IsImage first.items }
-    ensures replayed { IfOk result (λ done. IsReplayedOn log.items first.items upto.now done.0 (shown_of done.1)) }
+    ensures replayed { IfOk result (λ done. IsReplayed log.items first.items upto.now done.count (image_of done.disk)) }
     ensures fails { IfErr result (FailsOnImages log.items first.items upto.now) }
 {
     let log = disk_of(alloc, log)?;
-    let mut target = disk_of(alloc, first)?;
-    let (_log, done) = reopen_and_replay(alloc, log, &mut target, upto);
+    let mut disk = disk_of(alloc, first)?;
+    let (_log, done) = reopen_and_replay(alloc, log, &mut disk, upto);
     match done {
-        Ok(count) => Ok((count, target)),
+        Ok(count) => Ok(Replayed { count, disk }),
         Err(error) => Err(stop_of(error)),
     }
 }

@@ -5,6 +5,7 @@ ghost use Rattle.dmlw_commands.specs.declared.exit.Exit.{Exit};
 ghost use Rattle.dmlw_commands.specs.Endings.{telling};
 ghost use Rattle.dmlw_commands.specs.Exits.{IsRefusal};
 ghost use Rattle.dmlw_files.specs.Files.{KeepsFiles, MatchesContents, one_more};
+ghost use Rattle.dmlw_files.specs.Images.{image_of};
 ghost use Rattle.dmlw_replay.specs.Replays.{EndsReplaying, FailsReplay, HoldsReplayed, IsReplayedFrom, Replays, replayed_line};
 
 use crate::ending::{end_replaying, refusal_of};
@@ -16,6 +17,7 @@ use dmlw_files::{Files, read_image};
 use refusals::Refusal;
 use replay::Upto;
 use run_error::RunError;
+use sector_disk::SectorDisk;
 use std::alloc::Global;
 use std::io::Write;
 
@@ -67,8 +69,8 @@ fn replay_files<F: Files, O: Write>(
     if files.is_same(names.log, names.out) {
         return Err(Stop::Fault(RunError::from(Refusal::File)));
     }
-    let Replayed { count, image } = replay_named(alloc, names.log, names.first, upto, files)?;
-    match hand_over(alloc, count, &image, names.out, files, out) {
+    let Replayed { count, disk } = replay_named(alloc, names.log, names.first, upto, files)?;
+    match hand_over(alloc, count, disk, names.out, files, out) {
         Ok(()) => Ok(count),
         Err(fault) => Err(Stop::Fault(fault)),
     }
@@ -83,7 +85,7 @@ fn replay_named<F: Files>(
     files: &mut F,
 ) -> Result<Replayed, Stop>
     ensures replayed { IfOk result (λ done.
-        IsReplayedFrom (F.contents files.old log.now) (F.contents files.old first.now) upto.now done.count done.image.items) }
+        IsReplayedFrom (F.contents files.old log.now) (F.contents files.old first.now) upto.now done.count (image_of done.disk)) }
     ensures fails { IfErr result (FailsReplay (F.contents files.old log.now) (F.contents files.old first.now) upto.now) }
     ensures kept { KeepsFiles (F.contents files.old) (F.contents files.new) }
     ensures unwritten { F.writes files.new ≡ F.writes files.old }
@@ -93,26 +95,26 @@ fn replay_named<F: Files>(
     replay_images(alloc, log, first, upto)
 }
 
-// Tells how many entries were replayed, and has the image written that came of it.
+// Tells how many entries were replayed, and has the image of the disk that was left written.
 fn hand_over<F: Files, O: Write>(
     alloc: Global,
     count: u64,
-    image: &[u8],
+    disk: SectorDisk,
     name: &str,
     files: &mut F,
     out: &mut O,
 ) -> Result<(), RunError>
     ensures done { OnOk result (Appends (O.contents out.old) (O.contents out.new) (replayed_line count)
-        × (F.writes files.new ≡ one_more (F.writes files.old) name.now image.now)) }
-    ensures held { OnOk result (MatchesContents (F.contents files.new name.now) image.now) }
+        × (F.writes files.new ≡ one_more (F.writes files.old) name.now (image_of disk))) }
+    ensures held { OnOk result (MatchesContents (F.contents files.new name.now) (image_of disk)) }
     ensures fails { IfErr result IsFileError }
     ensures asked { OnErr result ((F.writes files.new ≡ F.writes files.old)
         ⊎ (Appends (O.contents out.old) (O.contents out.new) (replayed_line count)
-        × (F.writes files.new ≡ one_more (F.writes files.old) name.now image.now))) }
+        × (F.writes files.new ≡ one_more (F.writes files.old) name.now (image_of disk)))) }
     ensures kept { OnErr result (KeepsFiles (F.contents files.old) (F.contents files.new)) }
 {
     print_count(count, out)?;
-    files.write(alloc, name, image)?;
+    files.write(alloc, name, disk)?;
     Ok(())
 }
 

@@ -1,14 +1,37 @@
 // The system's files.
+ghost use Rattle.std.specs.Prelude.{◌<◌, ◌≤◌};
+
+use bio::Ms;
+use blockdev::BlockDev;
 use dmlw_files::{FileError, Files, HostFiles};
+use sector_disk::SectorDisk;
 use std::alloc::Global;
 use std::os::unix::fs::{PermissionsExt, symlink};
 use std::process::Abort;
 use std::test::Fail;
 use std::{fs, io};
 
+// The most bytes that are read here.
+const LIMIT: u64 = 1_000_000;
+
+// A disk of so many sectors of zeroes, of which this one has this byte throughout.
+fn disk_with(alloc: Global, sectors: u64, sector: u64, byte: u8) -> Result<SectorDisk, Fail>
+    requires few { sectors ≤ 2048 }
+    requires there { sector < sectors }
+{
+    let mut disk = SectorDisk::new(alloc, sectors)?;
+    disk.write(Ms::new(0), sector, [byte; 512].as_slice(), false)?;
+    Ok(disk)
+}
+
+// A disk of one sector, which has this byte throughout.
+fn disk_of(alloc: Global, byte: u8) -> Result<SectorDisk, Fail> {
+    disk_with(alloc, 1, 0, byte)
+}
+
 // Whether the file of a name holds these bytes.
 fn holds<R: std::rt::Files>(runtime: &R, alloc: Global, name: &str, bytes: &[u8]) -> bool {
-    match HostFiles::new(runtime).read(alloc, name, 100_000) {
+    match HostFiles::new(runtime).read(alloc, name, LIMIT) {
         Ok(read) => read.as_slice() == bytes,
         Err(_) => false,
     }
@@ -21,25 +44,30 @@ fn check_lengths<F: Files>(
     files: &mut F,
     name: &str,
 ) -> Result<(), Fail> {
-    files.write(alloc, name, b"a longer text".as_slice())?;
-    files.write(alloc, name, b"second".as_slice())?;
-    let read = files.read(alloc, name, 6)?;
-    assert!(rt; read.as_slice() == b"second".as_slice());
-    assert!(rt; matches!(files.read(alloc, name, 5), Err(FileError::Unusable)));
+    files.write(alloc, name, disk_with(alloc, 3, 1, 7)?)?;
+    files.write(alloc, name, disk_of(alloc, 8)?)?;
+    let read = files.read(alloc, name, 512)?;
+    assert!(rt; read.as_slice() == [8; 512].as_slice());
+    assert!(rt; matches!(files.read(alloc, name, 511), Err(FileError::Unusable)));
     Ok(())
 }
 
-// What is written is read again.
+// The image of a disk is written and read again: of several pieces, with zeroes before and behind the one sector that has this byte.
 fn check_written<F: Files>(
     rt: &impl Abort,
     alloc: Global,
     files: &mut F,
     name: &str,
-    bytes: &[u8],
-) -> Result<(), Fail> {
-    files.write(alloc, name, bytes)?;
-    let read = files.read(alloc, name, 100_000)?;
-    assert!(rt; read.as_slice() == bytes);
+    sector: u64,
+    byte: u8,
+) -> Result<(), Fail>
+    requires { sector < 1500 }
+{
+    let disk = disk_with(alloc, 1500, sector, byte)?;
+    let image = disk.bytes()?;
+    files.write(alloc, name, disk)?;
+    let read = files.read(alloc, name, LIMIT)?;
+    assert!(rt; read.as_slice() == image.as_slice());
     Ok(())
 }
 
@@ -50,12 +78,11 @@ fn check_zeroes<F: Files>(
     files: &mut F,
     name: &str,
 ) -> Result<(), Fail> {
-    let mut zeroes = vec![in alloc; 0; 70_000]?;
-    check_written(rt, alloc, files, name, &zeroes)?;
-    if let Some(byte) = zeroes.get_mut(600) {
-        *byte = 7;
-    }
-    check_written(rt, alloc, files, name, &zeroes)
+    check_written(rt, alloc, files, name, 0, 0)?;
+    check_written(rt, alloc, files, name, 1, 7)?;
+    check_written(rt, alloc, files, name, 511, 7)?;
+    check_written(rt, alloc, files, name, 512, 7)?;
+    check_written(rt, alloc, files, name, 1499, 7)
 }
 
 // Nothing is left beside a file that was written, and one that isn't there, or has no folder, is refused.
@@ -69,7 +96,7 @@ fn check_gone<R: std::rt::Files + Abort, F: Files>(
     fs::remove_file(rt, name)?;
     assert!(rt; matches!(files.read(alloc, name, 6), Err(FileError::Unusable)));
     let gone = "no such folder/file";
-    assert!(rt; files.write(alloc, gone, b"".as_slice()) == Err(FileError::Unusable));
+    assert!(rt; files.write(alloc, gone, disk_of(alloc, 1)?) == Err(FileError::Unusable));
     Ok(())
 }
 
@@ -113,9 +140,9 @@ fn check_link<R: std::rt::Files + Abort, F: Files>(
 ) -> Result<(), Fail> {
     assert!(rt; files.is_same(name, link) && files.is_same(link, link));
     assert!(rt; !files.is_same(name, "dmlw-test-none"));
-    files.write(alloc, link, b"new".as_slice())?;
+    files.write(alloc, link, disk_of(alloc, 2)?)?;
     assert!(rt; fs::symlink_metadata(rt, link)?.is_symlink());
-    assert!(rt; holds(rt, alloc, name, b"new".as_slice()) && mode_of(rt, name)? == 0o640);
+    assert!(rt; holds(rt, alloc, name, [2; 512].as_slice()) && mode_of(rt, name)? == 0o640);
     Ok(())
 }
 
@@ -130,9 +157,9 @@ fn check_links<R: std::rt::Files + Abort, F: Files>(
     link_to(rt, name, link)?;
     check_link(rt, alloc, files, name, link)?;
     fs::remove_file(rt, name)?;
-    assert!(rt; files.write(alloc, link, b"new".as_slice()) == Err(FileError::Unusable));
+    assert!(rt; files.write(alloc, link, disk_of(alloc, 3)?) == Err(FileError::Unusable));
     fs::remove_file(rt, link)?;
-    files.write(alloc, "/dev/null", b"new".as_slice())?;
+    files.write(alloc, "/dev/null", disk_of(alloc, 4)?)?;
     Ok(())
 }
 
@@ -156,8 +183,8 @@ fn check_beside<R: std::rt::Files + Abort, F: Files>(
 ) -> Result<(), Fail> {
     let (name, beside) = ("dmlw-test-new", "dmlw-test-new.dmlw-tmp-0");
     fs::write(rt, beside, b"mine".as_slice())?;
-    files.write(alloc, name, b"new".as_slice())?;
-    assert!(rt; holds(rt, alloc, name, b"new".as_slice()));
+    files.write(alloc, name, disk_of(alloc, 5)?)?;
+    assert!(rt; holds(rt, alloc, name, [5; 512].as_slice()));
     assert!(rt; holds(rt, alloc, beside, b"mine".as_slice()));
     fs::remove_file(rt, name)?;
     fs::remove_file(rt, beside)?;
@@ -177,8 +204,8 @@ fn files_in_memory_are_replaced(rt: HostRuntime) -> Result<(), Fail> {
     let mut files = HostFiles::new(&rt);
     // Not every machine has such a folder.
     if fs::write(&rt, name, b"older and longer".as_slice()).is_ok() {
-        files.write(alloc, name, b"new".as_slice())?;
-        assert!(rt; holds(&rt, alloc, name, b"new".as_slice()));
+        files.write(alloc, name, disk_of(alloc, 6)?)?;
+        assert!(rt; holds(&rt, alloc, name, [6; 512].as_slice()));
         fs::remove_file(&rt, name)?;
     }
     Ok(())

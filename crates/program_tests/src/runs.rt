@@ -1,5 +1,6 @@
 //! What `record` and `rehearse` answer, beside what a transcript shows.
 use crate::commands::with_semicolons;
+use blockdev::BlockDev;
 use dmlw_script::{Kind, Script, read_script};
 use run_error::RunError;
 use script_runner::*;
@@ -42,7 +43,7 @@ fn ended_text(
 ) -> Result<String, AllocError> {
     match done {
         Ok(recorded) => {
-            assert!(rt; recorded.image.len() as u64 == sectors.saturating_mul(512));
+            assert!(rt; recorded.disk.sectors() == sectors);
             recorded.status.to_string(alloc)
         }
         Err(error) => error.to_string(alloc),

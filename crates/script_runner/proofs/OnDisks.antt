@@ -5,7 +5,8 @@ use Rattle.bio.specs.Lawful.{has_no_close}
 use Rattle.bio.specs.Sizes.{bytes_of}
 use Rattle.bio.specs.declared.sector_size.SectorSize.{SectorSize}
 use Rattle.bio.specs.declared.sector_size.SectorSize.TheVariants as sizes
-use Rattle.sectors.specs.Content.{AgreeBelow, Content, sector_of, writes}
+use Rattle.sectors.specs.Content.{AgreeBelow, Content, gather, sector_of, writes}
+use Rattle.sectors.specs.SectorLaws.{length-gather, sector_of-gather}
 use Rattle.blockdev.specs.declared.device.BlockDev.{Ghosts}
 use Rattle.blockdev.specs.Law.{Goes}
 use Rattle.blockdev.specs.View.{Place}
@@ -20,7 +21,7 @@ use Rattle.sector_disk.specs.declared.disk.SectorDisk.{SectorDisk}
 use Rattle.sector_disk.specs.CandidateLaws.{is_current}
 use Rattle.sector_disk.specs.PickLaws.{picks_leave_one}
 use Rattle.sector_disk.specs.Shown.{cache_of, shown_of, start_of, steps_of}
-use Rattle.sector_disk.specs.ShownLaws.{disk_lawful}
+use Rattle.sector_disk.specs.ShownLaws.{content_whole, disk_lawful}
 use Rattle.sector_disk.specs.Sizes.{Begins}
 use Rattle.log_format.specs.LogLaws.{log_within}
 use Rattle.log_format.specs.LogOf.{IsLogOf, log_sectors, status_of}
@@ -128,6 +129,21 @@ image_log plan device seen image room size place agree looks {es} log_c =
     let some : 0 < log_sectors (bytes_of plan.log_size) (stack_shown device).size = one_fits plan.log_size (stack_shown device).size (omega (arith, room, size)) in
     log_within (stack_shown device).size seen (seen_on plan.log_disk image) (bytes_of plan.log_size) es some
     (λ sector h. agree (top_origin 0 plan.log_disk.layers + sector) (omega arith) ∙ ap (λ (n : ℕ). left (n + sector)) (sym origin) ∙ sym (looks sector)) log_c
+
+-- the image of a disk: the bytes of all its sectors
+abbrev pub image_of : SectorDisk → List ℕ
+image_of disk = gather (shown_of disk).content 0 (shown_of disk).size
+
+-- it has the bytes of so many sectors as another disk of its size
+pub image_long : (disk : SectorDisk) {sectors : ℕ} → (shown_of disk).size ≡ sectors → length (image_of disk) ≡ 512 * sectors
+image_long disk {sectors} size =
+    length-gather (shown_of disk).size (shown_of disk).content 0 (shown_of disk).size (content_whole disk) (omega arith) ∙ ap (λ (n : ℕ). 512 * n) size
+
+-- what the disk agrees with its image agrees with
+pub image_agrees : (left : Content) (disk : SectorDisk) {sectors : ℕ} → (shown_of disk).size ≡ sectors → AgreeBelow sectors left (shown_of disk).content
+    → AgreeBelow sectors left (sector_of (image_of disk))
+image_agrees left disk {sectors} size agrees = λ sector below.
+    sector_of-gather (shown_of disk).size (shown_of disk).content (content_whole disk) sector (omega (arith, size, below)) ∙ agrees sector below
 
 -- lies that are equal, each for its disk
 pub same_lies : (lies : Lies) (over_data over_log : ℕ) → lies.data_disk ≡ over_data → lies.log_disk ≡ over_log

@@ -5,17 +5,17 @@ ghost use Rattle.recorder.specs.Shown.{core_of, recording_of};
 ghost use Rattle.script_runner.specs.Lines.{Asks, HearsEnd};
 ghost use Rattle.script_runner.specs.Submitted.{bio_of};
 
+use crate::last_data::LastData;
 use crate::request::{Request, bio_of};
 use bio::{Event, Id};
 use blockdev::BlockDev;
 use dmlw_script::Submission;
 use recorder::{Recorder, Reply};
-use std::alloc::Global;
 
 // Asks the recorder of the request that a line submits, which suits its log's sectors.
 pub(crate) fn ask<L: BlockDev + Drop>(
     recorder: &mut Recorder<L>,
-    alloc: Global,
+    last: &mut LastData,
     submission: Submission,
 ) -> Request
     requires { submission_answer (core_of recorder.old).sector_bytes 1048576 submission ≡ Ok tt }
@@ -23,7 +23,7 @@ pub(crate) fn ask<L: BlockDev + Drop>(
     ensures goes { RecorderGoes (recording_of recorder.old) (recording_of recorder.new) }
     ensures log_moment { recorder.new.store.moment ≡ recorder.old.store.moment }
 {
-    let Ok(bio) = bio_of(alloc, submission) else {
+    let Ok(bio) = bio_of(last, submission) else {
         return Request::Failed;
     };
     let Ok(asked) = bio.clone() else {

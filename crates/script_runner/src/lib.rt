@@ -14,6 +14,7 @@ pub use step_error::StepError;
 
 mod asking;
 mod handing;
+mod last_data;
 pub mod laws;
 mod playing;
 mod print;

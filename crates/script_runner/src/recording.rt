@@ -1,6 +1,6 @@
-ghost use Rattle.std.specs.Prelude.{◌≡◌, ◌*◌, IfErr, IfOk, List, length, option_copied, ℕ};
+ghost use Rattle.std.specs.Prelude.{◌≡◌, IfErr, IfOk, List, option_copied, ℕ};
 ghost use Rattle.std.specs.Io.KnownBytes.{Appends};
-ghost use Rattle.sectors.specs.Content.{AgreeBelow, sector_of};
+ghost use Rattle.sectors.specs.Content.{AgreeBelow, gather};
 ghost use Rattle.sector_disk.specs.Shown.{shown_of};
 ghost use Rattle.layer_table.specs.Layers.{disk_of};
 ghost use Rattle.script_runner.specs.OnDisks.{FailsOnDisks, IsRecorded, left_on};
@@ -13,7 +13,8 @@ use dmlw_script::Script;
 use layer_table::Stack;
 use recorder::laws::crashed_logs_replay_to_what_could_be;
 use run_error::RunError;
-use std::alloc::{AllocError, Global};
+use sector_disk::SectorDisk;
+use std::alloc::Global;
 use std::io::Write;
 
 /// How many calls the layers of a disk have dropped and told as done; each stops at 2^64 - 1.
@@ -28,8 +29,8 @@ pub struct Lies {
 /// What recording a script left.
 #[derive(Debug, Drop)]
 pub struct Recorded {
-    /// The bytes of the log's disk, beneath its layers.
-    pub image: Vec<u8>,
+    /// The log's disk, beneath its layers.
+    pub disk: SectorDisk,
     /// How far the log has come.
     pub status: Status,
     /// How often the layers have lied.
@@ -47,7 +48,8 @@ pub fn record<O: Write>(
     out: &mut O,
 ) -> Result<Recorded, RunError>
     ensures recorded { IfOk result (λ recorded. (printed : List ℕ)
-        × IsRecorded script.now printed recorded.status recorded.lies recorded.image.items
+        × (let image = gather (shown_of recorded.disk).content 0 (shown_of recorded.disk).size in
+        IsRecorded script.now printed recorded.status recorded.lies image)
         × Appends (O.contents out.old) (O.contents out.new) printed) }
     ensures faults { IfErr result (FailsOnDisks text.now script.now (O.contents out.old) (O.contents out.new)) }
 {
@@ -63,23 +65,19 @@ pub fn record<O: Write>(
         data_disk: data_lies,
         log_disk: log.lies(),
     };
-    let image = read_log(log, script.crash())?;
-    Ok(Recorded {
-        image,
-        status,
-        lies,
-    })
+    let disk = left_disk(log, script.crash());
+    Ok(Recorded { disk, status, lies })
 }
 
-// The bytes of the log's disk; where its power fails, after that.
-fn read_log(log: Stack, picks: Option<&[u64]>) -> Result<Vec<u8>, AllocError>
-    ensures size { IfOk result (λ image. length image.items ≡ 512 * (shown_of (disk_of log)).size) }
-    ensures bytes { IfOk result (λ image. AgreeBelow (shown_of (disk_of log)).size
-        (left_on (option_copied picks.entry) (disk_of log)) (sector_of image.items)) }
+// The log's disk; where its power fails, after that.
+fn left_disk(log: Stack, picks: Option<&[u64]>) -> SectorDisk
+    ensures size { (shown_of result).size ≡ (shown_of (disk_of log)).size }
+    ensures content { AgreeBelow (shown_of (disk_of log)).size
+        (left_on (option_copied picks.entry) (disk_of log)) (shown_of result).content }
 {
     let mut disk = log.into_disk();
     if let Some(picks) = picks {
         disk.crash(picks);
     }
-    disk.bytes()
+    disk
 }

@@ -1,15 +1,12 @@
-ghost use Rattle.std.specs.Prelude.{◌≡◌, ◌*◌, ◌≤◌, IfOk, IsOk, Ok, false, replicate, ℕ};
+ghost use Rattle.std.specs.Prelude.{◌≡◌, IfOk, IsOk, Ok, false, ℕ};
 ghost use Rattle.bio.specs.Requests.{has_data};
 ghost use Rattle.dmlw_script.specs.Plans.{submission_answer};
 ghost use Rattle.script_runner.specs.Submitted.{bio_of};
 
-use bio::{Bio, Bytes, Id};
+use crate::last_data::LastData;
+use bio::{Bio, Id};
 use dmlw_script::Submission;
-use sectors::SECTOR_BYTES;
-use std::alloc::{AllocError, Global};
-
-// A sector's size in bytes.
-const SECTOR: usize = SECTOR_BYTES as usize;
+use std::alloc::AllocError;
 
 /// What became of a script's request at its submission.
 #[derive(Debug, Drop)]
@@ -20,8 +17,8 @@ pub enum Request {
     Failed,
 }
 
-// The request that a script's line submits. Its bytes lie in memory once however many hold them.
-pub(crate) fn bio_of(alloc: Global, submission: Submission) -> Result<Bio, AllocError>
+// The request that a script's line submits. Its bytes lie in memory once however many hold them, and those of the write before are used again.
+pub(crate) fn bio_of(last: &mut LastData, submission: Submission) -> Result<Bio, AllocError>
     requires { (bytes sectors : ℕ) × (submission_answer bytes sectors submission ≡ Ok tt) }
     ensures made { IfOk result (λ bio. bio ≡ bio_of submission) }
     ensures no_data { has_data (bio_of submission) ≡ false → IsOk result }
@@ -34,7 +31,7 @@ pub(crate) fn bio_of(alloc: Global, submission: Submission) -> Result<Bio, Alloc
             options,
         } => Ok(Bio::Write {
             first,
-            bytes: sectors_of(alloc, count, byte)?,
+            bytes: last.sectors_of(count, byte)?,
             flush: options.flush,
             fua: options.fua,
             meta: options.meta,
@@ -42,13 +39,4 @@ pub(crate) fn bio_of(alloc: Global, submission: Submission) -> Result<Bio, Alloc
         Submission::Flush => Ok(Bio::Flush),
         Submission::Discard { first, count } => Ok(Bio::Discard { first, count }),
     }
-}
-
-// So many sectors of a byte.
-fn sectors_of(alloc: Global, count: u64, byte: u8) -> Result<Bytes, AllocError>
-    requires { count ≤ 2048 }
-    ensures { IfOk result (λ bytes. bytes ≡ replicate (count * 512) byte) }
-{
-    let bytes = vec![in alloc; byte; count as usize * SECTOR]?;
-    Bytes::from_vec(bytes).into_shared()
 }

@@ -4,6 +4,7 @@ ghost use Rattle.script_runner.specs.Submitted.{fits_device};
 
 use crate::asking::{ask, tell_end};
 use crate::handing::{hand_over, read_sectors};
+use crate::last_data::LastData;
 use crate::print::{name_of, print_mark, print_outcome, print_read, print_submission};
 use crate::request::Request;
 use crate::step_error::StepError;
@@ -22,6 +23,7 @@ pub struct Running<D: BlockDev + Drop, L: BlockDev + Drop> {
     alloc: Global,
     recorder: Recorder<L>,
     disk: D,
+    last: LastData,
     requests: Vec<Request>,
     // At which the calls of both devices begin.
     moment: Ms,
@@ -44,6 +46,7 @@ impl<D: BlockDev + Drop, L: BlockDev + Drop> Running<D, L> {
             alloc,
             recorder,
             disk,
+            last: LastData::none(alloc),
             requests: Vec::with_capacity(alloc, requests)?,
             moment: Ms::new(0),
         })
@@ -98,7 +101,7 @@ impl<D: Message + Drop, L: Message + Drop> Running<D, L> {
         ensures count { OnOk result (length self.new.requests.items ≡ length self.old.requests.items + 1) }
     {
         let _sectors = self.disk.sectors();
-        let request = ask(&mut self.recorder, self.alloc, submission);
+        let request = ask(&mut self.recorder, &mut self.last, submission);
         print_submission(name_of(names, self.requests.len()), &request, out)?;
         self.requests.push(request)?;
         Ok(())

@@ -2,6 +2,7 @@
 ghost use Rattle.std.specs.Prelude.{None};
 
 use dmlw_files::{FileError, Files, Trouble};
+use sector_disk::SectorDisk;
 use std::alloc::{AllocError, Global};
 
 // A file.
@@ -60,11 +61,11 @@ impl Files for Folder {
         Vec::from_slice(alloc, bytes).map_err(|_| FileError::Memory)
     }
 
-    fn write(&mut self, alloc: Global, name: &str, bytes: &[u8]) -> Result<(), FileError> {
+    fn write(&mut self, alloc: Global, name: &str, disk: SectorDisk) -> Result<(), FileError> {
         if name.starts_with("fixed") {
             return Err(FileError::Unusable);
         }
-        let bytes = Vec::from_slice(alloc, bytes).map_err(|_| FileError::Memory)?;
+        let bytes = disk.into_bytes().map_err(|_| FileError::Memory)?;
         self.put(alloc, name, bytes).map_err(|_| FileError::Memory)
     }
 

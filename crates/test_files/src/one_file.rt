@@ -1,6 +1,7 @@
 ghost use Rattle.std.specs.Prelude.{None};
 
 use dmlw_files::{FileError, Files, Trouble};
+use sector_disk::SectorDisk;
 use std::alloc::Global;
 
 /// Files of which "script" and "image" can be read, which hold the same, and "log" can be written.
@@ -37,11 +38,11 @@ impl Files for OneFile<'_> {
         Vec::from_slice(alloc, self.bytes).map_err(|_| FileError::Memory)
     }
 
-    fn write(&mut self, alloc: Global, name: &str, bytes: &[u8]) -> Result<(), FileError> {
+    fn write(&mut self, _alloc: Global, name: &str, disk: SectorDisk) -> Result<(), FileError> {
         if name != "log" {
             return Err(FileError::Unusable);
         }
-        let bytes = Vec::from_slice(alloc, bytes).map_err(|_| FileError::Memory)?;
+        let bytes = disk.into_bytes().map_err(|_| FileError::Memory)?;
         self.log = Some(bytes);
         Ok(())
     }

@@ -368,3 +368,65 @@ What isn't a script, an image or a moment is refused as by `judge`.
   ! 
   ! For more information, try '--help'.
   [2]
+
+With --explain each step has its line of the script, on the standard error: a destage has that of what landed last, and power goes after the last call's.
+
+  $ dmlw path script 6 one --explain
+  submit 0
+  submit 1
+  land 1 3
+  destage 3
+  land 0 3
+  destage 3
+  end 0 ok
+  end 1 ok
+  submit 4
+  end 4 ok
+  power
+  !   the steps and their lines of script:
+  !     submit 0: line 3: w a 3 1 01
+  !     submit 1: line 4: w b 3 1 02
+  !     land 1 3: line 4: w b 3 1 02
+  !     destage 3: line 4: w b 3 1 02
+  !     land 0 3: line 3: w a 3 1 01
+  !     destage 3: line 3: w a 3 1 01
+  !     end 0 ok: line 5: c a
+  !     end 1 ok: line 6: c b
+  !     submit 4: line 7: f g
+  !     end 4 ok: line 8: c g
+  !     power: after line 8: c g
+
+Lines that are no events have no step, and a mark has none either. Power that goes before the first event has no line.
+
+  $ write marked
+  > # A comment, an empty line, a moment and a mark.
+  > data 16
+  > log 32
+  > 
+  > at 5
+  > w a 3 1 01
+  > mark w b 3 1 02
+  > turn
+  > c a
+  $ dmlw --explain path marked 0 zeroes
+  power
+  !   the steps and their lines of marked:
+  !     power
+  $ dmlw path marked --explain 3 one
+  submit 0
+  land 0 3
+  destage 3
+  end 0 ok
+  power
+  !   the steps and their lines of marked:
+  !     submit 0: line 6: w a 3 1 01
+  !     land 0 3: line 6: w a 3 1 01
+  !     destage 3: line 6: w a 3 1 01
+  !     end 0 ok: line 9: c a
+  !     power: after line 9: c a
+
+Where no run leaves the image, there is nothing to explain.
+
+  $ dmlw --explain path script 4 three
+  no sector 3 holds no submitted value
+  [1]

@@ -1,4 +1,5 @@
-use Rattle.std.proofs.Common.{inl}
+use Rattle.std.proofs.Common.{inl, refl}
+use Rattle.dmlw_files.specs.Images.{image_of}
 use Rattle.script_runner.specs.CallLaws.{on_error}
 use Rattle.dmlw_commands.proofs.Endings.{holds_log}
 use Rattle.dmlw_commands.proofs.Failing.{fails_for_file, unwritten_log}
@@ -14,10 +15,10 @@ returns-then-is_same-clause-faults g c = file c.from.result (inl c.from.ensures)
 
 pub returns-in_err-write-clause-log : goal.returns-in_err-write-clause-log
 returns-in_err-write-clause-log g c =
-    unwritten_log _ _ _ _ _ _ _ c.in_ok-image.field-0.status c.in_ok-image.field-0.image.items c.deref.result.now _ c.from_residual-in_err-write.result
-    c.in_ok-image.ensures.printed (let is = c.in_ok-image.image-is in let value = c.deref.ensures.value in cc) c.run_file.ensures.unwritten c.write.ensures.writes c.from_residual-in_err-write.ensures.1
+    unwritten_log _ _ _ _ _ _ _ c.in_ok-disk.field-0.status (image_of c.in_ok-disk.field-0.disk) (image_of c.in_ok-disk.field-0.disk) _ c.from_residual-in_err-write.result
+    c.in_ok-disk.ensures.printed refl c.run_file.ensures.unwritten c.write.ensures.writes c.from_residual-in_err-write.ensures.1
 
 pub returns-clause-held : goal.returns-clause-held
 returns-clause-held g c =
-    holds_log _ c.in_ok-image.field-0.status c.in_ok-image.field-0.image.items c.deref.result.now _ _ _ c.in_ok-image.ensures.printed
-    (let is = c.in_ok-image.image-is in let value = c.deref.ensures.value in cc) c.in_ok-write.ensures.holds
+    holds_log _ c.in_ok-disk.field-0.status (image_of c.in_ok-disk.field-0.disk) (image_of c.in_ok-disk.field-0.disk) _ _ _ c.in_ok-disk.ensures.printed
+    refl c.in_ok-write.ensures.holds

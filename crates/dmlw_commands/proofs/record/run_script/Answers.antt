@@ -1,11 +1,12 @@
 use Rattle.script_runner.specs.CallLaws.{on_error}
 use Rattle.dmlw_commands.proofs.Failing.{fails_run, fails_to_tell, printed}
+use Rattle.dmlw_files.specs.Images.{image_of}
 use Rattle.dmlw_commands.proofs.record.run_script.Goals as goal
 
 pub returns-clause-printed : goal.returns-clause-printed
 returns-clause-printed g c =
     printed c.args.text.now c.args.script.now _ _ _ c.in_ok-recorded.recorded.status c.in_ok-recorded.recorded.lies
-    c.in_ok-recorded.recorded.image.items c.requires
+    (image_of c.in_ok-recorded.recorded.disk) c.requires
     c.in_ok-recorded.ensures.recorded c.in_ok-print_end.ensures.printed
 
 pub returns-in_err-recorded-clause-faults : goal.returns-in_err-recorded-clause-faults

@@ -1,6 +1,6 @@
-use Rattle.std.proofs.Common.{◌≡◌, ◌∙◌, ap, subst, sym, inr}
+use Rattle.std.proofs.Common.{◌≡◌, ◌∙◌, ap, subst, sym}
 use Rattle.script_runner.specs.CallLaws.{on_error}
-use Rattle.script_runner.specs.OnDisks.{DiskRecorder, FailsOnDisks, IsCounted, file}
+use Rattle.script_runner.specs.OnDisks.{DiskRecorder, FailsOnDisks, IsCounted}
 use Rattle.log_format.specs.LogOf.{status_of}
 use Rattle.log_store.specs.Shown.{store_of}
 use Rattle.log_store.specs.Store.{entries_of}
@@ -9,7 +9,7 @@ use Rattle.recorder.specs.Replayed.{ReplaysToWhatCouldBe}
 use Rattle.recorder.specs.Shown.{core_of, recording_of}
 use Rattle.layer_table.specs.Layers.{stack_shown}
 use Rattle.sectors.specs.Content.{Content}
-use Rattle.script_runner.proofs.OnDisks.{is_recorded, same_lies}
+use Rattle.script_runner.proofs.OnDisks.{image_agrees, image_long, image_of, is_recorded, same_lies}
 use Rattle.script_runner.proofs.Stepping.{if_failed}
 use Rattle.script_runner.proofs.recording.record.Goals as goal
 
@@ -20,13 +20,6 @@ pub returns-in_err-played-clause-faults : goal.returns-in_err-played-clause-faul
 returns-in_err-played-clause-faults g c =
     on_error c.from_residual.result c.from_residual.ensures.1
     (λ fault is. subst (FailsOnDisks _ _ _ _) (sym is) c.in_err-played.ensures.faults)
-
-pub returns-in_err-image-clause-recorded : goal.returns-in_err-image-clause-recorded
-returns-in_err-image-clause-recorded g c = if_failed _ c.from_residual-in_err-image.result c.from_residual-in_err-image.ensures.0
-
-pub returns-in_err-image-clause-faults : goal.returns-in_err-image-clause-faults
-returns-in_err-image-clause-faults g c =
-    on_error c.from_residual-in_err-image.result c.from_residual-in_err-image.ensures.1 (λ fault is. file fault (inr is))
 
 pub returns-clause-recorded : goal.returns-clause-recorded
 returns-clause-recorded g c =
@@ -45,9 +38,10 @@ returns-clause-recorded g c =
     let lied = same_lies (record { data_disk = c.in_ok-played.played.data_lies; log_disk = c.lies.result }) (stack_shown last.disk).lies (stack_shown c.into_device-log.result).lies
     played.lied c.lies.ensures in (
       played.text,
-      is_recorded script played.text played.start last c.into_device-log.result c.status-status.result _ c.in_ok-image.image.items _ c.crash.ensures.script.room played.starts played.ran
+      is_recorded script played.text played.start last c.into_device-log.result c.status-status.result _ (image_of c.left_disk-disk.result) _ c.crash.ensures.script.room played.starts played.ran
           (c.lines_go_as_one_call.ensures script.names script.commands played.text played.start last played.ran)
-          counted told same lied c.in_ok-image.ensures.size c.crash.ensures.picks c.in_ok-image.ensures.bytes replays
+          counted told same lied (image_long c.left_disk-disk.result c.left_disk-disk.ensures.size) c.crash.ensures.picks
+          (image_agrees _ c.left_disk-disk.result c.left_disk-disk.ensures.size c.left_disk-disk.ensures.content) replays
           (λ written on closed honest. c.closed_runs_leave_whole_logs.ensures.whole script.names script.commands played.text played.start last played.ran written sound on closed honest),
       played.printed,
     )

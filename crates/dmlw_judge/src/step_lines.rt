@@ -1,0 +1,160 @@
+//! What `--explain` adds behind a run: the line of the script that each step belongs to.
+//!
+//! A request's submission and its landings belong to the line that submits it, its end to the line that ends it, a destage to what landed last,
+//! and power goes after the line of the last call.
+ghost use Rattle.std.specs.Prelude.{◌≡◌, [], false};
+ghost use Rattle.std.specs.String.{string_bytes};
+ghost use Rattle.dmlw_files.specs.Files.{KeepsFiles};
+
+use dmlw_files::{Files, read_text};
+use std::alloc::{AllocError, Global};
+use std::fmt;
+use std::fmt::Write;
+use world::Step;
+
+// A line of a script that is an event of its run: a submission, an end, a mark or the close.
+#[derive(Clone, Copy)]
+struct EventLine<'a> {
+    // Counted from 1.
+    number: u64,
+    text: &'a [u8],
+}
+
+// How far a run has been told.
+#[derive(Drop)]
+struct Told {
+    // The place of the event that comes next.
+    next: usize,
+    // The place of the request that landed last.
+    landed: usize,
+}
+
+// The lines that the steps of a run belong to, each behind its step, by the script in a file: lines that begin with two spaces. Empty where it isn't
+// asked for, or where there is no memory for it.
+pub(crate) fn explain_run<F: Files>(
+    alloc: Global,
+    explains: bool,
+    run: &[Step],
+    script: &str,
+    files: &mut F,
+) -> String
+    ensures silent { explains ≡ false → string_bytes result ≡ [] }
+    ensures kept { KeepsFiles (F.contents files.old) (F.contents files.new) }
+    ensures unwritten { F.writes files.new ≡ F.writes files.old }
+{
+    let mut text = String::new(alloc);
+    if !explains {
+        return text;
+    }
+    match write_run(alloc, run, script, files, &mut text) {
+        Ok(()) => text,
+        Err(_) => String::new(alloc),
+    }
+}
+
+// Writes the steps of a run with their lines of the script in a file.
+fn write_run<F: Files, W: Write>(
+    alloc: Global,
+    run: &[Step],
+    script: &str,
+    files: &mut F,
+    to: &mut W,
+) -> fmt::Result
+    ensures kept { KeepsFiles (F.contents files.old) (F.contents files.new) }
+    ensures unwritten { F.writes files.new ≡ F.writes files.old }
+{
+    let text = read_text(alloc, script, files).map_err(|_| fmt::Error)?;
+    let lines = event_lines(alloc, &text).map_err(|_| fmt::Error)?;
+    writeln!(to, "  the steps and their lines of {script}:")?;
+    write_steps(&lines, run, to)
+}
+
+// The lines of a script's text that are events of its run, in order.
+fn event_lines(alloc: Global, text: &[u8]) -> Result<Vec<EventLine<'_>>, AllocError> {
+    let mut lines = Vec::new(alloc);
+    let mut number: u64 = 0;
+    for line in text.split(is_line_feed) {
+        number = number.saturating_add(1);
+        if is_event(line) {
+            lines.push(EventLine { number, text: line })?;
+        }
+    }
+    Ok(lines)
+}
+
+// Whether a byte ends a line.
+fn is_line_feed(byte: &u8) -> bool {
+    *byte == b'\n'
+}
+
+// Whether a byte ends a word.
+fn is_space(byte: &u8) -> bool {
+    *byte == b' '
+}
+
+// Whether a line of a script is an event of its run.
+fn is_event(line: &[u8]) -> bool {
+    let word = line.split(is_space).next().unwrap_or_default();
+    word == b"w".as_slice()
+        || word == b"f".as_slice()
+        || word == b"d".as_slice()
+        || word == b"c".as_slice()
+        || word == b"mark".as_slice()
+        || word == b"close".as_slice()
+}
+
+// Writes each step of a run with its line.
+fn write_steps<W: Write>(lines: &[EventLine], run: &[Step], to: &mut W) -> fmt::Result {
+    let mut told = Told { next: 0, landed: 0 };
+    for step in run {
+        match told.place_of(lines, *step) {
+            Some(place) => write_step(*step, lines.get(place), to)?,
+            None => write_step(*step, None, to)?,
+        }
+    }
+    Ok(())
+}
+
+// Writes a step with its line; it stands alone where it has none, as power that goes before the first event.
+fn write_step<W: Write>(step: Step, line: Option<&EventLine>, to: &mut W) -> fmt::Result {
+    let Some(EventLine { number, text }) = line else {
+        return writeln!(to, "    {step}");
+    };
+    let text = str::from_utf8(text).unwrap_or_default();
+    match step {
+        Step::Power => writeln!(to, "    {step}: after line {number}: {text}"),
+        _ => writeln!(to, "    {step}: line {number}: {text}"),
+    }
+}
+
+impl Told {
+    // The place of the event that a step belongs to, where the steps before it were told. None for power that goes before the first event.
+    fn place_of(&mut self, lines: &[EventLine], step: Step) -> Option<usize> {
+        match step {
+            Step::Submit(id) => Some(self.pass(id.place() as usize)),
+            Step::End(_, _) => Some(self.pass(end_from(lines, self.next))),
+            Step::Land(id, _) => {
+                self.landed = id.place() as usize;
+                Some(self.landed)
+            }
+            Step::Destage(_) => Some(self.landed),
+            Step::Power => self.next.checked_sub(1),
+        }
+    }
+
+    // Goes past an event, and answers its place.
+    fn pass(&mut self, place: usize) -> usize {
+        self.next = place.saturating_add(1);
+        place
+    }
+}
+
+// The place of the first end at or after a place.
+fn end_from(lines: &[EventLine], from: usize) -> usize {
+    for place in from..lines.len() {
+        if lines[place].text.starts_with(b"c ".as_slice()) {
+            return place;
+        }
+    }
+    lines.len()
+}

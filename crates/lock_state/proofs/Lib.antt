@@ -1,8 +1,10 @@
 pub mod Lists
 pub mod Opening
+pub mod Placing
 pub mod Ending
 pub mod Growing
 pub mod Calling
+pub mod Draining
 pub mod Matching
 pub mod Serving
 pub mod Taking

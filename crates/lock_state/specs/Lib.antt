@@ -1,4 +1,6 @@
 pub mod Calls
+pub mod Closing
 pub mod Comparing
 pub mod History
+pub mod Legal
 pub mod Placed

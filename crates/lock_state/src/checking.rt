@@ -1,5 +1,6 @@
 // What the queue compares with its history when a recorder closes.
-ghost use Rattle.std.specs.Prelude.{◌≡◌, ◌≢◌, ◌<◌, ◌≤◌, ℕ, IfOk, MatchBool, Option, Some, length, slice_get};
+ghost use Rattle.std.specs.Prelude.{◌≡◌, ◌≢◌, ◌<◌, ◌≤◌, ℕ, IfOk, MatchBool, Option, Some, length, slice_get, true};
+ghost use Rattle.log_format.specs.Entries.{is_sector_size};
 ghost use Rattle.pending.specs.CoreState.{items_of};
 ghost use Rattle.lock_state.specs.Comparing.{AreCauses, BeginsTaken, Each, Fails, IsItem, IsList, IsServed, listed, stop_cause_at};
 ghost use Rattle.lock_state.specs.History.{end_place, stop_of};
@@ -14,9 +15,6 @@ use crate::served::{Seen, is_served};
 use bio::{CoreEvent, End, Id};
 use pending::laws::list_has_what_is_queued;
 use std::alloc::{AllocError, Global};
-
-// The size of a log sector.
-const LOG_SECTOR_BYTES: u64 = 512;
 
 impl<R: Run> QueueState<R> {
     /// Whether the seat's list is what the history has of it.
@@ -45,16 +43,25 @@ impl<R: Run> QueueState<R> {
         are_causes(&seat.told, self.stop, end)
     }
 
+    // How many bytes a sector of the log has.
+    fn sector_bytes(&self) -> u64
+        ensures bytes { result ≡ self.now.core.sector_bytes }
+        ensures may_be { is_sector_size result ≡ true }
+    {
+        u64::from(self.size.bytes())
+    }
+
     // Whether this item was taken as number k.
     fn is_taken_as(&self, k: usize, item: &Item) -> bool
         requires { k < self.now.core.taken }
         ensures { MatchBool result (slice_get (items_of self.now.core) k ≡ Some (listed item.now)) (slice_get (items_of self.now.core) k ≢ Some (listed item.now)) }
     {
         list_has_what_is_queued();
+        let bytes = self.sector_bytes();
         let id = self.taken[k];
         match self.core.events().get(id.place() as usize) {
             None => unreachable!(),
-            Some(event) => is_item(item, id, event),
+            Some(event) => is_item(item, id, event, bytes),
         }
     }
 
@@ -78,6 +85,13 @@ impl<R: Run> QueueState<R> {
         ensures { result ≡ self.now.core.taken }
     {
         self.taken.len()
+    }
+
+    /// How many events there are.
+    pub fn event_count(&self) -> usize
+        ensures { result ≡ length self.now.core.events }
+    {
+        self.core.events().len()
     }
 
     /// A note for each event, for `is_served`. `Err` where there is no memory.
@@ -117,9 +131,10 @@ fn stop_at(events: &[CoreEvent], place: Id) -> Option<End>
     }
 }
 
-// Whether the item is of this id, with the entry of this event.
-fn is_item(item: &Item, id: Id, event: &CoreEvent) -> bool
-    ensures { MatchBool result (IsItem item.now id event.now) (IsItem item.now id event.now → ⊥) }
+// Whether the item is of this id, with the entry of this event, in a log with sectors of so many bytes.
+fn is_item(item: &Item, id: Id, event: &CoreEvent, bytes: u64) -> bool
+    requires { is_sector_size bytes ≡ true }
+    ensures { MatchBool result (IsItem bytes item.now id event.now) (IsItem bytes item.now id event.now → ⊥) }
 {
-    item.id == id && is_entry_of(event, &item.entry, LOG_SECTOR_BYTES)
+    item.id == id && is_entry_of(event, &item.entry, bytes)
 }

@@ -1,12 +1,13 @@
 // The recorded device, and the requests that were handed to it.
-ghost use Rattle.std.specs.Prelude.{◌≡◌, ◌⊎◌, ℕ, ◌≤◌, List, [], ◌∷◌, ◌++◌, length, Ok, OnOk, OnErr, true, false};
+ghost use Rattle.std.specs.Prelude.{◌≡◌, ◌⊎◌, ℕ, ◌≤◌, ◌/◌, List, [], ◌∷◌, ◌++◌, length, Ok, Err, OnOk, IfErr, true, false};
 ghost use Rattle.bio.specs.Check.{check_answer};
 ghost use Rattle.bio.specs.Possible.{values_of};
 ghost use Rattle.bio.specs.Requests.{is_tracked};
+ghost use Rattle.bio.specs.declared.outcome.DevError.TheVariants.{Memory};
 ghost use Rattle.blockdev.specs.Calls.{Flushes, IsByteRange, Writes};
 ghost use Rattle.blockdev.specs.InTurn.{DoesInTurn};
-ghost use Rattle.sectors.specs.Content.{Patched, put, writes};
-ghost use Rattle.lock_state.specs.Calls.{Holds, calls_of, done_call};
+ghost use Rattle.sectors.specs.Content.{Patched, gather, put, writes};
+ghost use Rattle.lock_state.specs.Calls.{Data, Holds, IsRead, calls_of, done_call};
 
 use crate::note::Done;
 use crate::run::Run;
@@ -15,7 +16,7 @@ use blockdev::BlockDev;
 use std::alloc::Global;
 use std::marker::{Model, PhantomData};
 
-/// What lies under the data lock: the recorded device, and the requests that were handed to it, in order. Contracts see it as these.
+/// What lies under the data lock: the recorded device, and the requests that were handed to it, in order. Contracts see it as these two.
 #[derive(Drop)]
 pub struct DataState<D: BlockDev + Drop, R: Run> {
     device: D,
@@ -24,13 +25,11 @@ pub struct DataState<D: BlockDev + Drop, R: Run> {
 }
 
 impl<D: BlockDev + Drop, R: Run> Model for DataState<D, R> {
-    ghost use Rattle.std.specs.Prelude.{List};
-    ghost use Rattle.lock_state.specs.declared.note.Done.{Done};
-    ghost use Rattle.lock_state.specs.Calls.{KeepsData};
+    ghost use Rattle.lock_state.specs.Calls.{Data, KeepsData};
 
-    ghost Value = { List Done };
+    ghost Value = { Data D };
 
-    ghost view = { λ s. s.done.items };
+    ghost view = { λ s. record { device = s.device; calls = s.done.items } };
 
     ghost invariant = { λ s. KeepsData R.sectors (D.shown s.device) s.done.items };
 }
@@ -39,7 +38,7 @@ impl<D: BlockDev + Drop, R: Run> DataState<D, R> {
     /// No request was handed over yet.
     pub fn new(alloc: Global, device: D) -> DataState<D, R>
         requires { (D.shown device).size ≡ R.sectors }
-        ensures { result ≡ [] }
+        ensures { result ≡ record { device = device; calls = [] } }
     {
         DataState {
             device,
@@ -48,12 +47,24 @@ impl<D: BlockDev + Drop, R: Run> DataState<D, R> {
         }
     }
 
-    /// Hands a request over to the device, and notes it. Where there is no memory for the note, the device isn't called, and nothing changes.
+    /// Hands a request over to the device, and notes it: a write with flush as a flush, and then the write where the flush succeeded. Where there is no memory
+    /// for the note, the device isn't called, and nothing changes.
     pub fn apply(&mut self, now: Ms, id: Option<Id>, bio: &Bio) -> Result<(), DevError>
         requires tracked { is_tracked bio.now ≡ true }
         requires checked { check_answer bio.now R.sectors ≡ Ok tt }
-        ensures done { OnOk result (self.new ≡ self.old ++ done_call id bio.now true ∷ []) }
-        ensures failed { OnErr result ((self.new ≡ self.old) ⊎ (self.new ≡ self.old ++ done_call id bio.now false ∷ [])) }
+
+        // It makes these calls of the device, each of which ended well, and notes the request as one that succeeded.
+        ensures done { OnOk result (self.new.calls ≡ self.old.calls ++ done_call id bio.now true ∷ []) }
+        ensures does { OnOk result (DoesInTurn D.does now (calls_of bio.now) self.old.device (Ok tt) self.new.device) }
+
+        // Each sector that the request covers holds its value then, and each other what it held, unless the device told a lie.
+        ensures content { OnOk result ((D.shown self.new.device).lies ≡ 0 → (sector : ℕ) →
+            (D.shown self.new.device).content sector ≡ put (values_of bio.now) (D.shown self.old.device).content sector) }
+
+        // Else a call of the device ended by this error, and the request is noted as one that failed; or there was no memory for the note.
+        ensures failed { IfErr result (λ error. ((error ≡ Memory) × (self.new ≡ self.old))
+            ⊎ ((self.new.calls ≡ self.old.calls ++ done_call id bio.now false ∷ [])
+            × DoesInTurn D.does now (calls_of bio.now) self.old.device (Err error) self.new.device)) }
     {
         self.done.reserve(1)?;
         let bio_kept = bio.clone()?;
@@ -66,27 +77,33 @@ impl<D: BlockDev + Drop, R: Run> DataState<D, R> {
         result
     }
 
-    /// Reads whole sectors of the device from `first` on. Nothing else changes.
+    /// Reads whole sectors of the device from `first` on: one call of it, which is no request that is noted.
     pub fn read(&mut self, now: Ms, first: u64, buffer: &mut [u8]) -> Result<(), DevError>
         requires { IsByteRange R.sectors first (length buffer.old) }
-        ensures { self.new ≡ self.old }
+        ensures calls { self.new.calls ≡ self.old.calls }
+        ensures bytes { OnOk result (buffer.new ≡ gather (D.shown self.old.device).content first (length buffer.old / 512)) }
+        ensures content { (sector : ℕ) → (D.shown self.new.device).content sector ≡ (D.shown self.old.device).content sector }
+        ensures does { IsRead D.does now first buffer.old buffer.new self.old.device result self.new.device }
     {
         self.device.read(now, first, buffer)?;
         Ok(())
     }
 
-    /// The requests that were handed over, in order.
+    /// The requests that were handed over, in order. Where the device told no lie, each sector that a request which ended Ok covers holds the value of one
+    /// after which none that ended Ok covers it.
     pub fn done(&self) -> &[Done]
-        ensures { result.now ≡ self.now }
+        ensures calls { result.now ≡ self.now.calls }
+        ensures holds { (D.shown self.now.device).lies ≡ 0 → Holds (D.shown self.now.device).content self.now.calls }
     {
         self.done.as_slice()
     }
 
     /// The device, and the requests that were handed to it.
     pub fn into_parts(self) -> (D, Vec<Done>)
-        ensures calls { result.1.items ≡ self }
+        ensures device { result.0 ≡ self.device }
+        ensures calls { result.1.items ≡ self.calls }
         ensures size { (D.shown result.0).size ≡ R.sectors }
-        ensures holds { (D.shown result.0).lies ≡ 0 → Holds (D.shown result.0).content self }
+        ensures holds { (D.shown result.0).lies ≡ 0 → Holds (D.shown result.0).content self.calls }
     {
         let DataState {
             device,

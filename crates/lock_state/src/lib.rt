@@ -4,17 +4,19 @@
 //! and what each step changes, of the value under the lock and of the caller's own seat.
 #![tactic(auto)]
 
+pub use closing::drain;
 pub use compare::{are_causes, are_named, are_passed, is_list_of, names};
 pub use data::DataState;
 pub use entry_of::is_entry_of;
 pub use log::{LogParts, LogState};
 pub use note::{Done, Item, Own, Receipt, Told, Unplaced, Unrecorded};
-pub use part::{SeatPart, WriterPart};
+pub use part::{Seat, SeatPart, WriterPart};
 pub use queue::{QueueParts, QueueState};
 pub use run::Run;
 pub use served::{Seen, is_served};
 
 mod checking;
+mod closing;
 mod compare;
 mod data;
 mod entry_of;

@@ -8,7 +8,7 @@ use crate::run::Run;
 use bio::{End, Id};
 use holders::Holder;
 use std::alloc::Global;
-use std::marker::Model;
+use std::marker::{Model, PhantomData};
 use std::mem::swap;
 use std::sync::ledger::Share;
 
@@ -59,9 +59,15 @@ impl<R: Run> SeatPart<R> {
         }
     }
 
-    /// Two seats' events and passed calls change places, where they have as many events; else nothing changes. So a seat's list may be that of another
-    /// recorder, which a recorder that closes is to find.
-    pub fn exchange_calls<C: Run>(&mut self, other: &mut SeatPart<C>) -> bool
+    /// The request of the seat that is under way, if there is one.
+    pub fn under_way(&self) -> Option<Id>
+        ensures { result ≡ self.now.under_way }
+    {
+        self.under_way
+    }
+
+    // Two seats' events and passed calls change places, where they have as many events; else nothing changes.
+    fn exchange_calls<C: Run>(&mut self, other: &mut SeatPart<C>) -> bool
         requires idle { (self.old.under_way ≡ None) × (other.old.under_way ≡ None) }
         ensures why { result ≡ (length self.old.own == length other.old.own) }
         ensures changed { result ≡ true → (self.new ≡ with_calls self.old other.old) × (other.new ≡ with_calls other.old self.old) }
@@ -95,13 +101,44 @@ impl<R: Run> SeatPart<R> {
     }
 }
 
-/// The writer's part: the item that it took and hasn't placed yet, if there is one. Contracts see it as that.
+/// What a caller has of its seat: between two calls no request of it is under way. Contracts see it as its part. Whoever is lent the part owes that
+/// again at the end.
 #[derive(Drop)]
-pub struct WriterPart {
-    pub(crate) hand: Option<Item>,
+pub struct Seat<R: Run> {
+    pub part: SeatPart<R>,
 }
 
-impl Model for WriterPart {
+impl<R: Run> Model for Seat<R> {
+    ghost use Rattle.std.specs.Prelude.{◌≡◌, None};
+    ghost use Rattle.lock_state.specs.History.{Part};
+
+    ghost Value = { Part };
+
+    ghost view = { λ s. s.part };
+
+    ghost invariant = { λ s. s.part.under_way ≡ None };
+}
+
+impl<R: Run> Seat<R> {
+    /// Two seats' events and passed calls change places, where they have as many events; else nothing changes. So a seat's list may be that of another
+    /// recorder, which a recorder that closes is to find.
+    pub fn exchange_calls<C: Run>(&mut self, other: &mut Seat<C>) -> bool
+        ensures why { result ≡ (length self.old.own == length other.old.own) }
+        ensures changed { result ≡ true → (self.new ≡ with_calls self.old other.old) × (other.new ≡ with_calls other.old self.old) }
+        ensures same { result ≡ false → (self.new ≡ self.old) × (other.new ≡ other.old) }
+    {
+        self.part.exchange_calls(&mut other.part)
+    }
+}
+
+/// The writer's part: the item that it took and hasn't placed yet, if there is one. Contracts see it as that.
+#[derive(Drop)]
+pub struct WriterPart<R: Run> {
+    pub(crate) hand: Option<Item>,
+    run: PhantomData<R>,
+}
+
+impl<R: Run> Model for WriterPart<R> {
     ghost use Rattle.std.specs.Prelude.{Option};
     ghost use Rattle.lock_state.specs.declared.note.Item.{Item};
     ghost use Rattle.lock_state.specs.History.{IsReadable};
@@ -110,15 +147,18 @@ impl Model for WriterPart {
 
     ghost view = { λ w. w.hand };
 
-    ghost invariant = { λ w. IsReadable w.hand };
+    ghost invariant = { λ w. IsReadable R.sector_bytes w.hand };
 }
 
-impl WriterPart {
+impl<R: Run> WriterPart<R> {
     /// Nothing in hand.
-    pub fn new() -> WriterPart
+    pub fn new() -> WriterPart<R>
         ensures { result ≡ None }
     {
-        WriterPart { hand: None }
+        WriterPart {
+            hand: None,
+            run: PhantomData,
+        }
     }
 
     /// Whether nothing is in hand.

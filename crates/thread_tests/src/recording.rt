@@ -1,10 +1,12 @@
-//! Two seats record requests through the values behind the locks, a writer places the entries, and all is compared at the end.
+//! Two seats record requests through the values behind the locks, what was queued is placed, and all is compared at the end.
 ghost use Rattle.std.specs.Prelude.{◌≡◌};
+ghost use Rattle.bio.specs.Sizes.{bytes_of};
+ghost use Rattle.log_store.specs.Shown.{store_of};
 ghost use Rattle.sector_disk.specs.Shown.{shown_of};
 
-use bio::{Bio, Bytes, Ms, SectorSize, check_sized};
+use bio::{Bio, Bytes, Ms, SectorSize, check, check_sized};
 use holders::Fresh;
-use lock_state::{DataState, LogState, QueueState, Run, SeatPart, WriterPart};
+use lock_state::{DataState, LogState, QueueState, Run, Seat, WriterPart, drain};
 use log_store::LogStore;
 use pending::is_text;
 use sector_disk::SectorDisk;
@@ -15,14 +17,16 @@ use std::sync::ledger::Blank;
 use std::test::*;
 use test_asserts::holds;
 
-// How many sectors both disks have.
+// How many sectors the recorded device has, and the log's.
 const SECTORS: u64 = 64;
 
-// A write of one sector.
-fn write(alloc: Global, first: u64, fua: bool) -> Result<Bio, AllocError> {
+const LOG_SECTORS: u64 = 128;
+
+// A write of one log sector, the one of this number.
+fn write(alloc: Global, size: SectorSize, number: u64, fua: bool) -> Result<Bio, AllocError> {
     Ok(Bio::Write {
-        first,
-        bytes: Bytes::from_vec(vec![in alloc; 7; 512]?),
+        first: number.saturating_mul(size.sectors()),
+        bytes: Bytes::from_vec(vec![in alloc; 7; size.bytes() as usize]?),
         flush: false,
         fua,
         meta: false,
@@ -33,27 +37,30 @@ fn write(alloc: Global, first: u64, fua: bool) -> Result<Bio, AllocError> {
 fn call<R: Run>(
     queue: &mut QueueState<R>,
     data_state: &mut DataState<SectorDisk, R>,
-    seat: &mut SeatPart<R>,
+    seat: &mut Seat<R>,
+    size: SectorSize,
     bio: &Bio,
 ) -> bool
-    requires { R.sectors ≡ 64 }
+    requires sectors { R.sectors ≡ 64 }
+    requires size { bytes_of size ≡ R.sector_bytes }
 {
-    if !queue.is_recording()
-        || !bio.is_tracked()
-        || check_sized(bio, SECTORS, SectorSize::B512).is_err()
-    {
+    if !queue.is_recording() || !bio.is_tracked() || check(bio, SECTORS).is_err() {
         return false;
     }
-    let Ok(id) = queue.submit(seat, bio) else {
-        return false;
-    };
-    let is_done = data_state.apply(Ms::new(0), Some(id), bio).is_ok();
-    queue.complete(seat, is_done);
-    is_done
+    if let Ok(()) = check_sized(bio, SECTORS, size) {
+        let part = &mut seat.part;
+        let Ok(id) = queue.submit(part, bio) else {
+            return false;
+        };
+        let is_done = data_state.apply(Ms::new(0), Some(id), bio).is_ok();
+        queue.complete(part, is_done);
+        return is_done;
+    }
+    false
 }
 
 // Places the next item, and says whether there was one.
-fn turn<R: Run>(queue: &mut QueueState<R>, log: &mut LogState<SectorDisk>) -> bool {
+fn turn<R: Run>(queue: &mut QueueState<R>, log: &mut LogState<SectorDisk, R>) -> bool {
     let mut hand = WriterPart::new();
     if log.reserve().is_err() || queue.take(&mut hand).is_err() || hand.is_empty() {
         return false;
@@ -65,39 +72,82 @@ fn turn<R: Run>(queue: &mut QueueState<R>, log: &mut LogState<SectorDisk>) -> bo
 fn mark<R: Run>(
     alloc: Global,
     queue: &mut QueueState<R>,
-    seat: &mut SeatPart<R>,
+    seat: &mut Seat<R>,
 ) -> Result<bool, AllocError> {
     let text = Bytes::from_vec(vec![in alloc; 7; 3]?);
     if !queue.is_recording() || !is_text(text.as_slice()) {
         return Ok(false);
     }
-    queue.mark(seat, &text)?;
+    queue.mark(&mut seat.part, &text)?;
     Ok(true)
 }
 
 // A seat's call after recording ended is passed. Says whether it was.
-fn pass<R: Run>(queue: &QueueState<R>, seat: &mut SeatPart<R>) -> Result<bool, AllocError> {
+fn pass<R: Run>(queue: &QueueState<R>, seat: &mut Seat<R>) -> Result<bool, AllocError> {
     if queue.is_recording() {
         return Ok(false);
     }
-    queue.pass(seat)?;
+    queue.pass(&mut seat.part)?;
     Ok(true)
 }
 
-// Whether a seat agrees with the history, and the recorded device with it.
-fn agrees<R: Run>(
-    rt: &impl Print,
+// Whether the device was called for what the history has.
+fn is_served<R: Run>(
     alloc: Global,
     queue: &QueueState<R>,
     data_state: &DataState<SectorDisk, R>,
-    seat: &SeatPart<R>,
 ) -> Result<bool, AllocError> {
-    let has_list = holds(rt, queue.has_list(seat), "the list");
-    let has_passed = holds(rt, queue.has_passed(seat), "the passed calls");
-    let has_told = holds(rt, queue.has_told(seat, None), "the causes");
     let mut notes = queue.notes(alloc)?;
-    let is_served = queue.is_served(data_state.done(), notes.as_mut_slice());
-    Ok(has_list && has_passed && has_told && holds(rt, is_served, "the device"))
+    Ok(queue.is_served(data_state.done(), notes.as_mut_slice()))
+}
+
+// Places what is left of a closed recorder's log. Says whether that could be done, and so many items are placed and settled then.
+pub fn writes_rest<R: Run>(
+    queue: &mut QueueState<R>,
+    log: &mut LogState<SectorDisk, R>,
+    count: usize,
+) -> bool {
+    if !queue.is_closed()
+        || !queue.has_taken(log.placed())
+        || queue.has_more(log.placed(), log.end())
+    {
+        return false;
+    }
+    drain(queue, log);
+    log.placed().len() == count && log.settled() == count as u64 && queue.has_taken(log.placed())
+}
+
+// The requests of two seats, in turn, and a mark. Says whether all was done.
+fn calls<R: Run>(
+    alloc: Global,
+    queue: &mut QueueState<R>,
+    data_state: &mut DataState<SectorDisk, R>,
+    one: &mut Seat<R>,
+    other: &mut Seat<R>,
+    size: SectorSize,
+) -> Result<bool, AllocError>
+    requires sectors { R.sectors ≡ 64 }
+    requires size { bytes_of size ≡ R.sector_bytes }
+{
+    let mut is_done = true;
+    for number in 0..4 {
+        let bio = write(alloc, size, number, number == 2)?;
+        is_done = call(queue, data_state, one, size, &bio) && is_done;
+        is_done = call(queue, data_state, other, size, &Bio::Flush) && is_done;
+    }
+    Ok(mark(alloc, queue, one)? && is_done)
+}
+
+// Whether both seats, and the device, agree with the history.
+fn agree<R: Run>(
+    alloc: Global,
+    queue: &QueueState<R>,
+    data_state: &DataState<SectorDisk, R>,
+    one: &Seat<R>,
+    other: &Seat<R>,
+) -> Result<bool, AllocError> {
+    let has_both = queue.has_own(one, None) && queue.has_own(other, None);
+    Ok(has_both && is_served(alloc, queue, data_state)?)
 }
 
 // Two seats' requests: their lists and passed calls are what the history has of them, and so are the placed items.
@@ -106,54 +156,63 @@ fn two_seats_record<R: Run>(
     alloc: Global,
     blank: Blank,
     fresh: Fresh,
-    log: SectorDisk,
+    size: SectorSize,
+    store: LogStore<SectorDisk>,
     device: SectorDisk,
 ) -> Result<bool, AllocError>
     requires ledger { (blank.name ≡ R.name) × (blank.parts ≡ R.parts) × (blank.parts ≡ 2) }
     requires holders { fresh ≡ R.table }
+    requires size { bytes_of size ≡ R.sector_bytes }
     requires sectors { R.sectors ≡ 64 }
+    requires store { (store_of store).sector_bytes ≡ R.sector_bytes }
+    requires empty { (store_of store).placed ≡ 0 }
     requires device { (shown_of device).size ≡ 64 }
 {
-    let Ok(store) = LogStore::create(log) else {
-        return Ok(false);
-    };
     let mut log = LogState::new(alloc, store);
     let mut data_state = DataState::<SectorDisk, R>::new(alloc, device);
-    let (mut queue, mut seats) = QueueState::<R>::start(alloc, blank, fresh, 2)?;
+    let (mut queue, mut seats) = QueueState::<R>::start(alloc, blank, fresh, size, 2)?;
     let (Some(mut one), Some(mut other)) = (seats.pop(), seats.pop()) else {
         return Ok(false);
     };
-    let mut is_done = true;
-    for first in 0..4 {
-        let bio = write(alloc, first, first == 2)?;
-        is_done = call(&mut queue, &mut data_state, &mut one, &bio) && is_done;
-        is_done = call(&mut queue, &mut data_state, &mut other, &Bio::Flush) && is_done;
-    }
-    is_done = mark(alloc, &mut queue, &mut one)? && is_done;
-    is_done = holds(rt, is_done, "the calls") && queue.close().is_ok();
-    is_done = pass(&queue, &mut other)? && is_done;
-    let mut placed = 0;
-    for number in 1..20 {
-        if !turn(&mut queue, &mut log) {
-            break;
-        }
-        placed = number;
-    }
-    let is_level = holds(rt, placed == 10, "placed");
-    let one_agrees = agrees(rt, alloc, &queue, &data_state, &one)?;
-    let other_agrees = agrees(rt, alloc, &queue, &data_state, &other)?;
-    let parts = log.into_parts();
-    let is_taken = holds(rt, queue.has_taken(parts.placed.as_slice()), "taken");
-    Ok(is_done && is_level && one_agrees && other_agrees && is_taken && parts.settled == 10)
+    let are_made = calls(
+        alloc,
+        &mut queue,
+        &mut data_state,
+        &mut one,
+        &mut other,
+        size,
+    )?;
+    let is_closed = turn(&mut queue, &mut log) && queue.close().is_ok();
+    let is_passed = pass(&queue, &mut other)?;
+    let do_agree = agree(alloc, &queue, &data_state, &one, &other)?;
+    let is_whole = writes_rest(&mut queue, &mut log, 10);
+    Ok(
+        holds(rt, are_made, "the calls")
+            && holds(rt, is_closed && is_passed, "the close")
+            && holds(rt, do_agree, "the seats and the device")
+            && holds(rt, is_whole, "the log"),
+    )
+}
+
+// The same, by a new recorder.
+fn two_seats(rt: &impl Print, alloc: Global, size: SectorSize) -> Result<bool, AllocError> {
+    let blank = Blank::new(2);
+    let fresh = Fresh::new(alloc)?;
+    let device = SectorDisk::new(alloc, SECTORS)?;
+    let Ok(store) = LogStore::create_sized(SectorDisk::new(alloc, LOG_SECTORS)?, size) else {
+        return Ok(false);
+    };
+    two_seats_record::<Brand>(rt, alloc, blank, fresh, size, store, device)
 }
 
 #[test]
 fn two_seats_and_a_writer(rt: HostRuntime) -> Result<(), Fail> {
-    let blank = Blank::new(2);
-    let fresh = Fresh::new(rt.alloc())?;
-    let log = SectorDisk::new(rt.alloc(), SECTORS)?;
-    let device = SectorDisk::new(rt.alloc(), SECTORS)?;
-    let is_recorded = two_seats_record::<Brand>(&rt, rt.alloc(), blank, fresh, log, device)?;
-    assert!(rt; is_recorded);
+    assert!(rt; two_seats(&rt, rt.alloc(), SectorSize::B512)?);
+    Ok(())
+}
+
+#[test]
+fn two_seats_with_large_log_sectors(rt: HostRuntime) -> Result<(), Fail> {
+    assert!(rt; two_seats(&rt, rt.alloc(), SectorSize::B4096)?);
     Ok(())
 }

@@ -1,7 +1,9 @@
-use Rattle.std.proofs.Common.{◌≡◌, ◌++◌, ◌∷◌, [], List, sym, ap, ◌∙◌}
+use Rattle.std.proofs.Common.{◌≡◌, ◌++◌, ◌∷◌, [], ℕ, List, OnOk, sym, ap, ◌∙◌, subst}
+use Rattle.bio.specs.Possible.{values_of}
+use Rattle.sectors.specs.Content.{put}
 use Rattle.bio.specs.declared.request.Bio.{Bio}
 use Rattle.lock_state.specs.declared.note.Done.{Done}
-use Rattle.lock_state.specs.Calls.{done_call}
+use Rattle.lock_state.specs.Calls.{Data, done_call}
 use Rattle.lock_state.proofs.Calling.{kept_call, on_ok}
 use Rattle.lock_state.proofs.data.DataState.apply.Goals as goal
 
@@ -14,3 +16,10 @@ invariant_of-self-2 g c =
     kept_call _ (shown c.self.inside.device) _ c.self.inside.done.items _ (done_call c.args.id c.args.bio.now c.is_ok.result) c.self.invariant noted
     ensured.size ensured.lies ensured.patched
     (λ ok. on_ok c.hand_over-result.result _ (sym c.is_ok.ensures.value ∙ ok) ensured.whole)
+
+pub returns-clause-content : goal.returns-clause-content
+returns-clause-content g c =
+    let shown = g.D.BlockDev.shown in
+    let device = c.hand_over-result.new.device in
+    subst (λ (d : Data g.row.D.Denot). OnOk c.hand_over-result.result ((shown device).lies ≡ 0 → (sector : ℕ) → (shown device).content sector ≡ put (values_of c.args.bio.now) (shown d.device).content sector))
+    c.self.view_is c.hand_over-result.ensures.whole

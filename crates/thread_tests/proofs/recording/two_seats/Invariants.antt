@@ -1,4 +1,5 @@
-use Rattle.thread_tests.proofs.recording.two_seats_and_a_writer.Given as goal
+use Rattle.bio.specs.Sizes.{bytes_of}
+use Rattle.thread_tests.proofs.recording.two_seats.Given as goal
 
 abbrev pub ghosts-two_seats_record-R-Ledger : goal.ghosts-two_seats_record-R-Ledger
 ghosts-two_seats_record-R-Ledger g a = record { name = a.blank.name; parts = a.blank.parts }
@@ -7,4 +8,4 @@ abbrev pub ghosts-two_seats_record-R-Whose : goal.ghosts-two_seats_record-R-Whos
 ghosts-two_seats_record-R-Whose g a = record { table = a.fresh }
 
 abbrev pub ghosts-two_seats_record-R-Run : goal.ghosts-two_seats_record-R-Run
-ghosts-two_seats_record-R-Run g a = record { sectors = 64 }
+ghosts-two_seats_record-R-Run g a = record { sectors = 64; sector_bytes = bytes_of a.size }

@@ -1,0 +1,42 @@
+-- Worked answers: some that hold, and some that don't.
+use Rattle.std.proofs.Common.{◌==◌, Bool, true, false, [], ◌∷◌, length, inl, inr, refl, ap, true≢false}
+use Rattle.bio.specs.declared.event.CoreEvent.TheVariants as events
+use Rattle.bio.specs.declared.request.Bio.{Bio}
+use Rattle.bio.specs.declared.request.Bio.TheVariants as bios
+use Rattle.lock_state.specs.History.{Part, begun, ended, new_part, noted}
+use Rattle.shared.specs.Answers.{Answered, Marked}
+use Rattle.shared.specs.declared.answer.Answer.TheVariants.{Done, Logged}
+use Rattle.shared.specs.declared.answer.MarkAnswer.TheVariants as marks
+
+abbrev plain : Bio
+plain = bios.Write 1 [] false false false
+
+abbrev fua : Bio
+fua = bios.Write 1 [] false true false
+
+-- a seat whose first request was recorded, and ended
+abbrev after : Bio → Bool → Part
+after bio ok = ended (begun (new_part 0) 0 bio) 1 0 ok
+
+-- a plain write that ended well is answered so
+plain_done : Answered (new_part 0) plain Done (after plain true)
+plain_done = (refl, inl (refl, (0, (1, refl))))
+
+-- but a write with FUA isn't
+fua_not_done : Answered (new_part 0) fua Done (after fua true) → ⊥
+fua_not_done answered = elim answered.1 [
+  | inl recorded ↦ true≢false recorded.0
+  | inr passed ↦ true≢false (ap (λ (part : Part). length part.own == 2) passed.1)
+]
+
+-- it is answered by a receipt with its own id
+fua_logged : Answered (new_part 0) fua (Logged (record { id = 0; number = 7 })) (after fua true)
+fua_logged = (refl, (1, refl))
+
+-- a mark is answered so where it stands in the list
+mark_logged : Marked (new_part 0) (1 ∷ []) (marks.Logged (record { id = 3; number = 0 })) (noted (new_part 0) 3 (events.Mark (1 ∷ [])))
+mark_logged = refl
+
+-- and not where its seat's list didn't grow
+mark_missing : Marked (new_part 0) (1 ∷ []) (marks.Logged (record { id = 3; number = 0 })) (new_part 0) → ⊥
+mark_missing answered = true≢false (ap (λ (part : Part). length part.own == 0) answered)

@@ -1,0 +1,2 @@
+pub mod Finishing
+mod Examples

@@ -1,0 +1,20 @@
+use Rattle.std.proofs.Common.{◌∙◌}
+use Rattle.shared.proofs.Finishing.{agrees_of, differs_apart, differs_of, receipts_there}
+use Rattle.shared.proofs.shared.Shared.close.Goals as goal
+
+pub returns-then-agrees-clause-agrees : goal.returns-then-agrees-clause-agrees
+returns-then-agrees-clause-agrees g c =
+    c.finish.ensures.agrees _ _ (agrees_of _ _ _ _ _ _ _ _ _ (c.as_slice.ensures.value ∙ c.audit.ensures.same.1) c.as_slice-2.ensures.value c.if-agrees.ensures.agrees)
+
+pub returns-then-agrees-clause-receipts : goal.returns-then-agrees-clause-receipts
+returns-then-agrees-clause-receipts g c = receipts_there _ _ _ _ _ _ _ (returns-then-agrees-clause-agrees g c)
+
+pub returns-then-agrees-clause-log : goal.returns-then-agrees-clause-log
+returns-then-agrees-clause-log g c lies = c.finish.ensures.crash lies _ (g.met.L.BlockDev.lawful c.finish.result.log).current
+
+pub returns-clause-foreign : goal.returns-clause-foreign
+returns-clause-foreign g c =
+    let a = c.take_apart.ensures in
+    differs_apart _ c.in-Ok.held.log _ _ _ _ _ _ _ _ _ _
+    (record { same_queue = a.queue; same_placed = a.placed.0; same_settled = a.placed.1; same_end = a.store_end; same_calls = a.calls })
+    (differs_of _ _ _ _ _ _ _ _ _ (c.as_slice.ensures.value ∙ c.audit.ensures.same.1) c.as_slice-2.ensures.value c.if-agrees.ensures.agrees)

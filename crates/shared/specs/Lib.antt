@@ -1,0 +1,5 @@
+pub mod Answers
+pub mod Closing
+pub mod Entering
+pub mod Seats
+pub mod Writing

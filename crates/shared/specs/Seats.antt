@@ -1,0 +1,8 @@
+-- The seats that a recorder begins with.
+use Rattle.std.specs.Prelude.{◌≡◌, ℕ, List, length, slice_get, Some}
+use Rattle.lock_state.specs.History.{Part, new_part}
+
+-- There are so many, they have the numbers from 0 on, and none has had a call.
+pub record AreNewSeats (many : ℕ) (seats : List Part) : Type 0 where
+  pub count : length seats ≡ many
+  pub each : (number : ℕ) (seat : Part) → slice_get seats number ≡ Some seat → seat ≡ new_part number

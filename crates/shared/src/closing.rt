@@ -1,0 +1,300 @@
+// The close of a recorder: what it compares, and what it hands back.
+ghost use Rattle.std.specs.Prelude.{◌≡◌, ◌⊎◌, ◌<◌, ◌≤◌, ℕ, List, [], ◌∷◌, length, IfErr, IfOk, MatchBool, None, true, false};
+ghost use Rattle.bio.specs.Lawful.{has_no_close};
+ghost use Rattle.log_format.specs.LogOf.{status_of};
+ghost use Rattle.sectors.specs.Content.{Content};
+ghost use Rattle.lock_state.specs.Calls.{Holds};
+ghost use Rattle.lock_state.specs.declared.note.Receipt.{Receipt as Naming};
+ghost use Rattle.lock_state.specs.Closing.{IsShort};
+ghost use Rattle.lock_state.specs.Comparing.{BeginsTaken, Each};
+ghost use Rattle.lock_state.specs.History.{Part, first_cause, named, owned};
+ghost use Rattle.lock_state.specs.Legal.{LegalHistory};
+ghost use Rattle.lock_state.specs.Placed.{LeavesBeginning, entries_in};
+ghost use Rattle.shared.specs.Closing.{Agrees, Differs, IfBusy, IfForeign, IsReceipt, LeavesLog};
+
+use crate::desk::Desk;
+use crate::seat::WriterSeat;
+use crate::shared::Shared;
+use bio::{End, Status};
+use blockdev::BlockDev;
+use crossbeam_utils::CachePadded;
+use lock_state::{
+    DataState, Done, Item, LogState, QueueState, Receipt, Run, Seat, Seen, are_named, drain,
+};
+use pending::{Core, Hazard};
+use std::sync::Mutex;
+
+/// A recorder that was closed, taken apart.
+#[derive(Drop)]
+pub struct Closed<D: Drop, L: Drop> {
+    /// The recorded device.
+    pub device: D,
+    /// The log's device.
+    pub log: L,
+    /// How far the log came.
+    pub status: Status,
+    /// Why logging ended: the cause of the first Stop, else that of the log itself. None where all was written.
+    pub end: Option<End>,
+    /// The core, with the history (`Core::events`).
+    pub core: Core,
+    /// The seat of each event; none for a Stop and a Close.
+    pub by: Vec<Option<u64>>,
+    /// The first hazard, if there is one.
+    pub hazard: Option<Hazard>,
+    /// The requests that were handed to the recorded device, in order, also those that aren't recorded.
+    pub done: Vec<Done>,
+    /// The items that were placed in the log, in order.
+    pub placed: Vec<Item>,
+    /// How many of them are settled.
+    pub settled: u64,
+    /// How many items were taken to be placed.
+    pub taken: u64,
+    /// The cause of the first Stop, also of one after the Close.
+    pub stop: Option<End>,
+    /// Why the log itself ended.
+    pub store_end: Option<End>,
+}
+
+/// What is handed back where recording wasn't closed: all that was handed in.
+#[derive(Drop)]
+pub struct Open<D: BlockDev + Drop, L: BlockDev + Drop, R: Run> {
+    pub recorder: Shared<D, L, R>,
+    pub seats: Vec<Seat<R>>,
+    pub writer: WriterSeat<R>,
+    pub receipts: Vec<Receipt>,
+}
+
+/// What is handed back where what was handed in isn't the recorder's own: the recorder, taken apart, with nothing more written, and all that was handed in.
+#[derive(Drop)]
+pub struct Strangers<D: Drop, L: Drop, R: Run> {
+    pub closed: Closed<D, L>,
+    pub seats: Vec<Seat<R>>,
+    pub writer: WriterSeat<R>,
+    pub receipts: Vec<Receipt>,
+}
+
+/// Why a recorder wasn't closed, with what is handed back.
+#[derive(Drop)]
+pub enum Unclosed<B, F> {
+    /// `ask_close` hasn't succeeded.
+    Busy(B),
+    /// A seat, a receipt, the placed items or the device's calls aren't what the history has of them.
+    Foreign(F),
+}
+
+impl<D: BlockDev + Drop, L: BlockDev + Drop, R: Run> Shared<D, L, R> {
+    /// Closes the recorder, once `ask_close` has succeeded and all threads have left it. Compares all that is handed in, and the placed items and the device's
+    /// calls, with the history; then writes what the writer left.
+    pub fn close(
+        self,
+        seats: Vec<Seat<R>>,
+        writer: WriterSeat<R>,
+        receipts: Vec<Receipt>,
+    ) -> Result<Closed<D, L>, Unclosed<Open<D, L, R>, Strangers<D, L, R>>>
+        ensures agrees { IfOk result (λ c. Agrees (record { core = c.core.state; by = c.by.items; stop = c.stop })
+            c.placed.items c.settled c.store_end c.done.items seats.items receipts.items) }
+        ensures legal { IfOk result (λ c. LegalHistory R.sector_bytes R.sectors c.core.state.events c.by.items seats.items) }
+        ensures closed { IfOk result (λ c. has_no_close c.core.state.events ≡ false) }
+        ensures counts { IfOk result (λ c. length seats.items ≡ R.parts → 0 < R.parts → named c.by.items ≡ owned seats.items) }
+        ensures receipts { IfOk result (λ c. Each (IsReceipt c.core.state c.settled) receipts.items) }
+        ensures crash { IfOk result (λ c. (L.shown c.log).lies ≡ 0 → (left : Content) → (L.shown c.log).crash left →
+            LeavesLog R.sector_bytes (L.shown c.log).size c.settled c.core.state c.end left) }
+        ensures log { IfOk result (λ c. (L.shown c.log).lies ≡ 0 →
+            LeavesLog R.sector_bytes (L.shown c.log).size c.settled c.core.state c.end (L.shown c.log).content) }
+        ensures status { IfOk result (λ c. (L.shown c.log).lies ≡ 0 → c.status ≡ status_of R.sector_bytes (entries_in c.placed.items) c.end) }
+        ensures holds { IfOk result (λ c. (D.shown c.device).lies ≡ 0 → Holds (D.shown c.device).content c.done.items) }
+        ensures end { IfOk result (λ c. c.end ≡ first_cause c.stop c.store_end) }
+        ensures hazard { IfOk result (λ c. c.hazard ≡ None) }
+        ensures taken { IfOk result (λ c. c.taken ≡ c.core.state.taken) }
+        ensures foreign { IfErr result (λ e. IfForeign e (λ f. Differs (record { core = f.closed.core.state; by = f.closed.by.items; stop = f.closed.stop })
+            f.closed.placed.items f.closed.settled f.closed.store_end f.closed.done.items seats.items receipts.items)) }
+        ensures foreign_legal { IfErr result (λ e. IfForeign e (λ f. (has_no_close f.closed.core.state.events ≡ false)
+            × LegalHistory R.sector_bytes R.sectors f.closed.core.state.events f.closed.by.items [])) }
+        ensures foreign_counts { IfErr result (λ e. IfForeign e (λ f.
+            length seats.items ≡ R.parts → 0 < R.parts → named f.closed.by.items ≡ owned seats.items)) }
+        ensures foreign_back { IfErr result (λ e. IfForeign e (λ f.
+            (f.seats.items ≡ seats.items) × (f.writer ≡ writer) × (f.receipts.items ≡ receipts.items))) }
+        ensures busy { IfErr result (λ e. IfBusy e (λ o.
+            (o.seats.items ≡ seats.items) × (o.writer ≡ writer) × (o.receipts.items ≡ receipts.items))) }
+    {
+        let Held { desk, log, device } = match self.leave_locks() {
+            Ok(held) => held,
+            Err(recorder) => {
+                return Err(Unclosed::Busy(Open {
+                    recorder,
+                    seats,
+                    writer,
+                    receipts,
+                }));
+            }
+        };
+        let Desk {
+            mut queue,
+            mut notes,
+        } = desk;
+        let mut seats = seats;
+        queue.audit(&mut seats);
+        let notes = notes.as_mut_slice();
+        let agrees = agree(
+            &queue,
+            &log,
+            &device,
+            notes,
+            seats.as_slice(),
+            receipts.as_slice(),
+        );
+        if agrees {
+            return Ok(finish(queue, log, device));
+        }
+        Err(Unclosed::Foreign(Strangers {
+            closed: take_apart(queue, log, device),
+            seats,
+            writer,
+            receipts,
+        }))
+    }
+
+    // What the locks guard, where recording was closed; else the recorder again.
+    fn leave_locks(self) -> Result<Held<D, L, R>, Shared<D, L, R>>
+        ensures { IfOk result (λ held. (has_no_close held.desk.queue.core.events ≡ false)
+            × (length held.desk.queue.core.events ≤ length held.desk.notes.items)) }
+    {
+        let Shared {
+            queue,
+            log,
+            device,
+            work,
+            settled,
+            sectors,
+            size,
+            alloc,
+        } = self;
+        let desk = queue.into_inner().into_inner();
+        let log = log.into_inner().into_inner();
+        let device = device.into_inner().into_inner();
+        if desk.is_ready() {
+            return Ok(Held { desk, log, device });
+        }
+        Err(Shared {
+            queue: CachePadded::new(Mutex::new(desk)),
+            log: CachePadded::new(Mutex::new(log)),
+            device: CachePadded::new(Mutex::new(device)),
+            work,
+            settled,
+            sectors,
+            size,
+            alloc,
+        })
+    }
+}
+
+// What the locks guarded.
+struct Held<D: BlockDev + Drop, L: BlockDev + Drop, R: Run> {
+    desk: Desk<R>,
+    log: LogState<L, R>,
+    device: DataState<D, R>,
+}
+
+// Whether all agrees with the history. There is to be a note for each event; what the notes were doesn't matter.
+fn agree<D: BlockDev + Drop, L: BlockDev + Drop, R: Run>(
+    queue: &QueueState<R>,
+    log: &LogState<L, R>,
+    device: &DataState<D, R>,
+    notes: &mut [Seen],
+    seats: &[Seat<R>],
+    receipts: &[Receipt],
+) -> bool
+    requires { length queue.now.core.events ≤ length notes.old }
+    ensures agrees { MatchBool result
+        (Agrees queue.now log.now.placed log.now.settled log.now.end device.now.calls seats.now receipts.now)
+        (Differs queue.now log.now.placed log.now.settled log.now.end device.now.calls seats.now receipts.now) }
+    ensures legal { result ≡ true → LegalHistory R.sector_bytes R.sectors queue.now.core.events queue.now.by seats.now }
+{
+    let end = log.end();
+    if !queue.has_all(seats, end) {
+        return false;
+    }
+    if !are_named(log.placed(), log.settled(), receipts) {
+        return false;
+    }
+    if !queue.has_taken(log.placed()) {
+        return false;
+    }
+    if queue.has_more(log.placed(), end) {
+        return false;
+    }
+    queue.is_served(device.done(), notes)
+}
+
+// Writes what the writer left, and takes all apart.
+fn finish<D: BlockDev + Drop, L: BlockDev + Drop, R: Run>(
+    queue: QueueState<R>,
+    log: LogState<L, R>,
+    device: DataState<D, R>,
+) -> Closed<D, L>
+    requires closed { has_no_close queue.core.events ≡ false }
+    requires begins { BeginsTaken queue.core log.placed }
+    requires whole { IsShort queue log.placed log.end → ⊥ }
+    ensures agrees { (seats : List Part) (receipts : List Naming) → Agrees queue log.placed log.settled log.end device.calls seats receipts →
+        Agrees (record { core = result.core.state; by = result.by.items; stop = result.stop })
+        result.placed.items result.settled result.store_end result.done.items seats receipts }
+    ensures same { (result.core.state.events ≡ queue.core.events) × (result.by.items ≡ queue.by) }
+    ensures crash { (L.shown result.log).lies ≡ 0 → (left : Content) → (L.shown result.log).crash left →
+        LeavesLog R.sector_bytes (L.shown result.log).size result.settled result.core.state result.end left }
+    ensures status { (L.shown result.log).lies ≡ 0 → result.status ≡ status_of R.sector_bytes (entries_in result.placed.items) result.end }
+    ensures holds { (D.shown result.device).lies ≡ 0 → Holds (D.shown result.device).content result.done.items }
+    ensures end { result.end ≡ first_cause result.stop result.store_end }
+    ensures hazard { result.hazard ≡ None }
+    ensures taken { result.taken ≡ result.core.state.taken }
+{
+    let mut queue = queue;
+    let mut log = log;
+    drain(&mut queue, &mut log);
+    take_apart(queue, log, device)
+}
+
+// What the locks guarded, part by part.
+fn take_apart<D: BlockDev + Drop, L: BlockDev + Drop, R: Run>(
+    queue: QueueState<R>,
+    log: LogState<L, R>,
+    device: DataState<D, R>,
+) -> Closed<D, L>
+    ensures queue { (record { core = result.core.state; by = result.by.items; stop = result.stop }) ≡ queue }
+    ensures placed { (result.placed.items ≡ log.placed) × (result.settled ≡ log.settled) }
+    ensures store_end { result.store_end ≡ log.end }
+    ensures calls { result.done.items ≡ device.calls }
+    ensures legal { LegalHistory R.sector_bytes R.sectors result.core.state.events result.by.items [] }
+    ensures leaves { (L.shown result.log).lies ≡ 0 → (left : Content) → (L.shown result.log).crash left →
+        LeavesBeginning R.sector_bytes (L.shown result.log).size result.settled (entries_in result.placed.items) left }
+    ensures status { (L.shown result.log).lies ≡ 0 → result.status ≡ status_of R.sector_bytes (entries_in result.placed.items) result.end }
+    ensures holds { (D.shown result.device).lies ≡ 0 → Holds (D.shown result.device).content result.done.items }
+    ensures end { result.end ≡ first_cause result.stop result.store_end }
+    ensures hazard { result.hazard ≡ None }
+    ensures taken { result.taken ≡ result.core.state.taken }
+{
+    let taken = queue.taken_count() as u64;
+    let queue = queue.into_parts();
+    let log = log.into_parts();
+    let (device, done) = device.into_parts();
+    let store_end = log.status.end;
+    let end = queue.stop.or(store_end);
+    Closed {
+        device,
+        log: log.device,
+        status: Status {
+            entries: log.status.entries,
+            sector: log.status.sector,
+            end,
+        },
+        end,
+        hazard: queue.core.hazard(),
+        core: queue.core,
+        by: queue.by,
+        done,
+        placed: log.placed,
+        settled: log.settled,
+        taken,
+        stop: queue.stop,
+        store_end,
+    }
+}

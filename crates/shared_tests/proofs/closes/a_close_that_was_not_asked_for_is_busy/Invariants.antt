@@ -1,0 +1,10 @@
+use Rattle.shared_tests.proofs.closes.a_close_that_was_not_asked_for_is_busy.Given as goal
+
+abbrev pub ghosts-unasked-R-Ledger : goal.ghosts-unasked-R-Ledger
+ghosts-unasked-R-Ledger g a = record { name = a.blank.name; parts = a.blank.parts }
+
+abbrev pub ghosts-unasked-R-Whose : goal.ghosts-unasked-R-Whose
+ghosts-unasked-R-Whose g a = record { table = a.fresh }
+
+abbrev pub ghosts-unasked-R-Run : goal.ghosts-unasked-R-Run
+ghosts-unasked-R-Run g a = record { sectors = 16; sector_bytes = 512 }

@@ -4,6 +4,7 @@
   bench/ready.py [--count]
         Says which files `rt fmt` would change (the gate refuses their crate whole), which edits, of must-fail/ and of planted/, name a text that doesn't stand
         once in its file, which edits have no row in docs/PLANTED.md, and where that page's counts aren't those of its rows. --count writes the counts.
+        Says also where docs/HEADLINE.md isn't what bench/headline.py writes, and which places the documents cite that aren't there.
 
 The repository's files stay as they are, but for the counts. It needs the kit's `rt` on the PATH.
 """
@@ -62,13 +63,28 @@ def rows_of(page):
             yield section, cells[0], cells[-1]
 
 
+def cited():
+    """Places of this repository that its documents name, and that aren't there."""
+    pages = [*glob.glob(f"{root}/*.md"), *glob.glob(f"{root}/docs/**/*.md", recursive=True), *glob.glob(f"{root}/crates/*/README.md")]
+    for page in sorted(pages):
+        for place in sorted(set(re.findall(r"\b((?:crates|docs|bench|examples)/[\w./-]*[\w/])", text_of(page)))):
+            bare = place.rstrip(".")
+            if not any(os.path.exists(f"{root}/{bare}{end}") for end in ("", ".antt", ".rt")) and not re.search(r"/NAME\b|/out\b", bare):
+                yield f"{os.path.relpath(page, root)}: {bare} isn't there"
+
+
+def headline_off():
+    said = subprocess.run([sys.executable, f"{root}/bench/headline.py", "--check"], stdout=subprocess.PIPE, text=True).stdout
+    return said.split("\n")[:-1]
+
+
 def main():
     edits = sorted(glob.glob(f"{root}/crates/*/must-fail/*.edit"))
     planted = sorted(glob.glob(f"{root}/crates/*/planted/*.edit"))
     page = text_of(f"{root}/docs/PLANTED.md")
     rows = list(rows_of(page))
     by_tests = [it for it in rows if re.search(r"\btests?\b", it[2]) and "goal" not in it[2] and "check of" not in it[2]]
-    found = [*not_laid_out(), *edits_off(edits + planted)]
+    found = [*not_laid_out(), *edits_off(edits + planted), *cited(), *headline_off()]
     for edit in edits + planted:
         crate, name = edit.split("/")[-3], os.path.basename(edit)[:-5].replace("-", " ")
         if not any(section == crate and bug.replace("`", "").split(" (")[0].lower() == name for section, bug, _ in rows):

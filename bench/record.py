@@ -28,6 +28,7 @@ class Script:
         self.text = f"data {DATA_SECTORS}\nlog {log:07d}\n{''.join(lines)}close\n".encode()
         self.requests = requests
         self.image = log * SECTOR
+        self.data = sectors_written * SECTOR
         self.sectors = DATA_SECTORS + log
 
 
@@ -67,9 +68,9 @@ def sizes(program, always):
 
 
 def bytes_of_request(script, measured, always):
-    """What a request takes beside what any run holds, 3.5 times the log (the data in the events, on the data disk and on the log's, the entries
-    there, and the file), and 16 bytes for each sector of the two disks."""
-    return (measured.peak - always - 3.5 * script.image - 16 * script.sectors) / script.requests
+    """What a request takes beside what any run holds, the data on its disk, the log on its own, and 16 bytes for each sector of the two disks. (The events
+    share the data of writes that follow one another with the same bytes, and the file is written piece by piece.)"""
+    return (measured.peak - always - script.data - script.image - 16 * script.sectors) / script.requests
 
 
 def main():
@@ -96,7 +97,7 @@ def main():
                 print(
                     f"{kind:19}{len(script.text) / MIB:6.2f} MiB {script.requests:9d} {ours.seconds:6.2f}  {ratio}  {ours.beside(theirs)}"
                     f"          {ours.beside(on_disks)}         {ours.peak / MIB:10.1f} {script.image / MIB:9.1f}"
-                    f"   {each:6.0f} bytes beside 3.5 times the log and 16 bytes a sector"
+                    f"   {each:6.0f} bytes beside both disks"
                 )
 
 

@@ -1,7 +1,7 @@
 -- What replaying the log of an image on a disk comes to.
-use Rattle.std.proofs.Common.{◌≡◌, ◌∙◌, ◌⊎◌, ℕ, ◌+◌, ◌*◌, ◌/◌, ◌<◌, ◌≤◌, false, List, Option, Result, Ok, Err, IfErr, IfOk, ap, arith, inl, inr, length, refl, subst, sym}
+use Rattle.std.proofs.Common.{◌≡◌, ◌∙◌, ◌⊎◌, ℕ, ◌+◌, ◌*◌, ◌/◌, ◌<◌, ◌≤◌, List, Option, Result, Ok, Err, IfErr, IfOk, ap, arith, inl, inr, length, refl, subst, sym}
 use Rattle.std.proofs.lemmas.Option.{slice_get_within}
-use Rattle.sectors.specs.Content.{AgreeBelow, Content, sector_of}
+use Rattle.sectors.specs.Content.{Content, sector_of}
 use Rattle.sectors.specs.SectorLaws.{length-gather, sector_of-gather}
 use Rattle.blockdev.specs.View.{View}
 use Rattle.blockdev.specs.Law.{NoLie}

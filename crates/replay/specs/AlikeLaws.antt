@@ -1,5 +1,5 @@
 -- A log is replayed alike on disks that have the same sectors.
-use Rattle.std.proofs.Common.{◌≡◌, ℕ, List, [], ◌∷◌, ap}
+use Rattle.std.proofs.Common.{ℕ, List, [], ◌∷◌, ap}
 use Rattle.std.specs.Prelude.{unwrap_or}
 use Rattle.sectors.specs.Content.{AgreeBelow, Content, put}
 use Rattle.log_format.specs.declared.entry.Entry.{Entry}

@@ -1,7 +1,6 @@
 use Rattle.std.proofs.Common.{◌≡◌, ◌∙◌, Err, true, false, refl, sym, ap}
 use Rattle.log_reader.specs.Shown.{reader_of}
 use Rattle.run_error.specs.Errors.{refused_by}
-use Rattle.sector_disk.specs.Shown.{shown_of}
 use Rattle.dmlw_commands.proofs.Opening.{gives_found, gives_refused, never_failed}
 use Rattle.dmlw_commands.proofs.opened.next_of_image.Goals as goal
 

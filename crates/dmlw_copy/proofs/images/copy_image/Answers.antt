@@ -5,7 +5,7 @@ use Rattle.sector_disk.specs.Shown.{shown_of}
 use Rattle.sector_disk.specs.ShownLaws.{disk_lawful}
 use Rattle.log_reader.specs.Shown.{reader_of}
 use Rattle.log_store.specs.Shown.{store_of}
-use Rattle.dmlw_copy.specs.CopiesLog.{FailsOnImage, stopped}
+use Rattle.dmlw_copy.specs.CopiesLog.{stopped}
 use Rattle.dmlw_copy.specs.OnDisks.{IsCopiedOn}
 use Rattle.dmlw_copy.proofs.Copied.{content_whole, copied_on, fails_to_open, image_left, log_fits, never_failed, stopped_on}
 use Rattle.dmlw_copy.proofs.images.copy_image.Goals as goal

@@ -1,5 +1,6 @@
 pub mod Answers
 pub mod Closing
 pub mod Entering
+pub mod Posting
 pub mod Seats
 pub mod Writing

@@ -17,6 +17,7 @@ use crate::seat::WriterSeat;
 use crate::shared::Shared;
 use bio::{End, Status};
 use blockdev::BlockDev;
+use board::Names;
 use crossbeam_utils::CachePadded;
 use lock_state::{
     DataState, Done, Item, LogState, QueueState, Receipt, Run, Seat, Seen, are_named, drain,
@@ -57,7 +58,7 @@ pub struct Closed<D: Drop, L: Drop> {
 
 /// What is handed back where recording wasn't closed: all that was handed in.
 #[derive(Drop)]
-pub struct Open<D: BlockDev + Drop, L: BlockDev + Drop, R: Run> {
+pub struct Open<D: BlockDev + Drop, L: BlockDev + Drop, R: Run + Names> {
     pub recorder: Shared<D, L, R>,
     pub seats: Vec<Seat<R>>,
     pub writer: WriterSeat<R>,
@@ -66,7 +67,7 @@ pub struct Open<D: BlockDev + Drop, L: BlockDev + Drop, R: Run> {
 
 /// What is handed back where what was handed in isn't the recorder's own: the recorder, taken apart, with nothing more written, and all that was handed in.
 #[derive(Drop)]
-pub struct Strangers<D: Drop, L: Drop, R: Run> {
+pub struct Strangers<D: Drop, L: Drop, R: Run + Names> {
     pub closed: Closed<D, L>,
     pub seats: Vec<Seat<R>>,
     pub writer: WriterSeat<R>,
@@ -82,7 +83,7 @@ pub enum Unclosed<B, F> {
     Foreign(F),
 }
 
-impl<D: BlockDev + Drop, L: BlockDev + Drop, R: Run> Shared<D, L, R> {
+impl<D: BlockDev + Drop, L: BlockDev + Drop, R: Run + Names> Shared<D, L, R> {
     /// Closes the recorder, once `ask_close` has succeeded and all threads have left it. Compares all that is handed in, and the placed items and the device's
     /// calls, with the history; then writes what the writer left.
     pub fn close(
@@ -101,7 +102,7 @@ impl<D: BlockDev + Drop, L: BlockDev + Drop, R: Run> Shared<D, L, R> {
             LeavesLog R.sector_bytes (L.shown c.log).size c.settled c.core.state c.end left) }
         ensures log { IfOk result (λ c. (L.shown c.log).lies ≡ 0 →
             LeavesLog R.sector_bytes (L.shown c.log).size c.settled c.core.state c.end (L.shown c.log).content) }
-        ensures status { IfOk result (λ c. (L.shown c.log).lies ≡ 0 → c.status ≡ status_of R.sector_bytes (entries_in c.placed.items) c.end) }
+        ensures status { IfOk result (λ c. c.status ≡ status_of R.sector_bytes (entries_in c.placed.items) c.end) }
         ensures holds { IfOk result (λ c. (D.shown c.device).lies ≡ 0 → Holds (D.shown c.device).content c.done.items) }
         ensures end { IfOk result (λ c. c.end ≡ first_cause c.stop c.store_end) }
         ensures hazard { IfOk result (λ c. c.hazard ≡ None) }
@@ -165,6 +166,7 @@ impl<D: BlockDev + Drop, L: BlockDev + Drop, R: Run> Shared<D, L, R> {
             device,
             work,
             settled,
+            board,
             sectors,
             size,
             alloc,
@@ -181,6 +183,7 @@ impl<D: BlockDev + Drop, L: BlockDev + Drop, R: Run> Shared<D, L, R> {
             device: CachePadded::new(Mutex::new(device)),
             work,
             settled,
+            board,
             sectors,
             size,
             alloc,
@@ -241,7 +244,7 @@ fn finish<D: BlockDev + Drop, L: BlockDev + Drop, R: Run>(
     ensures same { (result.core.state.events ≡ queue.core.events) × (result.by.items ≡ queue.by) }
     ensures crash { (L.shown result.log).lies ≡ 0 → (left : Content) → (L.shown result.log).crash left →
         LeavesLog R.sector_bytes (L.shown result.log).size result.settled result.core.state result.end left }
-    ensures status { (L.shown result.log).lies ≡ 0 → result.status ≡ status_of R.sector_bytes (entries_in result.placed.items) result.end }
+    ensures status { result.status ≡ status_of R.sector_bytes (entries_in result.placed.items) result.end }
     ensures holds { (D.shown result.device).lies ≡ 0 → Holds (D.shown result.device).content result.done.items }
     ensures end { result.end ≡ first_cause result.stop result.store_end }
     ensures hazard { result.hazard ≡ None }
@@ -266,7 +269,7 @@ fn take_apart<D: BlockDev + Drop, L: BlockDev + Drop, R: Run>(
     ensures legal { LegalHistory R.sector_bytes R.sectors result.core.state.events result.by.items [] }
     ensures leaves { (L.shown result.log).lies ≡ 0 → (left : Content) → (L.shown result.log).crash left →
         LeavesBeginning R.sector_bytes (L.shown result.log).size result.settled (entries_in result.placed.items) left }
-    ensures status { (L.shown result.log).lies ≡ 0 → result.status ≡ status_of R.sector_bytes (entries_in result.placed.items) result.end }
+    ensures status { result.status ≡ status_of R.sector_bytes (entries_in result.placed.items) result.end }
     ensures holds { (D.shown result.device).lies ≡ 0 → Holds (D.shown result.device).content result.done.items }
     ensures end { result.end ≡ first_cause result.stop result.store_end }
     ensures hazard { result.hazard ≡ None }

@@ -6,9 +6,11 @@
 #![tactic(auto)]
 
 pub use answer::{Answer, MarkAnswer, MarkRefusal};
+pub use board::StatusSeat;
 pub use closing::{Closed, Open, Strangers, Unclosed};
-pub use seat::{StatusSeat, WriterSeat};
+pub use seat::WriterSeat;
 pub use shared::{Shared, Started};
+pub use unnamed::Unnamed;
 
 mod answer;
 mod calls;
@@ -17,5 +19,6 @@ mod desk;
 mod marks;
 mod seat;
 mod shared;
+mod unnamed;
 mod waiting;
 mod writing;

@@ -3,33 +3,32 @@ ghost use Rattle.std.specs.Prelude.{◌≡◌};
 ghost use Rattle.sector_disk.specs.Shown.{shown_of};
 
 use bio::{Bio, Bytes, Ms};
-use holders::Fresh;
-use lock_state::Run;
+use board::Names;
+use lock_state::{Run, Seat};
 use sector_disk::SectorDisk;
-use shared::{Answer, Shared, Started, Unclosed};
+use shared::{Answer, Shared, Started, Unclosed, Unnamed, WriterSeat};
 use std::alloc::{AllocError, Global};
 use std::marker::Brand;
 use std::sync::Wait;
-use std::sync::ledger::Blank;
 use std::test::*;
 
 // How many sectors each disk has.
 const SECTORS: u64 = 16;
 
 // A recorder of one seat over two disks. None where it couldn't be started.
-fn start<R: Run>(
+fn start<R: Run + Names>(
     alloc: Global,
-    blank: Blank,
-    fresh: Fresh,
+    unnamed: Unnamed,
 ) -> Result<Option<Started<SectorDisk, SectorDisk, R>>, AllocError>
-    requires ledger { (blank.name ≡ R.name) × (blank.parts ≡ R.parts) × (blank.parts ≡ 1) }
-    requires holders { fresh ≡ R.table }
+    requires ledger { (unnamed.ledger.name ≡ R.name) × (unnamed.ledger.parts ≡ R.parts) × (unnamed.ledger.parts ≡ 1) }
+    requires table { unnamed.table ≡ R.table }
+    requires board { unnamed.board ≡ R.board }
     requires sectors { R.sectors ≡ 16 }
     requires sector_size { R.sector_bytes ≡ 512 }
 {
     let device = SectorDisk::new(alloc, SECTORS)?;
     let log = SectorDisk::new(alloc, SECTORS)?;
-    Ok(Shared::new(alloc, blank, fresh, device, log, 1, 0).ok())
+    Ok(Shared::new(alloc, unnamed, device, log, 1, 1).ok())
 }
 
 // A write of one sector.
@@ -44,18 +43,18 @@ fn write(alloc: Global, first: u64) -> Result<Bio, AllocError> {
 }
 
 // A recorder that wasn't asked to close is handed back with its seat. Once it was asked, the close itself writes all, with no writer's thread.
-fn unasked<R: Run, H: Wait>(
+fn unasked<R: Run + Names, H: Wait>(
     rt: &H,
     alloc: Global,
-    blank: Blank,
-    fresh: Fresh,
+    unnamed: Unnamed,
 ) -> Result<bool, AllocError>
-    requires ledger { (blank.name ≡ R.name) × (blank.parts ≡ R.parts) × (blank.parts ≡ 1) }
-    requires holders { fresh ≡ R.table }
+    requires ledger { (unnamed.ledger.name ≡ R.name) × (unnamed.ledger.parts ≡ R.parts) × (unnamed.ledger.parts ≡ 1) }
+    requires table { unnamed.table ≡ R.table }
+    requires board { unnamed.board ≡ R.board }
     requires sectors { R.sectors ≡ 16 }
     requires sector_size { R.sector_bytes ≡ 512 }
 {
-    let Some(started) = start::<R>(alloc, blank, fresh)? else {
+    let Some(started) = start::<R>(alloc, unnamed)? else {
         return Ok(false);
     };
     let Started {
@@ -80,58 +79,154 @@ fn unasked<R: Run, H: Wait>(
     Ok(matches!(answer, Answer::Done) && is_asked && is_written)
 }
 
-// A recorder whose seat writes, flushes and reads; once recording is closed the writer writes all, and the close finds nothing left to write.
-fn recorded<R: Run, H: Wait>(
+// A recorder whose seat writes, flushes and reads; once recording is closed the writer writes all, and the close finds nothing left to write. Who looks sees the
+// status of an empty log before, and that of the whole log behind it.
+fn recorded<R: Run + Names, H: Wait>(
     rt: &H,
     alloc: Global,
-    blank: Blank,
-    fresh: Fresh,
+    unnamed: Unnamed,
 ) -> Result<bool, AllocError>
-    requires ledger { (blank.name ≡ R.name) × (blank.parts ≡ R.parts) × (blank.parts ≡ 1) }
-    requires holders { fresh ≡ R.table }
+    requires ledger { (unnamed.ledger.name ≡ R.name) × (unnamed.ledger.parts ≡ R.parts) × (unnamed.ledger.parts ≡ 1) }
+    requires table { unnamed.table ≡ R.table }
+    requires board { unnamed.board ≡ R.board }
     requires sectors { R.sectors ≡ 16 }
     requires sector_size { R.sector_bytes ≡ 512 }
 {
-    let Some(started) = start::<R>(alloc, blank, fresh)? else {
+    let Some(started) = start::<R>(alloc, unnamed)? else {
         return Ok(false);
     };
     let Started {
         recorder,
         mut seats,
         mut writer,
-        readers: _,
+        mut readers,
     } = started;
-    let Some(mut seat) = seats.pop() else {
+    let (Some(mut seat), Some(mut reader)) = (seats.pop(), readers.pop()) else {
         return Ok(false);
     };
+    let before = recorder.status(&mut reader);
     let written = recorder.submit(rt, &mut seat, write(alloc, 1)?, Ms::new(0));
     let flushed = recorder.submit(rt, &mut seat, Bio::Flush, Ms::new(0));
     let read = recorder.submit(rt, &mut seat, Bio::Read { first: 1, count: 1 }, Ms::new(0));
     seats.push(seat)?;
     let is_asked = recorder.ask_close(rt).is_ok();
     recorder.write_loop(rt, &mut writer);
+    let behind = recorder.status(&mut reader);
     let Ok(closed) = recorder.close(seats, writer, Vec::new(alloc)) else {
         return Ok(false);
     };
     let is_written = closed.placed.len() == 3 && closed.settled == 3 && closed.end.is_none();
+    let is_shown = before.entries == 0 && before.sector == 0 && behind == closed.status;
     let are_done = matches!(written, Answer::Done) && matches!(flushed, Answer::Done);
-    Ok(are_done && matches!(read, Answer::Read(_)) && is_asked && is_written)
+    Ok(are_done && matches!(read, Answer::Read(_)) && is_asked && is_written && is_shown)
+}
+
+// A recorder whose one seat made a write, and that was asked to close.
+#[derive(Drop)]
+struct Wrote<R: Run + Names> {
+    recorder: Shared<SectorDisk, SectorDisk, R>,
+    seat: Seat<R>,
+    writer: WriterSeat<R>,
+}
+
+// Starts a recorder, makes a write of this sector, and asks to close. None where that couldn't be done.
+fn start_and_write<R: Run + Names, H: Wait>(
+    rt: &H,
+    alloc: Global,
+    unnamed: Unnamed,
+    first: u64,
+) -> Result<Option<Wrote<R>>, AllocError>
+    requires ledger { (unnamed.ledger.name ≡ R.name) × (unnamed.ledger.parts ≡ R.parts) × (unnamed.ledger.parts ≡ 1) }
+    requires table { unnamed.table ≡ R.table }
+    requires board { unnamed.board ≡ R.board }
+    requires sectors { R.sectors ≡ 16 }
+    requires sector_size { R.sector_bytes ≡ 512 }
+{
+    let Some(started) = start::<R>(alloc, unnamed)? else {
+        return Ok(None);
+    };
+    let Started {
+        recorder,
+        mut seats,
+        writer,
+        readers: _,
+    } = started;
+    let Some(mut seat) = seats.pop() else {
+        return Ok(None);
+    };
+    let answer = recorder.submit(rt, &mut seat, write(alloc, first)?, Ms::new(0));
+    let is_asked = recorder.ask_close(rt).is_ok();
+    if !matches!(answer, Answer::Done) || !is_asked {
+        return Ok(None);
+    }
+    Ok(Some(Wrote {
+        recorder,
+        seat,
+        writer,
+    }))
+}
+
+// Closes a recorder. Says whether it found that its seat isn't its own, and handed it back with nothing placed.
+fn is_foreign<R: Run + Names>(alloc: Global, wrote: Wrote<R>) -> Result<bool, AllocError> {
+    let Wrote {
+        recorder,
+        seat,
+        writer,
+    } = wrote;
+    let mut seats = Vec::new(alloc);
+    seats.push(seat)?;
+    let Err(Unclosed::Foreign(back)) = recorder.close(seats, writer, Vec::new(alloc)) else {
+        return Ok(false);
+    };
+    Ok(back.seats.len() == 1 && back.closed.placed.is_empty())
+}
+
+// The seats of two recorders change their calls: each recorder finds that its seat isn't its own, and hands it back.
+fn foreign_seats<B: Run + Names, C: Run + Names, H: Wait>(
+    rt: &H,
+    alloc: Global,
+    unnamed: Unnamed,
+    other: Unnamed,
+) -> Result<bool, AllocError>
+    requires ledger { (unnamed.ledger.name ≡ B.name) × (unnamed.ledger.parts ≡ B.parts) × (unnamed.ledger.parts ≡ 1) }
+    requires table { (unnamed.table ≡ B.table) × (unnamed.board ≡ B.board) }
+    requires sectors { (B.sectors ≡ 16) × (C.sectors ≡ 16) }
+    requires sector_size { (B.sector_bytes ≡ 512) × (C.sector_bytes ≡ 512) }
+    requires other_ledger { (other.ledger.name ≡ C.name) × (other.ledger.parts ≡ C.parts) × (other.ledger.parts ≡ 1) }
+    requires other_table { (other.table ≡ C.table) × (other.board ≡ C.board) }
+{
+    let Some(mut one) = start_and_write::<B, H>(rt, alloc, unnamed, 1)? else {
+        return Ok(false);
+    };
+    let Some(mut other) = start_and_write::<C, H>(rt, alloc, other, 2)? else {
+        return Ok(false);
+    };
+    let are_exchanged = one.seat.exchange_calls(&mut other.seat);
+    let is_one_back = is_foreign(alloc, one)?;
+    let is_other_back = is_foreign(alloc, other)?;
+    Ok(are_exchanged && is_one_back && is_other_back)
 }
 
 #[test]
 fn a_close_that_was_not_asked_for_is_busy(rt: HostRuntime) -> Result<(), Fail> {
     let alloc = rt.alloc();
-    let blank = Blank::new(1);
-    let fresh = Fresh::new(alloc)?;
-    assert!(rt; unasked::<Brand, HostRuntime>(&rt, alloc, blank, fresh)?);
+    let unnamed = Unnamed::new(alloc, 1)?;
+    assert!(rt; unasked::<Brand, HostRuntime>(&rt, alloc, unnamed)?);
     Ok(())
 }
 
 #[test]
 fn a_seat_writes_flushes_and_reads(rt: HostRuntime) -> Result<(), Fail> {
     let alloc = rt.alloc();
-    let blank = Blank::new(1);
-    let fresh = Fresh::new(alloc)?;
-    assert!(rt; recorded::<Brand, HostRuntime>(&rt, alloc, blank, fresh)?);
+    let unnamed = Unnamed::new(alloc, 1)?;
+    assert!(rt; recorded::<Brand, HostRuntime>(&rt, alloc, unnamed)?);
+    Ok(())
+}
+
+#[test]
+fn two_recorders_find_each_others_calls(rt: HostRuntime) -> Result<(), Fail> {
+    let alloc = rt.alloc();
+    let (unnamed, other) = (Unnamed::new(alloc, 1)?, Unnamed::new(alloc, 1)?);
+    assert!(rt; foreign_seats::<Brand, Brand, HostRuntime>(&rt, alloc, unnamed, other)?);
     Ok(())
 }

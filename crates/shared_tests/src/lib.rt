@@ -1,6 +1,15 @@
-//! Tests of `shared` that need one thread. They see what is public alone. They stand apart from the crate that they test, so that it isn't proved a second time
-//! with its tests. Those with several threads are `bench/threads`, which are run and not proved.
+//! Tests of `shared`. They see what is public alone. They stand apart from the crate that they test, so that it isn't proved a second time with its tests.
 #![tactic(auto)]
 
 #[cfg(test)]
 mod closes;
+#[cfg(test)]
+mod gate;
+#[cfg(test)]
+mod large;
+#[cfg(test)]
+mod play;
+#[cfg(test)]
+mod scenes;
+#[cfg(test)]
+mod work;

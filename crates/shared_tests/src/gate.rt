@@ -86,7 +86,9 @@ pub struct Gate<D: BlockDev + Drop, C: Clock + Drop> {
 
 impl<D: BlockDev + Drop, C: Clock + Drop> Gate<D, C> {
     /// Holds no call.
-    pub fn open(lower: D, clock: C, sign: Sign) -> Gate<D, C> {
+    pub fn open(lower: D, clock: C, sign: Sign) -> Gate<D, C>
+        ensures { result.lower ≡ lower }
+    {
         Gate {
             lower,
             clock,
@@ -109,7 +111,9 @@ impl<D: BlockDev + Drop, C: Clock + Drop> Gate<D, C> {
         }
     }
 
-    pub fn into_lower(self) -> D {
+    pub fn into_lower(self) -> D
+        ensures { result ≡ self.lower }
+    {
         let Gate {
             lower,
             clock: _,
@@ -121,7 +125,9 @@ impl<D: BlockDev + Drop, C: Clock + Drop> Gate<D, C> {
     }
 
     // Holds the call if it is the one.
-    fn pass(&mut self, first: u64) {
+    fn pass(&mut self, first: u64)
+        ensures { self.new.lower ≡ self.old.lower }
+    {
         if first != self.sector || self.passes == u64::MAX {
             return;
         }

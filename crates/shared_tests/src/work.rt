@@ -2,6 +2,7 @@
 use crate::gate::Sign;
 use bio::{Bio, Bytes, Ms};
 use blockdev::BlockDev;
+use board::Names;
 use lock_state::{Receipt, Run, Seat};
 use shared::{Answer, MarkAnswer, Shared};
 use std::alloc::{AllocError, Global};
@@ -47,10 +48,18 @@ fn count(number: &mut u64) {
     *number = number.saturating_add(1);
 }
 
+/// A seat, with what its calls came to.
+#[derive(Drop)]
+pub struct Player<R: Run + Names> {
+    pub seat: Seat<R>,
+    pub tally: Tally,
+    pub receipts: Vec<Receipt>,
+}
+
 /// A seat with its calls.
 #[derive(Drop)]
-pub struct Work<R: Run> {
-    pub seat: Seat<R>,
+pub struct Work<R: Run + Names> {
+    pub player: Player<R>,
     /// The calls that are made while recording goes on.
     pub calls: Vec<Call>,
     /// The calls that are made once it was asked to close.
@@ -59,11 +68,9 @@ pub struct Work<R: Run> {
     pub after: Option<Sign>,
     /// Whether the gate still held its call then.
     pub let_go: bool,
-    pub tally: Tally,
-    pub receipts: Vec<Receipt>,
 }
 
-impl<R: Run> Work<R> {
+impl<R: Run + Names> Work<R> {
     /// Makes the calls in order.
     pub fn run<D: BlockDev + Drop, L: BlockDev + Drop, H: Wait + Clock>(
         &mut self,
@@ -74,10 +81,8 @@ impl<R: Run> Work<R> {
         if let Some(sign) = &self.after {
             sign.wait(rt);
         }
-        for place in 0..self.calls.len() {
-            let call = self.calls[place];
-            self.make(rt, alloc, recorder, call);
-        }
+        self.player
+            .make_all(rt, alloc, recorder, self.calls.as_slice());
         if let Some(sign) = &self.after {
             self.let_go = sign.let_go();
         }
@@ -90,9 +95,22 @@ impl<R: Run> Work<R> {
         alloc: Global,
         recorder: &Shared<D, L, R>,
     ) {
-        for place in 0..self.late.len() {
-            let call = self.late[place];
-            self.make(rt, alloc, recorder, call);
+        self.player
+            .make_all(rt, alloc, recorder, self.late.as_slice());
+    }
+}
+
+impl<R: Run + Names> Player<R> {
+    // Makes the calls in order.
+    fn make_all<D: BlockDev + Drop, L: BlockDev + Drop, H: Wait>(
+        &mut self,
+        rt: &H,
+        alloc: Global,
+        recorder: &Shared<D, L, R>,
+        calls: &[Call],
+    ) {
+        for place in 0..calls.len() {
+            self.make(rt, alloc, recorder, calls[place]);
         }
     }
 
@@ -117,6 +135,7 @@ impl<R: Run> Work<R> {
         self.count_answer(call, answer);
     }
 
+    // Counts what became of a mark.
     fn count_mark(&mut self, answer: MarkAnswer) {
         match answer {
             MarkAnswer::Logged(receipt) => {
@@ -128,6 +147,7 @@ impl<R: Run> Work<R> {
         }
     }
 
+    // Counts what became of a request.
     fn count_answer(&mut self, call: Call, answer: Answer) {
         match answer {
             Answer::Done => count(&mut self.tally.done),

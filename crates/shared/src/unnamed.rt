@@ -1,0 +1,32 @@
+// What a recorder is begun with, before it has a name.
+ghost use Rattle.std.specs.Prelude.{◌≡◌, ◌<◌, ◌≤◌, IfOk};
+
+use holders::Fresh;
+use std::alloc::{AllocError, Global};
+use std::sync::ledger::Blank;
+
+/// The ledger of a recorder's seats, the table on which its queue and seats agree, and the board of its status. They name the recorder: its seats are of
+/// its type alone.
+#[derive(Drop)]
+pub struct Unnamed {
+    /// The ledger, which has a part for each seat.
+    pub ledger: Blank,
+    /// The table.
+    pub table: Fresh,
+    /// The board.
+    pub board: board::Blank,
+}
+
+impl Unnamed {
+    /// Those of a recorder with so many seats, 1 to 64. `Err` where there is no memory.
+    pub fn new(alloc: Global, seats: u64) -> Result<Unnamed, AllocError>
+        requires { (0 < seats) × (seats ≤ 64) }
+        ensures { IfOk result (λ unnamed. unnamed.ledger.parts ≡ seats) }
+    {
+        Ok(Unnamed {
+            ledger: Blank::new(seats),
+            table: Fresh::new(alloc)?,
+            board: board::Blank::new(alloc)?,
+        })
+    }
+}

@@ -1,0 +1,14 @@
+use Rattle.sector_disk.specs.Shown.{shown_of}
+use Rattle.shared_tests.proofs.scenes.stage.Given as goal
+
+abbrev pub ghosts-play-R-Ledger : goal.ghosts-play-R-Ledger
+ghosts-play-R-Ledger g a = record { name = a.unnamed.ledger.name; parts = a.unnamed.ledger.parts }
+
+abbrev pub ghosts-play-R-Whose : goal.ghosts-play-R-Whose
+ghosts-play-R-Whose g a = record { table = a.unnamed.table }
+
+abbrev pub ghosts-play-R-Run : goal.ghosts-play-R-Run
+ghosts-play-R-Run g a = record { sectors = (shown_of a.device.lower).size; sector_bytes = 512 }
+
+abbrev pub ghosts-play-R-Names : goal.ghosts-play-R-Names
+ghosts-play-R-Names g a = record { board = a.unnamed.board }

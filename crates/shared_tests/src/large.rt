@@ -1,0 +1,272 @@
+//! Four seats that fill a log or find it full, and what their reads find.
+ghost use Rattle.std.specs.Prelude.{◌<◌, ◌≤◌};
+
+use crate::play::{Played, Table};
+use crate::scenes::{open_disk, stage, tally};
+use crate::work::{Call, Tally};
+use bio::{End, Ms, Status};
+use blockdev::BlockDev;
+use lock_state::{Item, Receipt};
+use log_reader::LogReader;
+use sector_disk::SectorDisk;
+use std::alloc::{AllocError, Global};
+use std::io::Print;
+use std::sync::Wait;
+use std::test::*;
+use std::thread::Threads;
+use std::time::Clock;
+use test_asserts::{holds, is_same};
+
+// How many seats there are, and how many sectors each has for its own.
+const SEATS: u64 = 4;
+
+const OWN: u64 = 100;
+
+// The byte that a seat writes once it was asked to close.
+const LATE: u8 = 200;
+
+// The calls of a seat that writes each of its sectors once and then marks its number.
+fn writes_and_mark(alloc: Global, seat: u64) -> Result<Table, AllocError>
+    requires { seat < 4 }
+{
+    let mut calls = Vec::new(alloc);
+    for place in 0..OWN {
+        calls.push(Call::Write {
+            first: seat * OWN + place,
+            byte: seat as u8 + 1,
+            fua: false,
+        })?;
+    }
+    calls.push(Call::Mark {
+        byte: seat as u8 + 49,
+    })?;
+    Ok(Table {
+        calls,
+        late: Vec::new(alloc),
+        after: None,
+    })
+}
+
+// Whether each seat had these answers.
+fn have_answers(rt: &impl Print, found: &[Tally], wanted: &Tally) -> bool {
+    let mut have = is_same(rt, &found.len(), &4, "seats");
+    for place in 0..found.len() {
+        have = is_same(rt, &found[place], wanted, "a seat's answers") && have;
+    }
+    have
+}
+
+// Whether each reader saw this status last.
+fn have_seen(rt: &impl Print, seen: &[Status], last: &Status) -> bool {
+    let mut have = is_same(rt, &seen.len(), &4, "readers");
+    for place in 0..seen.len() {
+        have = is_same(rt, &seen[place], last, "a reader's last status") && have;
+    }
+    have
+}
+
+// Whether this receipt is that of the mark with this byte.
+fn is_marks(receipt: Receipt, placed: &[Item], byte: u8) -> bool {
+    match placed.get(receipt.number as usize) {
+        Some(item) => { item.id == receipt.id && item.entry.body.as_slice() == [byte].as_slice() }
+        None => false,
+    }
+}
+
+// Whether there is a receipt for each seat's mark, and each names its own item.
+fn are_named(rt: &impl Print, receipts: &[Receipt], placed: &[Item]) -> bool {
+    if receipts.len() != 4 {
+        return holds(rt, false, "four receipts");
+    }
+    let mut are = true;
+    for seat in 0..receipts.len() {
+        let is_own = is_marks(receipts[seat], placed, seat as u8 + 49);
+        are = holds(rt, is_own, "a receipt") && are;
+    }
+    are
+}
+
+// How many entries are read from a log.
+fn read_back(alloc: Global, log: SectorDisk) -> u64 {
+    let Ok(mut reader) = LogReader::open(alloc, log) else {
+        return u64::MAX;
+    };
+    let mut count = 0;
+    for number in 1..1000 {
+        match reader.next() {
+            Ok(Some(_)) => count = number,
+            _ => return count,
+        }
+    }
+    count
+}
+
+// Four seats write a hundred sectors each and mark their numbers, over a log of so many sectors, while four readers look at the status. Says whether the
+// answers, the receipts, the status and the log that is read back are these, no reader saw a status go back, and each sees the last one in the end.
+fn four_seats<H: Threads + Wait + Clock + Print + Sync + Send + Copy + Drop>(
+    rt: &H,
+    alloc: Global,
+    sectors: u64,
+    status: Status,
+    listed: u64,
+) -> Result<bool, AllocError>
+    requires { (0 < sectors) × (sectors ≤ 1048576) }
+{
+    let mut tables = Vec::new(alloc);
+    for seat in 0..SEATS {
+        tables.push(writes_and_mark(alloc, seat)?)?;
+    }
+    let device = open_disk(rt, alloc, SEATS * OWN)?;
+    let log = open_disk(rt, alloc, sectors)?;
+    let Some(played) = stage(rt, alloc, tables, device, log, SEATS)? else {
+        return Ok(holds(rt, false, "four seats play"));
+    };
+    let Played {
+        tallies,
+        let_go: _,
+        seen,
+        rises,
+        receipts,
+        closed,
+    } = played;
+    let has_status = is_same(rt, &closed.status, &status, "four seats' status");
+    let have_answered = have_answers(rt, tallies.as_slice(), &tally(OWN, 1, 0));
+    let do_rise = holds(rt, rises, "no status goes back");
+    let are_seen = have_seen(rt, seen.as_slice(), &status);
+    let are_named = are_named(rt, receipts.as_slice(), closed.placed.as_slice());
+    let read = read_back(alloc, closed.log.into_lower());
+    let is_read = is_same(rt, &read, &listed, "entries that are read back");
+    Ok(has_status && have_answered && do_rise && are_seen && are_named && is_read)
+}
+
+#[test]
+fn four_seats_fill_a_log(rt: HostRuntime) -> Result<(), Fail> {
+    let status = Status {
+        entries: 405,
+        sector: 805,
+        end: None,
+    };
+    assert!(rt; four_seats(&rt, rt.alloc(), 807, status, 405)?);
+    Ok(())
+}
+
+#[test]
+fn four_seats_find_a_log_full(rt: HostRuntime) -> Result<(), Fail> {
+    let status = Status {
+        entries: 404,
+        sector: 804,
+        end: Some(End::Full),
+    };
+    assert!(rt; four_seats(&rt, rt.alloc(), 806, status, 4)?);
+    Ok(())
+}
+
+// The calls of a seat that writes each of its sectors, reads it back at once, and then flushes. Once it was asked to close it writes its first sector again and
+// reads that back, writes its second one with FUA, and marks.
+fn writes_read_back(alloc: Global, seat: u64) -> Result<Table, AllocError>
+    requires { seat < 4 }
+{
+    let mut calls = Vec::new(alloc);
+    for place in 0..OWN {
+        let first = seat * OWN + place;
+        let byte = place as u8 + 1;
+        calls.push(Call::Write {
+            first,
+            byte,
+            fua: false,
+        })?;
+        calls.push(Call::Read { first, byte })?;
+    }
+    calls.push(Call::Flush)?;
+    Ok(Table {
+        calls,
+        late: late_calls(alloc, seat * OWN)?,
+        after: None,
+    })
+}
+
+// The calls of a seat with this first sector, once it was asked to close.
+fn late_calls(alloc: Global, first: u64) -> Result<Vec<Call>, AllocError>
+    requires { first < 400 }
+{
+    let byte = LATE;
+    Ok(vec![in alloc;
+        Call::Write {
+            first,
+            byte,
+            fua: false,
+        },
+        Call::Read { first, byte },
+        Call::Write {
+            first: first + 1,
+            byte,
+            fua: true,
+        },
+        Call::Mark { byte },
+    ]?)
+}
+
+// Whether the sector of a disk is filled with this byte.
+fn has_byte(
+    disk: &mut SectorDisk,
+    alloc: Global,
+    sector: u64,
+    byte: u8,
+) -> Result<bool, AllocError> {
+    let mut buffer = vec![in alloc; 0; 512]?;
+    if sector >= disk.sectors() {
+        return Ok(false);
+    }
+    if disk
+        .read(Ms::new(0), sector, buffer.as_mut_slice())
+        .is_err()
+    {
+        return Ok(false);
+    }
+    Ok(buffer.as_slice().iter().all(|&found| found == byte))
+}
+
+// Whether the first sector of each seat is filled with this byte.
+fn have_byte(disk: &mut SectorDisk, alloc: Global, byte: u8) -> Result<bool, AllocError> {
+    let mut have = true;
+    for seat in 0..SEATS {
+        have = has_byte(disk, alloc, seat * OWN, byte)? && have;
+    }
+    Ok(have)
+}
+
+// Four seats write and read back, flush, and write again after the close was asked for. Says whether each read found what was written, the device has the last
+// writes, and after a crash those that were flushed.
+fn readback<H: Threads + Wait + Clock + Print + Sync + Send + Copy + Drop>(
+    rt: &H,
+    alloc: Global,
+) -> Result<bool, AllocError> {
+    let mut tables = Vec::new(alloc);
+    for seat in 0..SEATS {
+        tables.push(writes_read_back(alloc, seat)?)?;
+    }
+    let device = open_disk(rt, alloc, SEATS * OWN)?;
+    let log = open_disk(rt, alloc, 1000)?;
+    let Some(played) = stage(rt, alloc, tables, device, log, 0)? else {
+        return Ok(holds(rt, false, "four seats read back"));
+    };
+    let wanted = Tally {
+        refused: 1,
+        ..tally(OWN + 3, 0, OWN + 1)
+    };
+    let have_answered = have_answers(rt, played.tallies.as_slice(), &wanted);
+    let closed = played.closed;
+    let mut disk = closed.device.into_lower();
+    let has_last = have_byte(&mut disk, alloc, LATE)?;
+    disk.crash(&[]);
+    let has_flushed = have_byte(&mut disk, alloc, 1)?;
+    let has_last = holds(rt, has_last, "the last writes stand");
+    let has_flushed = holds(rt, has_flushed, "what was flushed stands after a crash");
+    Ok(have_answered && has_last && has_flushed)
+}
+
+#[test]
+fn reads_find_what_was_written(rt: HostRuntime) -> Result<(), Fail> {
+    assert!(rt; readback(&rt, rt.alloc())?);
+    Ok(())
+}

@@ -1,0 +1,323 @@
+//! Runs a recorder with a thread for each seat and one that writes the log, and closes it.
+ghost use Rattle.std.specs.Prelude.{◌≡◌, ◌<◌, ◌≤◌};
+ghost use Rattle.std.specs.Thread.{IsSend};
+
+use crate::gate::Sign;
+use crate::work::{Call, Player, Tally, Work};
+use bio::Status;
+use blockdev::BlockDev;
+use board::Names;
+use lock_state::{Receipt, Run, Seat};
+use shared::{Closed, Shared, Started, StatusSeat, Unnamed, WriterSeat};
+use std::alloc::{AllocError, Global};
+use std::sync::Wait;
+use std::thread;
+use std::thread::Threads;
+use std::time::Clock;
+
+/// The calls of one seat.
+#[derive(Drop)]
+pub struct Table {
+    pub calls: Vec<Call>,
+    pub late: Vec<Call>,
+    pub after: Option<Sign>,
+}
+
+// How often a reader looks.
+const LOOKS: u64 = 10_000;
+
+/// What a reader saw: the status that it saw last, and whether one went back.
+#[derive(Drop)]
+pub struct Watch<R: Run + Names> {
+    pub seat: StatusSeat<R>,
+    pub last: Status,
+    pub fell: bool,
+}
+
+impl<R: Run + Names> Watch<R> {
+    // Looks so often.
+    fn look<D: BlockDev + Drop, L: BlockDev + Drop>(
+        &mut self,
+        recorder: &Shared<D, L, R>,
+        looks: u64,
+    ) {
+        for _ in 0..looks {
+            let status = recorder.status(&mut self.seat);
+            let is_end_kept = self.last.end.is_none() || status.end == self.last.end;
+            self.fell = self.fell || status.entries < self.last.entries || !is_end_kept;
+            self.last = status;
+        }
+    }
+}
+
+/// What a recorder that was played left, with each seat's tally, in the order of the tables.
+#[derive(Drop)]
+pub struct Played<D: Drop, L: Drop> {
+    pub tallies: Vec<Tally>,
+    pub let_go: bool,
+    /// For each reader the status that it saw last, once all threads had ended.
+    pub seen: Vec<Status>,
+    /// Whether no reader saw a status go back.
+    pub rises: bool,
+    pub receipts: Vec<Receipt>,
+    pub closed: Closed<D, L>,
+}
+
+// The seats and the readers, once all calls were made.
+#[derive(Drop)]
+struct Called<R: Run + Names> {
+    works: Vec<Work<R>>,
+    watches: Vec<Watch<R>>,
+}
+
+// Starts the writer, makes all calls, a thread for each seat, asks to close, and makes the late calls. None where not all that was begun; then logging ends,
+// so that the writer doesn't wait for more.
+fn run_all<
+    D: BlockDev + Drop + Send,
+    L: BlockDev + Drop + Send,
+    R: Run + Names + Send + Sync,
+    H: Threads + Wait + Clock + Sync,
+>(
+    rt: &H,
+    alloc: Global,
+    recorder: &Shared<D, L, R>,
+    writer: &mut WriterSeat<R>,
+    works: Vec<Work<R>>,
+    watches: Vec<Watch<R>>,
+) -> Option<Called<R>> {
+    thread::scope(
+        thread::scope_env(),
+        rt,
+        |scope| -> Option<Called<R>>
+            requires { IsSend D.row × IsSend L.row × IsSend R.row }
+        {
+            if scope
+                .spawn(move || recorder.write_loop(rt, writer))
+                .is_err()
+            {
+                return None;
+            }
+            let Ok(lookers) = scope.spawn(move || look_all(rt, recorder, watches)) else {
+                recorder.give_up(rt);
+                return None;
+            };
+            let works = call_all(rt, alloc, recorder, works);
+            if recorder.ask_close(rt).is_err() {
+                recorder.give_up(rt);
+                return None;
+            }
+            let works = call_all_late(rt, alloc, recorder, works);
+            let watches = lookers.join(rt);
+            Some(Called { works, watches })
+        },
+    )
+}
+
+// Each reader looks, in a thread of its own.
+fn look_all<
+    D: BlockDev + Drop + Send,
+    L: BlockDev + Drop + Send,
+    R: Run + Names + Send + Sync,
+    H: Threads + Wait + Sync,
+>(rt: &H, recorder: &Shared<D, L, R>, watches: Vec<Watch<R>>) -> Vec<Watch<R>> {
+    let mut watches = watches;
+    let threads = watches.len().saturating_add(1);
+    thread::for_each_mut(
+        rt,
+        watches.as_mut_slice(),
+        threads,
+        &|_, watch: &mut Watch<R>| { watch.look(recorder, LOOKS) },
+    );
+    watches
+}
+
+// Each seat makes its calls, in a thread of its own.
+fn call_all<
+    D: BlockDev + Drop + Send,
+    L: BlockDev + Drop + Send,
+    R: Run + Names + Send + Sync,
+    H: Threads + Wait + Clock + Sync,
+>(rt: &H, alloc: Global, recorder: &Shared<D, L, R>, works: Vec<Work<R>>) -> Vec<Work<R>> {
+    let mut works = works;
+    let threads = works.len().saturating_add(1);
+    thread::for_each_mut(
+        rt,
+        works.as_mut_slice(),
+        threads,
+        &|_, work: &mut Work<R>| { work.run(rt, alloc, recorder) },
+    );
+    works
+}
+
+// Each seat makes its late calls, in a thread of its own.
+fn call_all_late<
+    D: BlockDev + Drop + Send,
+    L: BlockDev + Drop + Send,
+    R: Run + Names + Send + Sync,
+    H: Threads + Wait + Clock + Sync,
+>(rt: &H, alloc: Global, recorder: &Shared<D, L, R>, works: Vec<Work<R>>) -> Vec<Work<R>> {
+    let mut works = works;
+    let threads = works.len().saturating_add(1);
+    thread::for_each_mut(
+        rt,
+        works.as_mut_slice(),
+        threads,
+        &|_, work: &mut Work<R>| { work.run_late(rt, alloc, recorder) },
+    );
+    works
+}
+
+// A seat with its calls for each table, as long as there are seats.
+fn works_of<R: Run + Names>(
+    alloc: Global,
+    seats: Vec<Seat<R>>,
+    tables: Vec<Table>,
+) -> Result<Vec<Work<R>>, AllocError> {
+    let mut works = Vec::new(alloc);
+    for (seat, table) in seats.into_iter().zip(tables) {
+        works.push(Work {
+            player: Player {
+                seat,
+                tally: Tally::new(),
+                receipts: Vec::new(alloc),
+            },
+            calls: table.calls,
+            late: table.late,
+            after: table.after,
+            let_go: true,
+        })?;
+    }
+    Ok(works)
+}
+
+// The readers before their first look.
+fn watches_of<R: Run + Names>(
+    alloc: Global,
+    readers: Vec<StatusSeat<R>>,
+) -> Result<Vec<Watch<R>>, AllocError> {
+    let last = Status {
+        entries: 0,
+        sector: 0,
+        end: None,
+    };
+    let mut watches = Vec::new(alloc);
+    for seat in readers {
+        watches.push(Watch {
+            seat,
+            last,
+            fell: false,
+        })?;
+    }
+    Ok(watches)
+}
+
+// What the seats leave.
+#[derive(Drop)]
+struct Parts<R: Run + Names> {
+    seats: Vec<Seat<R>>,
+    receipts: Vec<Receipt>,
+    tallies: Vec<Tally>,
+    let_go: bool,
+}
+
+// The seats, their tallies in the same order, and all receipts.
+fn parts_of<R: Run + Names>(alloc: Global, works: Vec<Work<R>>) -> Result<Parts<R>, AllocError> {
+    let mut seats = Vec::new(alloc);
+    let mut receipts = Vec::new(alloc);
+    let mut tallies = Vec::new(alloc);
+    let mut let_go = true;
+    for work in works {
+        let_go = let_go && work.let_go;
+        let Player {
+            seat,
+            tally,
+            receipts: own,
+        } = work.player;
+        tallies.push(tally)?;
+        receipts.extend_from_slice(own.as_slice())?;
+        seats.push(seat)?;
+    }
+    Ok(Parts {
+        seats,
+        receipts,
+        tallies,
+        let_go,
+    })
+}
+
+// Each reader looks once more. What they saw last, and whether none saw a status go back.
+fn last_looks<D: BlockDev + Drop, L: BlockDev + Drop, R: Run + Names>(
+    alloc: Global,
+    recorder: &Shared<D, L, R>,
+    watches: Vec<Watch<R>>,
+) -> Result<(Vec<Status>, bool), AllocError> {
+    let mut seen = Vec::new(alloc);
+    let mut rises = true;
+    for watch in watches {
+        let mut watch = watch;
+        watch.look(recorder, 1);
+        rises = rises && !watch.fell;
+        seen.push(watch.last)?;
+    }
+    Ok((seen, rises))
+}
+
+/// Plays the tables, a seat for each. None where the recorder couldn't be started, or didn't close as its own.
+pub fn play<
+    D: BlockDev + Drop + Send,
+    L: BlockDev + Drop + Send,
+    R: Run + Names + Send + Sync,
+    H: Threads + Wait + Clock + Sync,
+>(
+    rt: &H,
+    alloc: Global,
+    unnamed: Unnamed,
+    device: D,
+    log: L,
+    tables: Vec<Table>,
+    count: u64,
+    readers: u64,
+) -> Result<Option<Played<D, L>>, AllocError>
+    requires seats { (0 < count) × (count ≤ 64) }
+    requires readers { readers ≤ 64 }
+    requires ledger { (unnamed.ledger.name ≡ R.name) × (unnamed.ledger.parts ≡ R.parts) × (unnamed.ledger.parts ≡ count) }
+    requires table { unnamed.table ≡ R.table }
+    requires board { unnamed.board ≡ R.board }
+    requires sectors { (D.shown device).size ≡ R.sectors }
+    requires sector_size { R.sector_bytes ≡ 512 }
+{
+    let Ok(started) = Shared::<D, L, R>::new(alloc, unnamed, device, log, count, readers) else {
+        return Ok(None);
+    };
+    let Started {
+        recorder,
+        seats,
+        mut writer,
+        readers,
+    } = started;
+    let watches = watches_of(alloc, readers)?;
+    let works = works_of(alloc, seats, tables)?;
+    let Some(called) = run_all(rt, alloc, &recorder, &mut writer, works, watches) else {
+        return Ok(None);
+    };
+    let Called { works, watches } = called;
+    let Parts {
+        seats,
+        receipts,
+        tallies,
+        let_go,
+    } = parts_of(alloc, works)?;
+    let (seen, rises) = last_looks(alloc, &recorder, watches)?;
+    let kept = Vec::from_slice(alloc, receipts.as_slice())?;
+    let Ok(closed) = recorder.close(seats, writer, receipts) else {
+        return Ok(None);
+    };
+    Ok(Some(Played {
+        tallies,
+        let_go,
+        seen,
+        rises,
+        receipts: kept,
+        closed,
+    }))
+}

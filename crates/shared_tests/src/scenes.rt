@@ -1,0 +1,256 @@
+//! A call that goes on while a device holds another seat's, and a log that has hardly any room.
+ghost use Rattle.std.specs.Prelude.{◌<◌, ◌≤◌};
+
+use crate::gate::{Gate, Sign};
+use crate::play::{Played, Table, play};
+use crate::work::{Call, Tally};
+use bio::{End, Status};
+use sector_disk::SectorDisk;
+use shared::Unnamed;
+use std::alloc::{AllocError, Global};
+use std::io::Print;
+use std::marker::Brand;
+use std::sync::Wait;
+use std::test::*;
+use std::thread::Threads;
+use std::time::Clock;
+use test_asserts::{holds, is_same};
+
+// How many sectors the disks of two seats have.
+const FEW: u64 = 64;
+
+/// A tally of these answers.
+pub fn tally(done: u64, logged: u64, found: u64) -> Tally {
+    Tally {
+        done,
+        logged,
+        failed: 0,
+        not_logged: 0,
+        refused: 0,
+        found,
+    }
+}
+
+// A call alone.
+fn alone(alloc: Global, call: Call, after: Option<Sign>) -> Result<Table, AllocError> {
+    Ok(Table {
+        calls: vec![in alloc; call; 1]?,
+        late: Vec::new(alloc),
+        after,
+    })
+}
+
+/// A disk behind a gate that holds nothing.
+pub fn open_disk<H: Clock + Copy + Drop>(
+    rt: &H,
+    alloc: Global,
+    sectors: u64,
+) -> Result<Gate<SectorDisk, H>, AllocError>
+    requires { (0 < sectors) × (sectors ≤ 1048576) }
+{
+    Ok(Gate::open(SectorDisk::new(alloc, sectors)?, *rt, Sign::new(alloc)?))
+}
+
+/// Plays the tables on these devices.
+pub fn stage<H: Threads + Wait + Clock + Sync + Send + Copy + Drop>(
+    rt: &H,
+    alloc: Global,
+    tables: Vec<Table>,
+    device: Gate<SectorDisk, H>,
+    log: Gate<SectorDisk, H>,
+    readers: u64,
+) -> Result<Option<Played<Gate<SectorDisk, H>, Gate<SectorDisk, H>>>, AllocError>
+    requires { readers ≤ 64 }
+{
+    let count = tables.len() as u64;
+    if count == 0 || 64 < count {
+        return Ok(None);
+    }
+    let unnamed = Unnamed::new(alloc, count)?;
+    play::<Gate<SectorDisk, H>, Gate<SectorDisk, H>, Brand, H>(
+        rt, alloc, unnamed, device, log, tables, count, readers,
+    )
+}
+
+// Where a call is held.
+#[derive(Clone, Copy, Debug, PartialEq, Eq)]
+enum Held {
+    Device,
+    Log,
+}
+
+// What two seats are to do: the first one's call is held at the device or at the log, at the write to this sector after so many, until the second one's was
+// answered. Both are to be answered by these tallies.
+#[derive(Clone, Copy, Debug)]
+struct Scene {
+    held: Held,
+    sector: u64,
+    passes: u64,
+    calls: (Call, Call),
+    tallies: (Tally, Tally),
+}
+
+// The calls of both seats. The second one's waits for this sign.
+fn two_calls(alloc: Global, calls: (Call, Call), sign: Sign) -> Result<Vec<Table>, AllocError> {
+    let mut tables = Vec::new(alloc);
+    tables.push(alone(alloc, calls.0, None)?)?;
+    tables.push(alone(alloc, calls.1, Some(sign))?)?;
+    Ok(tables)
+}
+
+// Whether each of two seats had the answers that it was to have.
+fn are_answered(rt: &impl Print, found: &[Tally], wanted: (Tally, Tally)) -> bool {
+    let [one, other] = found else {
+        return holds(rt, false, "two tallies");
+    };
+    let is_one = is_same(rt, one, &wanted.0, "the held call");
+    is_same(rt, other, &wanted.1, "the other call") && is_one
+}
+
+// Plays the scene. Says whether the first call was still held once the second one was answered, and both had their answers.
+fn gated<H: Threads + Wait + Clock + Print + Sync + Send + Copy + Drop>(
+    rt: &H,
+    alloc: Global,
+    scene: Scene,
+) -> Result<bool, AllocError> {
+    let sign = Sign::new(alloc)?;
+    let other = sign.again()?;
+    let tables = two_calls(alloc, scene.calls, sign)?;
+    let disk = SectorDisk::new(alloc, FEW)?;
+    let holding = Gate::holding(disk, *rt, other, scene.sector, scene.passes);
+    let open = open_disk(rt, alloc, FEW)?;
+    let (device, log) = match scene.held {
+        Held::Device => (holding, open),
+        Held::Log => (open, holding),
+    };
+    let Some(played) = stage(rt, alloc, tables, device, log, 0)? else {
+        return Ok(holds(rt, false, "two seats play"));
+    };
+    let is_let_go = holds(
+        rt,
+        played.let_go,
+        "the call was held until the other was answered",
+    );
+    Ok(are_answered(rt, played.tallies.as_slice(), scene.tallies) && is_let_go)
+}
+
+// The log's first write after its creation, which is a flush's entry, until another thread's write was answered.
+#[test]
+fn a_write_is_answered_while_the_log_is_written(rt: HostRuntime) -> Result<(), Fail> {
+    let scene = Scene {
+        held: Held::Log,
+        sector: 1,
+        passes: 0,
+        calls: (
+            Call::Flush,
+            Call::Write {
+                first: 1,
+                byte: 1,
+                fua: false,
+            },
+        ),
+        tallies: (tally(1, 0, 0), tally(1, 0, 0)),
+    };
+    assert!(rt; gated(&rt, rt.alloc(), scene)?);
+    Ok(())
+}
+
+// The super block of one seat's mark, until another's write was answered.
+#[test]
+fn a_write_is_answered_while_a_mark_is_made_sure(rt: HostRuntime) -> Result<(), Fail> {
+    let scene = Scene {
+        held: Held::Log,
+        sector: 0,
+        passes: 1,
+        calls: (
+            Call::Mark { byte: 1 },
+            Call::Write {
+                first: 1,
+                byte: 1,
+                fua: false,
+            },
+        ),
+        tallies: (tally(0, 1, 0), tally(1, 0, 0)),
+    };
+    assert!(rt; gated(&rt, rt.alloc(), scene)?);
+    Ok(())
+}
+
+// The device's write of one seat, until another's mark was answered.
+#[test]
+fn a_mark_is_answered_while_the_device_writes(rt: HostRuntime) -> Result<(), Fail> {
+    let scene = Scene {
+        held: Held::Device,
+        sector: 1,
+        passes: 0,
+        calls: (
+            Call::Write {
+                first: 1,
+                byte: 1,
+                fua: false,
+            },
+            Call::Mark { byte: 1 },
+        ),
+        tallies: (tally(1, 0, 0), tally(0, 1, 0)),
+    };
+    assert!(rt; gated(&rt, rt.alloc(), scene)?);
+    Ok(())
+}
+
+// One seat makes one call, over a log of so many sectors. Says whether the answer and the status are these.
+fn small_log<H: Threads + Wait + Clock + Print + Sync + Send + Copy + Drop>(
+    rt: &H,
+    alloc: Global,
+    sectors: u64,
+    call: Call,
+    answer: Tally,
+    status: Status,
+) -> Result<bool, AllocError>
+    requires { (0 < sectors) × (sectors ≤ 1048576) }
+{
+    let mut tables = Vec::new(alloc);
+    tables.push(alone(alloc, call, None)?)?;
+    let device = open_disk(rt, alloc, 16)?;
+    let log = open_disk(rt, alloc, sectors)?;
+    let Some(played) = stage(rt, alloc, tables, device, log, 0)? else {
+        return Ok(holds(rt, false, "one seat plays"));
+    };
+    let is_status = is_same(rt, &played.closed.status, &status, "a small log's status");
+    let [found] = played.tallies.as_slice() else {
+        return Ok(holds(rt, false, "one tally"));
+    };
+    Ok(is_same(rt, found, &answer, "one seat's answer") && is_status)
+}
+
+// In a log of two sectors a mark finds no room.
+#[test]
+fn one_seat_finds_no_room_for_a_mark(rt: HostRuntime) -> Result<(), Fail> {
+    let mark = Call::Mark { byte: 120 };
+    let not_logged = Tally {
+        not_logged: 1,
+        ..tally(0, 0, 0)
+    };
+    let status = Status {
+        entries: 0,
+        sector: 0,
+        end: Some(End::Full),
+    };
+    assert!(rt; small_log(&rt, rt.alloc(), 2, mark, not_logged, status)?);
+    Ok(())
+}
+
+#[test]
+fn one_seat_finds_room_for_a_write_alone(rt: HostRuntime) -> Result<(), Fail> {
+    let write = Call::Write {
+        first: 5,
+        byte: 65,
+        fua: true,
+    };
+    let status = Status {
+        entries: 1,
+        sector: 2,
+        end: Some(End::Full),
+    };
+    assert!(rt; small_log(&rt, rt.alloc(), 4, write, tally(0, 1, 0), status)?);
+    Ok(())
+}

@@ -1,7 +1,7 @@
 //! dmlw records block requests in a log, as the kernel's dm-log-writes does, and reads such logs back.
 //!
 //! `dmlw record SCRIPT LOG` runs a script of writes, flushes and their ends, and writes the log of the
-//! whole run, byte for byte. `dmlw list LOG` prints a log's entries up to the first fault, `dmlw status
+//! whole run, byte for byte; `dmlw run SCRIPT LOG` runs one of several seats, each in a thread. `dmlw list LOG` prints a log's entries up to the first fault, `dmlw status
 //! LOG` how far the log has come. `dmlw replay LOG FIRST OUT WHAT` puts a beginning of a log on an image,
 //! `dmlw judge SCRIPT M IMAGE` says whether an image could have been on the device after M events, had power
 //! failed there. Here `dmlw_dispatch::execute` is called over the system's files and streams, of which no clause knows
@@ -13,6 +13,8 @@ use dmlw_files::{HostFiles, Output};
 use std::io::{BufWriter, Write};
 use std::process::ExitCode;
 use std::rt::{Env, Files};
+use std::sync::Wait;
+use std::thread::Threads;
 use std::{env, io};
 
 fn main(rt: HostRuntime) -> ExitCode {
@@ -25,12 +27,15 @@ fn main(rt: HostRuntime) -> ExitCode {
 }
 
 // Does the process's command line; where nobody reads the output on, the rest of it is dropped. An error comes only from before a command is begun.
-fn run<R: Files + Env + Print + AllocGlobal, E: Write>(rt: &R, err: &mut E) -> io::Result<u8> {
+fn run<R: Files + Env + Print + AllocGlobal + Threads + Wait + Sync, E: Write>(
+    rt: &R,
+    err: &mut E,
+) -> io::Result<u8> {
     let words: Vec<String> = env::args(rt)?.collect(rt.alloc())?;
     let mut files = HostFiles::new(rt);
     let mut out = BufWriter::new(rt.alloc(), Output::new(io::writer(rt)))?;
     Ok(
-        execute(rt.alloc(), &words, &mut files, &mut out, err)
+        execute(rt, rt.alloc(), &words, &mut files, &mut out, err)
             .exit
             .status(),
     )

@@ -43,7 +43,7 @@ pub fn end<O: Write, E: Write>(
 
 /// How a recording ends that came so far, or failed. Where logging ended before its time, the exit says so, and nothing is
 /// reported; a fault is, as by `end`.
-pub(crate) fn end_recording<O: Write, E: Write>(
+pub fn end_recording<O: Write, E: Write>(
     alloc: Global,
     done: Result<Status, RunError>,
     more: &str,

@@ -14,7 +14,7 @@ use crate::ending::{Ended, end_recording};
 use bio::Status;
 use dmlw_explain::explain_recording;
 use dmlw_files::{Files, read_text};
-use dmlw_script::{Kind, Script, read_script};
+use dmlw_script::{Script, read_script};
 use refusals::Refusal;
 use run_error::RunError;
 use script_runner::{Lies, Recorded};
@@ -106,7 +106,7 @@ fn run_text<O: Write>(alloc: Global, text: &[u8], out: &mut O) -> Result<Recorde
         (O.contents out.old) (O.contents out.new)) }
     ensures faults { IfErr result (FailsRecording (Some text.now) (O.contents out.old) (O.contents out.new)) }
 {
-    let script = read_script(alloc, text, Kind::Record)?;
+    let script = read_script(alloc, text)?;
     run_script(alloc, text, &script, out)
 }
 
@@ -127,8 +127,8 @@ fn run_script<O: Write>(
     Ok(recorded)
 }
 
-// Prints how far a log has come, and how often the layers lied, if they did.
-fn print_end<O: Write>(status: Status, lies: Lies, out: &mut O) -> Result<(), RunError>
+/// Prints how far a log has come, and how often the layers lied, if they did.
+pub fn print_end<O: Write>(status: Status, lies: Lies, out: &mut O) -> Result<(), RunError>
     ensures printed { OnOk result (Appends (O.contents out.old) (O.contents out.new) (end_lines status lies)) }
     ensures faults { IfErr result IsFileError }
 {

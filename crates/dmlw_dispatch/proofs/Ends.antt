@@ -11,7 +11,8 @@ use Rattle.dmlw_commands.specs.Exits.{exit_after, exit_at, exit_of, fault_line, 
 use Rattle.dmlw_commands.specs.declared.ending.Ended.{Ended}
 use Rattle.dmlw_commands.specs.Endings.{Telling, Tells, TellsLine}
 use Rattle.dmlw_files.specs.Files.{AsksFor, KeepsFiles, Write}
-use Rattle.dmlw_commands.specs.Records.{HoldsLog, Records, WritesLog}
+use Rattle.dmlw_commands.specs.Records.{PrintsLog, Records}
+use Rattle.dmlw_run.specs.RunsLog.{PrintsRun, Runs}
 use Rattle.log_copy.specs.Refusals.{copy_refusal}
 use Rattle.dmlw_copy.specs.CopiesLog.{Copies, PrintsCopy, copy_exit, copy_line}
 use Rattle.dmlw_copy.specs.declared.stop.Stop.{Stop as CopyStop}
@@ -27,7 +28,7 @@ use Rattle.judge.specs.declared.verdict.Verdict.{Verdict}
 use Rattle.judge.specs.declared.verdict.Verdict.TheVariants as verdicts
 use Rattle.replay.specs.Refusals.{replay_refusal}
 use Rattle.replay.specs.declared.upto.Upto.{Upto}
-use Rattle.dmlw_dispatch.specs.Commands.{AsksForOne, EndsCommand, EndsTask, EndsUntasked, IsFaultLine, LeavesLog, TellsBy, TellsOneLine, TellsUntasked, of_fault, of_replay}
+use Rattle.dmlw_dispatch.specs.Commands.{AsksForOne, EndsCommand, EndsTask, EndsUntasked, IsFaultLine, LeavesBy, TellsBy, TellsOneLine, TellsUntasked, of_fault, of_replay}
 use Rattle.clap.specs.Words.{Text, kind_of}
 use Rattle.clap.specs.declared.error.Error.{Error}
 use Rattle.dmlw_dispatch.specs.CommandLine.{is_formats}
@@ -55,13 +56,14 @@ ends_silently writes_old writes_new exit same = record { known = at_most exit; o
     at_most LoggingEnded = omega arith
     at_most RuledOut = omega arith
 
--- a refused recording has asked for no file or for one
-refused_recording : (contents : Option (List ℕ)) (log : List ℕ) (writes_old writes_new : Option (List Write)) (old new : Option (List ℕ))
-    (fault : RunError) → WritesLog contents log writes_old writes_new old new (Err fault) → EndsCommand writes_old writes_new 1
-refused_recording contents log writes_old writes_new old new fault (inl same) = ends_silently writes_old writes_new Refused same
-refused_recording contents log writes_old writes_new old new fault (inr (file, status, asked)) = record {
+-- what is refused has asked for no file, or for its log, which couldn't be written
+refused_writing : (prints : Status → Type 0) (writes_old writes_new : Option (List Write)) (fault : RunError)
+    → ((status : Status) → prints status → AsksForOne writes_old writes_new)
+    → ((writes_new ≡ writes_old) ⊎ (IsFileError fault × (status : Status) × prints status)) → EndsCommand writes_old writes_new 1
+refused_writing prints writes_old writes_new fault asks (inl same) = ends_silently writes_old writes_new Refused same
+refused_writing prints writes_old writes_new fault asks (inr (file, status, printed)) = record {
   known = omega arith;
-  once = inr (log, (asked.0, asked.2));
+  once = inr (asks status printed);
   unwritten = λ usage. absurd (omega arith);
 }
 
@@ -77,10 +79,23 @@ ends_recorded : (contents : Option (List ℕ)) (log : List ℕ) (writes_old writ
     → EndsCommand writes_old writes_new (status_of (exit_after done))
 ends_recorded contents log writes_old writes_new old new (Ok status) asked = ends_logged status.end writes_old writes_new (log, (asked.0, asked.2))
 ends_recorded contents log writes_old writes_new old new (Err (faults.Refused fault)) (writes, fails) =
-    refused_recording contents log writes_old writes_new old new (faults.Refused fault) writes
+    refused_writing (PrintsLog contents log writes_old writes_new old new) writes_old writes_new (faults.Refused fault)
+    (λ status printed. (log, (printed.0, printed.2))) writes
 ends_recorded contents log writes_old writes_new old new (Err (faults.LoggingEnded end)) (inl same, fails) =
     ends_silently writes_old writes_new LoggingEnded same
 ends_recorded contents log writes_old writes_new old new (Err (faults.LoggingEnded end)) (inr (file, status, asked), fails) = absurd (not_file end file)
+
+-- every run of seats ends so
+ends_run : (contents : Option (List ℕ)) (log : List ℕ) (writes_old writes_new : Option (List Write)) (old new : Option (List ℕ))
+    (done : Result Status RunError) → Runs contents log writes_old writes_new old new done
+    → EndsCommand writes_old writes_new (status_of (exit_after done))
+ends_run contents log writes_old writes_new old new (Ok status) asked = ends_logged status.end writes_old writes_new (log, (asked.0, asked.2))
+ends_run contents log writes_old writes_new old new (Err (faults.Refused fault)) (writes, fails) =
+    refused_writing (PrintsRun contents log writes_old writes_new old new) writes_old writes_new (faults.Refused fault)
+    (λ status printed. (log, (printed.0, printed.2))) writes
+ends_run contents log writes_old writes_new old new (Err (faults.LoggingEnded end)) (inl same, fails) =
+    ends_silently writes_old writes_new LoggingEnded same
+ends_run contents log writes_old writes_new old new (Err (faults.LoggingEnded end)) (inr (file, status, asked), fails) = absurd (not_file end file)
 
 -- a replay ends by no usage fault
 replayed_known : (done : Result ℕ Stop) → (status_of (replay_exit done) ≤ 3) × (status_of (replay_exit done) ≡ 2 → ⊥)
@@ -151,6 +166,9 @@ pub ends_task : (task : Task) (contents : List ℕ → Option (List ℕ)) (write
 ends_task (tasks.Record script log) contents writes_old writes_new old new t ended ends =
     subst (λ (e : Exit). EndsCommand writes_old writes_new (status_of e)) (sym ends.tells.exits)
     (ends_recorded (contents script.now) log.now writes_old writes_new old new ends.done ends.recorded)
+ends_task (tasks.Run script log) contents writes_old writes_new old new t ended ends =
+    subst (λ (e : Exit). EndsCommand writes_old writes_new (status_of e)) (sym ends.tells.exits)
+    (ends_run (contents script.now) log.now writes_old writes_new old new ends.done ends.ran)
 ends_task (tasks.List log) contents writes_old writes_new old new t ended ends = ends_silently writes_old writes_new ended.exit ends.unwritten
 ends_task (tasks.Status log) contents writes_old writes_new old new t ended ends = ends_silently writes_old writes_new ended.exit ends.unwritten
 ends_task (tasks.Replay files upto) contents writes_old writes_new old new t ended ends =
@@ -256,6 +274,7 @@ pub task_tells : (task : Task) (contents : List ℕ → Option (List ℕ)) (writ
     (t : Telling) (ended : Ended) → EndsTask task contents writes_old writes_new old new t ended → t.explains ≡ false
     → TellsBy ended.exit ended t.before t.after
 task_tells (tasks.Record script log) contents writes_old writes_new old new t ended ends off = told_recording t ends.done ended off ends.tells
+task_tells (tasks.Run script log) contents writes_old writes_new old new t ended ends off = told_recording t ends.done ended off ends.tells
 task_tells (tasks.List log) contents writes_old writes_new old new t ended ends off = told_by t ends.done ended off ends.tells
 task_tells (tasks.Status log) contents writes_old writes_new old new t ended ends off = told_by t ends.done ended off ends.tells
 task_tells (tasks.Replay files upto) contents writes_old writes_new old new t ended ends off = told_replay t ends.done ended off ends.tells
@@ -280,9 +299,9 @@ pub asks_for_one : (log : List ℕ) (kept : Type 0) (old new : Option (List Writ
 asks_for_one log kept old new (inl keeps) = inl keeps
 asks_for_one log kept old new (inr asked) = inr (log, asked)
 
--- what a recording leaves, by its ends
-pub leaves_log : (script log : List ℕ) (contents later : List ℕ → Option (List ℕ)) (old new : Option (List ℕ)) (exit : Exit)
-    → (exit ≡ Done → HoldsLog (contents script) Done old new (later log))
-    → (exit ≡ LoggingEnded → KeepsFiles contents later ⊎ HoldsLog (contents script) LoggingEnded old new (later log))
-    → LeavesLog script log contents later old new exit
-leaves_log script log contents later old new exit done ended = record { done = done; ended = ended }
+-- what a recording or a run leaves, by its ends
+pub leaves_by : (holds : Exit → Option (List ℕ) → Type 0) (log : List ℕ) (contents later : List ℕ → Option (List ℕ)) (exit : Exit)
+    → (exit ≡ Done → holds Done (later log))
+    → (exit ≡ LoggingEnded → KeepsFiles contents later ⊎ holds LoggingEnded (later log))
+    → LeavesBy holds log contents later exit
+leaves_by holds log contents later exit done ended = record { done = done; ended = ended }

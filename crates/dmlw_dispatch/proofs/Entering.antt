@@ -18,6 +18,7 @@ use Rattle.dmlw_dispatch.proofs.Naming.{one_name, same_some}
 -- where there was no memory, a command asks to show so
 shown_for_memory : (name : Name) (rows : List Row) (error : Error) → kind_of error ≡ OutOfMemory → AsksBy name rows (tasks.Show error)
 shown_for_memory names.Record rows error is = is
+shown_for_memory names.Run rows error is = is
 shown_for_memory names.List rows error is = is
 shown_for_memory names.Status rows error is = is
 shown_for_memory names.Replay rows error is = is

@@ -23,13 +23,14 @@ named_once name found word other there is = chosen (is_same word (name_text name
 -- a word that names a command is its name
 pub named : (word : List ℕ) (found : Name) → name_of word ≡ Some found → word ≡ name_text found
 named word found is =
-    named_once names.Record found word _ (λ e1. named_once names.List found word _ (λ e2. named_once names.Status found word _
-    (λ e3. named_once names.Replay found word _ (λ e4. named_once names.Copy found word _ (λ e5. named_once names.Judge found word _
-    (λ e6. named_once names.Path found word _ (λ e7. absurd (cc)) e6) e5) e4) e3) e2) e1) is
+    named_once names.Record found word _ (λ e1. named_once names.Run found word _ (λ e2. named_once names.List found word _
+    (λ e3. named_once names.Status found word _ (λ e4. named_once names.Replay found word _ (λ e5. named_once names.Copy found word _
+    (λ e6. named_once names.Judge found word _ (λ e7. named_once names.Path found word _ (λ e8. absurd (cc)) e7) e6) e5) e4) e3) e2) e1) is
 
 -- the name of a command names it
 pub named_again : (name : Name) → name_of (name_text name) ≡ Some name
 named_again names.Record = refl
+named_again names.Run = refl
 named_again names.List = refl
 named_again names.Status = refl
 named_again names.Replay = refl

@@ -15,6 +15,8 @@ use Rattle.dmlw_commands.specs.Endings.{EndsRecording, EndsShowing, Telling, tel
 use Rattle.dmlw_files.specs.Files.{Write}
 use Rattle.dmlw_commands.specs.Lists.{ListsImage, Shows, ShowsStatus}
 use Rattle.dmlw_commands.specs.Records.{file}
+use Rattle.dmlw_run.specs.RunsLog.{EndsRunning}
+use Rattle.dmlw_run.specs.RunsLog.{file as run_file}
 use Rattle.dmlw_judge.specs.Judgements.{EndsAnswering, EndsJudging, Meaning, Question, file as unjudged, verdict_meaning}
 use Rattle.dmlw_judge.specs.Paths.{EndsFinding, finding_meaning}
 use Rattle.dmlw_explain.specs.declared.explaining.CopyNames.{CopyNames}
@@ -29,7 +31,7 @@ use Rattle.replay.specs.declared.upto.Upto.{Upto}
 use Rattle.replay.specs.declared.upto.Upto.TheVariants as uptos
 use Rattle.words.specs.Words.{IsNumber, is_number, number_value}
 use Rattle.dmlw_dispatch.specs.CommandLine.{Enters, command_words, has_explain, is_explain, is_positional, without_explain}
-use Rattle.dmlw_dispatch.specs.Commands.{DoesWords, EndsTask, EndsText, LeavesLog, LeavesReplayed, ReplaysWhat, TaskLeaves}
+use Rattle.dmlw_dispatch.specs.Commands.{DoesWords, EndsTask, EndsText, LeavesLog, LeavesRun, LeavesReplayed, ReplaysWhat, TaskLeaves}
 use Rattle.dmlw_dispatch.specs.Names.{HasWords, name_text}
 use Rattle.dmlw_dispatch.specs.Tasks.{AsksBy, IsRead, IsReadByClap}
 use Rattle.dmlw_dispatch.specs.declared.name.Name.{Name}
@@ -39,7 +41,7 @@ use Rattle.dmlw_dispatch.specs.declared.task.Task.{Task}
 use Rattle.dmlw_dispatch.specs.declared.task.Task.TheVariants as tasks
 use Rattle.dmlw_dispatch.proofs.Entering.{asks_for, read_asks}
 use Rattle.dmlw_dispatch.proofs.Naming.{same_some}
-use Rattle.dmlw_dispatch.proofs.PlainWords.{copy_enters, judge_enters, list_enters, path_enters, plain_rows, record_enters, replay_enters, status_enters}
+use Rattle.dmlw_dispatch.proofs.PlainWords.{copy_enters, judge_enters, list_enters, path_enters, plain_rows, record_enters, replay_enters, run_enters, status_enters}
 use Rattle.dmlw_dispatch.proofs.Walks.{ArePlain, is_other}
 
 -- ---- words without `--explain`
@@ -62,6 +64,7 @@ none_explains (word ∷ words) plain = let same = not_explain word plain.0 in le
 -- no command's name begins with a hyphen
 name_plain : (name : Name) → is_positional (name_text name) ≡ true
 name_plain names.Record = refl
+name_plain names.Run = refl
 name_plain names.List = refl
 name_plain names.Status = refl
 name_plain names.Replay = refl
@@ -82,6 +85,7 @@ pub names_help : (name : Name) (program : Text) (words : List Text) (task : Task
     → IsReadByClap (command_words program name words) task
 names_help name program [] task read = read
 names_help names.Record program (word ∷ []) task read = read
+names_help names.Run program (word ∷ []) task read = read
 names_help names.List program (word ∷ []) task read = read
 names_help names.Status program (word ∷ []) task read = read
 names_help names.Replay program (word ∷ []) task read = read
@@ -120,6 +124,15 @@ recording_refused : (contents : Option (List ℕ)) (log : List ℕ) (before afte
 recording_refused contents log before after old new t ended ends = record {
   done = Err memory_error;
   recorded = (inl ends.unwritten, file memory_error (inr refl));
+  tells = ends.tells;
+}
+
+-- a run of seats for which there was no memory
+running_refused : (contents : Option (List ℕ)) (log : List ℕ) (before after : Option (List Write)) (old new : Option (List ℕ)) (t : Telling) (ended : Ended)
+    → EndsText OutOfMemory before after old new t ended → EndsRunning contents log before after old new t ended
+running_refused contents log before after old new t ended ends = record {
+  done = Err memory_error;
+  ran = (inl ends.unwritten, run_file memory_error (inr refl));
   tells = ends.tells;
 }
 
@@ -186,6 +199,30 @@ log_left (tasks.Show error) script log contents later before after old new t end
     let refused = (memory_ends (kind_of error) before after old new t ended asks ends).ends in
     record { done = λ is. absurd (not_done ended.exit refused is); ended = λ is. absurd (not_ended ended.exit refused is) }
 log_left task script log contents later before after old new t ended asks ends leaves = absurd asks
+
+-- a task that `run SCRIPT LOG` asks for ends as the run does
+run_ends : (task : Task) (script log : Text) (contents : List ℕ → Option (List ℕ)) (before after : Option (List Write)) (old new : Option (List ℕ))
+    (t : Telling) (ended : Ended) → AsksBy names.Run (plain_rows names.Run (script ∷ log ∷ [])) task
+    → EndsTask task contents before after old new t ended → EndsRunning (contents script) log before after old new t ended
+run_ends (tasks.Run s l) script log contents before after old new t ended asks ends =
+    subst (λ (name : List ℕ). EndsRunning (contents script) name before after old new t ended) (sym (same_some log l.now asks.1))
+    (subst (λ (name : List ℕ). EndsRunning (contents name) l.now before after old new t ended) (sym (same_some script s.now asks.0)) ends)
+run_ends (tasks.Show error) script log contents before after old new t ended asks ends =
+    running_refused (contents script) log before after old new t ended (memory_ends (kind_of error) before after old new t ended asks ends)
+run_ends task script log contents before after old new t ended asks ends = absurd asks
+
+-- and leaves its log
+run_left : (task : Task) (script log : Text) (contents later : List ℕ → Option (List ℕ)) (before after : Option (List Write)) (old new : Option (List ℕ))
+    (t : Telling) (ended : Ended) → AsksBy names.Run (plain_rows names.Run (script ∷ log ∷ [])) task
+    → EndsTask task contents before after old new t ended → TaskLeaves task contents later old new ended.exit
+    → LeavesRun script log contents later old new ended.exit
+run_left (tasks.Run s l) script log contents later before after old new t ended asks ends leaves =
+    subst (λ (name : List ℕ). LeavesRun script name contents later old new ended.exit) (sym (same_some log l.now asks.1))
+    (subst (λ (name : List ℕ). LeavesRun name l.now contents later old new ended.exit) (sym (same_some script s.now asks.0)) leaves)
+run_left (tasks.Show error) script log contents later before after old new t ended asks ends leaves =
+    let refused = (memory_ends (kind_of error) before after old new t ended asks ends).ends in
+    record { done = λ is. absurd (not_done ended.exit refused is); ended = λ is. absurd (not_ended ended.exit refused is) }
+run_left task script log contents later before after old new t ended asks ends leaves = absurd asks
 
 -- a task that `list LOG` asks for ends as the listing does
 list_ends : (task : Task) (log : Text) (contents : List ℕ → Option (List ℕ)) (before after : Option (List Write)) (old new : Option (List ℕ))
@@ -393,6 +430,30 @@ record_leaves contents later before after old new errors_old errors_new ended pr
     let asks = plain_asks names.Record program (script ∷ log ∷ []) (plain_rows names.Record (script ∷ log ∷ [])) does.task plain
     (record_enters program script log plain_script plain_log) (refl, (refl, tt)) does.read in
     log_left does.task script log contents later before after old new _ ended asks does.ends does.leaves
+
+-- where these words are done, the script's seats were run
+pub run_done : (contents later : List ℕ → Option (List ℕ)) (before after : Option (List Write)) (old new errors_old errors_new : Option (List ℕ)) (ended : Ended)
+    (program script log : List ℕ) → is_positional script ≡ true → is_positional log ≡ true
+    → DoesWords (command_words program names.Run (script ∷ log ∷ [])) contents later before after old new errors_old errors_new ended
+    → EndsRunning (contents script) log before after old new (telling false errors_old errors_new) ended
+run_done contents later before after old new errors_old errors_new ended program script log plain_script plain_log does =
+    let plain : ArePlain (script ∷ log ∷ []) = (plain_script, (plain_log, tt)) in
+    let asks = plain_asks names.Run program (script ∷ log ∷ []) (plain_rows names.Run (script ∷ log ∷ [])) does.task plain
+    (run_enters program script log plain_script plain_log) (refl, (refl, tt)) does.read in
+    subst (λ (explains : Bool). EndsRunning (contents script) log before after old new (telling explains errors_old errors_new) ended)
+    (stays_silent names.Run program (script ∷ log ∷ []) plain)
+    (run_ends does.task script log contents before after old new _ ended asks does.ends)
+
+-- and the log's file holds its log
+pub run_leaves : (contents later : List ℕ → Option (List ℕ)) (before after : Option (List Write)) (old new errors_old errors_new : Option (List ℕ)) (ended : Ended)
+    (program script log : List ℕ) → is_positional script ≡ true → is_positional log ≡ true
+    → DoesWords (command_words program names.Run (script ∷ log ∷ [])) contents later before after old new errors_old errors_new ended
+    → LeavesRun script log contents later old new ended.exit
+run_leaves contents later before after old new errors_old errors_new ended program script log plain_script plain_log does =
+    let plain : ArePlain (script ∷ log ∷ []) = (plain_script, (plain_log, tt)) in
+    let asks = plain_asks names.Run program (script ∷ log ∷ []) (plain_rows names.Run (script ∷ log ∷ [])) does.task plain
+    (run_enters program script log plain_script plain_log) (refl, (refl, tt)) does.read in
+    run_left does.task script log contents later before after old new _ ended asks does.ends does.leaves
 
 -- where these words are done, the log was listed
 pub list_done : (contents later : List ℕ → Option (List ℕ)) (before after : Option (List Write)) (old new errors_old errors_new : Option (List ℕ)) (ended : Ended)

@@ -39,6 +39,7 @@ met name words = stopped_at (walk_from nothing_held) (name_text name, words)
 meets : (name : Name) → walked top.rules (names_of (built program_app)) (walk_from nothing_held) (name_text name) ≡ met name []
 unfolding clap_on_literals
 meets names.Record = refl
+meets names.Run = refl
 meets names.List = refl
 meets names.Status = refl
 meets names.Replay = refl
@@ -50,6 +51,7 @@ meets names.Path = refl
 name_faultless : (name : Name) → turn_fault top (names_of (built program_app)) (walk_from nothing_held) (name_text name) ≡ []
 unfolding clap_on_literals
 name_faultless names.Record = refl
+name_faultless names.Run = refl
 name_faultless names.List = refl
 name_faultless names.Status = refl
 name_faultless names.Replay = refl
@@ -77,6 +79,7 @@ walk_faultless name words =
 fault_met : (name : Name) (words : List Text) → fault_at (met name words) [] ≡ or_else (level_fault (level name) [] nothing_held words false []) []
 unfolding clap_on_literals
 fault_met names.Record words = refl
+fault_met names.Run words = refl
 fault_met names.List words = refl
 fault_met names.Status words = refl
 fault_met names.Replay words = refl
@@ -88,6 +91,7 @@ fault_met names.Path words = refl
 entered_met : (name : Name) (words : List Text)
     → entered (built program_app) (Some (name_text name, words)) ≡ Some (name_text name, rows_after (level name).rules [] words)
 entered_met names.Record words = refl
+entered_met names.Run words = refl
 entered_met names.List words = refl
 entered_met names.Status words = refl
 entered_met names.Replay words = refl
@@ -122,6 +126,12 @@ pub record_enters : (program script log : Text) → is_positional script ≡ tru
     → Enters (command_words program names.Record (script ∷ log ∷ [])) (codes "record", plain_rows names.Record (script ∷ log ∷ []))
 unfolding clap_on_literals
 record_enters program script log plain_script plain_log = plain_enters names.Record program (script ∷ log ∷ []) (plain_script, (plain_log, tt)) refl refl
+
+-- a plain line asks to run
+pub run_enters : (program script log : Text) → is_positional script ≡ true → is_positional log ≡ true
+    → Enters (command_words program names.Run (script ∷ log ∷ [])) (codes "run", plain_rows names.Run (script ∷ log ∷ []))
+unfolding clap_on_literals
+run_enters program script log plain_script plain_log = plain_enters names.Run program (script ∷ log ∷ []) (plain_script, (plain_log, tt)) refl refl
 
 -- a plain line asks to list
 pub list_enters : (program log : Text) → is_positional log ≡ true

@@ -78,6 +78,9 @@ same_other = refl
 text_record : name_text names.Record ≡ codes "record"
 text_record = refl
 
+text_run : name_text names.Run ≡ codes "run"
+text_run = refl
+
 text_list : name_text names.List ≡ codes "list"
 text_list = refl
 
@@ -102,12 +105,15 @@ name_help = refl
 name_shorter : name_of (codes "rec") ≡ None
 name_shorter = refl
 
-all_seven : all_names ≡ names.Record ∷ names.List ∷ names.Status ∷ names.Replay ∷ names.Copy ∷ names.Judge ∷ names.Path ∷ []
-all_seven = refl
+all_eight : all_names ≡ names.Record ∷ names.Run ∷ names.List ∷ names.Status ∷ names.Replay ∷ names.Copy ∷ names.Judge ∷ names.Path ∷ []
+all_eight = refl
 
 -- the words that a command takes
 arguments_record : arguments names.Record ≡ codes "SCRIPT" ∷ codes "LOG" ∷ []
 arguments_record = refl
+
+arguments_run : arguments names.Run ≡ codes "SCRIPT" ∷ codes "LOG" ∷ []
+arguments_run = refl
 
 arguments_list : arguments names.List ≡ codes "LOG" ∷ []
 arguments_list = refl
@@ -293,6 +299,16 @@ asks_script asks = let byte = same_number 97 98 (one_byte _ _ (same_some _ _ ask
 
 asks_log : AsksBy names.Record record_rows (tasks.Record (str (codes "a")) (str (codes "a"))) → ⊥
 asks_log asks = let byte = same_number 98 97 (one_byte _ _ (same_some _ _ asks.1)) in omega arith
+
+-- a run of these files, and of others; a recording is none
+asks_run : AsksBy names.Run record_rows (tasks.Run (str (codes "a")) (str (codes "b")))
+asks_run = (refl, refl)
+
+asks_run_script : AsksBy names.Run record_rows (tasks.Run (str (codes "b")) (str (codes "b"))) → ⊥
+asks_run_script asks = let byte = same_number 97 98 (one_byte _ _ (same_some _ _ asks.0)) in omega arith
+
+asks_run_record : AsksBy names.Run record_rows (tasks.Record (str (codes "a")) (str (codes "b"))) → ⊥
+asks_run_record asks = asks
 
 -- a list and a status, and those of another log
 asks_list : AsksBy names.List log_rows (tasks.List (str (codes "b")))

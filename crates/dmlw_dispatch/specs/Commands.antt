@@ -24,6 +24,7 @@ use Rattle.dmlw_commands.specs.Records.{HoldsLog}
 use Rattle.dmlw_judge.specs.Judgements.{EndsJudging}
 use Rattle.dmlw_judge.specs.Paths.{EndsFinding}
 use Rattle.dmlw_copy.specs.CopiesLog.{EndsCopying, HoldsCopied}
+use Rattle.dmlw_run.specs.RunsLog.{EndsRunning, HoldsRun}
 use Rattle.dmlw_replay.specs.Replays.{EndsReplaying, HoldsReplayed}
 use Rattle.dmlw_replay.specs.Whats.{IsWhat}
 use Rattle.replay.specs.declared.upto.Upto.{Upto}
@@ -119,6 +120,8 @@ pub record EndsFlawed (flaw : Flaw) (writes_old writes_new : Option (List Write)
 abbrev pub EndsTask : Task → (List ℕ → Option (List ℕ)) → Option (List Write) → Option (List Write) → Option (List ℕ) → Option (List ℕ) → Telling → Ended → Type 0
 EndsTask (tasks.Record script log) contents writes_old writes_new old new t ended =
     EndsRecording (contents script.now) log.now writes_old writes_new old new t ended
+EndsTask (tasks.Run script log) contents writes_old writes_new old new t ended =
+    EndsRunning (contents script.now) log.now writes_old writes_new old new t ended
 EndsTask (tasks.List log) contents writes_old writes_new old new t ended = EndsShowing ListsImage (contents log.now) writes_old writes_new old new t ended
 EndsTask (tasks.Status log) contents writes_old writes_new old new t ended = EndsShowing ShowsStatus (contents log.now) writes_old writes_new old new t ended
 EndsTask (tasks.Replay files upto) contents writes_old writes_new old new t ended =
@@ -133,16 +136,25 @@ EndsTask (tasks.Formats page) contents writes_old writes_new old new t ended = E
 EndsTask (tasks.Show error) contents writes_old writes_new old new t ended = EndsText (kind_of error) writes_old writes_new old new t ended
 EndsTask (tasks.Flawed flaw) contents writes_old writes_new old new t ended = EndsFlawed flaw writes_old writes_new old new t ended
 
--- What a recording leaves in its log's file, by how it ends: the log where it is done; so it does where logging ended, unless each file holds
--- what it held.
-pub record LeavesLog (script log : List ℕ) (contents later : List ℕ → Option (List ℕ)) (old new : Option (List ℕ)) (exit : Exit) : Type 0 where
-  pub done : exit ≡ Done → HoldsLog (contents script) Done old new (later log)
-  pub ended : exit ≡ LoggingEnded → KeepsFiles contents later ⊎ HoldsLog (contents script) LoggingEnded old new (later log)
+-- What a recording or a run leaves in its log's file, by how it ends: what `holds` says of it where it is done; so it does where logging ended,
+-- unless each file holds what it held.
+pub record LeavesBy (holds : Exit → Option (List ℕ) → Type 0) (log : List ℕ) (contents later : List ℕ → Option (List ℕ)) (exit : Exit) : Type 0 where
+  pub done : exit ≡ Done → holds Done (later log)
+  pub ended : exit ≡ LoggingEnded → KeepsFiles contents later ⊎ holds LoggingEnded (later log)
 
--- what a task leaves in the file that it asks to be written: a recording its log, a replay that is done the image that came of it, and a copy that
+-- what a recording leaves in its log's file: the log
+abbrev pub LeavesLog : List ℕ → List ℕ → (List ℕ → Option (List ℕ)) → (List ℕ → Option (List ℕ)) → Option (List ℕ) → Option (List ℕ) → Exit → Type 0
+LeavesLog script log contents later old new exit = LeavesBy (λ by written. HoldsLog (contents script) by old new written) log contents later exit
+
+-- what a run of seats leaves in its log's file: the log
+abbrev pub LeavesRun : List ℕ → List ℕ → (List ℕ → Option (List ℕ)) → (List ℕ → Option (List ℕ)) → Option (List ℕ) → Option (List ℕ) → Exit → Type 0
+LeavesRun script log contents later old new exit = LeavesBy (λ by written. HoldsRun (contents script) by old new written) log contents later exit
+
+-- what a task leaves in the file that it asks to be written: a recording and a run their log, a replay that is done the image that came of it, and a copy that
 -- is done the new log
 abbrev pub TaskLeaves : Task → (List ℕ → Option (List ℕ)) → (List ℕ → Option (List ℕ)) → Option (List ℕ) → Option (List ℕ) → Exit → Type 0
 TaskLeaves (tasks.Record script log) contents later old new exit = LeavesLog script.now log.now contents later old new exit
+TaskLeaves (tasks.Run script log) contents later old new exit = LeavesRun script.now log.now contents later old new exit
 TaskLeaves (tasks.Replay files upto) contents later old new exit =
     exit ≡ Done → HoldsReplayed (contents files.log.now) (contents files.first.now) upto (later files.out.now)
 TaskLeaves (tasks.Copy files sectors) contents later old new exit = exit ≡ Done → HoldsCopied (contents files.log.now) sectors (later files.out.now)

@@ -13,6 +13,7 @@ is_same = pointwise nat_eq
 -- the word by which a command is entered
 abbrev pub name_text : Name → List ℕ
 name_text names.Record = codes "record"
+name_text names.Run = codes "run"
 name_text names.List = codes "list"
 name_text names.Status = codes "status"
 name_text names.Replay = codes "replay"
@@ -27,16 +28,17 @@ named_or name word other = if is_same word (name_text name) then Some name else 
 -- the command that a word names
 abbrev pub name_of : List ℕ → Option Name
 name_of word =
-    named_or names.Record word (named_or names.List word (named_or names.Status word (named_or names.Replay word
-    (named_or names.Copy word (named_or names.Judge word (named_or names.Path word None))))))
+    named_or names.Record word (named_or names.Run word (named_or names.List word (named_or names.Status word (named_or names.Replay word
+    (named_or names.Copy word (named_or names.Judge word (named_or names.Path word None)))))))
 
 -- the commands, in the order of the help
 abbrev pub all_names : List Name
-all_names = names.Record ∷ names.List ∷ names.Status ∷ names.Replay ∷ names.Copy ∷ names.Judge ∷ names.Path ∷ []
+all_names = names.Record ∷ names.Run ∷ names.List ∷ names.Status ∷ names.Replay ∷ names.Copy ∷ names.Judge ∷ names.Path ∷ []
 
 -- the arguments of a command, in their order
 abbrev pub arguments : Name → List Text
 arguments names.Record = codes "SCRIPT" ∷ codes "LOG" ∷ []
+arguments names.Run = codes "SCRIPT" ∷ codes "LOG" ∷ []
 arguments names.List = codes "LOG" ∷ []
 arguments names.Status = codes "LOG" ∷ []
 arguments names.Replay = codes "LOG" ∷ codes "FIRST" ∷ codes "OUT" ∷ codes "WHAT" ∷ []

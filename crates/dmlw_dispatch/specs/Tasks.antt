@@ -22,6 +22,7 @@ IsWord rows argument word = first_of argument rows ≡ Some word
 -- to read the command line.
 abbrev pub AsksBy : Name → List Row → Task → Type 0
 AsksBy names.Record rows (tasks.Record script log) = IsWord rows (codes "SCRIPT") script.now × IsWord rows (codes "LOG") log.now
+AsksBy names.Run rows (tasks.Run script log) = IsWord rows (codes "SCRIPT") script.now × IsWord rows (codes "LOG") log.now
 AsksBy names.List rows (tasks.List log) = IsWord rows (codes "LOG") log.now
 AsksBy names.Status rows (tasks.Status log) = IsWord rows (codes "LOG") log.now
 AsksBy names.Replay rows (tasks.Replay files upto) = IsWord rows (codes "LOG") files.log.now × IsWord rows (codes "FIRST") files.first.now

@@ -21,6 +21,16 @@ pub fn record_task<'a>(found: &ArgMatches<'a>) -> Option<Task<'a>>
     Some(Task::Record { script, log })
 }
 
+/// The task that `run` asks for.
+pub fn run_task<'a>(found: &ArgMatches<'a>) -> Option<Task<'a>>
+    ensures asks { IfSome result (AsksBy names.Run (rows_of (found_of found.now))) }
+    ensures complete { HasWords names.Run (rows_of (found_of found.now)) → is_some result ≡ true }
+{
+    let script = word_of(found, "SCRIPT")?;
+    let log = word_of(found, "LOG")?;
+    Some(Task::Run { script, log })
+}
+
 /// The task that `list` asks for.
 pub fn list_task<'a>(found: &ArgMatches<'a>) -> Option<Task<'a>>
     ensures asks { IfSome result (AsksBy names.List (rows_of (found_of found.now))) }

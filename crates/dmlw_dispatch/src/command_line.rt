@@ -6,7 +6,7 @@ ghost use Rattle.dmlw_dispatch.specs.Names.{HasWords};
 ghost use Rattle.dmlw_dispatch.specs.Tasks.{AsksBy, IsAskedBy, IsComplete, IsRead, IsReadByClap};
 
 use crate::asking::{
-    copy_task, judge_task, list_task, path_task, record_task, replay_task, status_task,
+    copy_task, judge_task, list_task, path_task, record_task, replay_task, run_task, status_task,
 };
 use crate::formats::FORMATS;
 use crate::name::Name;
@@ -43,6 +43,7 @@ fn task_by<'a>(name: Name, found: &ArgMatches<'a>) -> Option<Task<'a>>
 {
     match name {
         Name::Record => record_task(found),
+        Name::Run => run_task(found),
         Name::List => list_task(found),
         Name::Status => status_task(found),
         Name::Replay => replay_task(found),

@@ -22,12 +22,15 @@ use dmlw_copy::copy;
 use dmlw_files::Files;
 use dmlw_judge::{judge, path};
 use dmlw_replay::replay;
+use dmlw_run::run;
 use refusals::Refusal;
 use run_error::RunError;
 use std::alloc::Global;
 use std::convert::AsStr;
 use std::io;
 use std::io::Write;
+use std::sync::Wait;
+use std::thread::Threads;
 
 /// Does what a command line asks for, and answers how it ended: its exit status is 0 done, 1 refused or an
 /// image that is ruled out, 2 a command line that isn't one of the program's, 3 logging ended before its time. `words` begin with the
@@ -35,9 +38,12 @@ use std::io::Write;
 /// the words what helps against them. Where `out` can't be written the command is refused, as by a file
 /// that can't be.
 ///
+/// Threads are started and waited for by `rt`: of the commands `run` alone does so.
+///
 /// Whatever the words are, it does what they are read as, and no more. `crate::laws` says which words are
 /// read as which command.
-pub fn execute<'a, S: AsStr, F: Files, O: Write, E: Write>(
+pub fn execute<'a, S: AsStr, F: Files, O: Write, E: Write, H: Threads + Wait + Sync>(
+    rt: &H,
     alloc: Global,
     words: &'a [S],
     files: &mut F,
@@ -59,18 +65,19 @@ pub fn execute<'a, S: AsStr, F: Files, O: Write, E: Write>(
     match without_explain(alloc, words) {
         Ok(plain) => {
             let task = read_words(alloc, &plain);
-            perform(alloc, explains, task, files, out, err)
+            perform(rt, alloc, explains, task, files, out, err)
         }
         Err(error) => {
             let task = unread(error);
-            perform(alloc, explains, task, files, out, err)
+            perform(rt, alloc, explains, task, files, out, err)
         }
     }
 }
 
 // Does a task, and answers how it ended.
-#[tactic(auto, using(crate::proofs::Ends::leaves_log))]
-fn perform<F: Files, O: Write, E: Write>(
+#[tactic(auto, using(crate::proofs::Ends::leaves_by))]
+fn perform<F: Files, O: Write, E: Write, H: Threads + Wait + Sync>(
+    rt: &H,
     alloc: Global,
     explains: bool,
     task: Task<'_>,
@@ -86,6 +93,7 @@ fn perform<F: Files, O: Write, E: Write>(
 {
     match task {
         Task::Record { script, log } => record(alloc, explains, script, log, files, out, err),
+        Task::Run { script, log } => run(rt, alloc, explains, script, log, files, out, err),
         Task::List { log } => list(alloc, explains, log, files, out, err),
         Task::Status { log } => status(alloc, explains, log, files, out, err),
         Task::Replay { names, upto } => replay(alloc, explains, names, &upto, files, out, err),

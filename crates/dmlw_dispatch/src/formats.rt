@@ -38,6 +38,20 @@ sure at its own end. `meta` is a note in the log. A mark waits for nothing, and 
 sectors of 4,096 bytes the first 4,063. With such sectors each request begins and ends at a multiple of 8 sectors, else it is refused as 28 Unaligned at its line;
 a layer over the log has at least 8.
 
+A script of `run` is a text of the same kind. Its head is that of a script of `record` with one line more, and its body has these lines:
+
+| Line | Meaning | Range |
+|---|---|---|
+| `seats <n>` | the number of seats; the third line | 1 to 64 |
+| `s<k> w <first> <count> <byte> [flush] [fua] [meta]` | seat k writes | seats count from 0; the rest as above |
+| `s<k> f` | seat k flushes | |
+| `s<k> d <first> <count>` | seat k discards | 1 to 2,048 sectors |
+| `s<k> mark <text>` | seat k puts a mark of this text into the log | as above |
+
+Each seat is a thread, which does what its lines say, in their order, at moment 0; it goes on when a line's request is done, and after a write with `fua` and a
+mark when the log has made their entry sure, or logging has ended. One thread more writes the log. When all seats are through, recording is closed. The order of two seats' requests is left
+open.
+
 A table line is `0 <length> <target> ..`, with a length of 1 to 1,048,576 sectors. The word behind the target is any word, and the offset is where the
 layer begins on what stands beneath it, within which it lies. Requests are within the top layer's length.
 
@@ -67,6 +81,7 @@ takes is refused as 6 BadMessage at its line, a listed block that is added as 7 
 | Command | Prints |
 |---|---|
 | `record` | at `c`: `<id> ok` or `<id> failed`; `<id> failed` at a submission that found no memory, and `mark failed` at such a mark; at `r`: `read <first>+<count> ok ` and the first byte of each sector as two digits, joined, or `read <first>+<count> failed`; at the end the status, with ` logging_disabled` behind it where logging ended before its time, and `lies <data> <log>` where a layer has lied: how often those of the data disk did, and those of the log's |
+| `run` | for each seat, in their order: `seat <k>: <n> done <n> logged <n> failed <n> not logged <n> refused`, how many of its lines were answered so; `logged` are the writes with `fua` and the marks whose entry is sure, `not logged` those for which logging ended first. Then the status and the lies as at `record` |
 | `list` | `super version 1 entries <n> sectorsize <S>`, then a line of each entry: `<number> @<log sector>`, and `mark <text>`, `discard <sector>+<sectors>`, `flush` or `write <sector>+<sectors>`, the last two with ` flush` (of a write), ` fua`, ` meta` where set |
 | `status` | `<entries> <sector>`: how many entries the log counts, and the highest sector of 512 bytes that they use; `0 0` of an empty log |
 | `replay` | `replayed <n>`: how many entries of the log were applied to the image FIRST. Then the image is written as OUT |
@@ -130,13 +145,15 @@ A fault is one line on standard error: `dmlw: <number> <name>`, or `dmlw: line <
 | 25, 26 | NoSuchMark, NoFlush | a replay up to a mark, or a flush, that the log doesn't have |
 | 27 | PastTarget | a replay of an entry past the end of the image |
 | 28 | Unaligned | with log sectors of 4,096 bytes: a request whose first sector or count is no multiple of 8; a copy of an entry whose place or length is no multiple of 4,096 bytes |
-| 30 | BadLine | a line that isn't one of a script's, or isn't in its place; a fifth layer of a disk; a moment that goes back |
+| 30 | BadLine | a line that isn't one of a script's, or isn't in its place; a fifth layer of a disk; a moment that goes back; a seat that isn't there |
 | 31 | BadId | an id that is submitted twice, or ended where it isn't open |
 | 32 | File | a file or the output can't be read or written; a script that is too long; an image that isn't 512 to 536,870,912 bytes in whole sectors; a log that is its own script; an image that is its own log |
 | 33 | PastEntries | a replay of more entries than the log counts |
 | 34 | BadMoment | a moment past the last event, or an image of another size than the data disk |
+| 37 | Foreign | what a run's seats or its log hold isn't what its history has of them |
+| 38 | NoThread | the thread that writes a run's log can't be started; nothing was run |
 
-`crates/refusals` has the whole table; the other numbers are for commands that aren't there yet. Names of files are UTF-8 text; a word that
+`crates/refusals` has the whole table; the other numbers no command tells. Names of files are UTF-8 text; a word that
 isn't is a usage fault (2).
 
 ## With `--explain`

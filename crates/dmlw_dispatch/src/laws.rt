@@ -1,6 +1,6 @@
 ghost use Rattle.std.specs.Prelude.{◌≡◌, ◌∷◌, [], List, Option, Some, false, true, ℕ};
 ghost use Rattle.dmlw_dispatch.specs.CommandLine.{command_words, is_positional};
-ghost use Rattle.dmlw_dispatch.specs.Commands.{DoesWords, LeavesLog, LeavesReplayed, ReplaysWhat};
+ghost use Rattle.dmlw_dispatch.specs.Commands.{DoesWords, LeavesLog, LeavesReplayed, LeavesRun, ReplaysWhat};
 ghost use Rattle.dmlw_dispatch.specs.Names.{name_of, name_text};
 ghost use Rattle.dmlw_dispatch.specs.declared.name.Name.{Name};
 ghost use Rattle.dmlw_dispatch.specs.declared.name.Name.TheVariants as names;
@@ -11,6 +11,7 @@ ghost use Rattle.dmlw_files.specs.Files.{Write};
 ghost use Rattle.dmlw_commands.specs.Lists.{ListsImage, ShowsStatus};
 ghost use Rattle.dmlw_copy.specs.CopiesLog.{EndsCopying, HoldsCopied};
 ghost use Rattle.dmlw_dispatch.specs.Counts.{IsSectorCount};
+ghost use Rattle.dmlw_run.specs.RunsLog.{EndsRunning};
 ghost use Rattle.dmlw_judge.specs.Judgements.{EndsJudging};
 ghost use Rattle.dmlw_judge.specs.Paths.{EndsFinding};
 ghost use Rattle.dmlw_replay.specs.Whats.{IsWhat};
@@ -36,6 +37,19 @@ pub fn plain_words_record()
         (program script log : List ℕ) → is_positional script ≡ true → is_positional log ≡ true →
         DoesWords (command_words program names.Record (script ∷ log ∷ [])) contents later before after old new errors_old errors_new ended →
         LeavesLog script log contents later old new ended.exit }
+{}
+
+/// Where `run SCRIPT LOG` is done, the seats of the script in that file were run, and recorded in that log.
+pub fn plain_words_run()
+    ensures ends { (contents later : List ℕ → Option (List ℕ)) (before after : Option (List Write)) (old new errors_old errors_new : Option (List ℕ)) (ended : Ended)
+        (program script log : List ℕ) → is_positional script ≡ true → is_positional log ≡ true →
+        DoesWords (command_words program names.Run (script ∷ log ∷ [])) contents later before after old new errors_old errors_new ended →
+        EndsRunning (contents script) log before after old new (telling false errors_old errors_new) ended }
+    // And the file LOG holds the log.
+    ensures leaves { (contents later : List ℕ → Option (List ℕ)) (before after : Option (List Write)) (old new errors_old errors_new : Option (List ℕ)) (ended : Ended)
+        (program script log : List ℕ) → is_positional script ≡ true → is_positional log ≡ true →
+        DoesWords (command_words program names.Run (script ∷ log ∷ [])) contents later before after old new errors_old errors_new ended →
+        LeavesRun script log contents later old new ended.exit }
 {}
 
 /// Where `list LOG` is done, the list of the log in that file was shown.

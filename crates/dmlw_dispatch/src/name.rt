@@ -5,6 +5,7 @@ ghost use Rattle.dmlw_dispatch.specs.Names.{name_of};
 #[derive(Clone, Copy, Debug, PartialEq, Eq)]
 pub enum Name {
     Record,
+    Run,
     List,
     Status,
     Replay,
@@ -20,6 +21,9 @@ impl Name {
     {
         if word == "record" {
             return Some(Name::Record);
+        }
+        if word == "run" {
+            return Some(Name::Run);
         }
         if word == "list" {
             return Some(Name::List);

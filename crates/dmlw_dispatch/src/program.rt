@@ -18,6 +18,7 @@ pub fn program_command<'a>(alloc: Global) -> Result<Command<'a>, AllocError>
     ensures { IfOk result (λ command. app_of command ≡ program_app) }
 {
     let program = with_command(bare_command(alloc), record_command(alloc))?;
+    let program = with_command(program, run_command(alloc))?;
     let list = log_command(alloc, "list", "Lists the entries of a log");
     let program = with_command(program, list)?;
     let status = log_command(alloc, "status", "Tells how far a log has come");
@@ -64,6 +65,15 @@ fn record_command<'a>(alloc: Global) -> Result<Command<'a>, AllocError>
 {
     Command::new(alloc, "record")
         .about("Records the requests of a script in a new log")
+        .arg(argument(alloc, "SCRIPT", "The script to read"))?
+        .arg(argument(alloc, "LOG", "The log to write"))
+}
+
+fn run_command<'a>(alloc: Global) -> Result<Command<'a>, AllocError>
+    ensures { IfOk result (IsCommandOf (command_app names.Run)) }
+{
+    Command::new(alloc, "run")
+        .about("Runs the seats of a script in threads, and records them in a new log")
         .arg(argument(alloc, "SCRIPT", "The script to read"))?
         .arg(argument(alloc, "LOG", "The log to write"))
 }

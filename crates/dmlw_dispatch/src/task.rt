@@ -14,6 +14,11 @@ pub enum Task<'a> {
         script: &'a str,
         log: &'a str,
     },
+    /// To run the seats of a script, each in a thread, and record their requests in a new log.
+    Run {
+        script: &'a str,
+        log: &'a str,
+    },
     /// To list the entries of a log.
     List {
         log: &'a str,

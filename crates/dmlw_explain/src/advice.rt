@@ -43,6 +43,9 @@ pub(crate) fn advice(refusal: Refusal) -> &'static str {
             "a moment is a number of the run's events, and the image has the sectors of the data disk under its layers",
         Refusal::Unaligned =>
             "with log sectors of 4096 bytes the place and the length of each request and entry are multiples of 4096 bytes, which are 8 sectors of 512 bytes",
+        Refusal::NoThread => "the system started no thread to write the log: nothing was run",
+        Refusal::Foreign =>
+            "what the seats or the log hold isn't what the run's history has of them: that is a fault of dmlw's",
         _ => "",
     }
 }

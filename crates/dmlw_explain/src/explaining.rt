@@ -344,7 +344,7 @@ fn write_judging<F: Files, W: Write>(
 }
 
 // What a recording ended by before its time, if it did.
-fn fault_of(done: Result<Status, RunError>) -> Option<Fault> {
+pub(crate) fn fault_of(done: Result<Status, RunError>) -> Option<Fault> {
     match done {
         Ok(status) => {
             let end = status.end?;
@@ -393,7 +393,7 @@ fn is_line_end(byte: &u8) -> bool {
 }
 
 // The line of this number, counted from 1, where a text has it.
-fn line_at(text: &[u8], number: u64) -> Option<&[u8]> {
+pub(crate) fn line_at(text: &[u8], number: u64) -> Option<&[u8]> {
     text.split(is_line_end)
         .nth(number.saturating_sub(1) as usize)
 }
@@ -424,7 +424,7 @@ fn write_line<W: Write>(
 }
 
 // Writes what helps against a refusal of this file.
-fn write_advice<W: Write>(name: &str, refusal: Refusal, to: &mut W) -> fmt::Result {
+pub(crate) fn write_advice<W: Write>(name: &str, refusal: Refusal, to: &mut W) -> fmt::Result {
     if refusal == Refusal::BadMagic {
         return write_magic(name, to);
     }
@@ -442,7 +442,7 @@ fn write_magic<W: Write>(name: &str, to: &mut W) -> fmt::Result {
 }
 
 // Writes which file of a recording can't be used, and why.
-fn write_file_of_recording<F: Files, W: Write>(
+pub(crate) fn write_file_of_recording<F: Files, W: Write>(
     script: &str,
     log: &str,
     files: &F,

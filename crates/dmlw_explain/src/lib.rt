@@ -6,7 +6,9 @@ pub use explaining::{
     CopyNames, ReplayNames, explain_copying, explain_judging, explain_reading, explain_recording,
     explain_replaying,
 };
+pub use running::explain_running;
 
 mod advice;
 mod explaining;
 mod line;
+mod running;

@@ -20,6 +20,19 @@ const FORMS: [&str; 15] = [
     "crash <pick> ..",
 ];
 
+// The lines that a script of seats can have.
+const SEAT_FORMS: [&str; 9] = [
+    "data <sectors>",
+    "log <sectors> [4096]",
+    "seats <n>",
+    "data-layer 0 <length> <target> ..",
+    "log-layer 0 <length> <target> ..",
+    "s<k> w <first> <count> <byte> [flush] [fua] [meta]",
+    "s<k> f",
+    "s<k> d <first> <count>",
+    "s<k> mark <text>",
+];
+
 // The most bytes of a line that are shown.
 const SHOWN_BYTES: usize = 100;
 
@@ -55,6 +68,14 @@ pub(crate) fn write_forms<W: Write>(to: &mut W) -> fmt::Result {
     Ok(())
 }
 
+/// Writes the lines that a script of seats can have.
+pub(crate) fn write_seat_forms<W: Write>(to: &mut W) -> fmt::Result {
+    for form in SEAT_FORMS {
+        writeln!(to, "    {form}")?;
+    }
+    Ok(())
+}
+
 /// Bytes of a script, shown in printable ones alone, and cut after 100.
 #[derive(Clone, Copy)]
 pub(crate) struct Shown<'a>(pub(crate) &'a [u8]);
@@ -71,7 +92,7 @@ impl fmt::Display for Shown<'_> {
 }
 
 // Writes the usual cause of a line that can't be read, where one is seen.
-fn write_cause<W: Write>(line: &[u8], to: &mut W) -> fmt::Result {
+pub(crate) fn write_cause<W: Write>(line: &[u8], to: &mut W) -> fmt::Result {
     match cause_of(line) {
         Some(cause) => writeln!(to, "  {cause}"),
         None => Ok(()),

@@ -19,7 +19,7 @@ use bio::CoreEvent;
 use dmlw_commands::{Ended, end, end_well};
 use dmlw_explain::explain_judging;
 use dmlw_files::{Files, read_image, read_text};
-use dmlw_script::{Kind, Script, read_script};
+use dmlw_script::{Script, read_script};
 use refusals::Refusal;
 use run_error::RunError;
 use script_runner::rehearse;
@@ -131,7 +131,7 @@ fn answer_text<A: Answer>(
     ensures verdict { IfOk result (HasAnswer A.meaning (question text.now image.now moment)) }
     ensures faults { IfErr result (HasNoVerdict (question text.now image.now moment)) }
 {
-    let script = read_script(alloc, text, Kind::Record)?;
+    let script = read_script(alloc, text)?;
     answer_script(alloc, text, &script, moment, image)
 }
 

@@ -26,13 +26,12 @@ use Rattle.dmlw_script.specs.declared.command.Step.{Step}
 use Rattle.dmlw_script.specs.declared.command.Step.TheVariants as steps
 use Rattle.dmlw_script.specs.declared.command.Submission.{Submission}
 use Rattle.dmlw_script.specs.inside.Stages as heads
-use Rattle.dmlw_script.specs.declared.reader.Kind.{Kind}
-use Rattle.dmlw_script.specs.declared.reader.Kind.TheVariants as kinds
-use Rattle.dmlw_script.specs.inside.Drafts.{◌>>=◌, body_step, ended_next, named_next, as_refusal, step_test, with_command, with_name, Body}
+use Rattle.dmlw_script.specs.inside.Drafts.{body_step, ended_next, named_next, as_refusal, step_test, with_command, with_name, Body}
 use Rattle.dmlw_script.specs.Ids.{script_id, same_name}
 use Rattle.dmlw_script.specs.Plans.{count_after_command, lines_of_body, is_ended, is_submission, name_at, request_of, line_at, moment_after, step_answer, submission_answer, submissions, top_of, Disk, HasLineText, IsInTime, IsName, IsWellFormed, CanFollow, WritesByte}
 use Rattle.dmlw_script.specs.inside.Readers.{parsed_step, with_body, Progress}
 use Rattle.dmlw_script.proofs.DraftLemmas.{listed, with_new_name}
+use Rattle.dmlw_script.proofs.FoldLaws.{bind_at, bind_ok, fold}
 
 -- ---- names
 
@@ -147,11 +146,6 @@ pub record Grows (b c : Body) (s : BodyLine) : Type 0 where
   pub grown_names : c.names ≡ b.names ++ names
   pub grown_body : c.body ≡ b.body ++ command ∷ []
   pub says : line_at c.names (length b.names) command ≡ s
-
--- what goes on well has a value, and goes on well from there
-pub bind_ok : {A B : Type 0} (r : Result A Refusal) (f : A → Result B Refusal) (y : B) → (r >>= f) ≡ Ok y → (x : A) × (r ≡ Ok x) × (f x ≡ Ok y)
-bind_ok (Ok x) f y e = (x, refl, e)
-bind_ok (Err refusal) f y e = absurd (cc)
 
 -- an id that is taken was new
 pub named_ok : (o : Option ℕ) (b c : Body) (name : ScriptId) → named_next o b name ≡ Ok c → (o ≡ None) × (record b { names = b.names ++ name ∷ [] } ≡ c)
@@ -313,18 +307,12 @@ lines_grow bytes sectors b c s sound g =
 -- ---- runs
 
 -- what was read after the lines that say this
-abbrev pub run : Kind → Progress → List Said → Result Progress Refusal
-run kind p [] = Ok p
-run kind p (s ∷ ss) = parsed_step kind p s >>= λ q. run kind q ss
+abbrev pub run : Progress → List Said → Result Progress Refusal
+run p ss = fold parsed_step p ss
 
 -- the head is whole, and this was read of the body
 abbrev pub in_draft : Disk → Disk → SectorSize → Body → Progress
 in_draft d l size b = record { head = heads.Whole d l size; body = b }
-
--- what has this value goes on from it
-pub bind_at : {A B : Type 0} (r : Result A Refusal) (f : A → Result B Refusal) (x : A) (y : Result B Refusal) → r ≡ Ok x → f x ≡ y → (r >>= f) ≡ y
-bind_at (Ok z) f x y e g = let same : z ≡ x = cc in ap f same ∙ g
-bind_at (Err refusal) f x y e g = absurd (cc)
 
 -- no names are left
 no_names : (rest : List ScriptId) → length rest ≡ 0 → rest ≡ []
@@ -347,16 +335,16 @@ with_name_again before_byte more names name before whole distinct =
 again_step : (d l : Disk) (size : SectorSize) (names before_byte next : List ScriptId) (before body : List Command) (command : Command) →
     body_step (bytes_of size) (top_of d) (record { names = before_byte; body = before }) (line_at names (length before_byte) command) ≡ Ok (record { names = next; body = before ++ command ∷ [] }) →
     count_after_command (length before_byte) command ≡ length next →
-    run kinds.Record (in_draft d l size (record { names = next; body = before ++ command ∷ [] })) (lines_of_body names (length next) body)
+    run (in_draft d l size (record { names = next; body = before ++ command ∷ [] })) (lines_of_body names (length next) body)
     ≡ Ok (in_draft d l size (record { names = names; body = (before ++ command ∷ []) ++ body })) →
-    run kinds.Record (in_draft d l size (record { names = before_byte; body = before })) (lines_of_body names (length before_byte) (command ∷ body))
+    run (in_draft d l size (record { names = before_byte; body = before })) (lines_of_body names (length before_byte) (command ∷ body))
     ≡ Ok (in_draft d l size (record { names = names; body = before ++ command ∷ body }))
 again_step d l size names before_byte next before body command one counts others =
     let done = λ (x : List Command). let b : Body = record { names = names; body = x } in in_draft d l size b in
     let old : Body = record { names = before_byte; body = before } in
     let start : Body = record { names = next; body = before ++ command ∷ [] } in
     bind_at _ _ _ _ (ap (with_body (in_draft d l size old)) one)
-    (ap (λ n. run kinds.Record (in_draft d l size start) (lines_of_body names n body)) counts ∙ others ∙ ap (λ x. Ok (done x)) (append_assoc before (command ∷ []) body))
+    (ap (λ n. run (in_draft d l size start) (lines_of_body names n body)) counts ∙ others ∙ ap (λ x. Ok (done x)) (append_assoc before (command ∷ []) body))
 
 -- what is known of the next submission of names = front ++ rest
 record NextName (names before_byte rest : List ScriptId) (before body : List Command) (command : Command) : Type 0 where
@@ -412,7 +400,7 @@ end_again names before_byte rest before request whole distinct inside going =
 -- the lines of a body give it again: those after its beginning lead from there to all of it
 pub run_again : (d l : Disk) (size : SectorSize) (names before_byte rest : List ScriptId) (before body : List Command) → names ≡ before_byte ++ rest → IsDistinct same_name names →
     length before_byte ≡ submissions before → length rest ≡ submissions body → IsWellFormed (bytes_of size) (top_of d) before body →
-    run kinds.Record (in_draft d l size (record { names = before_byte; body = before })) (lines_of_body names (length before_byte) body)
+    run (in_draft d l size (record { names = before_byte; body = before })) (lines_of_body names (length before_byte) body)
     ≡ Ok (in_draft d l size (record { names = names; body = before ++ body }))
 run_again d l size names before_byte rest before [] whole distinct numbered left well_formed =
     let all : before_byte ≡ names = sym (whole ∙ ap (λ x. before_byte ++ x) (no_names rest left) ∙ append-nil before_byte) in

@@ -26,13 +26,13 @@ use Rattle.dmlw_script.specs.declared.command.Submission.TheVariants as submits
 use Rattle.dmlw_script.specs.declared.command.Step.{Step}
 use Rattle.dmlw_script.specs.declared.command.Step.TheVariants as steps
 use Rattle.dmlw_script.specs.inside.Parsing.{step, submit}
-use Rattle.dmlw_script.specs.Grammar.{layer_verb, message_verb, spaced, IsId, ParsesAs, IsTextOf, AreLinesOf}
+use Rattle.dmlw_script.specs.Grammar.{layer_verb, message_verb, spaced, IsId, ParsesAs, IsTextOf}
 use Rattle.words.specs.WordLaws.{decimal_number, number_model}
-use Rattle.dmlw_script.specs.Lines.{with_line_feeds, is_ascii_line, is_line_byte, is_line_text, unskipped, lines_of, IsUnbroken}
+use Rattle.dmlw_script.specs.Lines.{with_line_feeds, is_ascii_line, is_line_byte, is_line_text, is_skipped, unskipped, lines_of, IsUnbroken}
 use Rattle.dmlw_script.specs.Ids.{is_id, is_name_byte, letters_of, script_id}
 use Rattle.dmlw_script.specs.Plans.{ArePicks, CanFollow, count_after_command, head_of, layer_line, line_at, lines_behind_head, lines_of_body, name_at, lines_of_script, range_test, step_answer, submission_answer, submissions, top_of, with_ending, Disk, HasLineText, IsDisk, IsName, IsWellFormed, IsPlan, Plan, WritesByte}
 use Rattle.table_line.specs.Standing.{CanStand}
-use Rattle.dmlw_script.specs.CanonicalText.{ended_line, line_text, canonical_text}
+use Rattle.dmlw_script.specs.CanonicalText.{line_text, canonical_text}
 use Rattle.dmlw_script.specs.Words.{byte_text, hex_digit}
 use Rattle.words.specs.Words.{before_byte, IsNumber}
 use Rattle.table_line.specs.LineLaws.{printed_again}
@@ -79,11 +79,11 @@ letters_id name is =
 -- ---- lines
 
 -- each byte may stand in a line
-abbrev IsLineText : List ℕ → Type 0
+abbrev pub IsLineText : List ℕ → Type 0
 IsLineText word = is_line_text word ≡ true
 
 -- two such texts in a row
-line_text_append : (a b : List ℕ) → IsLineText a → IsLineText b → IsLineText (a ++ b)
+pub line_text_append : (a b : List ℕ) → IsLineText a → IsLineText b → IsLineText (a ++ b)
 line_text_append [] b first second = second
 line_text_append (x ∷ a) b first second =
     let parts : (is_line_byte x ≡ true) × IsLineText a = and_parts _ _ first in
@@ -110,7 +110,7 @@ line_hex : (half : ℕ) → half < 16 → is_line_byte (hex_digit half) ≡ true
 line_hex half low = grind (arith, nat_tests)
 
 -- a number's digits are such bytes
-line_number : (n : ℕ) → n < 2 ^ 64 → IsLineText (decimal n)
+pub line_number : (n : ℕ) → n < 2 ^ 64 → IsLineText (decimal n)
 line_number n low = all_weaker _ _ line_digit (decimal n) (digits_decimal number_model n low)
 
 -- an id's characters are such bytes
@@ -121,13 +121,17 @@ line_id name is = all_weaker is_name_byte is_line_byte line_name_byte (letters_o
 line_byte : (byte : ℕ) → byte < 256 → IsLineText (byte_text byte)
 line_byte byte low = and_from _ _ (line_hex (byte / 16) (omega arith)) (and_from _ _ (line_hex (byte % 16) (omega arith)) refl)
 
--- what can be written of what a line says
-pub record IsWritten (s : Said) : Type 0 where
-  pub says : ParsesAs (line_text s) s
-  pub good : IsLineText (line_text s)
+-- what can be written of what a line says: its text says it
+pub record IsWrittenAs {A : Type 0} (text : A → List ℕ) (is_said : List ℕ → A → Type 0) (s : A) : Type 0 where
+  pub says : is_said (text s) s
+  pub good : IsLineText (text s)
+
+-- the same, of a recorder's line
+abbrev pub IsWritten : Said → Type 0
+IsWritten s = IsWrittenAs line_text ParsesAs s
 
 -- a first word and a number
-written_number : (verb : List ℕ) (n : ℕ) → IsLineText verb → n < 2 ^ 64 → IsLineText (verb ++ 32 ∷ decimal n)
+pub written_number : (verb : List ℕ) (n : ℕ) → IsLineText verb → n < 2 ^ 64 → IsLineText (verb ++ 32 ∷ decimal n)
 written_number verb n good low = line_text_append verb (32 ∷ decimal n) good (line_number n low)
 
 -- a first word and an id
@@ -164,28 +168,37 @@ line_options options = by_each options.flush options.fua options.meta
     by_each true true false = refl
     by_each true true true = refl
 
--- a write's line
-write_written : (name : ScriptId) (first count byte : ℕ) (options : WriteOptions) → IsName name → first < 2 ^ 64 → count < 2 ^ 64 → byte < 256 → IsWritten (submit name (submits.Write first count byte options))
-write_written name first count byte options is first_low count_low byte_low =
+-- a write's words may stand in a line
+pub line_write : (first count byte : ℕ) (options : WriteOptions) → first < 2 ^ 64 → count < 2 ^ 64 → byte < 256
+    → IsLineText (32 ∷ (decimal first ++ 32 ∷ (decimal count ++ 32 ∷ spaced (byte_text byte ∷ option_words options))))
+line_write first count byte options first_low count_low byte_low =
     let last : IsLineText (spaced (byte_text byte ∷ option_words options)) =
     subst (λ (x : List ℕ). IsLineText x) (sym (options_spelled (byte_text byte) options)) (line_text_append (byte_text byte) (options_text options) (line_byte byte byte_low) (line_options options)) in
-    record {
-      says = record {
-        id_word = letters_of name;
-        first_word = decimal first;
-        count_word = decimal count;
-        id = letters_id name is;
-        first_number = decimal_number first first_low;
-        count_number = decimal_number count count_low;
-        is_byte = byte_low;
-        spelled = refl;
-      };
-      good =
-          line_text_append (codes "w") (32 ∷ (letters_of name ++ 32 ∷ (decimal first ++ 32 ∷ (decimal count ++ 32 ∷ spaced (byte_text byte ∷ option_words options))))) refl
-          (line_text_append (letters_of name) (32 ∷ (decimal first ++ 32 ∷ (decimal count ++ 32 ∷ spaced (byte_text byte ∷ option_words options)))) (line_id name is)
-          (line_text_append (decimal first) (32 ∷ (decimal count ++ 32 ∷ spaced (byte_text byte ∷ option_words options))) (line_number first first_low)
-          (line_text_append (decimal count) (32 ∷ spaced (byte_text byte ∷ option_words options)) (line_number count count_low) last)));
-    }
+    line_text_append (decimal first) (32 ∷ (decimal count ++ 32 ∷ spaced (byte_text byte ∷ option_words options))) (line_number first first_low)
+    (line_text_append (decimal count) (32 ∷ spaced (byte_text byte ∷ option_words options)) (line_number count count_low) last)
+
+-- so may those of sectors
+pub line_sectors : (first count : ℕ) → first < 2 ^ 64 → count < 2 ^ 64 → IsLineText (32 ∷ (decimal first ++ 32 ∷ decimal count))
+line_sectors first count first_low count_low = line_text_append (decimal first) (32 ∷ decimal count) (line_number first first_low) (line_number count count_low)
+
+-- a write's line
+write_written : (name : ScriptId) (first count byte : ℕ) (options : WriteOptions) → IsName name → first < 2 ^ 64 → count < 2 ^ 64 → byte < 256
+    → IsWritten (submit name (submits.Write first count byte options))
+write_written name first count byte options is first_low count_low byte_low = record {
+  says = record {
+    id_word = letters_of name;
+    first_word = decimal first;
+    count_word = decimal count;
+    id = letters_id name is;
+    first_number = decimal_number first first_low;
+    count_number = decimal_number count count_low;
+    is_byte = byte_low;
+    spelled = refl;
+  };
+  good =
+      line_text_append (letters_of name) (32 ∷ (decimal first ++ 32 ∷ (decimal count ++ 32 ∷ spaced (byte_text byte ∷ option_words options)))) (line_id name is)
+      (line_write first count byte options first_low count_low byte_low);
+}
 
 -- a discard's line
 discard_written : (name : ScriptId) (first count : ℕ) → IsName name → first < 2 ^ 64 → count < 2 ^ 64 → IsWritten (submit name (submits.Discard first count))
@@ -199,10 +212,7 @@ discard_written name first count is first_low count_low = record {
     count_number = decimal_number count count_low;
     spelled = refl;
   };
-  good =
-      line_text_append (codes "d") (32 ∷ (letters_of name ++ 32 ∷ (decimal first ++ 32 ∷ decimal count))) refl
-      (line_text_append (letters_of name) (32 ∷ (decimal first ++ 32 ∷ decimal count)) (line_id name is)
-      (line_text_append (decimal first) (32 ∷ decimal count) (line_number first first_low) (line_number count count_low)));
+  good = line_text_append (letters_of name) (32 ∷ (decimal first ++ 32 ∷ decimal count)) (line_id name is) (line_sectors first count first_low count_low);
 }
 
 -- a read's line
@@ -215,9 +225,7 @@ read_written first count first_low count_low = record {
     count_number = decimal_number count count_low;
     spelled = refl;
   };
-  good =
-      line_text_append (codes "r") (32 ∷ (decimal first ++ 32 ∷ decimal count)) refl
-      (line_text_append (decimal first) (32 ∷ decimal count) (line_number first first_low) (line_number count count_low));
+  good = line_sectors first count first_low count_low;
 }
 
 -- picks are written as numbers
@@ -304,7 +312,7 @@ line_target offset (targets.Delay read write flush) low has =
     (refl, (refl, (line_number offset low, (line_number read read_low, later))))
 
 -- a layer's line
-layer_written : (over : DiskName) (spec : LayerSpec) → IsLayerSpec spec → IsWritten (layer_line over spec)
+pub layer_written : (over : DiskName) (spec : LayerSpec) → IsLayerSpec spec → IsWritten (layer_line over spec)
 layer_written over spec is =
     let few : spec.length ≤ 1048576 = (let sectors = is.sectors in sectors.few) in
     let text : IsLineText (table_texts.line_text spec) = line_spaced (table_texts.line_words spec) (refl, (line_number spec.length (omega (arith, few)), line_target spec.offset spec.target is.place is.has)) in
@@ -323,9 +331,10 @@ layers_written over sectors [] stand = tt
 layers_written over sectors (layer ∷ layers) stand = (layer_written over layer stand.0, layers_written over layer.length layers stand.2)
 
 -- lines that can be written, and others
-written_append : (ss ts : List Said) → AllByRecursion IsWritten ss → AllByRecursion IsWritten ts → AllByRecursion IsWritten (ss ++ ts)
-written_append [] ts written others = others
-written_append (s ∷ ss) ts written others = (written.0, written_append ss ts written.1 others)
+pub written_append : {A : Type 0} (is_written : A → Type 0) (ss ts : List A) → AllByRecursion is_written ss → AllByRecursion is_written ts
+    → AllByRecursion is_written (ss ++ ts)
+written_append is_written [] ts written others = others
+written_append is_written (s ∷ ss) ts written others = (written.0, written_append is_written ss ts written.1 others)
 
 -- a head's lines can be written
 head_written : (d l : Disk) (size : SectorSize) → IsDisk d → IsDisk l → AllByRecursion IsWritten (head_of d l size)
@@ -335,7 +344,8 @@ head_written d l size is_data is_log =
       data_written d.sectors (omega (arith, few)),
       (
         log_written l.sectors size (omega (arith, small)),
-        written_append (map (layer_line disks.Data) d.layers) (map (layer_line disks.Log) l.layers) (layers_written disks.Data d.sectors d.layers is_data.stand)
+        written_append IsWritten (map (layer_line disks.Data) d.layers) (map (layer_line disks.Log) l.layers)
+            (layers_written disks.Data d.sectors d.layers is_data.stand)
             (layers_written disks.Log l.sectors l.layers is_log.stand),
       ),
     )
@@ -348,7 +358,7 @@ passed true bad r e = absurd (cc)
 passed false bad r e = (refl, e)
 
 -- sectors that pass the test are few and within the disk
-range_ok : (bytes sectors first count : ℕ) → range_test bytes sectors first count ≡ Ok tt → (count ≤ 2048) × (first + count ≤ sectors)
+pub range_ok : (bytes sectors first count : ℕ) → range_test bytes sectors first count ≡ Ok tt → (count ≤ 2048) × (first + count ≤ sectors)
 range_ok bytes sectors first count e =
     let some = passed (count == 0) _ _ (sized_passed bytes (Read first count) sectors e).0 in
     let short = passed (nat_lt 2048 count) _ _ some.1 in
@@ -415,7 +425,7 @@ plan_written plan is =
     let l = plan.log_disk in
     let is_data : IsDisk d = is.data_disk in
     let small : top_of d ≤ 1048576 = top_small d.sectors d.layers is_data.stand (leb-true d.sectors 1048576 (and_parts (nat_le 1 d.sectors) (nat_le d.sectors 1048576) is_data.size).1) in
-    written_append (head_of d l plan.log_size) (lines_behind_head plan) (head_written d l plan.log_size is_data is.log_disk)
+    written_append IsWritten (head_of d l plan.log_size) (lines_behind_head plan) (head_written d l plan.log_size is_data is.log_disk)
     (ending_written plan.ending (lines_of_body plan.names 0 plan.commands) is.picks
     (body_written (bytes_of plan.log_size) (top_of d) plan.names 0 [] plan.commands small is.ids refl (is.numbered ∙ omega arith) is.well_formed))
 
@@ -432,39 +442,55 @@ fed_line (b ∷ line) rest lack =
     feed_step (b == 10) b line (lines_of rest) _ parts.0 (fed_line line rest parts.1)
 
 -- the lines of a spelling
-spelled_lines_are : (ss : List Said) → AllByRecursion IsWritten ss → lines_of (flat_map ended_line ss) ≡ map line_text ss
-spelled_lines_are [] written = refl
-spelled_lines_are (s ∷ ss) written =
-    ap lines_of (append_assoc (line_text s) (10 ∷ []) (flat_map ended_line ss))
-    ∙ fed_line (line_text s) (flat_map ended_line ss) (all_weaker _ _ line_not_feed (line_text s) written.0.good)
-    ∙ ap (λ x. line_text s ∷ x) (spelled_lines_are ss written.1)
+spelled_lines_are : {A : Type 0} (text : A → List ℕ) (is_said : List ℕ → A → Type 0) (ss : List A) → AllByRecursion (IsWrittenAs text is_said) ss
+    → lines_of (flat_map (λ s. text s ++ 10 ∷ []) ss) ≡ map text ss
+spelled_lines_are text is_said [] written = refl
+spelled_lines_are text is_said (s ∷ ss) written =
+    ap lines_of (append_assoc (text s) (10 ∷ []) (flat_map (λ s. text s ++ 10 ∷ []) ss))
+    ∙ fed_line (text s) (flat_map (λ s. text s ++ 10 ∷ []) ss) (all_weaker _ _ line_not_feed (text s) written.0.good)
+    ∙ ap (λ x. text s ∷ x) (spelled_lines_are text is_said ss written.1)
 
 -- they are plain
-plain_lines : (ss : List Said) → AllByRecursion IsWritten ss → AllByRecursion (λ line. is_ascii_line line ≡ true) (map line_text ss)
-plain_lines [] written = tt
-plain_lines (s ∷ ss) written = (all_weaker _ _ line_plain (line_text s) written.0.good, plain_lines ss written.1)
+plain_lines : {A : Type 0} (text : A → List ℕ) (is_said : List ℕ → A → Type 0) (ss : List A) → AllByRecursion (IsWrittenAs text is_said) ss
+    → AllByRecursion (λ line. is_ascii_line line ≡ true) (map text ss)
+plain_lines text is_said [] written = tt
+plain_lines text is_said (s ∷ ss) written = (all_weaker _ _ line_plain (text s) written.0.good, plain_lines text is_said ss written.1)
 
 -- none of them is skipped
-kept_lines : (ss : List Said) → AllByRecursion IsWritten ss → unskipped (map line_text ss) ≡ map line_text ss
-kept_lines [] written = refl
-kept_lines (s ∷ ss) written = cond-true _ _ _ (ap not (said_kept (line_text s) s written.0.says)) ∙ ap (λ x. line_text s ∷ x) (kept_lines ss written.1)
+kept_lines : {A : Type 0} (text : A → List ℕ) (is_said : List ℕ → A → Type 0)
+    (kept : (line : List ℕ) (s : A) → is_said line s → is_skipped line ≡ false) (ss : List A)
+    → AllByRecursion (IsWrittenAs text is_said) ss → unskipped (map text ss) ≡ map text ss
+kept_lines text is_said kept [] written = refl
+kept_lines text is_said kept (s ∷ ss) written =
+    cond-true _ _ _ (ap not (kept (text s) s written.0.says)) ∙ ap (λ x. text s ∷ x) (kept_lines text is_said kept ss written.1)
 
 -- they say the sentences
-says_lines : (ss : List Said) → AllByRecursion IsWritten ss → AllZip ParsesAs (map line_text ss) ss
-says_lines [] written = tt
-says_lines (s ∷ ss) written = (written.0.says, says_lines ss written.1)
+says_lines : {A : Type 0} (text : A → List ℕ) (is_said : List ℕ → A → Type 0) (ss : List A) → AllByRecursion (IsWrittenAs text is_said) ss
+    → AllZip is_said (map text ss) ss
+says_lines text is_said [] written = tt
+says_lines text is_said (s ∷ ss) written = (written.0.says, says_lines text is_said ss written.1)
+
+-- the lines are these sentences' spelling
+pub record AreWritten {A : Type 0} (text : A → List ℕ) (is_said : List ℕ → A → Type 0) (lines : List (List ℕ)) (ss : List A) : Type 0 where
+  pub plain : AllByRecursion (λ line. is_ascii_line line ≡ true) lines
+  pub said : AllZip is_said (unskipped lines) ss
+
+-- the spelling of sentences that can be written is plain, and says them
+pub written_text : {A : Type 0} (text : A → List ℕ) (is_said : List ℕ → A → Type 0)
+    (kept : (line : List ℕ) (s : A) → is_said line s → is_skipped line ≡ false) (ss : List A)
+    → AllByRecursion (IsWrittenAs text is_said) ss → AreWritten text is_said (lines_of (flat_map (λ s. text s ++ 10 ∷ []) ss)) ss
+written_text text is_said kept ss written =
+    subst (λ (x : List (List ℕ)). AreWritten text is_said x ss) (sym (spelled_lines_are text is_said ss written))
+    (record {
+      plain = plain_lines text is_said ss written;
+      said = subst (λ (x : List (List ℕ)). AllZip is_said x ss) (sym (kept_lines text is_said kept ss written)) (says_lines text is_said ss written);
+    })
 
 -- the spelling of a script is a text of it
 pub spelling_spells : (plan : Plan) → IsPlan plan → IsTextOf (canonical_text plan) plan
 spelling_spells plan is =
-    let ss = lines_of_script plan in
-    let written = plan_written plan is in
-    subst (λ (x : List (List ℕ)). AreLinesOf x plan) (sym (spelled_lines_are ss written))
-    (record {
-      plain = plain_lines ss written;
-      says = subst (λ (x : List (List ℕ)). AllZip ParsesAs x ss) (sym (kept_lines ss written)) (says_lines ss written);
-      script = is;
-    })
+    let written = written_text line_text ParsesAs said_kept (lines_of_script plan) (plan_written plan is) in
+    record { plain = written.plain; says = written.said; script = is }
 
 -- ---- texts of lines
 

@@ -20,8 +20,6 @@ use Rattle.dmlw_script.specs.declared.disk_name.DiskName.{DiskName}
 use Rattle.dmlw_script.specs.declared.disk_name.DiskName.TheVariants as disks
 use Rattle.refusals.specs.declared.fault.Fault.{Fault}
 use Rattle.dmlw_script.specs.declared.script_id.ScriptId.{ScriptId}
-use Rattle.dmlw_script.specs.declared.reader.Kind.{Kind}
-use Rattle.dmlw_script.specs.declared.reader.Kind.TheVariants as kinds
 use Rattle.dmlw_script.specs.Said.{Said}
 use Rattle.dmlw_script.specs.Said as parsed_lines
 use Rattle.dmlw_script.specs.declared.line.HeadLine.{HeadLine}
@@ -37,73 +35,14 @@ use Rattle.dmlw_script.specs.Grammar.{ParsesAs, AreLinesOf}
 use Rattle.dmlw_script.specs.Lines.{is_ascii_line, is_skipped, unskipped}
 use Rattle.dmlw_script.specs.Ids.{same_name}
 use Rattle.dmlw_script.specs.Plans.{disk_of, is_disk_size, is_ended, is_log_disk_size, is_within, least_sectors, moment_after, moment_at, request_of, step_answer, submission_answer, top_of, Disk, Plan}
-use Rattle.dmlw_script.specs.inside.Readers.{and_then, at_line, body_line, crash_line, finish_step, finished, has_begun, step_if_parsed, line_step, nothing, read_lines, parsed_step, with_body, with_head, Progress}
+use Rattle.dmlw_script.specs.inside.Readers.{and_then, at_line, body_line, crash_line, finish_step, finished, has_begun, line_step, nothing, parsed_step, read_lines, step_if, with_body, with_head, Progress}
 use Rattle.dmlw_script.specs.Reading.{at_end, bad_line, bare, body_refusal, data_due, head_refusal, in_body, in_head, is_open, log_due, moment_at_line, next, prefix_after, refused, test_refusal, with_layer, BeginsScript, ComesInTime, FaultAfter, IsFirstFault, IsLineAfter, IsLineFault, Prefix, StandsAfter}
 use Rattle.dmlw_script.specs.inside.Parsing.{parse_line}
-use Rattle.dmlw_script.proofs.BodyLaws.{bind_ok, ended_ok, in_draft, named_ok, run, unlisted}
+use Rattle.dmlw_script.proofs.BodyLaws.{ended_ok, in_draft, named_ok, run, unlisted}
 use Rattle.dmlw_script.proofs.DraftLemmas.{listed, moment_push}
-use Rattle.dmlw_script.proofs.ReadingLaws.{cond_ok, ended_plan, go, go_heard, layered, lines_go, lines_spell, plain_step, plan_of, said_step, skipped_step, spelled_lines, with_body_ok, with_data_ok, with_head_ok, with_log_ok, GoneBy}
+use Rattle.dmlw_script.proofs.FoldLaws.{bind_ok, fold, kept_line, one_told, reads_on, skipped_line, stopped, strange_line, Led, StopsAt}
+use Rattle.dmlw_script.proofs.ReadingLaws.{cond_ok, ended_plan, go_heard, layered, lines_spell, plan_of, spelled_lines, with_body_ok, with_data_ok, with_head_ok, with_log_ok}
 use Rattle.dmlw_script.proofs.ParsingLaws.{one_parsed, parsed_again, parsed_read}
-
--- ---- where reading ends
-
--- what reading ends at, after lines that lead to p
-abbrev pub EndsAt : Kind → Progress → List (List ℕ) → Refusal → Type 0
-EndsAt kind p [] refusal = finish_step kind p ≡ Err refusal
-EndsAt kind p (line ∷ more) refusal = line_step kind p line ≡ Err refusal
-
--- a fault, and the lines before it
-pub record Faulted (kind : Kind) (p : Progress) (number : ℕ) (lines : List (List ℕ)) (fault : Fault) : Type 0 where
-  pub before : List (List ℕ)
-  pub more : List (List ℕ)
-  pub q : Progress
-  pub split : lines ≡ before ++ more
-  pub gone : go kind p before ≡ Ok q
-  pub place : fault.line ≡ Some (number + length before)
-  pub ends : EndsAt kind q more fault.refusal
-
--- a fault at a line has its number
-at_line_err : {A : Type 0} (number : ℕ) (r : Result A Refusal) (fault : Fault) → at_line number r ≡ Err fault → (fault.line ≡ Some number) × (r ≡ Err fault.refusal)
-at_line_err number (Ok x) fault e = absurd (cc)
-at_line_err number (Err refusal) fault e =
-    let same : record { line = Some number; refusal = refusal } ≡ fault = cc in
-    (sym (ap (λ (f : Fault). f.line) same), ap (λ (f : Fault). Err f.refusal) same)
-
--- a fault after a line that was read
-fault_later : (kind : Kind) (p q : Progress) (number : ℕ) (line : List ℕ) (lines : List (List ℕ)) (fault : Fault) → line_step kind p line ≡ Ok q → Faulted kind q (number + 1) lines fault → Faulted kind p number (line ∷ lines) fault
-fault_later kind p q number line lines fault step f = record {
-  before = line ∷ f.before;
-  more = f.more;
-  q = f.q;
-  split = ap (λ x. line ∷ x) f.split;
-  gone = ap (λ r. r >>= λ x. go kind x f.before) step ∙ f.gone;
-  place = f.place ∙ ap Some (omega arith);
-  ends = f.ends;
-}
-
--- a fault at a line, or after it
-fault_here : (kind : Kind) (p : Progress) (number : ℕ) (line : List ℕ) (lines : List (List ℕ)) (fault : Fault) (r : Result Progress Refusal) → line_step kind p line ≡ r →
-    and_then (at_line number r) (λ q. read_lines kind q (number + 1) lines) ≡ Err fault →
-    ((q : Progress) → read_lines kind q (number + 1) lines ≡ Err fault → Faulted kind q (number + 1) lines fault) → Faulted kind p number (line ∷ lines) fault
-fault_here kind p number line lines fault (Ok q) is e later = fault_later kind p q number line lines fault is (later q e)
-fault_here kind p number line lines fault (Err refusal) is e later =
-    let same : record { line = Some number; refusal = refusal } ≡ fault = cc in
-    record {
-      before = [];
-      more = line ∷ lines;
-      q = p;
-      split = refl;
-      gone = refl;
-      place = sym (ap (λ (f : Fault). f.line) same) ∙ ap Some (omega arith);
-      ends = is ∙ ap (λ (f : Fault). Err f.refusal) same;
-    }
-
--- where a fault is, reading ended there
-pub faulted : (kind : Kind) (p : Progress) (number : ℕ) (lines : List (List ℕ)) (fault : Fault) → read_lines kind p number lines ≡ Err fault → Faulted kind p number lines fault
-faulted kind p number [] fault e =
-    let h = at_line_err number (finish_step kind p) fault e in
-    record { before = []; more = []; q = p; split = refl; gone = refl; place = h.0 ∙ ap Some (omega arith); ends = h.1 }
-faulted kind p number (line ∷ lines) fault e = fault_here kind p number line lines fault (line_step kind p line) refl e (λ q again. faulted kind q (number + 1) lines fault again)
 
 -- ---- what was read begins a script
 
@@ -111,7 +50,7 @@ faulted kind p number (line ∷ lines) fault e = fault_here kind p number line l
 pub record Completes (p : Progress) (number : ℕ) : Type 0 where
   pub more : List (List ℕ)
   pub plan : Plan
-  pub read : read_lines kinds.Record p number more ≡ Ok plan
+  pub read : read_lines p number more ≡ Ok plan
 
 -- the lines of the head that are missing complete a script
 completes : (h : Stage) (b : Body) (number : ℕ) → Completes (record { head = h; body = b }) number
@@ -121,28 +60,28 @@ completes (heads.Data d) b number = record { more = codes "log 1" ∷ []; plan =
 completes heads.Empty b number = record { more = codes "data 1" ∷ codes "log 1" ∷ []; plan = plan_of (bare 1) (bare 1) sizes.B512 b; read = refl }
 
 -- lines that lead somewhere begin a script
-pub gone_begins : (lines : List (List ℕ)) (q : Progress) → go kinds.Record nothing lines ≡ Ok q → BeginsScript lines
+pub gone_begins : (lines : List (List ℕ)) (q : Progress) → fold line_step nothing lines ≡ Ok q → BeginsScript lines
 gone_begins lines q gone =
     let c = completes q.head q.body (1 + length lines) in
-    record { more = c.more; plan = c.plan; spells = lines_spell (lines ++ c.more) 1 c.plan (lines_go kinds.Record nothing q 1 lines c.more gone ∙ c.read) }
+    record { more = c.more; plan = c.plan; spells = lines_spell (lines ++ c.more) 1 c.plan (reads_on line_step finish_step nothing q 1 lines c.more gone ∙ c.read) }
 
 -- no script begins with lines of which the last is refused
-pub refused_ends : (before : List (List ℕ)) (q : Progress) (line : List ℕ) (refusal : Refusal) → go kinds.Record nothing before ≡ Ok q → line_step kinds.Record q line ≡ Err refusal → BeginsScript (before ++ line ∷ []) → ⊥
+pub refused_ends : (before : List (List ℕ)) (q : Progress) (line : List ℕ) (refusal : Refusal) → fold line_step nothing before ≡ Ok q → line_step q line ≡ Err refusal → BeginsScript (before ++ line ∷ []) → ⊥
 refused_ends before q line refusal gone step b =
     let whole : (before ++ line ∷ []) ++ b.more ≡ before ++ line ∷ b.more = append_assoc before (line ∷ []) b.more in
-    let read = sym (spelled_lines (before ++ line ∷ b.more) 1 b.plan (subst (λ (x : List (List ℕ)). AreLinesOf x b.plan) whole b.spells)) ∙ lines_go kinds.Record nothing q 1 before (line ∷ b.more) gone
-    ∙ ap (λ r. and_then (at_line (1 + length before) r) (λ x. read_lines kinds.Record x (1 + length before + 1) b.more)) step in
+    let read = sym (spelled_lines (before ++ line ∷ b.more) 1 b.plan (subst (λ (x : List (List ℕ)). AreLinesOf x b.plan) whole b.spells)) ∙ reads_on line_step finish_step nothing q 1 before (line ∷ b.more) gone
+    ∙ ap (λ r. and_then (at_line (1 + length before) r) (λ x. read_lines x (1 + length before + 1) b.more)) step in
     cc
 
 -- lines after which the text can't end are no script
-pub unfinished : (before : List (List ℕ)) (q : Progress) (refusal : Refusal) → go kinds.Record nothing before ≡ Ok q → finish_step kinds.Record q ≡ Err refusal → (plan : Plan) → AreLinesOf before plan → ⊥
+pub unfinished : (before : List (List ℕ)) (q : Progress) (refusal : Refusal) → fold line_step nothing before ≡ Ok q → finish_step q ≡ Err refusal → (plan : Plan) → AreLinesOf before plan → ⊥
 unfinished before q refusal gone finish plan spells =
-    let read = sym (spelled_lines before 1 plan spells) ∙ ap (λ x. read_lines kinds.Record nothing 1 x) (sym (append-nil before)) ∙ lines_go kinds.Record nothing q 1 before [] gone
+    let read = sym (spelled_lines before 1 plan spells) ∙ ap (λ x. read_lines nothing 1 x) (sym (append-nil before)) ∙ reads_on line_step finish_step nothing q 1 before [] gone
     ∙ ap (at_line (1 + length before)) finish in
     cc
 
 -- a text that can't end yet is a bad line
-unfinished_is : (h : Stage) (b : Body) (refusal : Refusal) → finished kinds.Record h b ≡ Err refusal → refusal ≡ BadLine
+unfinished_is : (h : Stage) (b : Body) (refusal : Refusal) → finished h b ≡ Err refusal → refusal ≡ BadLine
 unfinished_is (heads.Whole d l size) b refusal e = absurd (cc)
 unfinished_is (heads.Ended d l size picks) b refusal e = absurd (cc)
 unfinished_is (heads.Data d) b refusal e = cc
@@ -257,7 +196,7 @@ step_moves bytes sectors d l b c (body_lines.Step step) e =
     ap (λ (x : Body). body_prefix d l x.body) (sym same) ∙ after_command d l b.body (commands.Step step)
 
 -- after one more line of the body, in its place
-body_moves : (h : Stage) (p q : Progress) (line : BodyLine) → p.head ≡ h → body_line kinds.Record h p line ≡ Ok q → Moves (prefix_of h p.body.body) (parsed_lines.Body line) q.head q.body.body
+body_moves : (h : Stage) (p q : Progress) (line : BodyLine) → p.head ≡ h → body_line h p line ≡ Ok q → Moves (prefix_of h p.body.body) (parsed_lines.Body line) q.head q.body.body
 body_moves heads.Empty p q line is e = absurd (cc e)
 body_moves (heads.Data d) p q line is e = absurd (cc e)
 body_moves (heads.Whole d l size) p q line is e =
@@ -276,7 +215,7 @@ next_crash d l [] picks = refl
 next_crash d l (command ∷ body) picks = refl
 
 -- after a crash
-crash_moves : (h : Stage) (p q : Progress) (picks : List ℕ) → crash_line kinds.Record h p picks ≡ Ok q → Moves (prefix_of h p.body.body) (parsed_lines.Crash picks) q.head q.body.body
+crash_moves : (h : Stage) (p q : Progress) (picks : List ℕ) → crash_line h p picks ≡ Ok q → Moves (prefix_of h p.body.body) (parsed_lines.Crash picks) q.head q.body.body
 crash_moves heads.Empty p q picks e = absurd (cc e)
 crash_moves (heads.Data d) p q picks e = absurd (cc e)
 crash_moves (heads.Ended d l size ended) p q picks e = absurd (cc e)
@@ -286,7 +225,7 @@ crash_moves (heads.Whole d l size) p q picks e =
     (ap (λ (x : Stage). prefix_of x q.body.body) (sym ended) ∙ sym (next_crash d l p.body.body picks), subst (λ (x : Stage). IsEarly x q.body.body) ended tt)
 
 -- after one more line
-line_moves : (p q : Progress) (s : Said) → parsed_step kinds.Record p s ≡ Ok q → IsEarly p.head p.body.body → Moves (prefix_at p) s q.head q.body.body
+line_moves : (p q : Progress) (s : Said) → parsed_step p s ≡ Ok q → IsEarly p.head p.body.body → Moves (prefix_at p) s q.head q.body.body
 line_moves p q (parsed_lines.Head line) e early =
     let r = with_head_ok p q (head_step p.head (has_begun p.body.body) line) e in
     subst (λ (x : Progress). Moves (prefix_at p) (parsed_lines.Head line) x.head x.body.body) r.2 (head_moves p.head r.0 p.body.body line r.1 early)
@@ -294,10 +233,10 @@ line_moves p q (parsed_lines.Body line) e early = body_moves p.head p q line ref
 line_moves p q (parsed_lines.Crash picks) e early = crash_moves p.head p q picks e
 
 -- after the lines that say this
-run_moves : (p q : Progress) (ss : List Said) → run kinds.Record p ss ≡ Ok q → IsEarly p.head p.body.body → prefix_at q ≡ prefix_after (prefix_at p) ss
+run_moves : (p q : Progress) (ss : List Said) → run p ss ≡ Ok q → IsEarly p.head p.body.body → prefix_at q ≡ prefix_after (prefix_at p) ss
 run_moves p q [] e early = let same : p ≡ q = cc in ap prefix_at (sym same)
 run_moves p q (s ∷ ss) e early =
-    let r = bind_ok (parsed_step kinds.Record p s) _ q e in
+    let r = bind_ok (parsed_step p s) _ q e in
     let first = line_moves p r.0 s r.1 early in
     run_moves r.0 q ss r.2 first.1 ∙ ap (λ (prefix : Prefix). prefix_after prefix ss) first.0
 
@@ -310,24 +249,14 @@ as_many [] (s ∷ ss) says = absurd says
 as_many (line ∷ lines) [] says = absurd says
 as_many (line ∷ lines) (s ∷ ss) says = ap suc (as_many lines ss says.1)
 
--- lines say one thing
-all_one : (lines : List (List ℕ)) (ss ts : List Said) → AllZip ParsesAs lines ss → AllZip ParsesAs lines ts → ss ≡ ts
-all_one [] [] [] says again = refl
-all_one [] (s ∷ ss) ts says again = absurd says
-all_one [] [] (t ∷ ts) says again = absurd again
-all_one (line ∷ lines) [] ts says again = absurd says
-all_one (line ∷ lines) (s ∷ ss) [] says again = absurd again
-all_one (line ∷ lines) (s ∷ ss) (t ∷ ts) says again =
-    ap (λ (x : Said). x ∷ ss) (one_parsed line s t says.0 again.0) ∙ ap (λ (xs : List Said). t ∷ xs) (all_one lines ss ts says.1 again.1)
-
 -- a line that says this, after lines that lead to q
 record Comes (before : List (List ℕ)) (q : Progress) (line : List ℕ) (s : Said) : Type 0 where
   plain : is_ascii_line line ≡ true
   says : ParsesAs line s
-  gone : go kinds.Record nothing before ≡ Ok q
+  gone : fold line_step nothing before ≡ Ok q
   said : List Said
   before_says : AllZip ParsesAs (unskipped before) said
-  leads : run kinds.Record nothing said ≡ Ok q
+  leads : run nothing said ≡ Ok q
 
 -- what may come after them stands there
 comes_after : (before : List (List ℕ)) (q : Progress) (line : List ℕ) (s : Said) → Comes before q line s → StandsAfter (prefix_at q) s → IsLineAfter before line s
@@ -343,7 +272,7 @@ comes_after before q line s c stands = record {
 never_after : (before : List (List ℕ)) (q : Progress) (line : List ℕ) (s : Said) → Comes before q line s → (StandsAfter (prefix_at q) s → ⊥) → (t : Said) → IsLineAfter before line t → ⊥
 never_after before q line s c never t at =
     let same : t ≡ s = one_parsed line t s at.says c.says in
-    let said : at.said ≡ c.said = all_one (unskipped before) at.said c.said at.before_says c.before_says in
+    let said : at.said ≡ c.said = one_told parse_line ParsesAs parsed_step parsed_read parsed_again (unskipped before) at.said c.said at.before_says c.before_says in
     let there : prefix_after data_due at.said ≡ prefix_at q = ap (prefix_after data_due) said ∙ sym (run_moves nothing q c.said c.leads refl) in
     never (subst (λ (x : Said). StandsAfter (prefix_at q) x) same (subst (λ (prefix : Prefix). StandsAfter prefix t) there at.stands))
 
@@ -412,7 +341,7 @@ step_err (Ok u) c refusal e = absurd (cc)
 step_err (Err x) c refusal e = cc
 
 -- a test of sectors that is refused
-answered_err : (r : Result (Unit {0}) BadBio) (refusal : Refusal) → as_refusal r ≡ Err refusal → test_refusal r ≡ Some refusal
+pub answered_err : (r : Result (Unit {0}) BadBio) (refusal : Refusal) → as_refusal r ≡ Err refusal → test_refusal r ≡ Some refusal
 answered_err (Ok u) refusal e = absurd (cc)
 answered_err (Err bad) refusal e = cc
 
@@ -445,14 +374,14 @@ stood_body d l [] line stands = stands
 stood_body d l (command ∷ body) line stands = stands
 
 -- lines after which a text may end
-gone_spells : (before : List (List ℕ)) (d l : Disk) (size : SectorSize) (b : Body) → go kinds.Record nothing before ≡ Ok (in_draft d l size b) → AreLinesOf before (plan_of d l size b)
+gone_spells : (before : List (List ℕ)) (d l : Disk) (size : SectorSize) (b : Body) → fold line_step nothing before ≡ Ok (in_draft d l size b) → AreLinesOf before (plan_of d l size b)
 gone_spells before d l size b gone =
     lines_spell before 1 (plan_of d l size b)
-    (ap (λ x. read_lines kinds.Record nothing 1 x) (sym (append-nil before)) ∙ lines_go kinds.Record nothing (in_draft d l size b) 1 before [] gone)
+    (ap (λ x. read_lines nothing 1 x) (sym (append-nil before)) ∙ reads_on line_step finish_step nothing (in_draft d l size b) 1 before [] gone)
 
 -- why a line that says this is refused where this is read of the body
 body_fault : (before : List (List ℕ)) (h : Stage) (b : Body) (line : List ℕ) (s : BodyLine) (refusal : Refusal) → Comes before (record { head = h; body = b }) line (parsed_lines.Body s)
-    → body_line kinds.Record h (record { head = h; body = b }) s ≡ Err refusal → IsLineFault before line refusal
+    → body_line h (record { head = h; body = b }) s ≡ Err refusal → IsLineFault before line refusal
 body_fault before heads.Empty b line s refusal c e = never_fault before (record { head = heads.Empty; body = b }) line (parsed_lines.Body s) refusal c (λ stands. stands) (cc)
 body_fault before (heads.Data d) b line s refusal c e = never_fault before (record { head = heads.Data d; body = b }) line (parsed_lines.Body s) refusal c (λ stands. stands) (cc)
 body_fault before (heads.Whole d l size) b line s refusal c e =
@@ -467,7 +396,7 @@ body_fault before (heads.Ended d l size picks) b line s refusal c e =
 
 -- why a crash is refused where this is read of the body
 crash_fault : (before : List (List ℕ)) (h : Stage) (b : Body) (line picks : List ℕ) (refusal : Refusal) → Comes before (record { head = h; body = b }) line (parsed_lines.Crash picks)
-    → crash_line kinds.Record h (record { head = h; body = b }) picks ≡ Err refusal → IsLineFault before line refusal
+    → crash_line h (record { head = h; body = b }) picks ≡ Err refusal → IsLineFault before line refusal
 crash_fault before heads.Empty b line picks refusal c e = never_fault before (record { head = heads.Empty; body = b }) line (parsed_lines.Crash picks) refusal c (λ stands. stands) (cc)
 crash_fault before (heads.Data d) b line picks refusal c e = never_fault before (record { head = heads.Data d; body = b }) line (parsed_lines.Crash picks) refusal c (λ stands. stands) (cc)
 crash_fault before (heads.Whole d l size) b line picks refusal c e = absurd (cc)
@@ -477,12 +406,12 @@ crash_fault before (heads.Ended d l size ended) b line picks refusal c e =
 -- ---- why a line of the head is refused
 
 -- a test that fails leaves its refusal
-cond_err : {A : Type 0} (t : Bool) (x : A) (bad refusal : Refusal) → cond t (Ok x) (Err bad) ≡ Err refusal → (t ≡ false) × (bad ≡ refusal)
+pub cond_err : {A : Type 0} (t : Bool) (x : A) (bad refusal : Refusal) → cond t (Ok x) (Err bad) ≡ Err refusal → (t ≡ false) × (bad ≡ refusal)
 cond_err true x bad refusal e = absurd (cc)
 cond_err false x bad refusal e = (refl, cc)
 
 -- why a line asks for no layer over a disk, whose layers have at least so many sectors
-abbrev asked_refusal : (least : ℕ) → Disk → Result LayerSpec TableError → Option Refusal
+abbrev pub asked_refusal : (least : ℕ) → Disk → Result LayerSpec TableError → Option Refusal
 asked_refusal least disk (Err error) = Some (table_refusal error)
 asked_refusal least disk (Ok spec) = cond (is_within spec (top_of disk)) (cond (nat_le least spec.length) None (Some BadLine)) (Some OutOfRange)
 
@@ -493,7 +422,7 @@ head_refusal_is plan over (Err error) = refl
 head_refusal_is plan over (Ok spec) = refl
 
 -- why a layer over a disk is refused: four stand there, or for its own reason
-abbrev LayerRefused : (least : ℕ) → Disk → Result LayerSpec TableError → Refusal → Type 0
+abbrev pub LayerRefused : (least : ℕ) → Disk → Result LayerSpec TableError → Refusal → Type 0
 LayerRefused least disk asked refusal =
     ((4 ≤ length disk.layers) × (BadLine ≡ refusal)) ⊎ ((length disk.layers < 4) × (asked_refusal least disk asked ≡ Some refusal))
 
@@ -508,7 +437,7 @@ asked_err least disk (Ok spec) refusal e = by_tests (is_within spec (top_of disk
     by_tests true false e = cc
     by_tests false long e = cc
 
-layer_err : (least : ℕ) (disk : Disk) (asked : Result LayerSpec TableError) (refusal : Refusal) → layer_step least disk asked ≡ Err refusal → LayerRefused least disk asked refusal
+pub layer_err : (least : ℕ) (disk : Disk) (asked : Result LayerSpec TableError) (refusal : Refusal) → layer_step least disk asked ≡ Err refusal → LayerRefused least disk asked refusal
 layer_err least disk asked refusal e = by_count (nat_lt (length disk.layers) 4) refl e
   where
     by_count : (t : Bool) → nat_lt (length disk.layers) 4 ≡ t → cond t (asked_layer least disk asked) (Err BadLine) ≡ Err refusal → LayerRefused least disk asked refusal
@@ -516,12 +445,12 @@ layer_err least disk asked refusal e = by_count (nat_lt (length disk.layers) 4) 
     by_count true few e = inr (ltb-true _ _ few, asked_err least disk asked refusal e)
 
 -- a data disk that was refused
-with_data_err : (r : Result Disk Refusal) (l : Disk) (size : SectorSize) (refusal : Refusal) → with_data r l size ≡ Err refusal → r ≡ Err refusal
+pub with_data_err : (r : Result Disk Refusal) (l : Disk) (size : SectorSize) (refusal : Refusal) → with_data r l size ≡ Err refusal → r ≡ Err refusal
 with_data_err (Ok d) l size refusal e = absurd (cc)
 with_data_err (Err x) l size refusal e = cc
 
 -- a log disk that was refused
-with_log_err : (d : Disk) (r : Result Disk Refusal) (size : SectorSize) (refusal : Refusal) → with_log d r size ≡ Err refusal → r ≡ Err refusal
+pub with_log_err : (d : Disk) (r : Result Disk Refusal) (size : SectorSize) (refusal : Refusal) → with_log d r size ≡ Err refusal → r ≡ Err refusal
 with_log_err d (Ok l) size refusal e = absurd (cc)
 with_log_err d (Err x) size refusal e = cc
 
@@ -600,63 +529,63 @@ head_fault before (heads.Ended d l size picks) b line s refusal c e =
     never_fault before (record { head = heads.Ended d l size picks; body = b }) line (parsed_lines.Head s) refusal c (λ stands. stands) (cc)
 
 -- why a line that says this is refused
-parsed_fault : (before : List (List ℕ)) (q : Progress) (line : List ℕ) (s : Said) (refusal : Refusal) → Comes before q line s → parsed_step kinds.Record q s ≡ Err refusal → IsLineFault before line refusal
+parsed_fault : (before : List (List ℕ)) (q : Progress) (line : List ℕ) (s : Said) (refusal : Refusal) → Comes before q line s → parsed_step q s ≡ Err refusal → IsLineFault before line refusal
 parsed_fault before q line (parsed_lines.Head s) refusal c e =
     head_fault before q.head q.body line s refusal c (with_head_err q (head_step q.head (has_begun q.body.body) s) refusal e)
 parsed_fault before q line (parsed_lines.Body s) refusal c e = body_fault before q.head q.body line s refusal c e
 parsed_fault before q line (parsed_lines.Crash picks) refusal c e = crash_fault before q.head q.body line picks refusal c e
 
 -- why a line that isn't skipped is refused
-heard_fault : (before : List (List ℕ)) (q : Progress) (line : List ℕ) (refusal : Refusal) (g : GoneBy kinds.Record nothing q before) (o : Option Said) → go kinds.Record nothing before ≡ Ok q → is_ascii_line line ≡ true →
-    parse_line line ≡ o → step_if_parsed kinds.Record q o ≡ Err refusal → IsLineFault before line refusal
+heard_fault : (before : List (List ℕ)) (q : Progress) (line : List ℕ) (refusal : Refusal) (g : Led ParsesAs parsed_step nothing q before) (o : Option Said) → fold line_step nothing before ≡ Ok q → is_ascii_line line ≡ true →
+    parse_line line ≡ o → step_if parsed_step q o ≡ Err refusal → IsLineFault before line refusal
 heard_fault before q line refusal g None gone plain is e =
     let same : BadLine ≡ refusal = cc in
     subst (λ (x : Refusal). IsLineFault before line x) same (bad_line (λ s b. let again = sym is ∙ parsed_again line s b.says in cc))
 heard_fault before q line refusal g (Some s) gone plain is e =
     parsed_fault before q line s refusal
-    (record { plain = plain; says = parsed_read line s is; gone = gone; said = g.ss; before_says = g.step_if_parsed.says; leads = g.leads }) e
+    (record { plain = plain; says = parsed_read line s is; gone = gone; said = g.said; before_says = g.tells.says; leads = g.leads }) e
 
 -- why a line is refused after lines that lead somewhere
-pub line_fault : (before : List (List ℕ)) (q : Progress) (line : List ℕ) (refusal : Refusal) → go kinds.Record nothing before ≡ Ok q → line_step kinds.Record q line ≡ Err refusal → IsLineFault before line refusal
+pub line_fault : (before : List (List ℕ)) (q : Progress) (line : List ℕ) (refusal : Refusal) → fold line_step nothing before ≡ Ok q → line_step q line ≡ Err refusal → IsLineFault before line refusal
 line_fault before q line refusal gone e =
     ⊎_elim
     (λ (plain : is_ascii_line line ≡ true).
     ⊎_elim
-    (λ (skipped : is_skipped line ≡ true). absurd (let bad = sym (skipped_step kinds.Record q line plain skipped) ∙ e in cc))
+    (λ (skipped : is_skipped line ≡ true). absurd (let bad = sym (skipped_line parse_line ParsesAs parsed_step parsed_read parsed_again q line plain skipped) ∙ e in cc))
     (λ (kept : is_skipped line ≡ false).
-    heard_fault before q line refusal (go_heard kinds.Record nothing q before gone) (parse_line line) gone plain refl (sym (said_step kinds.Record q line plain kept) ∙ e))
+    heard_fault before q line refusal (go_heard nothing q before gone) (parse_line line) gone plain refl (sym (kept_line parse_line ParsesAs parsed_step parsed_read parsed_again q line plain kept) ∙ e))
     (cases_Bool (is_skipped line)))
     (λ (strange : is_ascii_line line ≡ false).
-    let same : BadLine ≡ refusal = (let bad = sym (plain_step kinds.Record q line strange) ∙ e in cc) in
+    let same : BadLine ≡ refusal = (let bad = sym (strange_line parse_line ParsesAs parsed_step parsed_read parsed_again q line strange) ∙ e in cc) in
     subst (λ (x : Refusal). IsLineFault before line x) same (bad_line (λ s b. let both = sym strange ∙ b.plain in cc)))
     (cases_Bool (is_ascii_line line))
 
 -- what is wrong where reading ended
-fault_behind : (before more : List (List ℕ)) (q : Progress) (refusal : Refusal) → go kinds.Record nothing before ≡ Ok q → EndsAt kinds.Record q more refusal → FaultAfter before more refusal
+fault_behind : (before more : List (List ℕ)) (q : Progress) (refusal : Refusal) → fold line_step nothing before ≡ Ok q → StopsAt line_step finish_step q more refusal → FaultAfter before more refusal
 fault_behind before [] q refusal gone ends = (unfinished_is q.head q.body refusal ends, unfinished before q refusal gone ends)
 fault_behind before (line ∷ more) q refusal gone ends = (refused_ends before q line refusal gone ends, line_fault before q line refusal gone ends)
 
 -- a fault is reported with the first line that is at fault
-pub first_fault : (lines : List (List ℕ)) (fault : Fault) (number : ℕ) → fault.line ≡ Some number → read_lines kinds.Record nothing 1 lines ≡ Err fault → IsFirstFault lines number fault.refusal
+pub first_fault : (lines : List (List ℕ)) (fault : Fault) (number : ℕ) → fault.line ≡ Some number → read_lines nothing 1 lines ≡ Err fault → IsFirstFault lines number fault.refusal
 first_fault lines fault number is e =
-    let f = faulted kinds.Record nothing 1 lines fault e in
+    let f = stopped line_step finish_step nothing 1 lines fault e in
     let place : number ≡ 1 + length f.before = (let both = sym is ∙ f.place in cc) in
     record {
       before = f.before;
       more = f.more;
       split = f.split;
       place = place ∙ omega arith;
-      begins = gone_begins f.before f.q f.gone;
-      fault = fault_behind f.before f.more f.q fault.refusal f.gone f.ends;
+      begins = gone_begins f.before f.reached f.gone;
+      fault = fault_behind f.before f.more f.reached fault.refusal f.gone f.ends;
     }
 
 -- lines are those of a script, or have a first fault
 pub spells_or_faults : (lines : List (List ℕ)) → ((plan : Plan) × AreLinesOf lines plan) ⊎ ((line : ℕ) × (refusal : Refusal) × IsFirstFault lines line refusal)
-spells_or_faults lines = by_reading (read_lines kinds.Record nothing 1 lines) refl
+spells_or_faults lines = by_reading (read_lines nothing 1 lines) refl
   where
-    by_reading : (read : Result Plan Fault) → read_lines kinds.Record nothing 1 lines ≡ read
+    by_reading : (read : Result Plan Fault) → read_lines nothing 1 lines ≡ read
         → ((plan : Plan) × AreLinesOf lines plan) ⊎ ((line : ℕ) × (refusal : Refusal) × IsFirstFault lines line refusal)
     by_reading (Ok plan) e = inl (plan, lines_spell lines 1 plan e)
     by_reading (Err fault) e =
-        let f = faulted kinds.Record nothing 1 lines fault e in
+        let f = stopped line_step finish_step nothing 1 lines fault e in
         inr (1 + length f.before, fault.refusal, first_fault lines fault (1 + length f.before) f.place e)

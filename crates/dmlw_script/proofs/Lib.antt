@@ -12,3 +12,11 @@ pub mod CanonicalTextLaws
 pub mod ScriptLaws
 pub mod OneFault
 pub mod Examples
+pub mod FoldLaws
+pub mod RunLines
+pub mod RunTextLaws
+pub mod RunReading
+pub mod RunFaults
+pub mod OneRunFault
+pub mod RunExamples
+pub mod RunReadingExamples

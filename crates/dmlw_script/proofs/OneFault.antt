@@ -8,27 +8,7 @@ use Rattle.dmlw_script.specs.Reading.{bad_line, line_refusal, refused, BeginsScr
 use Rattle.dmlw_script.proofs.ReadingLaws.{spelled_lines}
 use Rattle.dmlw_script.proofs.ParsingLaws.{one_parsed}
 
--- lines are those of one script
-one_plan : (lines : List (List ℕ)) (p q : Plan) → AreLinesOf lines p → AreLinesOf lines q → p ≡ q
-one_plan lines p q spells again = let both = sym (spelled_lines lines 1 p spells) ∙ spelled_lines lines 1 q again in cc
-
--- a line has one first reason why it can't stand there
-one_reason : (before : List (List ℕ)) (line : List ℕ) (r s : Refusal) → IsLineFault before line r → IsLineFault before line s → r ≡ s
-one_reason before line r s (bad_line f) (bad_line g) = refl
-one_reason before line r s (bad_line f) (refused t p x there spells e) = absurd (f t there)
-one_reason before line r s (refused t p x there spells e) (bad_line g) = absurd (g t there)
-one_reason before line r s (refused t p x there spells e) (refused u q y here again f) =
-    let both : Some r ≡ Some s =
-    sym e ∙ ap (line_refusal p) (one_parsed line t u there.says here.says) ∙ ap (λ (plan : Plan). line_refusal plan u) (one_plan before p q spells again) ∙ f in
-    cc
-
--- lines that begin a script begin by lines that do
-begins_before : (before more : List (List ℕ)) → BeginsScript (before ++ more) → BeginsScript before
-begins_before before more begins = record {
-  more = more ++ begins.more;
-  plan = begins.plan;
-  spells = subst (λ (lines : List (List ℕ)). AreLinesOf lines begins.plan) (append_assoc before more begins.more) begins.spells;
-}
+-- ---- first faults, whatever is read
 
 -- lines in two parts, the first of which is longer than another
 pub record Longer (short_part : List (List ℕ)) (rest long_part : List (List ℕ)) : Type 0 where
@@ -67,42 +47,81 @@ same_parts (first ∷ a) x (line ∷ b) y same lens =
     let heads = more.0 in
     (cc, more.1)
 
--- after a fault no lines begin a script
-none_longer : (a x b : List (List ℕ)) (r : Refusal) → FaultAfter a x r → Longer a x b → BeginsScript b → ⊥
-none_longer a x b r fault more begins =
-    let F : List (List ℕ) → Type 0 = λ ls. FaultAfter a ls r in
-    let there : FaultAfter a (more.line ∷ more.tail) r = subst F more.rest_is fault in
-    let regrouped : b ≡ (a ++ more.line ∷ []) ++ more.between = more.long_is ∙ sym (append_assoc a (more.line ∷ []) more.between) in
-    there.0 (begins_before (a ++ more.line ∷ []) more.between (subst BeginsScript regrouped begins))
+-- first faults, where lines may begin something, and what stands behind lines may be at fault, after which no lines begin it
+module _ (Begins : List (List ℕ) → Type 0) (Faults : List (List ℕ) → List (List ℕ) → Refusal → Type 0)
+    (begins_before : (before more : List (List ℕ)) → Begins (before ++ more) → Begins before)
+    (ends : (before : List (List ℕ)) (line : List ℕ) (more : List (List ℕ)) (r : Refusal) → Faults before (line ∷ more) r → Begins (before ++ line ∷ []) → ⊥)
+    (one_behind : (before more : List (List ℕ)) (r s : Refusal) → Faults before more r → Faults before more s → r ≡ s) where
+  -- after a fault no lines begin it
+  none_longer : (a x b : List (List ℕ)) (r : Refusal) → Faults a x r → Longer a x b → Begins b → ⊥
+  none_longer a x b r fault more begins =
+      let F : List (List ℕ) → Type 0 = λ ls. Faults a ls r in
+      let there : Faults a (more.line ∷ more.tail) r = subst F more.rest_is fault in
+      let regrouped : b ≡ (a ++ more.line ∷ []) ++ more.between = more.long_is ∙ sym (append_assoc a (more.line ∷ []) more.between) in
+      ends a more.line more.tail r there (begins_before (a ++ more.line ∷ []) more.between (subst Begins regrouped begins))
+
+  -- no first fault is after another
+  not_behind : (a x b y : List (List ℕ)) (r : Refusal) → a ++ x ≡ b ++ y → Faults a x r → Begins b → length b ≤ length a
+  not_behind a x b y r split fault begins =
+      ⊎_elim
+      (λ (less : length a < length b). absurd (none_longer a x b r fault (longer a x b y split less) begins))
+      (λ (more : length b ≤ length a). more)
+      (cases_lt (length a) (length b))
+
+  -- a first fault is one
+  pub one_place : (a x b y : List (List ℕ)) (r s : Refusal) → a ++ x ≡ b ++ y → Begins a → Begins b → Faults a x r → Faults b y s →
+      (length a ≡ length b) × (r ≡ s)
+  one_place a x b y r s split at_a at_b fault other =
+      let up = not_behind a x b y r split fault at_b in
+      let down = not_behind b y a x s (sym split) other at_a in
+      let long : length a ≡ length b = omega arith in
+      let parts = same_parts a x b y split long in
+      let B : List (List ℕ) → Type 0 = λ ls. Faults ls y s in
+      let M : List (List ℕ) → Type 0 = λ ls. Faults a ls s in
+      let there : Faults a x s = subst M (sym parts.1) (subst B (sym parts.0) other) in
+      (long, one_behind a x r s fault there)
+
+-- ---- a recorder's texts
+
+-- lines are those of one script
+one_plan : (lines : List (List ℕ)) (p q : Plan) → AreLinesOf lines p → AreLinesOf lines q → p ≡ q
+one_plan lines p q spells again = let both = sym (spelled_lines lines 1 p spells) ∙ spelled_lines lines 1 q again in cc
+
+-- a line has one first reason why it can't stand there
+one_reason : (before : List (List ℕ)) (line : List ℕ) (r s : Refusal) → IsLineFault before line r → IsLineFault before line s → r ≡ s
+one_reason before line r s (bad_line f) (bad_line g) = refl
+one_reason before line r s (bad_line f) (refused t p x there spells e) = absurd (f t there)
+one_reason before line r s (refused t p x there spells e) (bad_line g) = absurd (g t there)
+one_reason before line r s (refused t p x there spells e) (refused u q y here again f) =
+    let both : Some r ≡ Some s =
+    sym e ∙ ap (line_refusal p) (one_parsed line t u there.says here.says) ∙ ap (λ (plan : Plan). line_refusal plan u) (one_plan before p q spells again) ∙ f in
+    cc
+
+-- lines that begin a script begin by lines that do
+begins_before : (before more : List (List ℕ)) → BeginsScript (before ++ more) → BeginsScript before
+begins_before before more begins = record {
+  more = more ++ begins.more;
+  plan = begins.plan;
+  spells = subst (λ (lines : List (List ℕ)). AreLinesOf lines begins.plan) (append_assoc before more begins.more) begins.spells;
+}
+
+-- after a fault at a line no lines begin a script with it
+ends_there : (before : List (List ℕ)) (line : List ℕ) (more : List (List ℕ)) (r : Refusal) → FaultAfter before (line ∷ more) r →
+    BeginsScript (before ++ line ∷ []) → ⊥
+ends_there before line more r fault = fault.0
 
 -- after the same lines there is one reason
-one_behind : (a x : List (List ℕ)) (r s : Refusal) → FaultAfter a x r → FaultAfter a x s → r ≡ s
-one_behind a [] r s at_r at_s = at_r.0 ∙ sym at_s.0
-one_behind a (line ∷ x) r s at_r at_s = one_reason a line r s at_r.1 at_s.1
-
--- no first fault is after another
-not_behind : (lines : List (List ℕ)) (m n : ℕ) (r s : Refusal) → IsFirstFault lines m r → IsFirstFault lines n s → n ≤ m
-not_behind lines m n r s f g =
-    let place : m ≡ length f.before + 1 = f.place in
-    let other : n ≡ length g.before + 1 = g.place in
-    ⊎_elim
-    (λ (less : m < n).
-    absurd (none_longer f.before f.more g.before r f.fault (longer f.before f.more g.before g.more (sym f.split ∙ g.split) (omega arith)) g.begins))
-    (λ (more : n ≤ m). more)
-    (cases_lt m n)
+one_behind : (before more : List (List ℕ)) (r s : Refusal) → FaultAfter before more r → FaultAfter before more s → r ≡ s
+one_behind before [] r s at_r at_s = at_r.0 ∙ sym at_s.0
+one_behind before (line ∷ more) r s at_r at_s = one_reason before line r s at_r.1 at_s.1
 
 -- a text has one first fault
 pub one_first_fault : (lines : List (List ℕ)) (m n : ℕ) (r s : Refusal) → IsFirstFault lines m r → IsFirstFault lines n s → (m ≡ n) × (r ≡ s)
 one_first_fault lines m n r s f g =
-    let up = not_behind lines m n r s f g in
-    let down = not_behind lines n m s r g f in
-    let place : m ≡ length f.before + 1 = f.place in
-    let other : n ≡ length g.before + 1 = g.place in
-    let parts = same_parts f.before f.more g.before g.more (sym f.split ∙ g.split) (omega arith) in
-    let B : List (List ℕ) → Type 0 = λ ls. FaultAfter ls g.more s in
-    let M : List (List ℕ) → Type 0 = λ ls. FaultAfter f.before ls s in
-    let there : FaultAfter f.before f.more s = subst M (sym parts.1) (subst B (sym parts.0) g.fault) in
-    (omega arith, one_behind f.before f.more r s f.fault there)
+    let split : f.before ++ f.more ≡ g.before ++ g.more = sym f.split ∙ g.split in
+    let one = one_place BeginsScript FaultAfter begins_before ends_there one_behind f.before f.more g.before g.more r s split
+    f.begins g.begins f.fault g.fault in
+    (f.place ∙ ap (λ (n : ℕ). n + 1) one.0 ∙ sym g.place, one.1)
 
 -- lines of a script have none after lines that begin one
 whole_behind : (before more : List (List ℕ)) (plan : Plan) (r : Refusal) → AreLinesOf (before ++ more) plan → FaultAfter before more r → ⊥

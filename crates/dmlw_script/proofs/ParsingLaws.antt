@@ -2,7 +2,7 @@ use Rattle.std.proofs.Common.{◌≡◌, ℕ, ◌+◌, ◌-◌, ◌*◌, ◌/◌
 use Rattle.std.specs.Prelude.{◌==◌, codes, nat_lt, nat_le, not, Result}
 use Rattle.std.specs.Char.{is_ascii_digit}
 use Rattle.std.specs.List.{list_all, onto_first, AllZip}
-use Rattle.std.specs.Option.{option_map}
+use Rattle.std.specs.Option.{option_map, option_or}
 use Rattle.std.specs.Str.{bytes_eq}
 use Rattle.std.proofs.lemmas.Bool.{and_parts, and_from, cases_Bool, cond-true, cond-false, eq-eqb, eqb-true, leb-true, lt-ltb, le-ltb}
 use Rattle.std.proofs.lemmas.Bool.Decides.{nat_tests}
@@ -16,8 +16,10 @@ use Rattle.dmlw_script.specs.declared.disk_name.DiskName.TheVariants as disks
 use Rattle.dmlw_script.specs.declared.script_id.ScriptId.{ScriptId}
 use Rattle.dmlw_script.specs.Said.{Said}
 use Rattle.dmlw_script.specs.Said as parsed_lines
+use Rattle.dmlw_script.specs.declared.line.HeadLine.{HeadLine}
 use Rattle.dmlw_script.specs.declared.line.HeadLine.TheVariants as head_lines
 use Rattle.dmlw_script.specs.declared.line.BodyLine.TheVariants as body_lines
+use Rattle.dmlw_script.specs.declared.command.Submission.{Submission}
 use Rattle.dmlw_script.specs.declared.command.Submission.TheVariants as submits
 use Rattle.dmlw_script.specs.declared.command.Step.TheVariants as steps
 use Rattle.dmlw_script.specs.declared.command.WriteOptions.{WriteOptions}
@@ -25,7 +27,7 @@ use Rattle.dmlw_script.specs.Grammar.{layer_verb, message_verb, size_words, spac
 use Rattle.words.specs.WordLaws.{number_again, number_read}
 use Rattle.dmlw_script.specs.Lines.{is_line_text, is_skipped}
 use Rattle.dmlw_script.specs.Ids.{is_id, is_name_byte, id_of_word}
-use Rattle.dmlw_script.specs.inside.Parsing.{◌>>=◌, asked_of, body_words, discard_of, disk_of_word, found_options, layer_of, log_of, lone_word, mark_of, message_of, message_to, numbers_of, options_of, take_word, parse_parts, parse_words, parse_line, picks_of, plain_parts, read_of, size_of, split_words, step, submit, with_number, write_of}
+use Rattle.dmlw_script.specs.inside.Parsing.{◌>>=◌, asked_of, body_words, discard_of, discard_words, disk_of_word, found_options, head_words, layer_of, log_of, lone_word, mark_of, message_of, message_to, numbers_of, options_of, take_word, parse_parts, parse_words, parse_line, picks_of, plain_parts, read_of, sectors_of, size_of, split_words, step, submit, with_number, write_of, write_words}
 use Rattle.dmlw_script.specs.Options.{option_text, option_word, option_words, options_text}
 use Rattle.dmlw_script.specs.Words.{byte_from, byte_of, byte_text, half_of, hex_digit}
 use Rattle.dmlw_script.proofs.LayerLaws.{asked_is, one_asked}
@@ -41,12 +43,12 @@ chosen true x y z e = inl (refl, e)
 chosen false x y z e = inr (refl, e)
 
 -- what goes on well has a value, and goes on well from there
-bind_some : {A B : Type 0} (o : Option A) (f : A → Option B) (y : B) → (o >>= f) ≡ Some y → (x : A) × (o ≡ Some x) × (f x ≡ Some y)
+pub bind_some : {A B : Type 0} (o : Option A) (f : A → Option B) (y : B) → (o >>= f) ≡ Some y → (x : A) × (o ≡ Some x) × (f x ≡ Some y)
 bind_some None f y e = absurd (cc)
 bind_some (Some x) f y e = (x, refl, e)
 
 -- a mapped value is one that was there
-map_some : {A B : Type 0} (f : A → B) (o : Option A) (y : B) → option_map f o ≡ Some y → (x : A) × (o ≡ Some x) × (f x ≡ y)
+pub map_some : {A B : Type 0} (f : A → B) (o : Option A) (y : B) → option_map f o ≡ Some y → (x : A) × (o ≡ Some x) × (f x ≡ y)
 map_some f None y e = absurd (cc)
 map_some f (Some x) y e = (x, refl, cc)
 
@@ -178,7 +180,7 @@ byte_again byte low =
 -- ---- options
 
 -- the test of two texts says whether they are one
-same_bytes : (xs ys : List ℕ) → bytes_eq xs ys ≡ true → xs ≡ ys
+pub same_bytes : (xs ys : List ℕ) → bytes_eq xs ys ≡ true → xs ≡ ys
 same_bytes xs ys e = (bytes_eq-Decides xs ys).0 e
 
 -- what is left of words, behind a space
@@ -283,121 +285,156 @@ options_again word options lack = by_each options.flush options.fua options.meta
 -- ---- sentences
 
 -- the first word and the others
-abbrev first_word : List ℕ → List ℕ → List ℕ
+abbrev pub first_word : List ℕ → List ℕ → List ℕ
 first_word verb words = verb ++ 32 ∷ words
 
--- the parts that a write was read by
-record WriteParts (words : List ℕ) (s : Said) : Type 0 where
-  from_first : List ℕ
-  from_count : List ℕ
-  from_byte : List ℕ
-  name : ScriptId
-  first : ℕ
-  count : ℕ
-  byte : ℕ
-  options : WriteOptions
-  cut_first : after_byte 32 words ≡ Some from_first
-  cut_count : after_byte 32 from_first ≡ Some from_count
-  cut_byte : after_byte 32 from_count ≡ Some from_byte
-  is_name : id_of_word (before_byte 32 words) ≡ Some name
-  is_first : number_of (before_byte 32 from_first) ≡ Some first
-  is_count : number_of (before_byte 32 from_count) ≡ Some count
-  is_byte : byte_of (before_byte 32 from_byte) ≡ Some byte
-  are_options : options_of (after_byte 32 from_byte) ≡ Some options
-  is : s ≡ submit name (submits.Write first count byte options)
-
 -- what is there is one
-same_said : (s t : Said) → Some s ≡ Some t → t ≡ s
-same_said s t e = cc
+pub same_some : {A : Type 0} (x y : A) → Some x ≡ Some y → x ≡ y
+same_some x y e = cc
 
--- a write was read by its parts
-write_parts : (words : List ℕ) (s : Said) → write_of words ≡ Some s → WriteParts words s
-write_parts words s e =
-    let a = bind_some (after_byte 32 words) _ s e in
-    let b = bind_some (after_byte 32 a.0) _ s a.2 in
+-- the words are a write's: its first sector, its number of sectors, its byte, and behind these its options
+pub record WriteWords (words : List ℕ) (s : Submission) : Type 0 where
+  pub first : ℕ
+  pub count : ℕ
+  pub byte : ℕ
+  pub options : WriteOptions
+  pub first_word : List ℕ
+  pub count_word : List ℕ
+  pub first_number : IsNumber first_word first
+  pub count_number : IsNumber count_word count
+  pub is_byte : byte < 256
+  pub spelled : words ≡ first_word ++ 32 ∷ (count_word ++ 32 ∷ spaced (byte_text byte ∷ option_words options))
+  pub is : submits.Write first count byte options ≡ s
+
+-- what is heard as a write's words are these
+pub write_words_read : (words : List ℕ) (s : Submission) → write_words words ≡ Some s → WriteWords words s
+write_words_read words s e =
+    let b = bind_some (after_byte 32 words) _ s e in
     let c = bind_some (after_byte 32 b.0) _ s b.2 in
-    let d = bind_some (id_of_word (before_byte 32 words)) _ s c.2 in
-    let f = bind_some (number_of (before_byte 32 a.0)) _ s d.2 in
+    let f = bind_some (number_of (before_byte 32 words)) _ s c.2 in
     let g = bind_some (number_of (before_byte 32 b.0)) _ s f.2 in
     let h = bind_some (byte_of (before_byte 32 c.0)) _ s g.2 in
     let o = bind_some (options_of (after_byte 32 c.0)) _ s h.2 in
+    let byte = byte_read (before_byte 32 c.0) h.0 h.1 in
+    let last : c.0 ≡ spaced (byte_text h.0 ∷ option_words o.0) =
+    before_and_behind c.0 ∙ ap (λ (x : List ℕ). x ++ behind (after_byte 32 c.0)) byte.1
+    ∙ ap (λ (x : List ℕ). byte_text h.0 ++ x) (options_read (after_byte 32 c.0) o.0 o.1)
+    ∙ sym (options_spelled (byte_text h.0) o.0) in
     record {
-      from_first = a.0;
-      from_count = b.0;
-      from_byte = c.0;
-      name = d.0;
       first = f.0;
       count = g.0;
       byte = h.0;
       options = o.0;
-      cut_first = a.1;
-      cut_count = b.1;
-      cut_byte = c.1;
-      is_name = d.1;
-      is_first = f.1;
-      is_count = g.1;
-      is_byte = h.1;
-      are_options = o.1;
-      is = same_said _ s o.2;
+      first_word = before_byte 32 words;
+      count_word = before_byte 32 b.0;
+      first_number = number_read (before_byte 32 words) f.0 f.1;
+      count_number = number_read (before_byte 32 b.0) g.0 g.1;
+      is_byte = byte.0;
+      spelled =
+          cut_joined 32 words b.0 b.1
+          ∙ ap (λ x. before_byte 32 words ++ 32 ∷ x) (cut_joined 32 b.0 c.0 c.1 ∙ ap (λ x. before_byte 32 b.0 ++ 32 ∷ x) last);
+      is = same_some _ s o.2;
+    }
+
+-- the words say these sectors: the first one, and how many
+pub record SectorWords (words : List ℕ) (sectors : ℕ × ℕ) : Type 0 where
+  pub first_word : List ℕ
+  pub count_word : List ℕ
+  pub first_number : IsNumber first_word sectors.0
+  pub count_number : IsNumber count_word sectors.1
+  pub spelled : words ≡ first_word ++ 32 ∷ count_word
+
+-- what is heard as sectors are these
+sectors_read : (words : List ℕ) (sectors : ℕ × ℕ) → sectors_of words ≡ Some sectors → SectorWords words sectors
+sectors_read words sectors e =
+    let a = bind_some (number_of (before_byte 32 words)) _ sectors e in
+    let b = bind_some (after_byte 32 words) _ sectors a.2 in
+    let c = bind_some (number_of b.0) _ sectors b.2 in
+    subst (λ (x : ℕ × ℕ). SectorWords words x) (same_some (a.0, c.0) sectors c.2) (record {
+      first_word = before_byte 32 words;
+      count_word = b.0;
+      first_number = number_read (before_byte 32 words) a.0 a.1;
+      count_number = number_read b.0 c.0 c.1;
+      spelled = cut_joined 32 words b.0 b.1;
+    })
+
+-- what is heard as a discard's words are its sectors
+pub discard_words_read : (words : List ℕ) (s : Submission) → discard_words words ≡ Some s
+    → (sectors : ℕ × ℕ) × SectorWords words sectors × (submits.Discard sectors.0 sectors.1 ≡ s)
+discard_words_read words s e =
+    let a = bind_some (sectors_of words) _ s e in
+    (a.0, sectors_read words a.0 a.1, same_some _ s a.2)
+
+-- the parts that a submission was read by: an id, and the words behind it
+record NamedParts (words : List ℕ) (read : List ℕ → Option Submission) (s : Said) : Type 0 where
+  others : List ℕ
+  name : ScriptId
+  submission : Submission
+  is_name : id_of_word (before_byte 32 words) ≡ Some name
+  read_as : read others ≡ Some submission
+  joined : words ≡ before_byte 32 words ++ 32 ∷ others
+  is : submit name submission ≡ s
+
+-- what is heard of an id and the words behind it was read by its parts
+named_parts : (words : List ℕ) (read : List ℕ → Option Submission) (s : Said)
+    → (after_byte 32 words >>= λ others. id_of_word (before_byte 32 words) >>= λ name. read others >>= λ submission. Some (submit name submission)) ≡ Some s
+    → NamedParts words read s
+named_parts words read s e =
+    let a = bind_some (after_byte 32 words) _ s e in
+    let b = bind_some (id_of_word (before_byte 32 words)) _ s a.2 in
+    let c = bind_some (read a.0) _ s b.2 in
+    record {
+      others = a.0;
+      name = b.0;
+      submission = c.0;
+      is_name = b.1;
+      read_as = c.1;
+      joined = cut_joined 32 words a.0 a.1;
+      is = same_some _ s c.2;
     }
 
 -- what is heard as a write is said
 write_read : (words : List ℕ) (s : Said) → write_of words ≡ Some s → ParsesAs (first_word (codes "w") words) s
 write_read words s e =
-    let p = write_parts words s e in
-    let b = byte_read (before_byte 32 p.from_byte) p.byte p.is_byte in
-    let last : p.from_byte ≡ spaced (byte_text p.byte ∷ option_words p.options) =
-    before_and_behind p.from_byte ∙ ap (λ (x : List ℕ). x ++ behind (after_byte 32 p.from_byte)) b.1
-    ∙ ap (λ (x : List ℕ). byte_text p.byte ++ x) (options_read (after_byte 32 p.from_byte) p.options p.are_options)
-    ∙ sym (options_spelled (byte_text p.byte) p.options) in
-    let whole : words ≡ before_byte 32 words ++ 32 ∷ (before_byte 32 p.from_first ++ 32 ∷ (before_byte 32 p.from_count ++ 32 ∷ spaced (byte_text p.byte ∷ option_words p.options))) =
-    cut_joined 32 words p.from_first p.cut_first
-    ∙ ap (λ x. before_byte 32 words ++ 32 ∷ x) (cut_joined 32 p.from_first p.from_count p.cut_count
-    ∙ ap (λ x. before_byte 32 p.from_first ++ 32 ∷ x) (cut_joined 32 p.from_count p.from_byte p.cut_byte
-    ∙ ap (λ x. before_byte 32 p.from_count ++ 32 ∷ x) last)) in
-    rw p.is record {
+    let p = named_parts words write_words s e in
+    let w = write_words_read p.others p.submission p.read_as in
+    subst (λ (x : Said). ParsesAs (first_word (codes "w") words) x) (ap (submit p.name) w.is ∙ p.is) (record {
       id_word = before_byte 32 words;
-      first_word = before_byte 32 p.from_first;
-      count_word = before_byte 32 p.from_count;
-      id = id_read (before_byte 32 words) _ p.is_name;
-      first_number = number_read (before_byte 32 p.from_first) _ p.is_first;
-      count_number = number_read (before_byte 32 p.from_count) _ p.is_count;
-      is_byte = b.0;
-      spelled = ap (λ x. first_word (codes "w") x) whole;
-    }
+      first_word = w.first_word;
+      count_word = w.count_word;
+      id = id_read (before_byte 32 words) p.name p.is_name;
+      first_number = w.first_number;
+      count_number = w.count_number;
+      is_byte = w.is_byte;
+      spelled = ap (λ x. first_word (codes "w") x) (p.joined ∙ ap (λ x. before_byte 32 words ++ 32 ∷ x) w.spelled);
+    })
 
 -- what is heard as a discard is said
 discard_read : (words : List ℕ) (s : Said) → discard_of words ≡ Some s → ParsesAs (first_word (codes "d") words) s
 discard_read words s e =
-    let a = bind_some (after_byte 32 words) _ s e in
-    let b = bind_some (id_of_word (before_byte 32 words)) _ s a.2 in
-    let c = bind_some (number_of (before_byte 32 a.0)) _ s b.2 in
-    let d = bind_some (after_byte 32 a.0) _ s c.2 in
-    let f = bind_some (number_of d.0) _ s d.2 in
-    let is : submit b.0 (submits.Discard c.0 f.0) ≡ s = let last = f.2 in cc in
-    subst (λ (x : Said). ParsesAs (first_word (codes "d") words) x) is (record {
+    let p = named_parts words discard_words s e in
+    let d = discard_words_read p.others p.submission p.read_as in
+    subst (λ (x : Said). ParsesAs (first_word (codes "d") words) x) (ap (submit p.name) d.2 ∙ p.is) (record {
       id_word = before_byte 32 words;
-      first_word = before_byte 32 a.0;
-      count_word = d.0;
-      id = id_read (before_byte 32 words) b.0 b.1;
-      first_number = number_read (before_byte 32 a.0) c.0 c.1;
-      count_number = number_read d.0 f.0 f.1;
-      spelled = ap (λ x. first_word (codes "d") x) (cut_joined 32 words a.0 a.1 ∙ ap (λ x. before_byte 32 words ++ 32 ∷ x) (cut_joined 32 a.0 d.0 d.1));
+      first_word = d.1.first_word;
+      count_word = d.1.count_word;
+      id = id_read (before_byte 32 words) p.name p.is_name;
+      first_number = d.1.first_number;
+      count_number = d.1.count_number;
+      spelled = ap (λ x. first_word (codes "d") x) (p.joined ∙ ap (λ x. before_byte 32 words ++ 32 ∷ x) d.1.spelled);
     })
 
 -- what is heard as a read is said
 read_read : (words : List ℕ) (s : Said) → read_of words ≡ Some s → ParsesAs (first_word (codes "r") words) s
 read_read words s e =
-    let a = bind_some (number_of (before_byte 32 words)) _ s e in
-    let b = bind_some (after_byte 32 words) _ s a.2 in
-    let c = bind_some (number_of b.0) _ s b.2 in
-    let is : step (steps.Read a.0 c.0) ≡ s = let last = c.2 in cc in
-    subst (λ (x : Said). ParsesAs (first_word (codes "r") words) x) is (record {
-      first_word = before_byte 32 words;
-      count_word = b.0;
-      first_number = number_read (before_byte 32 words) a.0 a.1;
-      count_number = number_read b.0 c.0 c.1;
-      spelled = ap (λ x. first_word (codes "r") x) (cut_joined 32 words b.0 b.1);
+    let a = bind_some (sectors_of words) _ s e in
+    let p = sectors_read words a.0 a.1 in
+    subst (λ (x : Said). ParsesAs (first_word (codes "r") words) x) (same_some _ s a.2) (record {
+      first_word = p.first_word;
+      count_word = p.count_word;
+      first_number = p.first_number;
+      count_number = p.count_number;
+      spelled = ap (λ x. first_word (codes "r") x) p.spelled;
     })
 
 -- a first word and a number
@@ -409,20 +446,21 @@ said_id : (verb words : List ℕ) (name : ScriptId) → id_of_word words ≡ Som
 said_id verb words name e = record { word = words; id = id_read words name e; spelled = refl }
 
 -- what is heard of a first word and others is said, where it is of this first word, or of the others
-verb_read : (verb word words : List ℕ) (x y : Option Said) (s : Said) → (x ≡ Some s → ParsesAs (first_word word words) s)
-    → (y ≡ Some s → ParsesAs (first_word verb words) s) → cond (bytes_eq verb word) x y ≡ Some s → ParsesAs (first_word verb words) s
-verb_read verb word words x y s here other e =
+pub verb_read : {A : Type 0} (says : List ℕ → A → Type 0) (verb word words : List ℕ) (x y : Option A) (s : A) → (x ≡ Some s → says (first_word word words) s)
+    → (y ≡ Some s → says (first_word verb words) s) → cond (bytes_eq verb word) x y ≡ Some s → says (first_word verb words) s
+verb_read says verb word words x y s here other e =
     ⊎_elim
-    (λ (h : (bytes_eq verb word ≡ true) × (x ≡ Some s)). subst (λ (v : List ℕ). ParsesAs (first_word v words) s) (sym (same_bytes verb word h.0)) (here h.1))
+    (λ (h : (bytes_eq verb word ≡ true) × (x ≡ Some s)). subst (λ (v : List ℕ). says (first_word v words) s) (sym (same_bytes verb word h.0)) (here h.1))
     (λ (h : (bytes_eq verb word ≡ false) × (y ≡ Some s)). other h.1)
     (chosen (bytes_eq verb word) x y (Some s) e)
 
 -- a line of a first word and a number
-number_line : (verb words : List ℕ) (f : ℕ → Said) (s : Said) → ((n : ℕ) → ParsesAsNumber verb (first_word verb words) n → ParsesAs (first_word verb words) (f n))
-    → option_map f (number_of words) ≡ Some s → ParsesAs (first_word verb words) s
-number_line verb words f s says e =
+pub number_line : {A : Type 0} (is_said : List ℕ → A → Type 0) (verb words : List ℕ) (f : ℕ → A) (s : A)
+    → ((n : ℕ) → ParsesAsNumber verb (first_word verb words) n → is_said (first_word verb words) (f n))
+    → option_map f (number_of words) ≡ Some s → is_said (first_word verb words) s
+number_line {A = A} is_said verb words f s says e =
     let p = map_some f (number_of words) s e in
-    subst (λ (x : Said). ParsesAs (first_word verb words) x) p.2 (says p.0 (said_number verb words p.0 p.1))
+    subst (λ (x : A). is_said (first_word verb words) x) p.2 (says p.0 (said_number verb words p.0 p.1))
 
 -- a line of a first word and an id
 id_line : (verb words : List ℕ) (f : ScriptId → Said) (s : Said) → ((name : ScriptId) → ParsesAsId verb (first_word verb words) name → ParsesAs (first_word verb words) (f name))
@@ -434,19 +472,23 @@ id_line verb words f s says e =
 -- what is heard of the words of a line of the body is said
 body_read : (verb words : List ℕ) (s : Said) → body_words verb words ≡ Some s → ParsesAs (first_word verb words) s
 body_read verb words s =
-    verb_read verb (codes "w") words _ _ s (write_read words s)
-    (verb_read verb (codes "f") words _ _ s (id_line (codes "f") words (λ name. submit name submits.Flush) s (λ name says. says))
-    (verb_read verb (codes "d") words _ _ s (discard_read words s)
-    (verb_read verb (codes "c") words _ _ s (id_line (codes "c") words (λ name. parsed_lines.Body (body_lines.Complete name)) s (λ name says. says))
-    (verb_read verb (codes "r") words _ _ s (read_read words s)
-    (verb_read verb (codes "at") words _ _ s (number_line (codes "at") words (λ moment. step (steps.At moment)) s (λ moment says. says))
+    verb_read ParsesAs verb (codes "w") words _ _ s (write_read words s)
+    (verb_read ParsesAs verb (codes "f") words _ _ s (id_line (codes "f") words (λ name. submit name submits.Flush) s (λ name says. says))
+    (verb_read ParsesAs verb (codes "d") words _ _ s (discard_read words s)
+    (verb_read ParsesAs verb (codes "c") words _ _ s (id_line (codes "c") words (λ name. parsed_lines.Body (body_lines.Complete name)) s (λ name says. says))
+    (verb_read ParsesAs verb (codes "r") words _ _ s (read_read words s)
+    (verb_read ParsesAs verb (codes "at") words _ _ s (number_line ParsesAs (codes "at") words (λ moment. step (steps.At moment)) s (λ moment says. says))
     (λ e. absurd (cc e)))))))
 
+-- the line says this of the head
+abbrev SaysHead : List ℕ → HeadLine → Type 0
+SaysHead line s = ParsesAs line (parsed_lines.Head s)
+
 -- what is heard as a layer is said
-layer_read : (over : DiskName) (words : List ℕ) (s : Said) → Some (layer_of over words) ≡ Some s → ParsesAs (first_word (layer_verb over) words) s
+layer_read : (over : DiskName) (words : List ℕ) (s : HeadLine) → Some (layer_of over words) ≡ Some s → SaysHead (first_word (layer_verb over) words) s
 layer_read over words s e =
-    let same : layer_of over words ≡ s = cc in
-    subst (λ (x : Said). ParsesAs (first_word (layer_verb over) words) x) same (record { text = words; asks = asked_is words; spelled = refl })
+    subst (λ (x : HeadLine). SaysHead (first_word (layer_verb over) words) x) (same_some (layer_of over words) s e)
+    (record { text = words; asks = asked_is words; spelled = refl })
 
 -- the size that is read is spelled behind the word before it
 size_read : (word : List ℕ) (rest : Option (List ℕ)) (size : SectorSize) → size_of rest ≡ Some size → word ++ behind rest ≡ spaced (word ∷ size_words size)
@@ -458,25 +500,39 @@ size_read word (Some text) size e =
     ap (λ (x : List ℕ). word ++ 32 ∷ x) (same_bytes text (codes "4096") p.0) ∙ ap (λ (x : SectorSize). spaced (word ∷ size_words x)) p.1
 
 -- what is heard as the log disk's line is said
-log_read : (words : List ℕ) (s : Said) → log_of words ≡ Some s → ParsesAs (first_word (codes "log") words) s
+log_read : (words : List ℕ) (s : HeadLine) → log_of words ≡ Some s → SaysHead (first_word (codes "log") words) s
 log_read words s e =
     let a = bind_some (number_of (before_byte 32 words)) _ s e in
     let b = bind_some (size_of (after_byte 32 words)) _ s a.2 in
-    let is : parsed_lines.Head (head_lines.Log a.0 b.0) ≡ s = let last = b.2 in cc in
-    subst (λ (x : Said). ParsesAs (first_word (codes "log") words) x) is (record {
+    subst (λ (x : HeadLine). SaysHead (first_word (codes "log") words) x) (same_some (head_lines.Log a.0 b.0) s b.2) (record {
       word = before_byte 32 words;
       number = number_read (before_byte 32 words) a.0 a.1;
       spelled = ap (λ x. first_word (codes "log") x) (before_and_behind words ∙ size_read (before_byte 32 words) (after_byte 32 words) b.0 b.1);
     })
 
+-- what is heard of the words of a line of the head is said
+pub head_read : (verb words : List ℕ) (s : HeadLine) → head_words verb words ≡ Some s → SaysHead (first_word verb words) s
+head_read verb words s =
+    verb_read SaysHead verb (codes "data") words _ _ s (number_line SaysHead (codes "data") words head_lines.Data s (λ n says. says))
+    (verb_read SaysHead verb (codes "log") words _ _ s (log_read words s)
+    (verb_read SaysHead verb (codes "data-layer") words _ _ s (layer_read disks.Data words s)
+    (verb_read SaysHead verb (codes "log-layer") words _ _ s (layer_read disks.Log words s)
+    (λ e. absurd (cc e)))))
+
+-- the first of two that is there is there
+pub first_some : {A : Type 0} (x y : Option A) (s : A) → option_or x y ≡ Some s → (x ≡ Some s) ⊎ (y ≡ Some s)
+first_some None y s e = inr e
+first_some (Some x) y s e = inl e
+
 -- what is heard of the words is said
 said_read : (verb words : List ℕ) (s : Said) → parse_words verb words ≡ Some s → ParsesAs (first_word verb words) s
-said_read verb words s =
-    verb_read verb (codes "data") words _ _ s (number_line (codes "data") words (λ n. parsed_lines.Head (head_lines.Data n)) s (λ n says. says))
-    (verb_read verb (codes "log") words _ _ s (log_read words s)
-    (verb_read verb (codes "data-layer") words _ _ s (layer_read disks.Data words s)
-    (verb_read verb (codes "log-layer") words _ _ s (layer_read disks.Log words s)
-    (body_read verb words s))))
+said_read verb words s e =
+    ⊎_elim
+    (λ (head : option_map parsed_lines.Head (head_words verb words) ≡ Some s).
+    let p = map_some parsed_lines.Head (head_words verb words) s head in
+    subst (λ (x : Said). ParsesAs (first_word verb words) x) p.2 (head_read verb words p.0 p.1))
+    (body_read verb words s)
+    (first_some _ (body_words verb words) s e)
 
 -- what is heard of one word is said
 word_read : (verb word : List ℕ) (x s : Said) (y : Option Said) → ParsesAs word x → (y ≡ Some s → ParsesAs verb s) → cond (bytes_eq verb word) (Some x) y ≡ Some s → ParsesAs verb s
@@ -500,7 +556,7 @@ all_step true b bytes front rest e more = absurd (cc e)
 all_step false b bytes front rest e more = ap (λ x. b ∷ x) (more e)
 
 -- what stands before a byte that isn't there is all
-before_all : (mark : ℕ) (bytes : List ℕ) → after_byte mark bytes ≡ None → before_byte mark bytes ≡ bytes
+pub before_all : (mark : ℕ) (bytes : List ℕ) → after_byte mark bytes ≡ None → before_byte mark bytes ≡ bytes
 before_all mark [] none = refl
 before_all mark (b ∷ bytes) none = all_step (b == mark) b bytes _ _ none (before_all mark bytes)
 
@@ -699,7 +755,7 @@ pub parsed_read : (line : List ℕ) (s : Said) → parse_line line ≡ Some s �
 parsed_read line s e = parts_read line (after_byte 32 line) s refl e
 
 -- what has this value goes on from it
-bind_at : {A B : Type 0} (o : Option A) (f : A → Option B) (x : A) (y : Option B) → o ≡ Some x → f x ≡ y → (o >>= f) ≡ y
+pub bind_at : {A B : Type 0} (o : Option A) (f : A → Option B) (x : A) (y : Option B) → o ≡ Some x → f x ≡ y → (o >>= f) ≡ y
 bind_at None f x y e g = absurd (cc)
 bind_at (Some z) f x y e g = let same : z ≡ x = cc in ap f same ∙ g
 
@@ -710,43 +766,60 @@ byte_lacks_space byte low = and_from _ _ (hex_not_space (byte / 16) (omega arith
     hex_not_space : (half : ℕ) → half < 16 → not (hex_digit half == 32) ≡ true
     hex_not_space half low = grind (arith, nat_tests)
 
+-- a write's words are heard as they are
+pub write_words_again : (fw cw : List ℕ) (first count byte : ℕ) (options : WriteOptions) → IsNumber fw first → IsNumber cw count → byte < 256 →
+    write_words (fw ++ 32 ∷ (cw ++ 32 ∷ spaced (byte_text byte ∷ option_words options))) ≡ Some (submits.Write first count byte options)
+write_words_again fw cw first count byte options is_first is_count low =
+    let last = spaced (byte_text byte ∷ option_words options) in
+    let b = cut_at 32 fw (cw ++ 32 ∷ last) (number_lacks_space fw is_first.0) in
+    let c = cut_at 32 cw last (number_lacks_space cw is_count.0) in
+    let d = options_again (byte_text byte) options (byte_lacks_space byte low) in
+    bind_at _ _ _ _ b.1
+    (bind_at _ _ _ _ c.1
+    (bind_at _ _ _ _ (ap number_of b.0 ∙ number_again fw first is_first)
+    (bind_at _ _ _ _ (ap number_of c.0 ∙ number_again cw count is_count)
+    (bind_at _ _ _ _ (ap byte_of d.0 ∙ byte_again byte low)
+    (bind_at _ _ _ _ d.1 refl)))))
+
+-- sectors are heard as they are
+sectors_again : (fw cw : List ℕ) (first count : ℕ) → IsNumber fw first → IsNumber cw count → sectors_of (fw ++ 32 ∷ cw) ≡ Some (first, count)
+sectors_again fw cw first count is_first is_count =
+    let a = cut_at 32 fw cw (number_lacks_space fw is_first.0) in
+    bind_at _ _ _ _ (ap number_of a.0 ∙ number_again fw first is_first)
+    (bind_at _ _ _ _ a.1
+    (bind_at _ _ _ _ (number_again cw count is_count) refl))
+
+-- a discard's words are heard as they are
+pub discard_words_again : (fw cw : List ℕ) (first count : ℕ) → IsNumber fw first → IsNumber cw count
+    → discard_words (fw ++ 32 ∷ cw) ≡ Some (submits.Discard first count)
+discard_words_again fw cw first count is_first is_count = bind_at _ _ _ _ (sectors_again fw cw first count is_first is_count) refl
+
+-- an id and the words behind it are heard as they are
+named_again : (id others : List ℕ) (name : ScriptId) (read : List ℕ → Option Submission) (submission : Submission) → IsId id name
+    → read others ≡ Some submission
+    → (after_byte 32 (id ++ 32 ∷ others) >>= λ rest. id_of_word (before_byte 32 (id ++ 32 ∷ others)) >>= λ it. read rest >>= λ made. Some (submit it made))
+    ≡ Some (submit name submission)
+named_again id others name read submission is_id again =
+    let a = cut_at 32 id others (id_lacks_space id is_id.0) in
+    bind_at _ _ _ _ a.1
+    (bind_at _ _ _ _ (ap id_of_word a.0 ∙ id_again id name is_id)
+    (bind_at _ _ _ _ again refl))
+
 -- a write is heard as it is
 write_again : (id fw cw : List ℕ) (name : ScriptId) (first count byte : ℕ) (options : WriteOptions) → IsId id name → IsNumber fw first → IsNumber cw count → byte < 256 →
     write_of (id ++ 32 ∷ (fw ++ 32 ∷ (cw ++ 32 ∷ spaced (byte_text byte ∷ option_words options)))) ≡ Some (submit name (submits.Write first count byte options))
 write_again id fw cw name first count byte options is_id is_first is_count low =
-    let last = spaced (byte_text byte ∷ option_words options) in
-    let a = cut_at 32 id (fw ++ 32 ∷ (cw ++ 32 ∷ last)) (id_lacks_space id is_id.0) in
-    let b = cut_at 32 fw (cw ++ 32 ∷ last) (number_lacks_space fw is_first.0) in
-    let c = cut_at 32 cw last (number_lacks_space cw is_count.0) in
-    let d = options_again (byte_text byte) options (byte_lacks_space byte low) in
-    bind_at _ _ _ _ a.1
-    (bind_at _ _ _ _ b.1
-    (bind_at _ _ _ _ c.1
-    (bind_at _ _ _ _ (ap id_of_word a.0 ∙ id_again id name is_id)
-    (bind_at _ _ _ _ (ap number_of b.0 ∙ number_again fw first is_first)
-    (bind_at _ _ _ _ (ap number_of c.0 ∙ number_again cw count is_count)
-    (bind_at _ _ _ _ (ap byte_of d.0 ∙ byte_again byte low)
-    (bind_at _ _ _ _ d.1 refl)))))))
+    named_again id _ name write_words _ is_id (write_words_again fw cw first count byte options is_first is_count low)
 
 -- a discard is heard as it is
 discard_again : (id fw cw : List ℕ) (name : ScriptId) (first count : ℕ) → IsId id name → IsNumber fw first → IsNumber cw count →
     discard_of (id ++ 32 ∷ (fw ++ 32 ∷ cw)) ≡ Some (submit name (submits.Discard first count))
 discard_again id fw cw name first count is_id is_first is_count =
-    let a = cut_at 32 id (fw ++ 32 ∷ cw) (id_lacks_space id is_id.0) in
-    let b = cut_at 32 fw cw (number_lacks_space fw is_first.0) in
-    bind_at _ _ _ _ a.1
-    (bind_at _ _ _ _ (ap id_of_word a.0 ∙ id_again id name is_id)
-    (bind_at _ _ _ _ (ap number_of b.0 ∙ number_again fw first is_first)
-    (bind_at _ _ _ _ b.1
-    (bind_at _ _ _ _ (number_again cw count is_count) refl))))
+    named_again id _ name discard_words _ is_id (discard_words_again fw cw first count is_first is_count)
 
 -- a read is heard as it is
 read_again : (fw cw : List ℕ) (first count : ℕ) → IsNumber fw first → IsNumber cw count → read_of (fw ++ 32 ∷ cw) ≡ Some (step (steps.Read first count))
-read_again fw cw first count is_first is_count =
-    let a = cut_at 32 fw cw (number_lacks_space fw is_first.0) in
-    bind_at _ _ _ _ (ap number_of a.0 ∙ number_again fw first is_first)
-    (bind_at _ _ _ _ a.1
-    (bind_at _ _ _ _ (number_again cw count is_count) refl))
+read_again fw cw first count is_first is_count = bind_at _ _ _ _ (sectors_again fw cw first count is_first is_count) refl
 
 -- a message is heard as it is
 message_again : (over : DiskName) (lw text : List ℕ) (layer : ℕ) → IsNumber lw layer → is_line_text text ≡ true → message_to over (lw ++ 32 ∷ text) ≡ Some (step (steps.Message over layer text))
@@ -756,7 +829,7 @@ message_again over lw text layer is_layer plain =
     (bind_at _ _ _ _ a.1 (cond-true _ _ _ plain))
 
 -- the log disk's line is heard as it is
-log_again : (word : List ℕ) (n : ℕ) (size : SectorSize) → IsNumber word n → log_of (spaced (word ∷ size_words size)) ≡ Some (parsed_lines.Head (head_lines.Log n size))
+pub log_again : (word : List ℕ) (n : ℕ) (size : SectorSize) → IsNumber word n → log_of (spaced (word ∷ size_words size)) ≡ Some (head_lines.Log n size)
 log_again word n sizes.B512 is =
     let c = cut_alone word (number_lacks_space word is.0) in
     bind_at _ _ _ _ (ap number_of c.0 ∙ number_again word n is) (bind_at _ _ _ _ (ap size_of c.1) refl)
@@ -765,17 +838,24 @@ log_again word n sizes.B4096 is =
     bind_at _ _ _ _ (ap number_of c.0 ∙ number_again word n is) (bind_at _ _ _ _ (ap size_of c.1) refl)
 
 -- a layer is heard as it is
-layer_again : (over : DiskName) (text : List ℕ) (asked : Result LayerSpec TableError) → AsksFor (words_of text) asked → layer_of over text ≡ parsed_lines.Head (head_lines.Layer over asked)
-layer_again over text asked asks =
-    ap (λ (x : Result LayerSpec TableError). parsed_lines.Head (head_lines.Layer over x)) (one_asked (words_of text) (asked_of text) asked (asked_is text) asks)
+pub layer_again : (over : DiskName) (text : List ℕ) (asked : Result LayerSpec TableError) → AsksFor (words_of text) asked
+    → layer_of over text ≡ head_lines.Layer over asked
+layer_again over text asked asks = ap (head_lines.Layer over) (one_asked (words_of text) (asked_of text) asked (asked_is text) asks)
+
+-- what is heard as a line of the head
+abbrev heard_head : Option HeadLine → Option Said
+heard_head s = option_map parsed_lines.Head s
 
 -- what is said is heard
 pub parsed_again : (line : List ℕ) (s : Said) → ParsesAs line s → parse_line line ≡ Some s
 parsed_again line (parsed_lines.Head (head_lines.Data n)) says =
-    rw says.spelled (ap (option_map (λ k. parsed_lines.Head (head_lines.Data k))) (number_again says.word n says.number))
-parsed_again line (parsed_lines.Head (head_lines.Log n size)) says = rw says.spelled (log_again says.word n size says.number)
-parsed_again line (parsed_lines.Head (head_lines.Layer disks.Data asked)) says = rw says.spelled (ap Some (layer_again disks.Data says.text asked says.asks))
-parsed_again line (parsed_lines.Head (head_lines.Layer disks.Log asked)) says = rw says.spelled (ap Some (layer_again disks.Log says.text asked says.asks))
+    rw says.spelled (ap (λ (k : Option ℕ). option_or (heard_head (option_map head_lines.Data k)) None) (number_again says.word n says.number))
+parsed_again line (parsed_lines.Head (head_lines.Log n size)) says =
+    rw says.spelled (ap (λ (k : Option HeadLine). option_or (heard_head k) None) (log_again says.word n size says.number))
+parsed_again line (parsed_lines.Head (head_lines.Layer disks.Data asked)) says =
+    rw says.spelled (ap (λ (k : HeadLine). Some (parsed_lines.Head k)) (layer_again disks.Data says.text asked says.asks))
+parsed_again line (parsed_lines.Head (head_lines.Layer disks.Log asked)) says =
+    rw says.spelled (ap (λ (k : HeadLine). Some (parsed_lines.Head k)) (layer_again disks.Log says.text asked says.asks))
 parsed_again line (parsed_lines.Body (body_lines.Submit name (submits.Write first count byte options))) says =
     rw says.spelled (write_again says.id_word says.first_word says.count_word name first count byte options says.id says.first_number says.count_number says.is_byte)
 parsed_again line (parsed_lines.Body (body_lines.Submit name (submits.Discard first count))) says =

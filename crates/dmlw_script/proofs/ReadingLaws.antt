@@ -1,15 +1,12 @@
-use Rattle.std.proofs.Common.{◌≡◌, ℕ, ◌+◌, ◌<◌, ◌≤◌, ◌^◌, Bool, true, false, not, cond, List, [], ◌∷◌, ◌++◌, length, append_assoc, Option, Some, None, Ok, Err, ⊎_elim, refl, ap, ◌∙◌, sym, subst, arith}
+use Rattle.std.proofs.Common.{◌≡◌, ℕ, ◌+◌, ◌<◌, ◌≤◌, ◌^◌, Bool, true, false, cond, List, [], ◌∷◌, ◌++◌, length, append_assoc, Option, Some, None, Ok, Err, refl, ap, ◌∙◌, sym, subst, arith}
 use Rattle.std.specs.Prelude.{◌/◌, map, nat_le, nat_lt, Result, IfOk}
 use Rattle.std.specs.List.{AllByRecursion, AllZip, IsDistinct}
-use Rattle.std.proofs.lemmas.Bool.{and_from, and_parts, cond-true, cond-false, cases_Bool, le-leb, leb-true, lt-ltb, ltb-true}
+use Rattle.std.proofs.lemmas.Bool.{and_from, and_parts, cond-true, le-leb, leb-true, lt-ltb, ltb-true}
 use Rattle.std.proofs.lemmas.List.{append-nil, length-append}
 use Rattle.bio.specs.declared.sector_size.SectorSize.{SectorSize}
 use Rattle.bio.specs.Sizes.{bytes_of}
 use Rattle.refusals.specs.declared.refusal.Refusal.{Refusal}
 use Rattle.refusals.specs.declared.refusal.Refusal.TheVariants.{BadLine, OutOfRange}
-use Rattle.refusals.specs.declared.fault.Fault.{Fault}
-use Rattle.dmlw_script.specs.declared.reader.Kind.{Kind}
-use Rattle.dmlw_script.specs.declared.reader.Kind.TheVariants as kinds
 use Rattle.table_line.specs.LineLaws.{asks_in_range}
 use Rattle.table_line.specs.Ranges.{IsLayerSpec}
 use Rattle.table_line.specs.declared.layer_spec.LayerSpec.{LayerSpec}
@@ -31,16 +28,17 @@ use Rattle.dmlw_script.specs.inside.Stages as heads
 use Rattle.dmlw_script.specs.inside.Heads.{asked_layer, data_layer, head_step, layer_in, layer_step, long_layer, with_data, with_log}
 use Rattle.dmlw_script.specs.inside.Drafts.{◌>>=◌, body_step, Body}
 use Rattle.dmlw_script.specs.Grammar.{ParsesAs, AreLinesOf}
-use Rattle.dmlw_script.specs.Lines.{is_ascii_line, is_skipped, unskipped, lines_of}
+use Rattle.dmlw_script.specs.Lines.{unskipped, lines_of}
 use Rattle.dmlw_script.specs.Plans.{head_of, lines_of_body, is_disk_size, is_log_disk_size, is_within, layer_line, least_sectors, lines_of_script, top_of, with_ending, ArePicks, Disk, IsDisk, IsPlan, Plan}
 use Rattle.table_line.specs.Standing.{top_sectors, CanStand}
 use Rattle.dmlw_script.specs.Reading.{bare, with_layer}
 use Rattle.words.specs.WordLaws.{number_low}
 use Rattle.words.specs.Words.{number_value, words_of, IsNumber}
-use Rattle.dmlw_script.specs.inside.Readers.{and_then, at_line, body_line, crash_line, finish_step, finished, has_begun, step_if_parsed, line_step, nothing, read_lines, read_text, parsed_step, with_body, with_head, Progress}
+use Rattle.dmlw_script.specs.inside.Readers.{at_line, body_line, crash_line, finish_step, finished, has_begun, line_step, nothing, parsed_step, read_lines, read_text, with_body, with_head, Progress}
 use Rattle.dmlw_script.specs.inside.Parsing.{parse_line}
-use Rattle.dmlw_script.proofs.BodyLaws.{bind_at, bind_ok, in_draft, lines_grow, lines_of_draft, run, run_again, step_grows, IsFine, IsSound}
+use Rattle.dmlw_script.proofs.BodyLaws.{in_draft, lines_grow, lines_of_draft, run, run_again, step_grows, IsFine, IsSound}
 use Rattle.dmlw_script.proofs.DiskLaws.{bare_disk, disk_push, long_below, long_enough, top_push, top_within, AreLong}
+use Rattle.dmlw_script.proofs.FoldLaws.{bind_at, bind_ok, fold, fold_append, leads_read, lines_tell, read_leads, told_lines, Led}
 use Rattle.dmlw_script.proofs.ParsingLaws.{parsed_again, parsed_read}
 
 -- ---- what is heard of single lines
@@ -286,7 +284,7 @@ with_body_ok p q (Ok b) e = (b, refl, cc)
 with_body_ok p q (Err refusal) e = absurd (cc)
 
 -- one more line of the body
-body_grows : (h : Stage) (b : Body) (q : Progress) (line : BodyLine) → body_line kinds.Record h (record { head = h; body = b }) line ≡ Ok q → IsFine line → IsBegun h b
+body_grows : (h : Stage) (b : Body) (q : Progress) (line : BodyLine) → body_line h (record { head = h; body = b }) line ≡ Ok q → IsFine line → IsBegun h b
     → GrowsBy (record { head = h; body = b }) q (parsed_lines.Body line ∷ [])
 body_grows heads.Empty b q line e fine begun = absurd (cc e)
 body_grows (heads.Data d) b q line e fine begun = absurd (cc e)
@@ -302,7 +300,7 @@ body_grows (heads.Whole d l size) b q line e fine begun =
 body_grows (heads.Ended d l size picks) b q line e fine begun = absurd (cc e)
 
 -- a crash
-crash_grows : (h : Stage) (b : Body) (q : Progress) (picks : List ℕ) → crash_line kinds.Record h (record { head = h; body = b }) picks ≡ Ok q
+crash_grows : (h : Stage) (b : Body) (q : Progress) (picks : List ℕ) → crash_line h (record { head = h; body = b }) picks ≡ Ok q
     → AllByRecursion (λ pick. pick < 2 ^ 64) picks → IsBegun h b → GrowsBy (record { head = h; body = b }) q (parsed_lines.Crash picks ∷ [])
 crash_grows heads.Empty b q picks e low begun = absurd (cc e)
 crash_grows (heads.Data d) b q picks e low begun = absurd (cc e)
@@ -315,7 +313,7 @@ crash_grows (heads.Whole d l size) b q picks e low begun =
     ((begun.0, begun.1, begun.2, begun.3, low), sym (append_assoc (head_of d l size) (lines_of_draft b) (parsed_lines.Crash picks ∷ [])))
 
 -- one more line
-step_more : (p q : Progress) (s : Said) → parsed_step kinds.Record p s ≡ Ok q → IsFineLine s → IsBegun p.head p.body → GrowsBy p q (s ∷ [])
+step_more : (p q : Progress) (s : Said) → parsed_step p s ≡ Ok q → IsFineLine s → IsBegun p.head p.body → GrowsBy p q (s ∷ [])
 step_more p q (parsed_lines.Head line) e fine begun =
     let r = with_head_ok p q (head_step p.head (has_begun p.body.body) line) e in
     subst (λ (x : Progress). GrowsBy p x (parsed_lines.Head line ∷ [])) r.2 (head_grows p.head r.0 p.body line r.1 fine begun)
@@ -323,18 +321,18 @@ step_more p q (parsed_lines.Body line) e fine begun = body_grows p.head p.body q
 step_more p q (parsed_lines.Crash picks) e fine begun = crash_grows p.head p.body q picks e fine begun
 
 -- the lines that are read are those of what was read
-pub run_more : (p q : Progress) (ss : List Said) → run kinds.Record p ss ≡ Ok q → AllByRecursion IsFineLine ss → IsBegun p.head p.body → GrowsBy p q ss
+pub run_more : (p q : Progress) (ss : List Said) → run p ss ≡ Ok q → AllByRecursion IsFineLine ss → IsBegun p.head p.body → GrowsBy p q ss
 run_more p q [] e fine begun =
     let same : p ≡ q = cc in
     subst (λ (x : Progress). GrowsBy p x []) same (begun, sym (append-nil (lines_of_progress p)))
 run_more p q (s ∷ ss) e fine begun =
-    let r = bind_ok (parsed_step kinds.Record p s) _ q e in
+    let r = bind_ok (parsed_step p s) _ q e in
     let first = step_more p r.0 s r.1 fine.0 begun in
     let others = run_more r.0 q ss r.2 fine.1 first.0 in
     (others.0, others.1 ∙ ap (λ (ls : List Said). ls ++ ss) first.1 ∙ append_assoc (lines_of_progress p) (s ∷ []) ss)
 
 -- the lines that were read from the start
-pub run_lines : (q : Progress) (ss : List Said) → run kinds.Record nothing ss ≡ Ok q → AllByRecursion IsFineLine ss → GrowsBy nothing q ss
+pub run_lines : (q : Progress) (ss : List Said) → run nothing ss ≡ Ok q → AllByRecursion IsFineLine ss → GrowsBy nothing q ss
 run_lines q ss e fine = run_more nothing q ss e fine refl
 
 -- a sound body makes a script
@@ -351,7 +349,7 @@ sound_plan d l size ending b is_data is_log room sound picks = record {
 }
 
 -- what was read, at the end of a text
-finished_read : (h : Stage) (b : Body) (plan : Plan) → finished kinds.Record h b ≡ Ok plan → IsBegun h b
+finished_read : (h : Stage) (b : Body) (plan : Plan) → finished h b ≡ Ok plan → IsBegun h b
     → (lines_of_head h ++ with_ending (ending_of h) (lines_of_draft b) ≡ lines_of_script plan) × IsPlan plan
 finished_read heads.Empty b plan e begun = absurd (cc e)
 finished_read (heads.Data d) b plan e begun = absurd (cc e)
@@ -364,26 +362,19 @@ finished_read (heads.Ended d l size picks) b plan e begun =
     (refl, sound_plan d l size (Some picks) b begun.0 begun.1 begun.2 begun.3 begun.4)
 
 -- the lines that are read as a plan are those of the plan
-pub plan_read : (ss : List Said) (plan : Plan) → AllByRecursion IsFineLine ss → (run kinds.Record nothing ss >>= finish_step kinds.Record) ≡ Ok plan → (ss ≡ lines_of_script plan) × IsPlan plan
+pub plan_read : (ss : List Said) (plan : Plan) → AllByRecursion IsFineLine ss → (run nothing ss >>= finish_step) ≡ Ok plan → (ss ≡ lines_of_script plan) × IsPlan plan
 plan_read ss plan fine e =
-    let r = bind_ok (run kinds.Record nothing ss) (finish_step kinds.Record) plan e in
+    let r = bind_ok (run nothing ss) finish_step plan e in
     let g = run_lines r.0 ss r.1 fine in
     let f = finished_read r.0.head r.0.body plan r.2 g.0 in
     (sym g.1 ∙ f.0, f.1)
 
--- what was read after lines, and then others
-run_append : (p q : Progress) (ss ts : List Said) → run kinds.Record p ss ≡ Ok q → run kinds.Record p (ss ++ ts) ≡ run kinds.Record q ts
-run_append p q [] ts e = let same : p ≡ q = cc in ap (λ (x : Progress). run kinds.Record x ts) same
-run_append p q (s ∷ ss) ts e =
-    let r = bind_ok (parsed_step kinds.Record p s) _ q e in
-    bind_at _ _ _ _ r.1 (run_append r.0 q ss ts r.2)
-
 -- a body's lines and the crash behind them are read as the script that it ends
-ending_again : (d l : Disk) (size : SectorSize) (b : Body) (ss : List Said) (ending : Option (List ℕ)) → run kinds.Record (in_draft d l size no_body) ss ≡ Ok (in_draft d l size b)
-    → (run kinds.Record (in_draft d l size no_body) (with_ending ending ss) >>= finish_step kinds.Record) ≡ Ok (ended_plan d l size ending b)
+ending_again : (d l : Disk) (size : SectorSize) (b : Body) (ss : List Said) (ending : Option (List ℕ)) → run (in_draft d l size no_body) ss ≡ Ok (in_draft d l size b)
+    → (run (in_draft d l size no_body) (with_ending ending ss) >>= finish_step) ≡ Ok (ended_plan d l size ending b)
 ending_again d l size b ss None read = bind_at _ _ _ _ read refl
 ending_again d l size b ss (Some picks) read =
-    bind_at _ _ _ _ (run_append (in_draft d l size no_body) (in_draft d l size b) ss (parsed_lines.Crash picks ∷ []) read ∙ refl) refl
+    bind_at _ _ _ _ (fold_append parsed_step (in_draft d l size no_body) (in_draft d l size b) ss (parsed_lines.Crash picks ∷ []) read ∙ refl) refl
 
 -- what goes on twice goes on once
 bind_again : {A B C : Type 0} (r : Result A Refusal) (f : A → Result B Refusal) (g : B → Result C Refusal) (x : A) → r ≡ Ok x → ((r >>= f) >>= g) ≡ (f x >>= g)
@@ -391,18 +382,18 @@ bind_again {A = A} (Ok z) f g x e = let same : z ≡ x = cc in ap (λ (y : A). f
 bind_again (Err refusal) f g x e = absurd (cc)
 
 -- a disk of so many sectors under these layers
-abbrev under : ℕ → List LayerSpec → Disk
+abbrev pub under : ℕ → List LayerSpec → Disk
 under sectors layers = record { sectors = sectors; layers = layers }
 
 -- a layer of at least so many sectors that may stand is taken
-layer_again : (least : ℕ) (disk : Disk) (layer : LayerSpec) → length disk.layers < 4 → layer.offset + layer.length ≤ top_of disk → least ≤ layer.length
+pub layer_again : (least : ℕ) (disk : Disk) (layer : LayerSpec) → length disk.layers < 4 → layer.offset + layer.length ≤ top_of disk → least ≤ layer.length
     → layer_step least disk (Ok layer) ≡ Ok (with_layer disk layer)
 layer_again least disk layer few within long = cond-true _ _ _ (lt-ltb _ _ few) ∙ cond-true _ _ _ (le-leb _ _ within) ∙ cond-true _ _ _ (le-leb _ _ long)
 
 -- the lines of the data disk's layers give them again: those over some lead from there to all of them
 data_again : (sectors : ℕ) (done layers : List LayerSpec) (n : ℕ) (size : SectorSize) → length done + length layers ≤ 4 → CanStand (top_sectors sectors done) layers →
     AreLong (least_sectors disks.Data size) layers →
-    run kinds.Record (in_draft (under sectors done) (bare n) size no_body) (map (layer_line disks.Data) layers) ≡ Ok (in_draft (under sectors (done ++ layers)) (bare n) size no_body)
+    run (in_draft (under sectors done) (bare n) size no_body) (map (layer_line disks.Data) layers) ≡ Ok (in_draft (under sectors (done ++ layers)) (bare n) size no_body)
 data_again sectors done [] n size few stand long = ap (λ (ls : List LayerSpec). Ok (in_draft (under sectors ls) (bare n) size no_body)) (sym (append-nil done))
 data_again sectors done (layer ∷ layers) n size few stand long =
     let p : Progress = in_draft (under sectors done) (bare n) size no_body in
@@ -415,7 +406,7 @@ data_again sectors done (layer ∷ layers) n size few stand long =
 -- so do those of the log disk's
 log_again : (d : Disk) (sectors : ℕ) (done layers : List LayerSpec) (size : SectorSize) → length done + length layers ≤ 4 → CanStand (top_sectors sectors done) layers →
     AreLong (least_sectors disks.Log size) layers →
-    run kinds.Record (in_draft d (under sectors done) size no_body) (map (layer_line disks.Log) layers) ≡ Ok (in_draft d (under sectors (done ++ layers)) size no_body)
+    run (in_draft d (under sectors done) size no_body) (map (layer_line disks.Log) layers) ≡ Ok (in_draft d (under sectors (done ++ layers)) size no_body)
 log_again d sectors done [] size few stand long = ap (λ (ls : List LayerSpec). Ok (in_draft d (under sectors ls) size no_body)) (sym (append-nil done))
 log_again d sectors done (layer ∷ layers) size few stand long =
     let p : Progress = in_draft d (under sectors done) size no_body in
@@ -427,17 +418,17 @@ log_again d sectors done (layer ∷ layers) size few stand long =
 
 -- the lines of a head's layers are read as it
 layers_again : (d l : Disk) (size : SectorSize) → IsDisk d → IsDisk l → HasRoom size l →
-    run kinds.Record (in_draft (bare d.sectors) (bare l.sectors) size no_body) (map (layer_line disks.Data) d.layers ++ map (layer_line disks.Log) l.layers)
+    run (in_draft (bare d.sectors) (bare l.sectors) size no_body) (map (layer_line disks.Data) d.layers ++ map (layer_line disks.Log) l.layers)
     ≡ Ok (in_draft d l size no_body)
 layers_again d l size is_data is_log room =
-    run_append (in_draft (bare d.sectors) (bare l.sectors) size no_body) (in_draft d (bare l.sectors) size no_body) (map (layer_line disks.Data) d.layers)
+    fold_append parsed_step (in_draft (bare d.sectors) (bare l.sectors) size no_body) (in_draft d (bare l.sectors) size no_body) (map (layer_line disks.Data) d.layers)
     (map (layer_line disks.Log) l.layers)
     (data_again d.sectors [] d.layers l.sectors size (omega (arith, is_data.few)) is_data.stand (long_enough d.sectors d.layers is_data.stand))
     ∙ log_again d l.sectors [] l.layers size (omega (arith, is_log.few)) is_log.stand
     (long_below (bytes_of size / 512) l.sectors l.layers is_log.stand room)
 
 -- the lines of a plan are read as it
-pub plan_again : (plan : Plan) → IsPlan plan → (run kinds.Record nothing (lines_of_script plan) >>= finish_step kinds.Record) ≡ Ok plan
+pub plan_again : (plan : Plan) → IsPlan plan → (run nothing (lines_of_script plan) >>= finish_step) ≡ Ok plan
 plan_again plan is =
     let d = plan.data_disk in
     let l = plan.log_disk in
@@ -447,213 +438,49 @@ plan_again plan is =
     let first : Progress = record { head = heads.Data (bare d.sectors); body = no_body } in
     let whole : Body = record { names = plan.names; body = plan.commands } in
     let lines = lines_of_body plan.names 0 plan.commands in
-    let body : run kinds.Record start lines ≡ Ok (in_draft d l size whole) = run_again d l size plan.names [] plan.names [] plan.commands refl is.distinct refl is.numbered is.well_formed in
-    let one : parsed_step kinds.Record nothing (parsed_lines.Head (head_lines.Data d.sectors)) ≡ Ok first = ap (with_head nothing) (cond-true _ _ _ is.data_disk.size) in
+    let body : run start lines ≡ Ok (in_draft d l size whole) = run_again d l size plan.names [] plan.names [] plan.commands refl is.distinct refl is.numbered is.well_formed in
+    let one : parsed_step nothing (parsed_lines.Head (head_lines.Data d.sectors)) ≡ Ok first = ap (with_head nothing) (cond-true _ _ _ is.data_disk.size) in
     let above : top_of l ≤ l.sectors = top_within l.sectors l.layers is.log_disk.stand in
     let room : bytes_of size / 512 ≤ l.sectors = omega (arith, is.room, above) in
     let fits : is_log_disk_size (bytes_of size) l.sectors ≡ true = and_from _ _ is.log_disk.size (le-leb _ _ room) in
-    let two : parsed_step kinds.Record first (parsed_lines.Head (head_lines.Log l.sectors size)) ≡ Ok sized = ap (with_head first) (cond-true _ _ _ fits) in
+    let two : parsed_step first (parsed_lines.Head (head_lines.Log l.sectors size)) ≡ Ok sized = ap (with_head first) (cond-true _ _ _ fits) in
     let layers = map (layer_line disks.Data) d.layers ++ map (layer_line disks.Log) l.layers in
-    bind_again (parsed_step kinds.Record nothing (parsed_lines.Head (head_lines.Data d.sectors))) _ _ first one
-    ∙ bind_again (parsed_step kinds.Record first (parsed_lines.Head (head_lines.Log l.sectors size))) _ _ sized two
-    ∙ ap (λ (r : Result Progress Refusal). r >>= finish_step kinds.Record) (run_append sized start layers (with_ending plan.ending lines) (layers_again d l size is.data_disk is.log_disk is.room))
+    bind_again (parsed_step nothing (parsed_lines.Head (head_lines.Data d.sectors))) _ _ first one
+    ∙ bind_again (parsed_step first (parsed_lines.Head (head_lines.Log l.sectors size))) _ _ sized two
+    ∙ ap (λ (r : Result Progress Refusal). r >>= finish_step) (fold_append parsed_step sized start layers (with_ending plan.ending lines) (layers_again d l size is.data_disk is.log_disk is.room))
     ∙ ending_again d l size whole lines plan.ending body
 
 -- ---- lines
 
--- plain lines, of which those that aren't skipped say this
-pub record Heard (lines : List (List ℕ)) (ss : List Said) : Type 0 where
-  pub plain : AllByRecursion (λ line. is_ascii_line line ≡ true) lines
-  pub says : AllZip ParsesAs (unskipped lines) ss
-
--- a skipped line isn't kept
-kept_skipped : (line : List ℕ) (lines : List (List ℕ)) → is_skipped line ≡ true → unskipped (line ∷ lines) ≡ unskipped lines
-kept_skipped line lines e = cond-false _ _ _ (ap not e)
-
--- another line is kept
-kept_said : (line : List ℕ) (lines : List (List ℕ)) → is_skipped line ≡ false → unskipped (line ∷ lines) ≡ line ∷ unskipped lines
-kept_said line lines e = cond-true _ _ _ (ap not e)
-
--- one more line to skip
-heard_skipped : (line : List ℕ) (lines : List (List ℕ)) (ss : List Said) → is_ascii_line line ≡ true → is_skipped line ≡ true → Heard lines ss → Heard (line ∷ lines) ss
-heard_skipped line lines ss plain skipped h = record {
-  plain = (plain, h.plain);
-  says = subst (λ (x : List (List ℕ)). AllZip ParsesAs x ss) (sym (kept_skipped line lines skipped)) h.says;
-}
-
--- one more line that says something
-heard_said : (line : List ℕ) (lines : List (List ℕ)) (s : Said) (ss : List Said) → is_ascii_line line ≡ true → is_skipped line ≡ false → ParsesAs line s → Heard lines ss → Heard (line ∷ lines) (s ∷ ss)
-heard_said line lines s ss plain skipped says h = record {
-  plain = (plain, h.plain);
-  says = subst (λ (x : List (List ℕ)). AllZip ParsesAs x (s ∷ ss)) (sym (kept_said line lines skipped)) (says, h.says);
-}
-
--- a line's step, by what it is
-pub plain_step : (kind : Kind) (p : Progress) (line : List ℕ) → is_ascii_line line ≡ false → line_step kind p line ≡ Err BadLine
-plain_step kind p line e = cond-true _ _ _ (ap not e)
-
--- a skipped line changes nothing
-pub skipped_step : (kind : Kind) (p : Progress) (line : List ℕ) → is_ascii_line line ≡ true → is_skipped line ≡ true → line_step kind p line ≡ Ok p
-skipped_step kind p line plain skipped = cond-false _ _ _ (ap not plain) ∙ cond-true _ _ _ skipped
-
--- another line is heard
-pub said_step : (kind : Kind) (p : Progress) (line : List ℕ) → is_ascii_line line ≡ true → is_skipped line ≡ false → line_step kind p line ≡ step_if_parsed kind p (parse_line line)
-said_step kind p line plain skipped = cond-false _ _ _ (ap not plain) ∙ cond-false _ _ _ skipped
-
--- what a line's step that goes on has heard
-pub data LineHeard (kind : Kind) (p q : Progress) (line : List ℕ) : Type 0 where
-  nothing_heard : is_ascii_line line ≡ true → is_skipped line ≡ true → p ≡ q → LineHeard kind p q line
-  one_heard : (s : Said) → is_ascii_line line ≡ true → is_skipped line ≡ false → ParsesAs line s → parsed_step kind p s ≡ Ok q → LineHeard kind p q line
-
--- what was heard of a line that isn't skipped
-parsed_heard : (kind : Kind) (p q : Progress) (line : List ℕ) (o : Option Said) → is_ascii_line line ≡ true → is_skipped line ≡ false → parse_line line ≡ o → step_if_parsed kind p o ≡ Ok q → LineHeard kind p q line
-parsed_heard kind p q line None plain skipped is e = absurd (cc)
-parsed_heard kind p q line (Some s) plain skipped is e = one_heard s plain skipped (parsed_read line s is) e
-
--- what a line that is read has said
-pub line_heard : (kind : Kind) (p q : Progress) (line : List ℕ) → line_step kind p line ≡ Ok q → LineHeard kind p q line
-line_heard kind p q line e =
-    ⊎_elim
-    (λ (plain : is_ascii_line line ≡ true).
-    ⊎_elim
-    (λ (skipped : is_skipped line ≡ true). nothing_heard plain skipped (let same = sym (skipped_step kind p line plain skipped) ∙ e in cc))
-    (λ (parse_words : is_skipped line ≡ false). parsed_heard kind p q line (parse_line line) plain parse_words refl (sym (said_step kind p line plain parse_words) ∙ e))
-    (cases_Bool (is_skipped line)))
-    (λ (strange : is_ascii_line line ≡ false). absurd (let bad = sym (plain_step kind p line strange) ∙ e in cc))
-    (cases_Bool (is_ascii_line line))
-
--- what was read after these lines
-abbrev pub go : Kind → Progress → List (List ℕ) → Result Progress Refusal
-go kind p [] = Ok p
-go kind p (line ∷ lines) = line_step kind p line >>= λ q. go kind q lines
-
--- what lines that are read say, and where that leads
-pub record GoneBy (kind : Kind) (p q : Progress) (lines : List (List ℕ)) : Type 0 where
-  pub ss : List Said
-  pub step_if_parsed : Heard lines ss
-  pub leads : run kind p ss ≡ Ok q
-
--- one more line that was read
-gone_on : (kind : Kind) (p q r : Progress) (line : List ℕ) (lines : List (List ℕ)) → LineHeard kind p q line → GoneBy kind q r lines → GoneBy kind p r (line ∷ lines)
-gone_on kind p q r line lines (nothing_heard plain skipped same) g = record {
-  ss = g.ss;
-  step_if_parsed = heard_skipped line lines g.ss plain skipped g.step_if_parsed;
-  leads = ap (λ x. run kind x g.ss) same ∙ g.leads;
-}
-gone_on kind p q r line lines (one_heard s plain skipped says step) g = record {
-  ss = s ∷ g.ss;
-  step_if_parsed = heard_said line lines s g.ss plain skipped says g.step_if_parsed;
-  leads = bind_at _ _ _ _ step g.leads;
-}
-
 -- what lines that are read have said
-pub go_heard : (kind : Kind) (p q : Progress) (lines : List (List ℕ)) → go kind p lines ≡ Ok q → GoneBy kind p q lines
-go_heard kind p q [] e = record { ss = []; step_if_parsed = record { plain = tt; says = tt }; leads = e }
-go_heard kind p q (line ∷ lines) e =
-    let s = bind_ok (line_step kind p line) _ q e in
-    gone_on kind p s.0 q line lines (line_heard kind p s.0 line s.1) (go_heard kind s.0 q lines s.2)
-
--- a line that says something is read
-said_go : (kind : Kind) (p q : Progress) (line : List ℕ) (lines : List (List ℕ)) (ss : List Said) → is_ascii_line line ≡ true → is_skipped line ≡ false → AllZip ParsesAs (line ∷ unskipped lines) ss → run kind p ss ≡ Ok q →
-    ((r : Progress) (more : List Said) → AllZip ParsesAs (unskipped lines) more → run kind r more ≡ Ok q → go kind r lines ≡ Ok q) → go kind p (line ∷ lines) ≡ Ok q
-said_go kind p q line lines [] plain skipped says e others = absurd says
-said_go kind p q line lines (s ∷ ss) plain skipped says e others =
-    let step = bind_ok (parsed_step kind p s) _ q e in
-    let is : line_step kind p line ≡ Ok step.0 = said_step kind p line plain skipped ∙ ap (step_if_parsed kind p) (parsed_again line s says.0) ∙ step.1 in
-    bind_at _ _ _ _ is (others step.0 ss says.1 step.2)
-
--- lines that say this are read
-pub heard_go : (kind : Kind) (p q : Progress) (lines : List (List ℕ)) (ss : List Said) → AllByRecursion (λ line. is_ascii_line line ≡ true) lines → AllZip ParsesAs (unskipped lines) ss → run kind p ss ≡ Ok q → go kind p lines ≡ Ok q
-heard_go kind p q [] [] plain says e = e
-heard_go kind p q [] (s ∷ ss) plain says e = absurd says
-heard_go kind p q (line ∷ lines) ss plain says e =
-    ⊎_elim
-    (λ (skipped : is_skipped line ≡ true).
-    bind_at _ _ _ _ (skipped_step kind p line plain.0 skipped)
-    (heard_go kind p q lines ss plain.1 (subst (λ (x : List (List ℕ)). AllZip ParsesAs x ss) (kept_skipped line lines skipped) says) e))
-    (λ (parse_words : is_skipped line ≡ false).
-    said_go kind p q line lines ss plain.0 parse_words (subst (λ (x : List (List ℕ)). AllZip ParsesAs x ss) (kept_said line lines parse_words) says) e
-    (λ r more tells leads. heard_go kind r q lines more plain.1 tells leads))
-    (cases_Bool (is_skipped line))
+pub go_heard : (p q : Progress) (lines : List (List ℕ)) → fold line_step p lines ≡ Ok q → Led ParsesAs parsed_step p q lines
+go_heard p q lines e = lines_tell parse_line ParsesAs parsed_step parsed_read parsed_again p q lines e
 
 -- ---- texts
 
--- a good answer names no line
-at_line_ok : {A : Type 0} (number : ℕ) (r : Result A Refusal) (x : A) → at_line number r ≡ Ok x → r ≡ Ok x
-at_line_ok number (Ok y) x e = cc
-at_line_ok number (Err refusal) x e = absurd (cc)
-
--- what goes on well has a value, and goes on well from there
-and_then_ok : {A B : Type 0} (r : Result A Fault) (f : A → Result B Fault) (y : B) → and_then r f ≡ Ok y → (x : A) × (r ≡ Ok x) × (f x ≡ Ok y)
-and_then_ok (Ok x) f y e = (x, refl, e)
-and_then_ok (Err fault) f y e = absurd (cc)
-
--- reading ends well where the lines lead to a plan
-pub lines_read : (kind : Kind) (p : Progress) (number : ℕ) (lines : List (List ℕ)) (plan : Plan) → read_lines kind p number lines ≡ Ok plan → (go kind p lines >>= finish_step kind) ≡ Ok plan
-lines_read kind p number [] plan e = at_line_ok number (finish_step kind p) plan e
-lines_read kind p number (line ∷ lines) plan e =
-    let s = and_then_ok (at_line number (line_step kind p line)) _ plan e in
-    let step = at_line_ok number (line_step kind p line) s.0 s.1 in
-    let others = bind_ok (go kind s.0 lines) (finish_step kind) plan (lines_read kind s.0 (number + 1) lines plan s.2) in
-    bind_at _ _ _ _ (bind_at _ _ _ _ step others.1) others.2
-
--- one more byte
-lines_step : (kind : Kind) (p q : Progress) (number : ℕ) (line : List ℕ) (lines : List (List ℕ)) → line_step kind p line ≡ Ok q → read_lines kind p number (line ∷ lines) ≡ read_lines kind q (number + 1) lines
-lines_step kind p q number line lines e = ap (λ r. and_then (at_line number r) (λ x. read_lines kind x (number + 1) lines)) e
-
--- reading goes on after lines that lead somewhere
-pub lines_go : (kind : Kind) (p q : Progress) (number : ℕ) (before_byte rest : List (List ℕ)) → go kind p before_byte ≡ Ok q → read_lines kind p number (before_byte ++ rest) ≡ read_lines kind q (number + length before_byte) rest
-lines_go kind p q number [] rest e = let same : p ≡ q = cc in ap (λ x. read_lines kind x number rest) same ∙ ap (λ n. read_lines kind q n rest) (omega arith)
-lines_go kind p q number (line ∷ before_byte) rest e =
-    let s = bind_ok (line_step kind p line) _ q e in
-    lines_step kind p s.0 number line (before_byte ++ rest) s.1 ∙ lines_go kind s.0 q (number + 1) before_byte rest s.2
-    ∙ ap (λ n. read_lines kind q n rest) (omega arith)
-
--- lines that lead to a script are read as it
-pub lines_again : (kind : Kind) (p : Progress) (number : ℕ) (lines : List (List ℕ)) (plan : Plan) → (go kind p lines >>= finish_step kind) ≡ Ok plan → read_lines kind p number lines ≡ Ok plan
-lines_again kind p number lines plan e =
-    let s = bind_ok (go kind p lines) (finish_step kind) plan e in
-    ap (λ x. read_lines kind p number x) (sym (append-nil lines)) ∙ lines_go kind p s.0 number lines [] s.1 ∙ ap (at_line (number + length lines)) s.2
-
 -- lines that are read as a plan spell it
-pub lines_spell : (lines : List (List ℕ)) (number : ℕ) (plan : Plan) → read_lines kinds.Record nothing number lines ≡ Ok plan → AreLinesOf lines plan
+pub lines_spell : (lines : List (List ℕ)) (number : ℕ) (plan : Plan) → read_lines nothing number lines ≡ Ok plan → AreLinesOf lines plan
 lines_spell lines number plan e =
-    let s = bind_ok (go kinds.Record nothing lines) (finish_step kinds.Record) plan (lines_read kinds.Record nothing number lines plan e) in
-    let h = go_heard kinds.Record nothing s.0 lines s.1 in
-    let p = plan_read h.ss plan (all_fine (unskipped lines) h.ss h.step_if_parsed.says) (bind_at _ _ _ _ h.leads s.2) in
+    let s = bind_ok (fold line_step nothing lines) finish_step plan (read_leads line_step finish_step nothing number lines plan e) in
+    let h = go_heard nothing s.0 lines s.1 in
+    let p = plan_read h.said plan (all_fine (unskipped lines) h.said h.tells.says) (bind_at _ _ _ _ h.leads s.2) in
     record {
-      plain = h.step_if_parsed.plain;
-      says = subst (λ (x : List Said). AllZip ParsesAs (unskipped lines) x) p.0 h.step_if_parsed.says;
+      plain = h.tells.plain;
+      says = subst (λ (x : List Said). AllZip ParsesAs (unskipped lines) x) p.0 h.tells.says;
       script = p.1;
     }
 
 -- lines that spell a plan are read as it
-pub spelled_lines : (lines : List (List ℕ)) (number : ℕ) (plan : Plan) → AreLinesOf lines plan → read_lines kinds.Record nothing number lines ≡ Ok plan
+pub spelled_lines : (lines : List (List ℕ)) (number : ℕ) (plan : Plan) → AreLinesOf lines plan → read_lines nothing number lines ≡ Ok plan
 spelled_lines lines number plan spells =
-    let s = bind_ok (run kinds.Record nothing (lines_of_script plan)) (finish_step kinds.Record) plan (plan_again plan spells.script) in
-    lines_again kinds.Record nothing number lines plan
-    (bind_at _ _ _ _ (heard_go kinds.Record nothing s.0 lines (lines_of_script plan) spells.plain spells.says s.1) s.2)
-
--- a run's text doesn't end well
-no_run : (h : Stage) (b : Body) (plan : Plan) → finished kinds.Run h b ≡ Ok plan → ⊥
-no_run h b plan e = cc
-
--- no text of a run is a script yet
-pub no_run_text : (p : Progress) (number : ℕ) (lines : List (List ℕ)) (plan : Plan) → read_lines kinds.Run p number lines ≡ Ok plan → ⊥
-no_run_text p number lines plan e =
-    let s = bind_ok (go kinds.Run p lines) (finish_step kinds.Run) plan (lines_read kinds.Run p number lines plan e) in
-    no_run s.0.head s.0.body plan s.2
-
--- what is read of a text is a script
-pub text_is_plan : (kind : Kind) (text : List ℕ) (plan : Plan) → read_text kind text ≡ Ok plan → IsPlan plan
-text_is_plan kinds.Record text plan e = (lines_spell (lines_of text) 1 plan e).script
-text_is_plan kinds.Run text plan e = absurd (no_run_text nothing 1 (lines_of text) plan e)
-
--- a good end is a script
-end_is_plan : (kind : Kind) (text : List ℕ) (number : ℕ) (r : Result Plan Refusal) → at_line number r ≡ read_text kind text → IfOk r IsPlan
-end_is_plan kind text number (Ok plan) e = text_is_plan kind text plan (sym e)
-end_is_plan kind text number (Err refusal) e = tt
+    let s = bind_ok (run nothing (lines_of_script plan)) finish_step plan (plan_again plan spells.script) in
+    leads_read line_step finish_step nothing number lines plan
+    (bind_at _ _ _ _ (told_lines parse_line ParsesAs parsed_step parsed_read parsed_again nothing s.0 lines (lines_of_script plan) spells.plain spells.says s.1) s.2)
 
 -- the end of a text gives a script, if anything
-pub finish_is_plan : (kind : Kind) (p : Progress) (text : List ℕ) (number : ℕ) → read_lines kind p number [] ≡ read_text kind text → IfOk (finish_step kind p) IsPlan
-finish_is_plan kind p text number e = end_is_plan kind text number (finish_step kind p) e
+pub finish_is_plan : (p : Progress) (text : List ℕ) (number : ℕ) → read_lines p number [] ≡ read_text text → IfOk (finish_step p) IsPlan
+finish_is_plan p text number e = by_end (finish_step p) e
+  where
+    by_end : (r : Result Plan Refusal) → at_line number r ≡ read_text text → IfOk r IsPlan
+    by_end (Ok plan) same = (lines_spell (lines_of text) 1 plan (sym same)).script
+    by_end (Err refusal) same = tt

@@ -15,4 +15,8 @@ pub mod Grammar
 pub mod Reading
 pub mod CanonicalText
 pub mod Texts
+pub mod RunPlans
+pub mod RunGrammar
+pub mod RunReading
+pub mod RunText
 pub mod inside

@@ -248,6 +248,10 @@ count_behind_head plan = length plan.commands + (if is_some plan.ending then 1 e
 abbrev pub layer_line : DiskName → LayerSpec → Said
 layer_line over spec = parsed_lines.Head (head_lines.Layer over (Ok spec))
 
+-- the line of the data disk: its sectors
+abbrev pub data_line : ℕ → Said
+data_line sectors = parsed_lines.Head (head_lines.Data sectors)
+
 -- the line of the log disk: its sectors, and the size of the log's sectors
 abbrev pub log_line : ℕ → SectorSize → Said
 log_line sectors size = parsed_lines.Head (head_lines.Log sectors size)
@@ -256,7 +260,7 @@ log_line sectors size = parsed_lines.Head (head_lines.Log sectors size)
 -- layers of the data disk, and then those of the log disk
 abbrev pub head_of : Disk → Disk → SectorSize → List Said
 head_of data_disk log_disk log_size =
-    parsed_lines.Head (head_lines.Data data_disk.sectors) ∷ log_line log_disk.sectors log_size
+    data_line data_disk.sectors ∷ log_line log_disk.sectors log_size
     ∷ (map (layer_line disks.Data) data_disk.layers ++ map (layer_line disks.Log) log_disk.layers)
 
 -- how many lines a script's head has: two, and one for each layer

@@ -1,6 +1,6 @@
 -- What reading answers to a text that is no script: the first line that is at fault, and why.
-use Rattle.std.specs.Prelude.{◌≡◌, ℕ, ◌+◌, ◌<◌, ◌≤◌, ◌⊎◌, Bool, true, false, not, List, [], ◌∷◌, ◌++◌, Option, Some, None, Err, Result, Ok, length, nat_le, if◌then◌else◌}
-use Rattle.std.specs.List.{list_any, AllByRecursion, AllZip}
+use Rattle.std.specs.Prelude.{◌≡◌, ℕ, ◌+◌, ◌<◌, Bool, true, false, not, List, [], ◌∷◌, ◌++◌, Option, Some, None, Err, Result, Ok, length, nat_le, if◌then◌else◌}
+use Rattle.std.specs.List.{list_any, AllZip}
 use Rattle.bio.specs.Refusals.{bad_bio_refusal}
 use Rattle.bio.specs.Sizes.{bytes_of}
 use Rattle.refusals.specs.declared.refusal.Refusal.{Refusal}
@@ -15,7 +15,7 @@ use Rattle.dmlw_script.specs.declared.line.HeadLine.TheVariants as head_lines
 use Rattle.dmlw_script.specs.declared.line.BodyLine.{BodyLine}
 use Rattle.dmlw_script.specs.declared.line.BodyLine.TheVariants as body_lines
 use Rattle.dmlw_script.specs.Grammar.{ParsesAs, AreLinesOf}
-use Rattle.dmlw_script.specs.Lines.{is_ascii_line, is_skipped, unskipped, lines_of}
+use Rattle.dmlw_script.specs.Lines.{is_ascii_line, unskipped, lines_of}
 use Rattle.dmlw_script.specs.Ids.{same_name}
 use Rattle.dmlw_script.specs.Plans.{disk_of, is_disk_size, is_ended, is_log_disk_size, is_within, least_sectors, moment_at_step, request_of, step_answer, submission_answer, top_of, Disk, IsInTime, Plan}
 use Rattle.table_line.specs.declared.layer_spec.LayerSpec.{LayerSpec}
@@ -161,33 +161,3 @@ IsFaultOf text fault None = fault ≡ is_memory
 abbrev pub IsReadAs : Plan → Result Plan Fault → Type 0
 IsReadAs plan (Ok script) = script ≡ plan
 IsReadAs plan (Err fault) = fault ≡ is_memory
-
--- the line is one of a head
-abbrev pub IsHeadLine : List ℕ → Type 0
-IsHeadLine line = (s : HeadLine) × ParsesAs line (parsed_lines.Head s)
-
--- the line isn't skipped, and is none of a head, and the head before it is whole: both sizes stand in it
-abbrev pub IsBehindHead : List (List ℕ) → List ℕ → Type 0
-IsBehindHead before line = (2 ≤ length (unskipped before)) × (is_skipped line ≡ false) × (IsHeadLine line → ⊥)
-
--- what is wrong with a run's text after lines of its head: it ends there, or the next line is one behind the whole head, or no
--- script of a recorder begins with the next line too, for the reason that a recorder has
-abbrev pub RunFaultAfter : List (List ℕ) → List (List ℕ) → Refusal → Type 0
-RunFaultAfter before [] refusal = refusal ≡ BadLine
-RunFaultAfter before (line ∷ more) refusal =
-    (IsBehindHead before line × (refusal ≡ BadLine)) ⊎ ((BeginsScript (before ++ line ∷ []) → ⊥) × IsLineFault before line refusal)
-
--- the first line, counted from 1, at which a run's text isn't a head, and why; it may be the one after the last
-pub record IsRunFault (lines : List (List ℕ)) (line : ℕ) (refusal : Refusal) : Type 0 where
-  pub before : List (List ℕ)
-  pub more : List (List ℕ)
-  pub split : lines ≡ before ++ more
-  pub place : line ≡ length before + 1
-  pub begins : BeginsScript before
-  pub head : AllByRecursion IsHeadLine (unskipped before)
-  pub fault : RunFaultAfter before more refusal
-
--- a run's text is refused at that line, or memory ran out
-abbrev pub IsRunFaultOf : List ℕ → Fault → Option ℕ → Type 0
-IsRunFaultOf text fault (Some line) = IsRunFault (lines_of text) line fault.refusal
-IsRunFaultOf text fault None = fault ≡ is_memory

@@ -3,3 +3,5 @@ pub mod Stages
 pub mod Heads
 pub mod Drafts
 pub mod Readers
+pub mod RunParsing
+pub mod RunReaders

@@ -161,8 +161,8 @@ impl Draft {
     }
 }
 
-// What is asked of the sectors that a submission covers, on a disk of so many, with a log of such sectors.
-fn check_submission(
+/// What is asked of the sectors that a submission covers, on a disk of so many, with a log of such sectors.
+pub(crate) fn check_submission(
     submission: Submission,
     sectors: u64,
     log_size: SectorSize,

@@ -11,6 +11,10 @@ ghost use Rattle.dmlw_script.specs.Lines.{command_line, with_line_feeds, is_asci
 ghost use Rattle.dmlw_script.specs.Plans.{IsPlan, CanFollow, Plan, count_behind_head, head_count, top_of};
 ghost use Rattle.dmlw_script.specs.Reading.{IsFirstFault};
 ghost use Rattle.dmlw_script.specs.CanonicalText.{canonical_text};
+ghost use Rattle.dmlw_script.specs.RunGrammar.{AreRunLines, IsRunText};
+ghost use Rattle.dmlw_script.specs.RunPlans.{IsRunPlan, RunPlan};
+ghost use Rattle.dmlw_script.specs.RunReading.{IsFirstRunFault};
+ghost use Rattle.dmlw_script.specs.RunText.{run_text};
 
 /// Lines make a text by a line feed after each, which the last may lack unless it is empty.
 pub fn lines_make_a_text()
@@ -79,4 +83,32 @@ pub fn texts_have_one_first_fault()
         IsFirstFault lines m r → IsFirstFault lines n s → (m ≡ n) × (r ≡ s) }
     ensures none { (lines : List (List ℕ)) (plan : Plan) (m : ℕ) (r : Refusal) →
         AreLinesOf lines plan → IsFirstFault lines m r → ⊥ }
+{}
+
+/// Each run's script has a text: its spelling.
+#[tactic(auto, using(crate::proofs::RunTextLaws::run_text_is))]
+pub fn each_run_script_has_a_text()
+    ensures { (plan : RunPlan) → IsRunPlan plan → IsRunText (run_text plan) plan }
+{}
+
+/// A text is one run's script's at most.
+#[tactic(auto, using(crate::proofs::RunTextLaws::one_run_script_of))]
+pub fn one_run_script()
+    ensures { (text : List ℕ) (plan other : RunPlan) → IsRunText text plan → IsRunText text other → plan ≡ other }
+{}
+
+/// Scripts of runs that are printed alike are one.
+#[tactic(auto, using(crate::proofs::RunTextLaws::same_from_run_text))]
+pub fn run_scripts_have_own_texts()
+    ensures { (plan other : RunPlan) → IsRunPlan plan → IsRunPlan other → run_text plan ≡ run_text other → plan ≡ other }
+{}
+
+/// The same of a run's texts.
+pub fn run_texts_have_one_first_fault()
+    ensures each { (lines : List (List ℕ)) → ((plan : RunPlan) × AreRunLines lines plan)
+        ⊎ ((line : ℕ) × (refusal : Refusal) × IsFirstRunFault lines line refusal) }
+    ensures one { (lines : List (List ℕ)) (m n : ℕ) (r s : Refusal) →
+        IsFirstRunFault lines m r → IsFirstRunFault lines n s → (m ≡ n) × (r ≡ s) }
+    ensures none { (lines : List (List ℕ)) (plan : RunPlan) (m : ℕ) (r : Refusal) →
+        AreRunLines lines plan → IsFirstRunFault lines m r → ⊥ }
 {}

@@ -1,7 +1,7 @@
 ghost use Rattle.std.specs.Prelude.{◌≡◌, option_copied, option_map};
 ghost use Rattle.dmlw_script.specs.Said.{as_said};
 ghost use Rattle.dmlw_script.specs.Lines.{is_line_byte as is_a_line_byte, is_line_text as is_a_line_text};
-ghost use Rattle.dmlw_script.specs.inside.Parsing.{body_words, discard_of as the_discard, disk_of_word, layer_of as the_layer, log_of as the_log, lone_word, message_of as the_message, parse_words, plain_parts, read_of as the_read, size_of as the_size, step, write_of as the_write};
+ghost use Rattle.dmlw_script.specs.inside.Parsing.{body_words, discard_of as the_discard, discard_words as the_discard_words, disk_of_word, head_words as the_head, layer_of as the_layer, log_of as the_log, lone_word, message_of as the_message, parse_words, plain_parts, read_of as the_read, sectors_of as the_sectors, size_of as the_size, step, write_of as the_write, write_words as the_write_words};
 
 use crate::command::{Step, Submission};
 use crate::disk_name::DiskName;
@@ -82,10 +82,20 @@ fn lone_word(verb: &[u8]) -> Option<Line>
 fn parse_words(verb: &[u8], words: &[u8]) -> Option<Line>
     ensures { option_map as_said result ≡ parse_words verb.now words.now }
 {
+    match head_words(verb, words) {
+        Some(line) => Some(Line::Head(line)),
+        None => body_words(verb, words),
+    }
+}
+
+/// What a line of the head says, of this first word, whose other words are these, if it is of the grammar.
+pub(crate) fn head_words(verb: &[u8], words: &[u8]) -> Option<HeadLine>
+    ensures { result ≡ the_head verb.now words.now }
+{
     if verb == b"data".as_slice() {
-        Some(Line::Head(HeadLine::Data {
+        Some(HeadLine::Data {
             sectors: number_of(words)?,
-        }))
+        })
     } else if verb == b"log".as_slice() {
         log_of(words)
     } else if verb == b"data-layer".as_slice() {
@@ -93,19 +103,19 @@ fn parse_words(verb: &[u8], words: &[u8]) -> Option<Line>
     } else if verb == b"log-layer".as_slice() {
         Some(layer_of(DiskName::Log, words))
     } else {
-        body_words(verb, words)
+        None
     }
 }
 
 // The line of the log disk whose sectors and whose log's sector size these words are.
-fn log_of(words: &[u8]) -> Option<Line>
-    ensures { option_map as_said result ≡ the_log words.now }
+fn log_of(words: &[u8]) -> Option<HeadLine>
+    ensures { result ≡ the_log words.now }
 {
     let (sectors, size) = cut(words, b' ');
-    Some(Line::Head(HeadLine::Log {
+    Some(HeadLine::Log {
         sectors: number_of(sectors)?,
         size: size_of(size)?,
-    }))
+    })
 }
 
 // The size of a log's sectors that a word says, or 512 bytes where there is none.
@@ -120,13 +130,13 @@ fn size_of(word: Option<&[u8]>) -> Option<SectorSize>
 }
 
 // The line of a layer over this disk, whose table line is this.
-fn layer_of(over: DiskName, text: &[u8]) -> Line
-    ensures { as_said result ≡ the_layer over text.now }
+fn layer_of(over: DiskName, text: &[u8]) -> HeadLine
+    ensures { result ≡ the_layer over text.now }
 {
-    Line::Head(HeadLine::Layer {
+    HeadLine::Layer {
         over,
         asked: parse_line(text),
-    })
+    }
 }
 
 // What a line of the body says, of this first word, whose other words are these.
@@ -151,49 +161,65 @@ fn body_words(verb: &[u8], words: &[u8]) -> Option<Line>
     }
 }
 
-// The write whose id, first sector, number of sectors, byte and options these words are.
+// The write whose id and whose other words these are.
 fn write_of(words: &[u8]) -> Option<Line>
     ensures { option_map as_said result ≡ the_write words.now }
 {
     let (name, rest) = cut(words, b' ');
-    let (first, rest) = cut(rest?, b' ');
-    let (count, rest) = cut(rest?, b' ');
-    let (byte, options) = cut(rest?, b' ');
     Some(Line::Body(BodyLine::Submit {
         name: ScriptId::of_word(name)?,
-        submission: Submission::Write {
-            first: number_of(first)?,
-            count: number_of(count)?,
-            byte: byte_of(byte)?,
-            options: options_of(options)?,
-        },
+        submission: write_words(rest?)?,
     }))
 }
 
-// The discard whose id, first sector and number of sectors these words are.
+/// The write whose first sector, number of sectors, byte and options these words are, if they are a write's.
+pub(crate) fn write_words(words: &[u8]) -> Option<Submission>
+    ensures { result ≡ the_write_words words.now }
+{
+    let (first, rest) = cut(words, b' ');
+    let (count, rest) = cut(rest?, b' ');
+    let (byte, options) = cut(rest?, b' ');
+    Some(Submission::Write {
+        first: number_of(first)?,
+        count: number_of(count)?,
+        byte: byte_of(byte)?,
+        options: options_of(options)?,
+    })
+}
+
+// The discard whose id and whose other words these are.
 fn discard_of(words: &[u8]) -> Option<Line>
     ensures { option_map as_said result ≡ the_discard words.now }
 {
     let (name, rest) = cut(words, b' ');
-    let (first, count) = cut(rest?, b' ');
     Some(Line::Body(BodyLine::Submit {
         name: ScriptId::of_word(name)?,
-        submission: Submission::Discard {
-            first: number_of(first)?,
-            count: number_of(count?)?,
-        },
+        submission: discard_words(rest?)?,
     }))
+}
+
+/// The discard whose first sector and number of sectors these words are, if they are a discard's.
+pub(crate) fn discard_words(words: &[u8]) -> Option<Submission>
+    ensures { result ≡ the_discard_words words.now }
+{
+    let (first, count) = sectors_of(words)?;
+    Some(Submission::Discard { first, count })
 }
 
 // The read whose first sector and number of sectors these words are.
 fn read_of(words: &[u8]) -> Option<Line>
     ensures { option_map as_said result ≡ the_read words.now }
 {
+    let (first, count) = sectors_of(words)?;
+    Some(Line::Body(BodyLine::Step(Step::Read { first, count })))
+}
+
+// The first sector and the number of sectors that these words are.
+fn sectors_of(words: &[u8]) -> Option<(u64, u64)>
+    ensures { result ≡ the_sectors words.now }
+{
     let (first, count) = cut(words, b' ');
-    Some(Line::Body(BodyLine::Step(Step::Read {
-        first: number_of(first)?,
-        count: number_of(count?)?,
-    })))
+    Some((number_of(first)?, number_of(count?)?))
 }
 
 /// What a message says, whose other words these are, if it is of the grammar: its disk, its layer and its

@@ -5,7 +5,7 @@ ghost use Rattle.dmlw_script.specs.inside.Parsing.{mark_of, message_of as the_me
 ghost use Rattle.dmlw_script.specs.Lines.{command_line, lines_of, is_ascii_line as is_plain_line, is_skipped as is_a_skipped_line};
 ghost use Rattle.dmlw_script.specs.Grammar.{IsTextOf};
 ghost use Rattle.dmlw_script.specs.Plans.{Plan};
-ghost use Rattle.dmlw_script.specs.Reading.{IsFaultOf, IsReadAs, IsRunFaultOf};
+ghost use Rattle.dmlw_script.specs.Reading.{IsFaultOf, IsReadAs};
 ghost use Rattle.dmlw_script.specs.inside.Readers.{fault_of, read_text, Reads};
 
 use crate::command::Step;
@@ -20,20 +20,10 @@ use refusals::{Fault, Refusal};
 use std::alloc::{AllocError, Global};
 use words::cut;
 
-/// What a script is for.
-#[derive(Clone, Copy, Debug)]
-pub enum Kind {
-    /// One recorder, whose calls come in the order of the lines.
-    Record,
-    /// Several seats. There are no such scripts yet: their texts are refused after the head.
-    Run,
-}
-
 // A script, as far as it was read.
 #[derive(Drop)]
 struct Reader {
     alloc: Global,
-    kind: Kind,
     head: Head,
     draft: Draft,
     // The picks of the crash that ended the script, if one did.
@@ -46,14 +36,12 @@ impl Reader {
     ghost use Rattle.dmlw_script.specs.inside.Heads.{head_step};
     ghost use Rattle.dmlw_script.specs.Plans.{IsPlan};
 
-    fn new(alloc: Global, kind: Kind) -> Reader
+    fn new(alloc: Global) -> Reader
         ensures reader { IsReader result }
-        ensures kind { result.kind ≡ kind }
         ensures empty { progress_of result ≡ nothing }
     {
         Reader {
             alloc,
-            kind,
             head: Head::new(alloc),
             draft: Draft::new(alloc),
             picks: Vec::new(alloc),
@@ -64,8 +52,7 @@ impl Reader {
     fn read_line(&mut self, line: &[u8]) -> Result<(), LineError>
         requires { IsReader self.old }
         ensures reader { OnOk result (IsReader self.new) }
-        ensures kind { OnOk result (self.new.kind ≡ self.old.kind) }
-        ensures step { Follows result (progress_of self.new) (line_step self.old.kind (progress_of self.old) line.now) }
+        ensures step { Follows result (progress_of self.new) (line_step (progress_of self.old) line.now) }
     {
         if !is_ascii_line(line) {
             return Err(LineError::Refused(Refusal::BadLine));
@@ -81,8 +68,7 @@ impl Reader {
     fn read_words(&mut self, verb: &[u8], words: Option<&[u8]>) -> Result<(), LineError>
         requires { IsReader self.old }
         ensures reader { OnOk result (IsReader self.new) }
-        ensures kind { OnOk result (self.new.kind ≡ self.old.kind) }
-        ensures step { Follows result (progress_of self.new) (step_if_parsed self.old.kind (progress_of self.old) (parse_parts verb.now (option_copied words.entry))) }
+        ensures step { Follows result (progress_of self.new) (step_if_parsed (progress_of self.old) (parse_parts verb.now (option_copied words.entry))) }
     {
         if verb == b"crash".as_slice() {
             self.read_crash(words)
@@ -99,8 +85,7 @@ impl Reader {
     fn read_plain(&mut self, verb: &[u8], words: Option<&[u8]>) -> Result<(), LineError>
         requires { IsReader self.old }
         ensures reader { OnOk result (IsReader self.new) }
-        ensures kind { OnOk result (self.new.kind ≡ self.old.kind) }
-        ensures step { Follows result (progress_of self.new) (step_if_parsed self.old.kind (progress_of self.old) (plain_parts verb.now (option_copied words.entry))) }
+        ensures step { Follows result (progress_of self.new) (step_if_parsed (progress_of self.old) (plain_parts verb.now (option_copied words.entry))) }
     {
         let parsed = parse_parts(verb, words).ok_or(Refusal::BadLine)?;
         self.read_parsed(parsed)
@@ -110,8 +95,7 @@ impl Reader {
     fn read_crash(&mut self, words: Option<&[u8]>) -> Result<(), LineError>
         requires { IsReader self.old }
         ensures reader { OnOk result (IsReader self.new) }
-        ensures kind { OnOk result (self.new.kind ≡ self.old.kind) }
-        ensures step { Follows result (progress_of self.new) (step_if_parsed self.old.kind (progress_of self.old) (option_map parsed_lines.Crash (the_picks (option_copied words.entry)))) }
+        ensures step { Follows result (progress_of self.new) (step_if_parsed (progress_of self.old) (option_map parsed_lines.Crash (the_picks (option_copied words.entry)))) }
     {
         let picks = picks_of(self.alloc, words)?;
         self.end(picks)
@@ -121,10 +105,9 @@ impl Reader {
     fn end(&mut self, picks: Vec<u64>) -> Result<(), LineError>
         requires { IsReader self.old }
         ensures reader { OnOk result (IsReader self.new) }
-        ensures kind { OnOk result (self.new.kind ≡ self.old.kind) }
-        ensures step { Follows result (progress_of self.new) (parsed_step self.old.kind (progress_of self.old) (parsed_lines.Crash picks.items)) }
+        ensures step { Follows result (progress_of self.new) (parsed_step (progress_of self.old) (parsed_lines.Crash picks.items)) }
     {
-        let (Kind::Record, Part::Whole) = (self.kind, self.head.part) else {
+        let Part::Whole = self.head.part else {
             return Err(LineError::Refused(Refusal::BadLine));
         };
         self.head.part = Part::Ended;
@@ -136,8 +119,7 @@ impl Reader {
     fn read_mark(&mut self, text: Option<&[u8]>) -> Result<(), LineError>
         requires { IsReader self.old }
         ensures reader { OnOk result (IsReader self.new) }
-        ensures kind { OnOk result (self.new.kind ≡ self.old.kind) }
-        ensures step { Follows result (progress_of self.new) (step_if_parsed self.old.kind (progress_of self.old) (mark_of (option_copied text.entry))) }
+        ensures step { Follows result (progress_of self.new) (step_if_parsed (progress_of self.old) (mark_of (option_copied text.entry))) }
     {
         match text {
             Some(text) if is_line_text(text) => {
@@ -152,8 +134,7 @@ impl Reader {
     fn read_message(&mut self, words: Option<&[u8]>) -> Result<(), LineError>
         requires { IsReader self.old }
         ensures reader { OnOk result (IsReader self.new) }
-        ensures kind { OnOk result (self.new.kind ≡ self.old.kind) }
-        ensures step { Follows result (progress_of self.new) (step_if_parsed self.old.kind (progress_of self.old) (the_message (option_copied words.entry))) }
+        ensures step { Follows result (progress_of self.new) (step_if_parsed (progress_of self.old) (the_message (option_copied words.entry))) }
     {
         let (over, layer, text) = message_of(words).ok_or(Refusal::BadLine)?;
         let shared = shared_text(self.alloc, text)?;
@@ -168,8 +149,7 @@ impl Reader {
     fn read_parsed(&mut self, parsed: Line) -> Result<(), LineError>
         requires { IsReader self.old }
         ensures reader { OnOk result (IsReader self.new) }
-        ensures kind { OnOk result (self.new.kind ≡ self.old.kind) }
-        ensures step { Follows result (progress_of self.new) (parsed_step self.old.kind (progress_of self.old) (as_said parsed)) }
+        ensures step { Follows result (progress_of self.new) (parsed_step (progress_of self.old) (as_said parsed)) }
     {
         match parsed {
             Line::Head(line) => self.read_head(line),
@@ -181,7 +161,6 @@ impl Reader {
     fn read_head(&mut self, line: HeadLine) -> Result<(), LineError>
         requires { IsReader self.old }
         ensures reader { OnOk result (IsReader self.new) }
-        ensures kind { OnOk result (self.new.kind ≡ self.old.kind) }
         ensures step { Follows result (progress_of self.new) (with_head (progress_of self.old) (head_step (progress_of self.old).head (has_begun (progress_of self.old).body.body) line)) }
     {
         let began = !self.draft.commands.is_empty();
@@ -192,11 +171,10 @@ impl Reader {
     fn read_body(&mut self, line: BodyLine) -> Result<(), LineError>
         requires { IsReader self.old }
         ensures reader { OnOk result (IsReader self.new) }
-        ensures kind { OnOk result (self.new.kind ≡ self.old.kind) }
-        ensures step { Follows result (progress_of self.new) (body_line self.old.kind (progress_of self.old).head (progress_of self.old) line) }
+        ensures step { Follows result (progress_of self.new) (body_line (progress_of self.old).head (progress_of self.old) line) }
     {
-        match (self.kind, self.head.part) {
-            (Kind::Record, Part::Whole) => {
+        match self.head.part {
+            Part::Whole => {
                 let sectors = self.head.data_disk.top_sectors();
                 self.draft.read(line, sectors, self.head.log_size)
             }
@@ -206,12 +184,11 @@ impl Reader {
 
     // The text ends here.
     fn finish(self) -> Result<Script, LineError>
-        requires { IfOk (finish_step self.kind (progress_of self)) IsPlan }
-        ensures { Finishes result (finish_step self.kind (progress_of self)) }
+        requires { IfOk (finish_step (progress_of self)) IsPlan }
+        ensures { Finishes result (finish_step (progress_of self)) }
     {
         let Reader {
             alloc: _,
-            kind,
             head,
             draft,
             picks,
@@ -222,13 +199,9 @@ impl Reader {
             log_disk,
             log_size,
         } = head;
-        match (part, kind) {
-            (Part::Whole, Kind::Record) => {
-                Ok(draft.into_script(data_disk, log_disk, log_size, None))
-            }
-            (Part::Ended, Kind::Record) => {
-                Ok(draft.into_script(data_disk, log_disk, log_size, Some(picks)))
-            }
+        match part {
+            Part::Whole => { Ok(draft.into_script(data_disk, log_disk, log_size, None)) }
+            Part::Ended => { Ok(draft.into_script(data_disk, log_disk, log_size, Some(picks))) }
             _ => Err(LineError::Refused(Refusal::BadLine)),
         }
     }
@@ -245,24 +218,22 @@ impl Reader {
 /// end, and as `NotWhole`, `TooLong`, `PastEnd` or `Unaligned` where `bio::check_sized` refuses the sectors of a
 /// write, a discard or a read for the top of the data disk and the log's sector size.
 /// Want of memory is `Memory`, and names no line.
-pub fn read_script(alloc: Global, text: &[u8], kind: Kind) -> Result<Script, Fault>
+pub fn read_script(alloc: Global, text: &[u8]) -> Result<Script, Fault>
     // What is read is a recorder's script, and this is a text of it.
-    ensures found { IfOk result (λ script. (kind ≡ Kind.Record) × IsTextOf text.now script) }
+    ensures found { IfOk result (λ script. IsTextOf text.now script) }
     // A text of a script is read, unless memory runs out.
-    ensures only { kind ≡ Kind.Record → (plan : Plan) → IsTextOf text.now plan → IsReadAs plan result }
+    ensures only { (plan : Plan) → IsTextOf text.now plan → IsReadAs plan result }
     // A fault is reported with the first line at which no continuation is a script.
-    ensures fault { IfErr result (λ fault. kind ≡ Kind.Record → IsFaultOf text.now fault fault.line) }
-    // A run's text is refused after its head.
-    ensures run { IfErr result (λ fault. kind ≡ Kind.Run → IsRunFaultOf text.now fault fault.line) }
+    ensures fault { IfErr result (λ fault. IsFaultOf text.now fault fault.line) }
 {
-    read(alloc, text, kind)
+    read(alloc, text)
 }
 
 // Reads the lines of a text in turn.
-fn read(alloc: Global, text: &[u8], kind: Kind) -> Result<Script, Fault>
-    ensures { Reads result (read_text kind text.now) }
+fn read(alloc: Global, text: &[u8]) -> Result<Script, Fault>
+    ensures { Reads result (read_text text.now) }
 {
-    let mut reader = Reader::new(alloc, kind);
+    let mut reader = Reader::new(alloc);
     let mut number: u64 = 1;
     let mut rest = text;
     while let Some((line, after)) = next_line(rest) {
@@ -278,15 +249,15 @@ fn read(alloc: Global, text: &[u8], kind: Kind) -> Result<Script, Fault>
     }
 }
 
-// A text of its own, of which clones take no memory.
-fn shared_text(alloc: Global, text: &[u8]) -> Result<Bytes, AllocError>
+/// A text of its own, of which clones take no memory.
+pub(crate) fn shared_text(alloc: Global, text: &[u8]) -> Result<Bytes, AllocError>
     ensures { IfOk result (λ shared. shared ≡ text.now) }
 {
     Bytes::from_vec(text.to_vec(alloc)?).into_shared()
 }
 
-// The next line and the text after it, if there is a line.
-fn next_line(text: &[u8]) -> Option<(&[u8], &[u8])>
+/// The next line and the text after it, if there is a line.
+pub(crate) fn next_line(text: &[u8]) -> Option<(&[u8], &[u8])>
     ensures { MatchOption result (text.now ≡ []) (λ next.
         (lines_of text.now ≡ next.0.now ∷ lines_of next.1.now) × (length next.1.now < length text.now)) }
 {
@@ -300,8 +271,8 @@ fn next_line(text: &[u8]) -> Option<(&[u8], &[u8])>
     }
 }
 
-// Why reading ended at a line.
-fn fault_at(line: u64, error: LineError) -> Fault
+/// Why reading ended at a line.
+pub(crate) fn fault_at(line: u64, error: LineError) -> Fault
     ensures { result ≡ fault_of line error }
 {
     match error {
@@ -316,15 +287,15 @@ fn fault_at(line: u64, error: LineError) -> Fault
     }
 }
 
-// A line of bytes that a script's text may hold.
-fn is_ascii_line(line: &[u8]) -> bool
+/// A line of bytes that a script's text may hold.
+pub(crate) fn is_ascii_line(line: &[u8]) -> bool
     ensures { result ≡ is_plain_line line.now }
 {
     line.iter().all(|byte| 0 < *byte && *byte < 128)
 }
 
-// An empty line, or a comment.
-fn is_skipped(line: &[u8]) -> bool
+/// An empty line, or a comment.
+pub(crate) fn is_skipped(line: &[u8]) -> bool
     ensures { result ≡ is_a_skipped_line line.now }
 {
     match line {

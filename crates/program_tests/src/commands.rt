@@ -5,7 +5,9 @@ use std::alloc::{AllocError, Global};
 use std::io;
 use std::io::{Print, Write};
 use std::process::Abort;
+use std::sync::Wait;
 use std::test::Fail;
+use std::thread::Threads;
 use test_asserts::{holds, is_told};
 use test_files::{Folder, OneFile};
 
@@ -13,11 +15,16 @@ use test_files::{Folder, OneFile};
 const FIRST: &str = "data 16\nlog 32\nw a 5 1 41\nc a\nf b\nc b\nclose\n";
 
 /// What a command line after the program's name tells of a folder's files: its status, its output and its faults, parted by `|`. A line feed is shown as `;`.
-pub fn output_of<F: Files>(alloc: Global, line: &str, files: &mut F) -> Result<String, Fail> {
+pub fn output_of<F: Files>(
+    rt: &(impl Threads + Wait + Sync),
+    alloc: Global,
+    line: &str,
+    files: &mut F,
+) -> Result<String, Fail> {
     let words = words_of(alloc, line)?;
     let mut out = Vec::new(alloc);
     let mut err = Vec::new(alloc);
-    let ended = execute(alloc, &words, files, &mut out, &mut err);
+    let ended = execute(rt, alloc, &words, files, &mut out, &mut err);
     told(alloc, ended.exit.status(), &out, &err)
 }
 
@@ -62,13 +69,13 @@ status log=3 4;";
 
 // A command line puts this out, or tells that memory is wanted.
 fn check_output<F: Files>(
-    rt: &(impl Abort + Print),
+    rt: &(impl Abort + Print + Threads + Wait + Sync),
     alloc: Global,
     files: &mut F,
     line: &str,
     wanted: &str,
 ) -> Result<(), Fail> {
-    let told = output_of(alloc, line, files)?;
+    let told = output_of(rt, alloc, line, files)?;
     let (status, told) = told.as_str().split_once('|').unwrap_or_default();
     let (out, err) = told.split_once('|').unwrap_or_default();
     let is_whole = status == "0" && out == wanted && err.is_empty();
@@ -82,7 +89,7 @@ fn check_output<F: Files>(
 
 // So does each of these.
 fn check_outputs<F: Files>(
-    rt: &(impl Abort + Print),
+    rt: &(impl Abort + Print + Threads + Wait + Sync),
     alloc: Global,
     files: &mut F,
 ) -> Result<(), Fail> {
@@ -101,27 +108,31 @@ fn shows_want_of_memory(rt: HostRuntime) -> Result<(), Fail> {
 }
 
 // The log of the first script, recorded in its folder.
-fn log_of(alloc: Global, folder: &mut Folder) -> Result<Vec<u8>, Fail> {
-    let _ = output_of(alloc, "record script log", folder)?;
+fn log_of(
+    rt: &(impl Threads + Wait + Sync),
+    alloc: Global,
+    folder: &mut Folder,
+) -> Result<Vec<u8>, Fail> {
+    let _ = output_of(rt, alloc, "record script log", folder)?;
     Ok(Vec::from_slice(alloc, folder.bytes("log").unwrap_or_default())?)
 }
 
 // What a command line tells begins with this status.
 fn check_status<F: Files>(
-    rt: &(impl Abort + Print),
+    rt: &(impl Abort + Print + Threads + Wait + Sync),
     alloc: Global,
     files: &mut F,
     line: &str,
     status: &str,
 ) -> Result<(), Fail> {
-    let told = output_of(alloc, line, files)?;
+    let told = output_of(rt, alloc, line, files)?;
     assert!(rt; holds(rt, told.as_str().starts_with(status), line));
     Ok(())
 }
 
 // So it does of an image that takes so many bytes.
 fn check_length(
-    rt: &(impl Abort + Print),
+    rt: &(impl Abort + Print + Threads + Wait + Sync),
     alloc: Global,
     image: &[u8],
     length: u64,
@@ -137,7 +148,7 @@ fn check_length(
 #[test]
 fn refuses_a_longer_image(rt: HostRuntime) -> Result<(), Fail> {
     let alloc = rt.alloc();
-    let image = log_of(alloc, &mut folder_of(alloc, FIRST)?)?;
+    let image = log_of(&rt, alloc, &mut folder_of(alloc, FIRST)?)?;
     for line in ["list image", "status image"] {
         check_length(&rt, alloc, &image, 536_870_912, line, "0|")?;
         check_length(&rt, alloc, &image, 536_870_913, line, "1|")?;
@@ -168,7 +179,7 @@ fn tells_a_fault_in_one_write(rt: HostRuntime) {
     let mut err = Counted { writes: 0 };
     let mut out = Vec::new(rt.alloc());
     let words = ["dmlw", "record", "script", "log"];
-    let ended = execute(rt.alloc(), &words, &mut files, &mut out, &mut err);
+    let ended = execute(&rt, rt.alloc(), &words, &mut files, &mut out, &mut err);
     assert!(rt; ended.exit.status() == 1 && err.writes == 1);
 }
 
@@ -197,7 +208,7 @@ fn prints_the_formats(rt: HostRuntime) {
     let mut out = Vec::new(rt.alloc());
     let mut err = Vec::new(rt.alloc());
     let words = ["dmlw", "help", "formats"];
-    let ended = execute(rt.alloc(), &words, &mut files, &mut out, &mut err);
+    let ended = execute(&rt, rt.alloc(), &words, &mut files, &mut out, &mut err);
     assert!(rt; ended.exit.status() == 0 && err.is_empty());
     let page = str::from_utf8(&out).unwrap_or_default();
     assert!(rt; page.starts_with("# Formats\n"));
@@ -218,7 +229,14 @@ fn shows_help_where_no_word_is_given(rt: HostRuntime) {
     let mut out = Vec::new(rt.alloc());
     let mut err = Vec::new(rt.alloc());
     let words: [&str; 0] = [];
-    let ended = execute(rt.alloc(), words.as_slice(), &mut files, &mut out, &mut err);
+    let ended = execute(
+        &rt,
+        rt.alloc(),
+        words.as_slice(),
+        &mut files,
+        &mut out,
+        &mut err,
+    );
     assert!(rt; ended.exit.status() == 2 && out.is_empty() && !err.is_empty());
 }
 
@@ -240,15 +258,15 @@ fn refuses_unreadable_words(rt: HostRuntime) {
 
 // The reasons that are told for files.
 fn check_reasons<F: Files>(
-    rt: &(impl Abort + Print),
+    rt: &(impl Abort + Print + Threads + Wait + Sync),
     alloc: Global,
     files: &mut F,
 ) -> Result<(), Fail> {
-    let told = output_of(alloc, "--explain list no-such-folder/log", files)?;
+    let told = output_of(rt, alloc, "--explain list no-such-folder/log", files)?;
     let wanted =
         "1||dmlw: 32 File;  no-such-folder/log can't be read: No such file or directory (os error 2);";
     assert!(rt; is_told(rt, told.as_str(), wanted, "a file that isn't there"));
-    let told = output_of(alloc, "--explain record same same", files)?;
+    let told = output_of(rt, alloc, "--explain record same same", files)?;
     let is_begun = told.as_str().starts_with("1||dmlw: 32 File;");
     let ending = "the log would be written over its script;";
     assert!(rt;

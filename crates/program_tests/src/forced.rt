@@ -4,7 +4,9 @@ use crate::commands::{folder_of, output_of};
 use std::alloc::{AllocError, Global};
 use std::io::Print;
 use std::process::Abort;
+use std::sync::Wait;
 use std::test::Fail;
+use std::thread::Threads;
 use test_asserts::holds;
 use test_files::{Folder, Numbers};
 
@@ -110,10 +112,15 @@ struct Seen {
 }
 
 // Whether the verdict on the image is yes at one of so many moments.
-fn is_held(alloc: Global, moments: u64, folder: &mut Folder) -> Result<bool, Fail> {
+fn is_held(
+    rt: &(impl Threads + Wait + Sync),
+    alloc: Global,
+    moments: u64,
+    folder: &mut Folder,
+) -> Result<bool, Fail> {
     for moment in 0..=moments {
         let line = format!(in alloc; "judge script {moment} image")?;
-        if output_of(alloc, &line, folder)?.as_str() == "0|yes;|" {
+        if output_of(rt, alloc, &line, folder)?.as_str() == "0|yes;|" {
             return Ok(true);
         }
     }
@@ -130,29 +137,29 @@ fn folder_with_zeroes(alloc: Global, script: &str) -> Result<Folder, AllocError>
 
 // Replays so many entries of the log, and judges what they leave.
 fn judge_beginning(
-    rt: &(impl Abort + Print),
+    rt: &(impl Abort + Print + Threads + Wait + Sync),
     alloc: Global,
     script: &str,
     count: usize,
     folder: &mut Folder,
 ) -> Result<(), Fail> {
     let line = format!(in alloc; "replay log zeroes image entries:{count}")?;
-    let replayed = output_of(alloc, &line, folder)?;
+    let replayed = output_of(rt, alloc, &line, folder)?;
     assert!(rt; holds(rt, replayed.starts_with("0|replayed "), script));
-    assert!(rt; holds(rt, is_held(alloc, LINES, folder)?, script));
+    assert!(rt; holds(rt, is_held(rt, alloc, LINES, folder)?, script));
     Ok(())
 }
 
 // Records a script that ends by a crash, and replays and judges each beginning of the log that is found.
 fn force(
-    rt: &(impl Abort + Print),
+    rt: &(impl Abort + Print + Threads + Wait + Sync),
     alloc: Global,
     script: &str,
     folder: &mut Folder,
     seen: &mut Seen,
 ) -> Result<(), Fail> {
-    let recorded = output_of(alloc, "record script log", folder)?;
-    let listed = output_of(alloc, "list log", folder)?;
+    let recorded = output_of(rt, alloc, "record script log", folder)?;
+    let listed = output_of(rt, alloc, "list log", folder)?;
     assert!(rt; holds(rt, listed.ends_with(";|"), script));
     seen.logs = seen.logs.saturating_add(1);
     let entries = listed.matches(';').count().saturating_sub(1);
@@ -165,7 +172,7 @@ fn force(
 
 // Forces the script of a seed, crashed at each of its lines.
 fn force_seed(
-    rt: &(impl Abort + Print),
+    rt: &(impl Abort + Print + Threads + Wait + Sync),
     alloc: Global,
     seed: usize,
     seen: &mut Seen,

@@ -4,7 +4,9 @@ use dmlw_files::Files;
 use std::alloc::Global;
 use std::io::Print;
 use std::process::Abort;
+use std::sync::Wait;
 use std::test::Fail;
+use std::thread::Threads;
 use test_asserts::holds;
 
 // The log of a whole run of the script below, as it is listed behind its first line.
@@ -34,14 +36,14 @@ fn is_beginning(listed: &str) -> bool {
 
 // Under these two layers and a fuse of so many calls what is listed is a beginning.
 fn check_layers(
-    rt: &(impl Abort + Print),
+    rt: &(impl Abort + Print + Threads + Wait + Sync),
     alloc: Global,
     first: &str,
     second: &str,
     calls: u64,
 ) -> Result<(), Fail> {
     let script = layered(alloc, first, second, calls)?;
-    let listed = listed_of(alloc, script.as_str())?;
+    let listed = listed_of(rt, alloc, script.as_str())?;
     assert!(rt; holds(rt, is_beginning(listed.as_str()), script.as_str()));
     Ok(())
 }
@@ -61,17 +63,25 @@ fn layers_leave_beginnings(rt: HostRuntime) -> Result<(), Fail> {
 }
 
 // What is listed of the log that a script leaves; a whole list where it leaves none, since its device can't be written.
-fn listed_of(alloc: Global, script: &str) -> Result<String, Fail> {
-    list_after(alloc, &mut folder_of(alloc, script)?)
+fn listed_of(
+    rt: &(impl Threads + Wait + Sync),
+    alloc: Global,
+    script: &str,
+) -> Result<String, Fail> {
+    list_after(rt, alloc, &mut folder_of(alloc, script)?)
 }
 
 // The same of the script of some files.
-fn list_after<F: Files>(alloc: Global, files: &mut F) -> Result<String, Fail> {
-    let told = output_of(alloc, "record script log", files)?;
+fn list_after<F: Files>(
+    rt: &(impl Threads + Wait + Sync),
+    alloc: Global,
+    files: &mut F,
+) -> Result<String, Fail> {
+    let told = output_of(rt, alloc, "record script log", files)?;
     if told.as_str().ends_with("dmlw: 19 Device;") {
         return Ok(format!(in alloc; "none;{WHOLE}")?);
     }
-    let told = output_of(alloc, "list log", files)?;
+    let told = output_of(rt, alloc, "list log", files)?;
     let listed = told.as_str().strip_prefix("0|").unwrap_or("");
     Ok(String::from_str(alloc, listed.trim_end_matches('|'))?)
 }

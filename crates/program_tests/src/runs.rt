@@ -1,7 +1,7 @@
 //! What `record` and `rehearse` answer, beside what a transcript shows.
 use crate::commands::with_semicolons;
 use blockdev::BlockDev;
-use dmlw_script::{Kind, Script, read_script};
+use dmlw_script::{Script, read_script};
 use run_error::RunError;
 use script_runner::*;
 use std::alloc::{AllocError, Global};
@@ -21,7 +21,7 @@ fn text_of(alloc: Global, lines: &str) -> Result<String, AllocError> {
 
 // What a run of the script of a text prints, and how it ended.
 fn run_text(rt: &impl Abort, alloc: Global, text: &str) -> Result<String, Fail> {
-    let script = read_script(alloc, text.as_bytes(), Kind::Record)?;
+    let script = read_script(alloc, text.as_bytes())?;
     told(rt, alloc, text, &script)
 }
 
@@ -83,7 +83,7 @@ fn rehearsed(alloc: Global, text: &str) -> Result<String, Fail> {
 
 // The same as a number and an error.
 fn count_events(alloc: Global, text: &str) -> Result<Result<usize, RunError>, Fail> {
-    let script = read_script(alloc, text.as_bytes(), Kind::Record)?;
+    let script = read_script(alloc, text.as_bytes())?;
     let rehearsed = rehearse(alloc, text.as_bytes(), &script);
     Ok(rehearsed.map(|rehearsed| rehearsed.events().len()))
 }

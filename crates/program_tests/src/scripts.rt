@@ -10,7 +10,7 @@ use test_asserts::{is_told, rows_are_told};
 
 // What reading a text answers: the printed script, or the fault.
 fn answer(alloc: Global, text: &[u8]) -> Result<String, AllocError> {
-    match read_script(alloc, text, Kind::Record) {
+    match read_script(alloc, text) {
         Ok(script) => printed(alloc, &script),
         Err(fault) => format!(in alloc; "{fault}"),
     }
@@ -58,7 +58,7 @@ fn check_parts(
 fn first_run(rt: HostRuntime) -> Result<(), Fail> {
     let alloc = rt.alloc();
     let text = b"# a run\ndata 16\n\nlog 32\nw a 5 1 41\nc a\nf b\nc b\n#\nclose\n";
-    let script = read_script(alloc, text, Kind::Record)?;
+    let script = read_script(alloc, text)?;
     check_parts(&rt, alloc, text, &script, "16 32 a1 b1 5 Some(10) None")
 }
 
@@ -67,11 +67,7 @@ fn first_run(rt: HostRuntime) -> Result<(), Fail> {
 fn crashes_end_scripts(rt: HostRuntime) -> Result<(), Fail> {
     let alloc = rt.alloc();
     let text = b"data 16\nlog 32\nturn\n#\ncrash 7 0 18446744073709551615\n";
-    check_crash(
-        &rt,
-        &read_script(alloc, text, Kind::Record)?,
-        &[7, 0, u64::MAX],
-    );
+    check_crash(&rt, &read_script(alloc, text)?, &[7, 0, u64::MAX]);
     assert!(rt; line_of(text, 3) == Some(5) && line_of(text, 4).is_none());
     Ok(())
 }
@@ -116,7 +112,7 @@ fn count_marked(script: &Script) -> usize {
 
 // The same of the script of a text.
 fn marked_in(alloc: Global, text: &[u8]) -> Result<usize, Fail> {
-    let script = read_script(alloc, text, Kind::Record)?;
+    let script = read_script(alloc, text)?;
     Ok(count_marked(&script))
 }
 
@@ -162,7 +158,7 @@ fn messages_of(alloc: Global, script: &Script) -> Result<String, Fail> {
 
 // The same of the script of a text.
 fn messages_read(alloc: Global, text: &[u8]) -> Result<String, Fail> {
-    messages_of(alloc, &read_script(alloc, text, Kind::Record)?)
+    messages_of(alloc, &read_script(alloc, text)?)
 }
 
 // A script of a short message and of a long one.
@@ -197,7 +193,7 @@ fn disks_of(alloc: Global, script: &Script) -> Result<String, Fail> {
 
 // The same of the script of a text.
 fn disks_read(alloc: Global, text: &[u8]) -> Result<String, Fail> {
-    disks_of(alloc, &read_script(alloc, text, Kind::Record)?)
+    disks_of(alloc, &read_script(alloc, text)?)
 }
 
 // A script with a layer over each disk, and what its disks are.

@@ -1,2 +1,4 @@
 pub use Rattle.dmlw_script.specs.Grammar
 pub use Rattle.dmlw_script.specs.CanonicalText
+pub use Rattle.dmlw_script.specs.RunGrammar
+pub use Rattle.dmlw_script.specs.RunText

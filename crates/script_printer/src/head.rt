@@ -1,6 +1,7 @@
 ghost use Rattle.std.specs.Prelude.{◌≡◌, ◌++◌, flat_map, map, OnOk};
 ghost use Rattle.dmlw_script.specs.CanonicalText.{ended_line, line_text};
-ghost use Rattle.dmlw_script.specs.Plans.{head_of, layer_line, log_line};
+ghost use Rattle.dmlw_script.specs.Plans.{data_line, head_of, layer_line, log_line};
+ghost use Rattle.dmlw_script.specs.declared.disk_name.DiskName.TheVariants as disks;
 
 use crate::parts::push_value;
 use bio::SectorSize;
@@ -17,10 +18,35 @@ pub(crate) fn push_head(
 ) -> Result<(), AllocError>
     ensures { OnOk result (out.new.items ≡ out.old.items ++ flat_map ended_line (head_of data_disk.now log_disk.now log_size)) }
 {
-    push_value(out, b"data ", data_disk.sectors())?;
+    push_disks(out, data_disk.sectors(), log_disk.sectors(), log_size)?;
+    push_disk_layers(out, data_disk, log_disk)
+}
+
+// The lines of the disks: the sectors of each, and the size of the log's sectors.
+pub(crate) fn push_disks(
+    out: &mut Vec<u8>,
+    data_sectors: u64,
+    log_sectors: u64,
+    log_size: SectorSize,
+) -> Result<(), AllocError>
+    ensures { OnOk result (out.new.items ≡ out.old.items ++ (ended_line (data_line data_sectors) ++ ended_line (log_line log_sectors log_size))) }
+{
+    push_value(out, b"data ", data_sectors)?;
     out.push(b'\n')?;
-    push_log(out, log_disk.sectors(), log_size)?;
+    push_log(out, log_sectors, log_size)?;
     out.push(b'\n')?;
+    Ok(())
+}
+
+// The lines of both disks' layers.
+pub(crate) fn push_disk_layers(
+    out: &mut Vec<u8>,
+    data_disk: &DiskSpec,
+    log_disk: &DiskSpec,
+) -> Result<(), AllocError>
+    ensures { OnOk result (out.new.items ≡ out.old.items
+        ++ (flat_map ended_line (map (layer_line disks.Data) data_disk.now.layers) ++ flat_map ended_line (map (layer_line disks.Log) log_disk.now.layers))) }
+{
     push_layers(out, DiskName::Data, data_disk.layers())?;
     push_layers(out, DiskName::Log, log_disk.layers())
 }

@@ -1,4 +1,4 @@
-ghost use Rattle.std.specs.Prelude.{◌≡◌, ◌++◌, decimal, OnOk};
+ghost use Rattle.std.specs.Prelude.{◌≡◌, ◌++◌, ◌∷◌, decimal, OnOk};
 ghost use Rattle.dmlw_script.specs.Ids.{letters_of};
 
 use dmlw_script::ScriptId;
@@ -11,6 +11,20 @@ pub(crate) fn push_value(out: &mut Vec<u8>, verb: &[u8], number: u64) -> Result<
 {
     out.extend_from_slice(verb)?;
     push_number(out, number)
+}
+
+// A line's first word and space, or a space alone, and behind it a first sector and a number of sectors.
+pub(crate) fn push_sectors(
+    out: &mut Vec<u8>,
+    verb: &[u8],
+    first: u64,
+    count: u64,
+) -> Result<(), AllocError>
+    ensures { OnOk result (out.new.items ≡ out.old.items ++ (verb.now ++ (decimal first ++ 32 ∷ decimal count))) }
+{
+    push_value(out, verb, first)?;
+    out.push(b' ')?;
+    push_number(out, count)
 }
 
 // A line's first word and space, and an id.

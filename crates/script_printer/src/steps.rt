@@ -2,10 +2,9 @@ ghost use Rattle.std.specs.Prelude.{◌≡◌, ◌++◌, ◌∷◌, codes, decim
 ghost use Rattle.dmlw_script.specs.Grammar.{message_verb};
 ghost use Rattle.dmlw_script.specs.CanonicalText.{step_text};
 
-use crate::parts::push_value;
+use crate::parts::{push_sectors, push_value};
 use dmlw_script::{DiskName, Step};
 use std::alloc::AllocError;
-use words::push_number;
 
 // A line that names no request, but for its line feed.
 pub(crate) fn push_step(out: &mut Vec<u8>, step: &Step) -> Result<(), AllocError>
@@ -13,7 +12,7 @@ pub(crate) fn push_step(out: &mut Vec<u8>, step: &Step) -> Result<(), AllocError
 {
     match step {
         Step::Close => out.extend_from_slice(b"close"),
-        Step::Read { first, count } => push_read(out, *first, *count),
+        Step::Read { first, count } => push_sectors(out, b"r ", *first, *count),
         Step::Turn => out.extend_from_slice(b"turn"),
         Step::Mark { text } => push_mark(out, text.as_slice()),
         Step::At { moment } => push_value(out, b"at ", moment.milliseconds()),
@@ -21,17 +20,8 @@ pub(crate) fn push_step(out: &mut Vec<u8>, step: &Step) -> Result<(), AllocError
     }
 }
 
-// The line of a read, but for its line feed.
-fn push_read(out: &mut Vec<u8>, first: u64, count: u64) -> Result<(), AllocError>
-    ensures { OnOk result (out.new.items ≡ out.old.items ++ step_text (Step.Read first count)) }
-{
-    push_value(out, b"r ", first)?;
-    out.push(b' ')?;
-    push_number(out, count)
-}
-
-// The line of a mark, but for its line feed.
-fn push_mark(out: &mut Vec<u8>, text: &[u8]) -> Result<(), AllocError>
+// The line of a mark, but for its line feed; behind a seat, what the seat does.
+pub(crate) fn push_mark(out: &mut Vec<u8>, text: &[u8]) -> Result<(), AllocError>
     ensures { OnOk result (out.new.items ≡ out.old.items ++ (codes "mark " ++ text.now)) }
 {
     out.extend_from_slice(b"mark ")?;

@@ -1,13 +1,13 @@
 ghost use Rattle.std.specs.Prelude.{◌≡◌, ◌<◌, ◌++◌, ◌∷◌, decimal, OnOk};
+ghost use Rattle.dmlw_script.specs.Grammar.{spaced};
 ghost use Rattle.dmlw_script.specs.Ids.{letters_of};
 ghost use Rattle.dmlw_script.specs.CanonicalText.{submission_text};
-ghost use Rattle.dmlw_script.specs.Options.{option_text, options_text};
+ghost use Rattle.dmlw_script.specs.Options.{option_text, option_words, options_text};
 ghost use Rattle.dmlw_script.specs.Words.{byte_text, hex_digit as the_hex_digit};
 
-use crate::parts::push_name;
+use crate::parts::{push_name, push_sectors};
 use dmlw_script::{ScriptId, Submission, WriteOptions};
 use std::alloc::AllocError;
-use words::push_number;
 
 // The line of a submission, but for its line feed.
 pub(crate) fn push_submission(
@@ -41,6 +41,17 @@ fn push_write(
     ensures { OnOk result (out.new.items ≡ out.old.items ++ submission_text name (Submission.Write first count byte options)) }
 {
     push_range(out, b"w ", name, first, count)?;
+    push_filling(out, byte, options)
+}
+
+// A write's byte and its options, each behind a space.
+pub(crate) fn push_filling(
+    out: &mut Vec<u8>,
+    byte: u8,
+    options: WriteOptions,
+) -> Result<(), AllocError>
+    ensures { OnOk result (out.new.items ≡ out.old.items ++ 32 ∷ spaced (byte_text byte ∷ option_words options)) }
+{
     out.push(b' ')?;
     push_byte(out, byte)?;
     push_options(out, options)
@@ -57,10 +68,7 @@ fn push_range(
     ensures { OnOk result (out.new.items ≡ out.old.items ++ (verb.now ++ (letters_of name ++ 32 ∷ (decimal first ++ 32 ∷ decimal count)))) }
 {
     push_name(out, verb, name)?;
-    out.push(b' ')?;
-    push_number(out, first)?;
-    out.push(b' ')?;
-    push_number(out, count)
+    push_sectors(out, b" ", first, count)
 }
 
 // A write's options, each behind a space.

@@ -8,9 +8,9 @@ use std::alloc::{AllocError, Global};
 // A sector's size in bytes.
 const SECTOR: usize = SECTOR_BYTES as usize;
 
-// The data that was made last.
+/// The data that was made last.
 #[derive(Debug, Drop)]
-pub(crate) struct LastData {
+pub struct LastData {
     alloc: Global,
     byte: u8,
     bytes: Bytes,
@@ -20,8 +20,8 @@ pub(crate) struct LastData {
 impl LastData {
     ghost use Rattle.std.specs.Prelude.{◌≡◌, ◌*◌, ◌≤◌, IfOk, replicate};
 
-    // No data yet.
-    pub(crate) fn none(alloc: Global) -> LastData {
+    /// No data yet.
+    pub fn none(alloc: Global) -> LastData {
         LastData {
             alloc,
             byte: 0,
@@ -29,8 +29,8 @@ impl LastData {
         }
     }
 
-    // So many sectors of a byte: those that were made last, where they are the same.
-    pub(crate) fn sectors_of(&mut self, count: u64, byte: u8) -> Result<Bytes, AllocError>
+    /// So many sectors of a byte: those that were made last, where they are the same.
+    pub fn sectors_of(&mut self, count: u64, byte: u8) -> Result<Bytes, AllocError>
         requires { count ≤ 2048 }
         ensures { IfOk result (λ bytes. bytes ≡ replicate (count * 512) byte) }
     {

@@ -5,9 +5,11 @@
 //! all lines come to.
 #![tactic(auto)]
 
+pub use last_data::LastData;
+pub use playing::new_stack;
 pub use recording::{Lies, Recorded, record};
 pub use rehearsing::{Rehearsed, rehearse};
-pub use request::Request;
+pub use request::{Request, bio_of};
 pub use run_script::run;
 pub use running::Running;
 pub use step_error::StepError;

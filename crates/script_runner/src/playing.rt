@@ -126,8 +126,8 @@ fn end_of<D: Drop>(refused: (D, End)) -> End
     refused.1
 }
 
-// A new disk under its layers.
-fn new_stack(alloc: Global, disk: &DiskSpec) -> Result<Stack, RunError>
+/// A new disk under its layers.
+pub fn new_stack(alloc: Global, disk: &DiskSpec) -> Result<Stack, RunError>
     requires { IsDisk disk.now }
     ensures stack { IfOk result (IsStackOf disk.now) }
     ensures faults { IfErr result (λ fault. fault ≡ memory_error) }

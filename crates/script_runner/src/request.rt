@@ -1,4 +1,5 @@
 ghost use Rattle.std.specs.Prelude.{◌≡◌, IfOk, IsOk, Ok, false, ℕ};
+ghost use Rattle.bio.specs.Check.{check_sized_answer};
 ghost use Rattle.bio.specs.Requests.{has_data};
 ghost use Rattle.dmlw_script.specs.Plans.{submission_answer};
 ghost use Rattle.script_runner.specs.Submitted.{bio_of};
@@ -17,11 +18,14 @@ pub enum Request {
     Failed,
 }
 
-// The request that a script's line submits. Its bytes lie in memory once however many hold them, and those of the write before are used again.
-pub(crate) fn bio_of(last: &mut LastData, submission: Submission) -> Result<Bio, AllocError>
+/// The request that a script's line submits. Its bytes lie in memory once however many hold them, and those of the write before are used again.
+#[tactic(auto, using(crate::proofs::Submitting::bio_suits))]
+pub fn bio_of(last: &mut LastData, submission: Submission) -> Result<Bio, AllocError>
     requires { (bytes sectors : ℕ) × (submission_answer bytes sectors submission ≡ Ok tt) }
     ensures made { IfOk result (λ bio. bio ≡ bio_of submission) }
     ensures no_data { has_data (bio_of submission) ≡ false → IsOk result }
+    // It passes the test that its line passes.
+    ensures suits { (bytes sectors : ℕ) → submission_answer bytes sectors submission ≡ Ok tt → check_sized_answer bytes (bio_of submission) sectors ≡ Ok tt }
 {
     match submission {
         Submission::Write {

@@ -284,6 +284,7 @@ Texts that are shown are flushed too, and so are faults.
   
   Commands:
     record  Records the requests of a script in a new log
+    run     Runs the seats of a script in threads, and records them in a new log
     list    Lists the entries of a log
     status  Tells how far a log has come
     replay  Replays the beginning of a log on an image

@@ -87,6 +87,7 @@ Command lines with `--explain`, behind two hyphens, and of words that are none.
   ! 
   ! Commands:
   !   record  Records the requests of a script in a new log
+  !   run     Runs the seats of a script in threads, and records them in a new log
   !   list    Lists the entries of a log
   !   status  Tells how far a log has come
   !   replay  Replays the beginning of a log on an image

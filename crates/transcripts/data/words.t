@@ -7,6 +7,7 @@ Command lines and their texts.
   
   Commands:
     record  Records the requests of a script in a new log
+    run     Runs the seats of a script in threads, and records them in a new log
     list    Lists the entries of a log
     status  Tells how far a log has come
     replay  Replays the beginning of a log on an image
@@ -30,6 +31,7 @@ Command lines and their texts.
   
   Commands:
     record  Records the requests of a script in a new log
+    run     Runs the seats of a script in threads, and records them in a new log
     list    Lists the entries of a log
     status  Tells how far a log has come
     replay  Replays the beginning of a log on an image
@@ -64,6 +66,7 @@ Command lines and their texts.
   
   Commands:
     record  Records the requests of a script in a new log
+    run     Runs the seats of a script in threads, and records them in a new log
     list    Lists the entries of a log
     status  Tells how far a log has come
     replay  Replays the beginning of a log on an image
@@ -87,6 +90,7 @@ Command lines and their texts.
   
   Commands:
     record  Records the requests of a script in a new log
+    run     Runs the seats of a script in threads, and records them in a new log
     list    Lists the entries of a log
     status  Tells how far a log has come
     replay  Replays the beginning of a log on an image
@@ -132,6 +136,7 @@ Command lines and their texts.
   
   Commands:
     record  Records the requests of a script in a new log
+    run     Runs the seats of a script in threads, and records them in a new log
     list    Lists the entries of a log
     status  Tells how far a log has come
     replay  Replays the beginning of a log on an image
@@ -155,6 +160,7 @@ Command lines and their texts.
   
   Commands:
     record  Records the requests of a script in a new log
+    run     Runs the seats of a script in threads, and records them in a new log
     list    Lists the entries of a log
     status  Tells how far a log has come
     replay  Replays the beginning of a log on an image
@@ -178,6 +184,7 @@ Command lines and their texts.
   
   Commands:
     record  Records the requests of a script in a new log
+    run     Runs the seats of a script in threads, and records them in a new log
     list    Lists the entries of a log
     status  Tells how far a log has come
     replay  Replays the beginning of a log on an image
@@ -201,6 +208,7 @@ Command lines and their texts.
   
   Commands:
     record  Records the requests of a script in a new log
+    run     Runs the seats of a script in threads, and records them in a new log
     list    Lists the entries of a log
     status  Tells how far a log has come
     replay  Replays the beginning of a log on an image
@@ -224,6 +232,7 @@ Command lines and their texts.
   
   Commands:
     record  Records the requests of a script in a new log
+    run     Runs the seats of a script in threads, and records them in a new log
     list    Lists the entries of a log
     status  Tells how far a log has come
     replay  Replays the beginning of a log on an image
@@ -417,6 +426,7 @@ Command lines and their texts.
   
   Commands:
     record  Records the requests of a script in a new log
+    run     Runs the seats of a script in threads, and records them in a new log
     list    Lists the entries of a log
     status  Tells how far a log has come
     replay  Replays the beginning of a log on an image
@@ -440,6 +450,7 @@ Command lines and their texts.
   
   Commands:
     record  Records the requests of a script in a new log
+    run     Runs the seats of a script in threads, and records them in a new log
     list    Lists the entries of a log
     status  Tells how far a log has come
     replay  Replays the beginning of a log on an image

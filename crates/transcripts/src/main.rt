@@ -17,6 +17,8 @@ use crate::session::Session;
 use crate::tally::Tally;
 use dmlw_files::{Files, HostFiles};
 use std::process::ExitCode;
+use std::sync::Wait;
+use std::thread::Threads;
 use std::{env, io};
 
 // The longest transcript, in bytes.
@@ -47,24 +49,24 @@ fn transcript_of<R: std::rt::Files + AllocGlobal>(rt: &R, name: &str) -> io::Res
 }
 
 // What is to be printed of a transcript: the whole of it as it runs now, or what differs and its line.
-fn run<R: AllocGlobal>(
+fn run<R: AllocGlobal + Threads + Wait + Sync>(
     rt: &R,
     name: &str,
     text: &str,
     is_again: bool,
     all: &mut Tally,
 ) -> io::Result<String> {
-    let mut session = Session::new(rt.alloc());
+    let mut session = Session::new(rt, rt.alloc());
     run_in(rt, name, text, is_again, &mut session, all)
 }
 
 // The same in a folder.
-fn run_in<R: AllocGlobal>(
+fn run_in<R: AllocGlobal + Threads + Wait + Sync>(
     rt: &R,
     name: &str,
     text: &str,
     is_again: bool,
-    session: &mut Session,
+    session: &mut Session<'_, R>,
     all: &mut Tally,
 ) -> io::Result<String> {
     let mut here = Tally::new();

@@ -4,29 +4,33 @@ use crate::calls::{ask_disk, ask_stack};
 use crate::images::change;
 use dmlw_dispatch::execute;
 use dmlw_files::Output;
-use dmlw_script::{Kind, Script, read_script};
+use dmlw_script::{read_run_script, read_script};
 use refusals::Refusal;
-use script_printer::print_script;
+use script_printer::{print_run_script, print_script};
 use sector_disk::SectorDisk;
 use std::alloc::{AllocError, Global};
+use std::sync::Wait;
+use std::thread::Threads;
 use table_line::{parse_line, push_line};
 use test_files::{Folder, Outlet};
 
 // The sectors of the largest disk.
 const MAX_SECTORS: u64 = 1_048_576;
 
-/// A folder of files, and what the last command showed.
+/// A folder of files, and what the last command showed. Threads are started and waited for by `rt`.
 #[derive(Drop)]
-pub struct Session {
+pub struct Session<'a, H> {
+    rt: &'a H,
     alloc: Global,
     folder: Folder,
     shown: String,
 }
 
-impl Session {
+impl<'a, H: Threads + Wait + Sync> Session<'a, H> {
     /// A folder of no files.
-    pub fn new(alloc: Global) -> Session {
+    pub fn new(rt: &'a H, alloc: Global) -> Session<'a, H> {
         Session {
+            rt,
             alloc,
             folder: Folder::new(alloc),
             shown: String::new(alloc),
@@ -51,8 +55,8 @@ impl Session {
             "remove" => self.remove(rest),
             "show" => self.show(rest),
             "same" => self.same(rest),
-            "print" => self.print(rest, Kind::Record),
-            "print-run" => self.print(rest, Kind::Run),
+            "print" => self.print(rest),
+            "print-run" => self.print_run(rest),
             "table" => self.table(rest),
             "stack" => self.stack(rest, given),
             "disk" => self.disk(rest, given),
@@ -115,11 +119,20 @@ impl Session {
         Ok(())
     }
 
-    // `print NAME`: a script of `record` as its one text, or its fault; `print-run NAME` one of `run`.
-    fn print(&mut self, name: &str, kind: Kind) -> Result<(), AllocError> {
+    // `print NAME`: a script of `record` as its one text, or its fault.
+    fn print(&mut self, name: &str) -> Result<(), AllocError> {
         let text = self.taken(name)?;
-        match read_script(self.alloc, &text, kind) {
-            Ok(script) => push_script(self.alloc, &mut self.shown, &script),
+        match read_script(self.alloc, &text) {
+            Ok(script) => push_text(&mut self.shown, &print_script(self.alloc, &script)?),
+            Err(fault) => writeln!(self.shown, "{fault}"),
+        }
+    }
+
+    // `print-run NAME`: the same of a script of `run`.
+    fn print_run(&mut self, name: &str) -> Result<(), AllocError> {
+        let text = self.taken(name)?;
+        match read_run_script(self.alloc, &text) {
+            Ok(script) => push_text(&mut self.shown, &print_run_script(self.alloc, &script)?),
             Err(fault) => writeln!(self.shown, "{fault}"),
         }
     }
@@ -207,6 +220,7 @@ impl Session {
     ) -> Result<(), AllocError> {
         let words = words_of(self.alloc, line)?;
         let ended = execute(
+            self.rt,
             self.alloc,
             &words,
             &mut self.folder,
@@ -283,12 +297,6 @@ fn push_numbered(
         }
     }
     Ok(())
-}
-
-// Appends a script as its one text.
-fn push_script(alloc: Global, shown: &mut String, script: &Script) -> Result<(), AllocError> {
-    let text = print_script(alloc, script)?;
-    push_text(shown, &text)
 }
 
 // Appends what a command told: what it put out, and behind `! ` each line of its faults.

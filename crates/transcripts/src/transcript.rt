@@ -2,6 +2,8 @@
 use crate::session::Session;
 use crate::tally::Tally;
 use std::alloc::{AllocError, Global};
+use std::sync::Wait;
+use std::thread::Threads;
 
 // A command with the lines that are given to it, and what it is to show.
 #[derive(Drop)]
@@ -42,11 +44,11 @@ struct Report {
 }
 
 /// Runs a transcript's commands in turn, and answers what is printed of it: all of it with what each command shows now, or the commands that show something else.
-pub fn run(
+pub fn run<H: Threads + Wait + Sync>(
     alloc: Global,
     text: &str,
     is_again: bool,
-    session: &mut Session,
+    session: &mut Session<'_, H>,
     tally: &mut Tally,
 ) -> Result<String, AllocError> {
     let mut report = Report {
@@ -58,11 +60,11 @@ pub fn run(
 }
 
 // Runs a transcript's commands from its first line on.
-fn run_steps(
+fn run_steps<H: Threads + Wait + Sync>(
     alloc: Global,
     text: &str,
     report: &mut Report,
-    session: &mut Session,
+    session: &mut Session<'_, H>,
     tally: &mut Tally,
 ) -> Result<(), AllocError> {
     let mut step = Step::new(alloc);
@@ -70,11 +72,11 @@ fn run_steps(
 }
 
 // Takes each line of a transcript.
-fn go_through(
+fn go_through<H: Threads + Wait + Sync>(
     text: &str,
     step: &mut Step,
     report: &mut Report,
-    session: &mut Session,
+    session: &mut Session<'_, H>,
     tally: &mut Tally,
 ) -> Result<(), AllocError> {
     let text = text.strip_suffix("\n").unwrap_or(text);
@@ -85,11 +87,11 @@ fn go_through(
 }
 
 // Takes one line of a transcript.
-fn take_line(
+fn take_line<H: Threads + Wait + Sync>(
     line: &str,
     step: &mut Step,
     report: &mut Report,
-    session: &mut Session,
+    session: &mut Session<'_, H>,
     tally: &mut Tally,
 ) -> Result<(), AllocError> {
     if let Some(command) = line.strip_prefix("  $ ") {
@@ -109,10 +111,10 @@ fn take_line(
 }
 
 // Runs the command whose lines have all been taken, if there is one, and notes what it shows.
-fn end_step(
+fn end_step<H: Threads + Wait + Sync>(
     step: &mut Step,
     report: &mut Report,
-    session: &mut Session,
+    session: &mut Session<'_, H>,
     tally: &mut Tally,
 ) -> Result<(), AllocError> {
     if step.command.is_empty() {

@@ -2,7 +2,7 @@
 use Rattle.std.specs.Prelude.{◌≡◌, ◌⊎◌, ℕ, ◌==◌, Bool, true, false, List, [], ◌∷◌, Option, Some, None, Result, Ok, Err, codes, if◌then◌else◌}
 use Rattle.std.proofs.Common.{inl, inr}
 use Rattle.std.specs.List.{slice_split}
-use Rattle.std.specs.Option.{option_map}
+use Rattle.std.specs.Option.{option_map, option_or}
 use Rattle.std.specs.Str.{bytes_eq}
 use Rattle.bio.specs.declared.sector_size.SectorSize.{SectorSize}
 use Rattle.bio.specs.declared.sector_size.SectorSize.TheVariants as sizes
@@ -10,6 +10,7 @@ use Rattle.dmlw_script.specs.declared.disk_name.DiskName.{DiskName}
 use Rattle.dmlw_script.specs.declared.disk_name.DiskName.TheVariants as disks
 use Rattle.dmlw_script.specs.Said.{Said}
 use Rattle.dmlw_script.specs.Said as parsed_lines
+use Rattle.dmlw_script.specs.declared.line.HeadLine.{HeadLine}
 use Rattle.dmlw_script.specs.declared.line.HeadLine.TheVariants as head_lines
 use Rattle.dmlw_script.specs.declared.line.BodyLine.TheVariants as body_lines
 use Rattle.dmlw_script.specs.declared.command.Submission.{Submission}
@@ -60,36 +61,52 @@ options_of words =
     let meta = take_word (codes "meta") fua.1 in
     found_options flush.0 fua.0 meta.0 meta.1
 
--- the write that these words say: an id, the first sector, the number of sectors, the byte and the options
-abbrev pub write_of : List ℕ → Option Said
-write_of words = do
-  from_first ← after_byte 32 words
-  from_count ← after_byte 32 from_first
+-- the write that these words say: the first sector, the number of sectors, the byte and the options
+abbrev pub write_words : List ℕ → Option Submission
+write_words words = do
+  from_count ← after_byte 32 words
   from_byte ← after_byte 32 from_count
-  name ← id_of_word (before_byte 32 words)
-  first ← number_of (before_byte 32 from_first)
+  first ← number_of (before_byte 32 words)
   count ← number_of (before_byte 32 from_count)
   byte ← byte_of (before_byte 32 from_byte)
   options ← options_of (after_byte 32 from_byte)
-  Some (submit name (submits.Write first count byte options))
+  Some (submits.Write first count byte options)
 
--- the discard that these words say: an id, the first sector and the number of sectors
+-- the sectors that these words say: the first one, and how many
+abbrev pub sectors_of : List ℕ → Option (ℕ × ℕ)
+sectors_of words = do
+  first ← number_of (before_byte 32 words)
+  count_word ← after_byte 32 words
+  count ← number_of count_word
+  Some (first, count)
+
+-- the discard that these words say: the first sector and the number of sectors
+abbrev pub discard_words : List ℕ → Option Submission
+discard_words words = do
+  sectors ← sectors_of words
+  Some (submits.Discard sectors.0 sectors.1)
+
+-- the write that these words say: an id, and the other words
+abbrev pub write_of : List ℕ → Option Said
+write_of words = do
+  from_first ← after_byte 32 words
+  name ← id_of_word (before_byte 32 words)
+  submission ← write_words from_first
+  Some (submit name submission)
+
+-- the discard that these words say: an id, and the other words
 abbrev pub discard_of : List ℕ → Option Said
 discard_of words = do
   from_first ← after_byte 32 words
   name ← id_of_word (before_byte 32 words)
-  first ← number_of (before_byte 32 from_first)
-  count_word ← after_byte 32 from_first
-  count ← number_of count_word
-  Some (submit name (submits.Discard first count))
+  submission ← discard_words from_first
+  Some (submit name submission)
 
 -- the read that these words say: the first sector and the number of sectors
 abbrev pub read_of : List ℕ → Option Said
 read_of words = do
-  first ← number_of (before_byte 32 words)
-  count_word ← after_byte 32 words
-  count ← number_of count_word
-  Some (step (steps.Read first count))
+  sectors ← sectors_of words
+  Some (step (steps.Read sectors.0 sectors.1))
 
 -- what a line of this one word says
 abbrev pub lone_word : List ℕ → Option Said
@@ -119,8 +136,8 @@ abbrev pub asked_of : List ℕ → Result LayerSpec TableError
 asked_of text = asked_from (asks_or_fails (words_of text))
 
 -- the line of a layer over this disk, whose table line is this
-abbrev pub layer_of : DiskName → List ℕ → Said
-layer_of over text = parsed_lines.Head (head_lines.Layer over (asked_of text))
+abbrev pub layer_of : DiskName → List ℕ → HeadLine
+layer_of over text = head_lines.Layer over (asked_of text)
 
 -- the size of a log's sectors that a word says, or 512 bytes where there is none
 abbrev pub size_of : Option (List ℕ) → Option SectorSize
@@ -128,20 +145,24 @@ size_of None = Some sizes.B512
 size_of (Some word) = if bytes_eq word (codes "4096") then Some sizes.B4096 else None
 
 -- the line of the log disk that these words say: its sectors and the size of the log's sectors
-abbrev pub log_of : List ℕ → Option Said
+abbrev pub log_of : List ℕ → Option HeadLine
 log_of words = do
   sectors ← number_of (before_byte 32 words)
   size ← size_of (after_byte 32 words)
-  Some (parsed_lines.Head (head_lines.Log sectors size))
+  Some (head_lines.Log sectors size)
 
--- what a line of this first word says, whose other words are these
-abbrev pub parse_words : List ℕ → List ℕ → Option Said
-parse_words verb words =
-    if bytes_eq verb (codes "data") then option_map (λ n. parsed_lines.Head (head_lines.Data n)) (number_of words)
+-- what a line of the head says, of this first word, whose other words are these
+abbrev pub head_words : List ℕ → List ℕ → Option HeadLine
+head_words verb words =
+    if bytes_eq verb (codes "data") then option_map head_lines.Data (number_of words)
     else if bytes_eq verb (codes "log") then log_of words
     else if bytes_eq verb (codes "data-layer") then Some (layer_of disks.Data words)
     else if bytes_eq verb (codes "log-layer") then Some (layer_of disks.Log words)
-    else body_words verb words
+    else None
+
+-- what a line of this first word says, whose other words are these
+abbrev pub parse_words : List ℕ → List ℕ → Option Said
+parse_words verb words = option_or (option_map parsed_lines.Head (head_words verb words)) (body_words verb words)
 
 -- the words of a text, which stand behind one space each but for the first
 abbrev pub split_words : List ℕ → List (List ℕ)

@@ -4,8 +4,6 @@ use Rattle.bio.specs.Sizes.{bytes_of}
 use Rattle.refusals.specs.declared.refusal.Refusal.{Refusal}
 use Rattle.refusals.specs.declared.refusal.Refusal.TheVariants.{BadLine, Memory}
 use Rattle.dmlw_script.specs.declared.command.Command.{Command}
-use Rattle.dmlw_script.specs.declared.reader.Kind.{Kind}
-use Rattle.dmlw_script.specs.declared.reader.Kind.TheVariants as kinds
 use Rattle.dmlw_script.specs.declared.reader.Reader.{Reader}
 use Rattle.dmlw_script.specs.Said.{Said}
 use Rattle.dmlw_script.specs.Said as parsed_lines
@@ -49,54 +47,59 @@ abbrev pub with_body : Progress → Result Body Refusal → Result Progress Refu
 with_body p (Err refusal) = Err refusal
 with_body p (Ok body) = Ok (record p { body = body })
 
--- one more line of the body, which comes after a whole head; a run's body has none yet
-abbrev pub body_line : Kind → Stage → Progress → BodyLine → Result Progress Refusal
-body_line kinds.Record (heads.Whole data_disk log_disk log_size) p line =
+-- one more line of the body, which comes after a whole head
+abbrev pub body_line : Stage → Progress → BodyLine → Result Progress Refusal
+body_line (heads.Whole data_disk log_disk log_size) p line =
     with_body p (body_step (bytes_of log_size) (top_of data_disk) p.body line)
-body_line kinds.Record (heads.Data data_disk) p line = Err BadLine
-body_line kinds.Record heads.Empty p line = Err BadLine
-body_line kinds.Record (heads.Ended data_disk log_disk log_size picks) p line = Err BadLine
-body_line kinds.Run head p line = Err BadLine
+body_line (heads.Data data_disk) p line = Err BadLine
+body_line heads.Empty p line = Err BadLine
+body_line (heads.Ended data_disk log_disk log_size picks) p line = Err BadLine
 
 -- a crash, which comes after a whole head
-abbrev pub crash_line : Kind → Stage → Progress → List ℕ → Result Progress Refusal
-crash_line kinds.Record (heads.Whole data_disk log_disk log_size) p picks = Ok (record p { head = heads.Ended data_disk log_disk log_size picks })
-crash_line kinds.Record (heads.Data data_disk) p picks = Err BadLine
-crash_line kinds.Record heads.Empty p picks = Err BadLine
-crash_line kinds.Record (heads.Ended data_disk log_disk log_size ended) p picks = Err BadLine
-crash_line kinds.Run head p picks = Err BadLine
+abbrev pub crash_line : Stage → Progress → List ℕ → Result Progress Refusal
+crash_line (heads.Whole data_disk log_disk log_size) p picks = Ok (record p { head = heads.Ended data_disk log_disk log_size picks })
+crash_line (heads.Data data_disk) p picks = Err BadLine
+crash_line heads.Empty p picks = Err BadLine
+crash_line (heads.Ended data_disk log_disk log_size ended) p picks = Err BadLine
 
 -- one more line that is none to skip
-abbrev pub parsed_step : Kind → Progress → Said → Result Progress Refusal
-parsed_step kind p (parsed_lines.Head line) = with_head p (head_step p.head (has_begun p.body.body) line)
-parsed_step kind p (parsed_lines.Body line) = body_line kind p.head p line
-parsed_step kind p (parsed_lines.Crash picks) = crash_line kind p.head p picks
+abbrev pub parsed_step : Progress → Said → Result Progress Refusal
+parsed_step p (parsed_lines.Head line) = with_head p (head_step p.head (has_begun p.body.body) line)
+parsed_step p (parsed_lines.Body line) = body_line p.head p line
+parsed_step p (parsed_lines.Crash picks) = crash_line p.head p picks
 
 -- one more line that isn't skipped, which must say something
-abbrev pub step_if_parsed : Kind → Progress → Option Said → Result Progress Refusal
-step_if_parsed kind p None = Err BadLine
-step_if_parsed kind p (Some parsed) = parsed_step kind p parsed
+abbrev pub step_if : {S W : Type 0} → (S → W → Result S Refusal) → S → Option W → Result S Refusal
+step_if step s None = Err BadLine
+step_if step s (Some said) = step s said
 
--- one more line
-abbrev pub line_step : Kind → Progress → List ℕ → Result Progress Refusal
-line_step kind p line =
+-- one more line, of which this is heard and then this step taken
+abbrev pub line_by : {S W : Type 0} → (List ℕ → Option W) → (S → W → Result S Refusal) → S → List ℕ → Result S Refusal
+line_by parse step s line =
     if not (is_ascii_line line) then Err BadLine
-    else if is_skipped line then Ok p
-    else step_if_parsed kind p (parse_line line)
+    else if is_skipped line then Ok s
+    else step_if step s (parse line)
 
--- the text ends here: a whole head stands before it, and a run's script isn't whole yet
-abbrev pub finished : Kind → Stage → Body → Result Plan Refusal
-finished kinds.Record (heads.Whole data_disk log_disk log_size) body =
+-- one more line of a recorder's script that isn't skipped
+abbrev pub step_if_parsed : Progress → Option Said → Result Progress Refusal
+step_if_parsed p said = step_if parsed_step p said
+
+-- one more line of it
+abbrev pub line_step : Progress → List ℕ → Result Progress Refusal
+line_step p line = line_by parse_line parsed_step p line
+
+-- the text ends here: a whole head stands before it
+abbrev pub finished : Stage → Body → Result Plan Refusal
+finished (heads.Whole data_disk log_disk log_size) body =
     Ok (record { data_disk = data_disk; log_disk = log_disk; log_size = log_size; names = body.names; commands = body.body; ending = None })
-finished kinds.Record (heads.Ended data_disk log_disk log_size picks) body =
+finished (heads.Ended data_disk log_disk log_size picks) body =
     Ok (record { data_disk = data_disk; log_disk = log_disk; log_size = log_size; names = body.names; commands = body.body; ending = Some picks })
-finished kinds.Record (heads.Data data_disk) body = Err BadLine
-finished kinds.Record heads.Empty body = Err BadLine
-finished kinds.Run head body = Err BadLine
+finished (heads.Data data_disk) body = Err BadLine
+finished heads.Empty body = Err BadLine
 
 -- the end of the text, after what was read
-abbrev pub finish_step : Kind → Progress → Result Plan Refusal
-finish_step kind p = finished kind p.head p.body
+abbrev pub finish_step : Progress → Result Plan Refusal
+finish_step p = finished p.head p.body
 
 -- the answer to the line of this number
 abbrev pub at_line : {A : Type 0} → ℕ → Result A Refusal → Result A Fault
@@ -108,33 +111,36 @@ abbrev pub and_then : {A B : Type 0} → Result A Fault → (A → Result B Faul
 and_then (Ok x) f = f x
 and_then (Err fault) f = Err fault
 
+-- what is read of these lines, the first of which has this number, by this step for a line and this one for the end of the text
+abbrev pub read_by : {S A : Type 0} → (S → List ℕ → Result S Refusal) → (S → Result A Refusal) → S → ℕ → List (List ℕ) → Result A Fault
+read_by step finish s number [] = at_line number (finish s)
+read_by step finish s number (line ∷ lines) = and_then (at_line number (step s line)) (λ t. read_by step finish t (number + 1) lines)
+
 -- what is read of these lines, the first of which has this number
-abbrev pub read_lines : Kind → Progress → ℕ → List (List ℕ) → Result Plan Fault
-read_lines kind p number [] = at_line number (finish_step kind p)
-read_lines kind p number (line ∷ lines) =
-    and_then (at_line number (line_step kind p line)) (λ q. read_lines kind q (number + 1) lines)
+abbrev pub read_lines : Progress → ℕ → List (List ℕ) → Result Plan Fault
+read_lines p number lines = read_by line_step finish_step p number lines
 
 -- nothing was read
 abbrev pub nothing : Progress
 nothing = record { head = heads.Empty; body = record { names = []; body = [] } }
 
 -- what is read of a text
-abbrev pub read_text : Kind → List ℕ → Result Plan Fault
-read_text kind text = read_lines kind nothing 1 (lines_of text)
+abbrev pub read_text : List ℕ → Result Plan Fault
+read_text text = read_lines nothing 1 (lines_of text)
 
 -- a fault with a line is what is read, and one with none is that memory ran out
-abbrev pub IsFault : Option ℕ → Fault → Result Plan Fault → Type 0
+abbrev pub IsFault : {A : Type 0} → Option ℕ → Fault → Result A Fault → Type 0
 IsFault (Some line) fault read = read ≡ Err fault
 IsFault None fault read = fault.refusal ≡ Memory
 
 -- what a reader answers, where this is read of its text: the same, unless memory ran out
-abbrev pub Reads : Result Plan Fault → Result Plan Fault → Type 0
-Reads (Ok plan) read = read ≡ Ok plan
+abbrev pub Reads : {A : Type 0} → Result A Fault → Result A Fault → Type 0
+Reads (Ok script) read = read ≡ Ok script
 Reads (Err fault) read = IsFault fault.line fault read
 
 -- what the end of a text answers, where a step says this
-abbrev pub Finishes : Result Plan LineError → Result Plan Refusal → Type 0
-Finishes (Ok plan) step = step ≡ Ok plan
+abbrev pub Finishes : {A : Type 0} → Result A LineError → Result A Refusal → Type 0
+Finishes (Ok script) step = step ≡ Ok script
 Finishes (Err (line_errors.Refused refusal)) step = step ≡ Err refusal
 Finishes (Err line_errors.Memory) step = Unit {0}
 

@@ -1,9 +1,5 @@
 use Rattle.std.proofs.Common.{ap}
-use Rattle.std.specs.Prelude.{Result}
 use Rattle.words.specs.Words.{words_of}
-use Rattle.table_line.specs.declared.layer_spec.LayerSpec.{LayerSpec}
-use Rattle.table_line.specs.declared.table_error.TableError.{TableError}
-use Rattle.dmlw_script.specs.Said as parsed_lines
 use Rattle.dmlw_script.specs.declared.line.HeadLine.TheVariants as head_lines
 use Rattle.dmlw_script.specs.inside.Parsing.{asked_of}
 use Rattle.dmlw_script.proofs.LayerLaws.{asked_is, asked_read, one_asked}
@@ -12,5 +8,5 @@ use Rattle.dmlw_script.proofs.line.layer_of.Goals as goal
 pub returns : goal.returns
 returns c =
     let text = c.args.text.now in
-    ap (λ (x : Result LayerSpec TableError). parsed_lines.Head (head_lines.Layer c.args.over x))
+    ap (head_lines.Layer c.args.over)
     (one_asked (words_of text) c.parse_line.result (asked_of text) (asked_read (words_of text) c.parse_line.result c.parse_line.ensures.layer c.parse_line.ensures.refused) (asked_is text))

@@ -6,9 +6,8 @@ use Rattle.dmlw_script.proofs.reader.read.Given as goal
 abbrev pub invariant-loop-line : goal.invariant-loop-line
 invariant-loop-line l = record {
   reader : IsReader l.reader;
-  kind : l.reader.kind ≡ l.fn.kind;
   counted : l.number + length l.rest ≤ length l.fn.text + 1;
-  read : read_lines l.fn.kind (progress_of l.reader) l.number (lines_of l.rest) ≡ read_text l.fn.kind l.fn.text;
+  read : read_lines (progress_of l.reader) l.number (lines_of l.rest) ≡ read_text l.fn.text;
 }
 
 abbrev pub decreases-loop-line : goal.decreases-loop-line

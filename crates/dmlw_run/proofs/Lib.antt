@@ -1,0 +1,3 @@
+mod Failing
+mod Endings
+mod Printing

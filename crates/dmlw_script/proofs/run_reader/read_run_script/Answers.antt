@@ -1,0 +1,12 @@
+use Rattle.dmlw_script.proofs.RunReading.{run_found, run_only}
+use Rattle.dmlw_script.proofs.RunFaults.{run_fault}
+use Rattle.dmlw_script.proofs.run_reader.read_run_script.Goals as goal
+
+pub returns-clause-found : goal.returns-clause-found
+returns-clause-found c = run_found c.args.text.now c.read_run.result c.read_run.ensures
+
+pub returns-clause-only : goal.returns-clause-only
+returns-clause-only c = run_only c.args.text.now c.read_run.result c.read_run.ensures
+
+pub returns-clause-fault : goal.returns-clause-fault
+returns-clause-fault c = run_fault c.args.text.now c.read_run.result c.read_run.ensures

@@ -1,0 +1,10 @@
+use Rattle.std.proofs.Common.{◌≡◌, map}
+use Rattle.seat_runner.specs.inside.Playing.{Player}
+use Rattle.seat_runner.proofs.seat_run.parts_of.Given as goal
+
+abbrev pub invariant-loop-work : goal.invariant-loop-work
+invariant-loop-work g l =
+    (goal.iterator-loop-work g).can_next l.work-iterator
+    × (goal.iterator-loop-work g).is_finite l.work-iterator
+    × (l.seats.items ≡ map (λ (player : Player). player.part) l.yielded)
+    × (l.tallies.items ≡ map (λ (player : Player). player.tally) l.yielded)

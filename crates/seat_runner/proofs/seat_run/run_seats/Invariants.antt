@@ -1,0 +1,15 @@
+use Rattle.bio.specs.Sizes.{bytes_of}
+use Rattle.dmlw_script.specs.Plans.{top_of}
+use Rattle.seat_runner.proofs.seat_run.run_seats.Given as goal
+
+abbrev pub ghosts-run_on-R-Ledger : goal.ghosts-run_on-R-Ledger
+ghosts-run_on-R-Ledger g a = record { name = a.unnamed.ledger.name; parts = a.unnamed.ledger.parts }
+
+abbrev pub ghosts-run_on-R-Whose : goal.ghosts-run_on-R-Whose
+ghosts-run_on-R-Whose g a = record { table = a.unnamed.table }
+
+abbrev pub ghosts-run_on-R-Run : goal.ghosts-run_on-R-Run
+ghosts-run_on-R-Run g a = record { sectors = top_of a.script.now.data_disk; sector_bytes = bytes_of a.script.now.log_size }
+
+abbrev pub ghosts-run_on-R-Names : goal.ghosts-run_on-R-Names
+ghosts-run_on-R-Names g a = record { board = a.unnamed.board }

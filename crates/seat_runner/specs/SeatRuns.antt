@@ -1,0 +1,120 @@
+-- What a run of several seats comes to.
+use Rattle.std.specs.Prelude.{◌≡◌, ◌==◌, ◌⊎◌, ℕ, false, List, [], ◌∷◌, length, slice_get, Some, if◌then◌else◌}
+use Rattle.bio.specs.declared.outcome.End.{End}
+use Rattle.bio.specs.declared.outcome.End.TheVariants as ends
+use Rattle.bio.specs.declared.outcome.Status.{Status}
+use Rattle.bio.specs.Lawful.{has_no_close}
+use Rattle.bio.specs.Sizes.{bytes_of}
+use Rattle.sectors.specs.Content.{Content, gather}
+use Rattle.sector_disk.specs.Shown.{shown_of}
+use Rattle.dmlw_script.specs.declared.seat_call.Call.{Call}
+use Rattle.dmlw_script.specs.declared.seat_call.Call.TheVariants.{Mark, Submit}
+use Rattle.dmlw_script.specs.declared.seat_call.SeatCall.{SeatCall}
+use Rattle.dmlw_script.specs.Plans.{top_of}
+use Rattle.dmlw_script.specs.RunPlans.{RunPlan}
+use Rattle.layer_table.specs.declared.stack.Stack.{Stack}
+use Rattle.layer_table.specs.Layers.{disk_of, stack_shown}
+use Rattle.lock_state.specs.declared.note.Receipt.{Receipt}
+use Rattle.lock_state.specs.Calls.{Holds}
+use Rattle.lock_state.specs.Comparing.{Each}
+use Rattle.lock_state.specs.History.{Part, first_cause, named, new_part, owned}
+use Rattle.lock_state.specs.Legal.{LegalHistory}
+use Rattle.lock_state.specs.Placed.{entries_in}
+use Rattle.log_format.specs.LogOf.{status_of}
+use Rattle.log_store.specs.Calls.{HasFaulted}
+use Rattle.run_error.specs.declared.run_error.RunError.{RunError}
+use Rattle.run_error.specs.declared.run_error.RunError.TheVariants.{LoggingEnded}
+use Rattle.run_error.specs.Errors.{refused_by}
+use Rattle.refusals.specs.declared.refusal.Refusal.{Refusal}
+use Rattle.refusals.specs.declared.refusal.Refusal.TheVariants as refusals
+use Rattle.script_runner.specs.declared.recording.Lies.{Lies}
+use Rattle.script_runner.specs.OnDisks.{IsStackOf}
+use Rattle.script_runner.specs.Submitted.{bio_of}
+use Rattle.seat_runner.specs.declared.tally.Outcome.{Outcome}
+use Rattle.seat_runner.specs.declared.tally.Tally.{Tally}
+use Rattle.seat_runner.specs.Tallies.{mark_outcome, outcome_of, tally_of}
+use Rattle.shared.specs.Answers.{Answered, Marked}
+use Rattle.shared.specs.Closing.{Agrees, IsReceipt, LeavesLog}
+use Rattle.shared.specs.declared.answer.Answer.{Answer}
+use Rattle.shared.specs.declared.answer.MarkAnswer.{MarkAnswer}
+use Rattle.shared.specs.declared.closing.Closed.{Closed}
+
+-- a seat made a call, which came to this: the recorder answered it so, and the seat's list has what goes with that answer
+abbrev pub IsMade : Part → Call → Outcome → Part → Type 0
+IsMade old (Submit submission) outcome new = (answer : Answer) × Answered old (bio_of submission) answer new × (outcome ≡ outcome_of answer)
+IsMade old (Mark text) outcome new = (answer : MarkAnswer) × Marked old text answer new × (outcome ≡ mark_outcome answer)
+
+-- a seat made these calls one after the other, which came to these
+abbrev pub AreMade : Part → List Call → List Outcome → Part → Type 0
+AreMade old [] [] new = new ≡ old
+AreMade old [] (outcome ∷ outcomes) new = ⊥
+AreMade old (call ∷ calls) [] new = ⊥
+AreMade old (call ∷ calls) (outcome ∷ outcomes) new = (between : Part) × IsMade old call outcome between × AreMade between calls outcomes new
+
+-- the calls of a seat's lines, in their order
+abbrev pub calls_of : ℕ → List SeatCall → List Call
+calls_of number [] = []
+calls_of number (line ∷ lines) = if line.seat == number then line.call ∷ calls_of number lines else calls_of number lines
+
+-- A new seat of this number made the calls of its lines, one after the other, and so many of them came to what.
+pub record IsSeatRun (lines : List SeatCall) (number : ℕ) (seat : Part) (tally : Tally) : Type 0 where
+  pub outcomes : List Outcome
+  pub made : AreMade (new_part number) (calls_of number lines) outcomes seat
+  pub told : tally ≡ tally_of outcomes
+
+-- the seat of this number ran, and its tally is that of its place
+abbrev pub HasRun : List SeatCall → List Tally → ℕ → Part → Type 0
+HasRun lines tallies number seat = (tally : Tally) × (slice_get tallies number ≡ Some tally) × IsSeatRun lines number seat tally
+
+-- A recorder of a device of so many sectors, whose log has sectors of so many bytes, was closed with these seats and receipts, and this is what it handed back.
+pub record IsClosed (bytes sectors : ℕ) (seats : List Part) (receipts : List Receipt) (closed : Closed Stack Stack) : Type 0 where
+  -- what the seats noted is one legal history, to which all else was compared, and no event is missing
+  pub legal : LegalHistory bytes sectors closed.core.state.events closed.by.items seats
+  pub shut : has_no_close closed.core.state.events ≡ false
+  pub counts : named closed.by.items ≡ owned seats
+  pub agrees : Agrees (record { core = closed.core.state; by = closed.by.items; stop = closed.stop }) closed.placed.items closed.settled closed.store_end
+      closed.done.items seats receipts
+  pub receives : Each (IsReceipt closed.core.state closed.settled) receipts
+  -- the status is that of what was placed; and unless it lied, the log's device has the log of the history, as far as it came, and so it has after a crash
+  pub status : closed.status ≡ status_of bytes (entries_in closed.placed.items) closed.end
+  pub log : (stack_shown closed.log).lies ≡ 0 →
+      LeavesLog bytes (stack_shown closed.log).size closed.settled closed.core.state closed.end (stack_shown closed.log).content
+  pub crash : (stack_shown closed.log).lies ≡ 0 → (left : Content) → (stack_shown closed.log).crash left →
+      LeavesLog bytes (stack_shown closed.log).size closed.settled closed.core.state closed.end left
+  pub end : closed.end ≡ first_cause closed.stop closed.store_end
+  -- unless it lied, the recorded device has what was written to it
+  pub holds : (stack_shown closed.device).lies ≡ 0 → Holds (stack_shown closed.device).content closed.done.items
+
+-- A script ran: each of its seats made its calls, the recorder of its disks was closed, and these are the tallies in the order of the seats, how far the log
+-- has come, how often the layers lied, and the bytes of the log's disk.
+pub record IsRun (plan : RunPlan) (tallies : List Tally) (status : Status) (lies : Lies) (image : List ℕ) : Type 0 where
+  -- each seat of the script made the calls of its lines in their order
+  pub seats : List Part
+  pub count : length seats ≡ plan.seats
+  pub tallied : length tallies ≡ plan.seats
+  pub ran : (number : ℕ) (seat : Part) → slice_get seats number ≡ Some seat → HasRun plan.calls tallies number seat
+  -- the recorder was closed with them and their receipts
+  pub receipts : List Receipt
+  pub closed : Closed Stack Stack
+  pub close : IsClosed (bytes_of plan.log_size) (top_of plan.data_disk) seats receipts closed
+  pub told : status ≡ closed.status
+  pub lied : lies ≡ record { data_disk = (stack_shown closed.device).lies; log_disk = (stack_shown closed.log).lies }
+  -- the bytes are those of the disk beneath the log's layers
+  pub bytes : image ≡ gather (shown_of (disk_of closed.log)).content 0 (shown_of (disk_of closed.log)).size
+
+-- a run is refused for one of these: there is no memory, a request is open at the close, what is closed isn't the recorder's own, or the writer has no thread
+abbrev pub IsRunRefusal : Refusal → Type 0
+IsRunRefusal refusal = (refusal ≡ refusals.Memory) ⊎ ((refusal ≡ refusals.Busy) ⊎ ((refusal ≡ refusals.Foreign) ⊎ (refusal ≡ refusals.NoThread)))
+
+-- No log could be made on the script's log disk: there was no memory, or a device failed under it.
+pub record IsUnmadeLog (plan : RunPlan) (end : End) : Type 0 where
+  pub old : Stack
+  pub new : Stack
+  pub blank : IsStackOf plan.log_disk old
+  pub failed : end ≡ ends.Device → HasFaulted (stack_shown old) (stack_shown new)
+  pub fits : end ≡ ends.Full → ⊥
+
+-- Why a script's run fails: it is refused, or no log could be made. No line is named.
+pub data FailsRun (plan : RunPlan) : RunError → Type 0 where
+  refused : (refusal : Refusal) → IsRunRefusal refusal → FailsRun plan (refused_by refusal)
+  unmade : (end : End) → IsUnmadeLog plan end → FailsRun plan (LoggingEnded end)

@@ -1,0 +1,178 @@
+//! What one thread does at its seat.
+ghost use Rattle.std.specs.Prelude.{◌≡◌, ◌==◌, IfOk, Ok, true};
+ghost use Rattle.dmlw_script.specs.declared.seat_call.Call.TheVariants.{Mark, Submit};
+ghost use Rattle.dmlw_script.specs.Plans.{submission_answer};
+ghost use Rattle.dmlw_script.specs.Lines.{is_line_text};
+ghost use Rattle.lock_state.specs.History.{new_part};
+ghost use Rattle.seat_runner.specs.inside.Playing.{CanMake, DoesLine, DoesLines, FitsRecorder, new_player};
+ghost use Rattle.seat_runner.specs.SeatRuns.{IsMade};
+
+use crate::tally::{Outcome, Tally};
+use bio::Ms;
+use blockdev::BlockDev;
+use board::Names;
+use dmlw_script::{Call, RunScript, SeatCall, Submission};
+use lock_state::{Receipt, Run, Seat};
+use script_runner::{LastData, bio_of};
+use shared::{Answer, MarkAnswer, Shared};
+use std::alloc::{AllocError, Global};
+use std::marker::Model;
+use std::sync::Wait;
+
+/// A seat, and what its calls came to so far. Contracts see it as a `Player`.
+#[derive(Drop)]
+pub struct Work<R: Run + Names> {
+    pub(crate) number: u64,
+    pub(crate) seat: Seat<R>,
+    pub(crate) tally: Tally,
+    // There is room for one of each of its calls.
+    pub(crate) receipts: Vec<Receipt>,
+    last: LastData,
+}
+
+impl<R: Run + Names> Model for Work<R> {
+    ghost use Rattle.seat_runner.specs.inside.Playing.{Player};
+
+    ghost Value = { Player };
+
+    ghost view = { λ w. record { number = w.number; part = w.seat; tally = w.tally; receipts = w.receipts.items } };
+}
+
+impl<R: Run + Names> Work<R> {
+    /// A seat of this number, before its first call, with room for so many receipts.
+    pub fn new(
+        alloc: Global,
+        number: u64,
+        seat: Seat<R>,
+        receipts: usize,
+    ) -> Result<Work<R>, AllocError>
+        requires { seat ≡ new_part number }
+        ensures { IfOk result (λ work. work ≡ new_player number) }
+    {
+        Ok(Work {
+            number,
+            seat,
+            tally: Tally::none(),
+            receipts: Vec::with_capacity(alloc, receipts)?,
+            last: LastData::none(alloc),
+        })
+    }
+
+    /// Makes the calls of the seat's own lines in their order, at moment 0.
+    pub fn run<D: BlockDev + Drop, L: BlockDev + Drop, H: Wait>(
+        &mut self,
+        rt: &H,
+        script: &RunScript,
+        recorder: &Shared<D, L, R>,
+    )
+        requires { FitsRecorder R.sector_bytes R.sectors script.now }
+        ensures { DoesLines script.now.calls self.old self.new }
+    {
+        let lines = script.calls();
+        for place in 0..lines.len() {
+            self.run_line(rt, &lines[place], recorder);
+        }
+    }
+
+    // Makes the call of a line, where it is the seat's own.
+    fn run_line<D: BlockDev + Drop, L: BlockDev + Drop, H: Wait>(
+        &mut self,
+        rt: &H,
+        line: &SeatCall,
+        recorder: &Shared<D, L, R>,
+    )
+        requires { CanMake R.sector_bytes R.sectors line.now.call }
+        ensures { DoesLine line.now self.old self.new }
+    {
+        if !is_own(line, self.number) {
+            return;
+        }
+        let outcome = self.make(rt, &line.call, recorder);
+        self.tally.count(outcome);
+    }
+
+    // Makes a call.
+    fn make<D: BlockDev + Drop, L: BlockDev + Drop, H: Wait>(
+        &mut self,
+        rt: &H,
+        call: &Call,
+        recorder: &Shared<D, L, R>,
+    ) -> Outcome
+        requires { CanMake R.sector_bytes R.sectors call.now }
+        ensures made { IsMade self.old.part call.now result self.new.part }
+        ensures same { (self.new.number ≡ self.old.number) × (self.new.tally ≡ self.old.tally) }
+    {
+        match call {
+            Call::Submit(submission) => self.submit(rt, *submission, recorder),
+            Call::Mark { text } => self.mark(rt, text.as_slice(), recorder),
+        }
+    }
+
+    // Submits a request. Where there is no memory for its data it fails, and the recorder isn't asked.
+    fn submit<D: BlockDev + Drop, L: BlockDev + Drop, H: Wait>(
+        &mut self,
+        rt: &H,
+        submission: Submission,
+        recorder: &Shared<D, L, R>,
+    ) -> Outcome
+        requires { submission_answer R.sector_bytes R.sectors submission ≡ Ok tt }
+        ensures made { IsMade self.old.part (Submit submission) result self.new.part }
+        ensures same { (self.new.number ≡ self.old.number) × (self.new.tally ≡ self.old.tally) }
+    {
+        let Ok(bio) = bio_of(&mut self.last, submission) else {
+            return Outcome::Failed;
+        };
+        let answer = recorder.submit(rt, &mut self.seat, bio, Ms::new(0));
+        self.keep(receipt_of(&answer));
+        Outcome::of_request(&answer)
+    }
+
+    // Marks the log.
+    #[tactic(auto, using(crate::proofs::Seats::line_is_text))]
+    fn mark<D: BlockDev + Drop, L: BlockDev + Drop, H: Wait>(
+        &mut self,
+        rt: &H,
+        text: &[u8],
+        recorder: &Shared<D, L, R>,
+    ) -> Outcome
+        requires { is_line_text text.now ≡ true }
+        ensures made { IsMade self.old.part (Mark text.now) result self.new.part }
+        ensures same { (self.new.number ≡ self.old.number) × (self.new.tally ≡ self.old.tally) }
+    {
+        let answer = recorder.mark(rt, &mut self.seat, text);
+        self.keep(mark_receipt(&answer));
+        Outcome::of_mark(&answer)
+    }
+
+    // Keeps a receipt, if there is one, for the close. That takes no memory while there is room.
+    fn keep(&mut self, receipt: Option<Receipt>)
+        ensures { (self.new.number ≡ self.old.number) × (self.new.part ≡ self.old.part) × (self.new.tally ≡ self.old.tally) }
+    {
+        if let Some(receipt) = receipt {
+            let _ = self.receipts.push(receipt);
+        }
+    }
+}
+
+// Whether the line is that of the seat of this number.
+pub(crate) fn is_own(line: &SeatCall, number: u64) -> bool
+    ensures { result ≡ (line.now.seat == number) }
+{
+    line.seat == number
+}
+
+// The receipt of a request that was logged.
+fn receipt_of(answer: &Answer) -> Option<Receipt> {
+    match answer {
+        Answer::Logged(receipt) => Some(*receipt),
+        _ => None,
+    }
+}
+
+// The receipt of a mark that was logged.
+fn mark_receipt(answer: &MarkAnswer) -> Option<Receipt> {
+    match answer {
+        MarkAnswer::Logged(receipt) => Some(*receipt),
+        _ => None,
+    }
+}

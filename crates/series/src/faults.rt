@@ -1,0 +1,80 @@
+// How commands over a log ended, counted by their faults.
+use std::fmt;
+
+/// The faults that a log can have, followed by those that a replay of it can have.
+const FAULTS: [&str; 10] = [
+    "13 BadMagic",
+    "14 BadVersion",
+    "15 BadSectorSize",
+    "16 BadMark",
+    "17 TooLarge",
+    "21 CutShort",
+    "25 NoSuchMark",
+    "26 NoFlush",
+    "27 PastTarget",
+    "33 PastEntries",
+];
+
+/// How many of them a log can have.
+pub const LOG_FAULTS: usize = 6;
+
+/// How many of them a replay can have.
+pub const REPLAY_FAULTS: usize = 10;
+
+/// How many commands met no fault, and how many each one of the first so many.
+#[derive(Drop)]
+pub struct Faults {
+    known: usize,
+    whole: u64,
+    by_fault: [u64; 10],
+}
+
+impl Faults {
+    /// No command, where so many of the faults can be.
+    pub fn new(known: usize) -> Faults {
+        Faults {
+            known,
+            whole: 0,
+            by_fault: [0; 10],
+        }
+    }
+
+    /// Counts a command that ended with this status and these lines of faults; false where it can't end so.
+    pub fn count(&mut self, status: u8, err: &str) -> bool {
+        if err.is_empty() {
+            self.whole = self.whole.saturating_add(1);
+            return status == 0;
+        }
+        let fault = fault_of(err);
+        let counts = self.by_fault.iter_mut().take(self.known);
+        for (name, count) in FAULTS.iter().zip(counts) {
+            if *name == fault {
+                *count = count.saturating_add(1);
+                return status == 1;
+            }
+        }
+        false
+    }
+}
+
+// The fault of a fault's one line, without how many entries were replayed before it.
+fn fault_of(err: &str) -> &str {
+    let line = err.strip_prefix("dmlw: ").unwrap_or_default();
+    let line = line.strip_suffix("\n").unwrap_or_default();
+    match line.split_once(" after ") {
+        Some((fault, _)) => fault,
+        None => line,
+    }
+}
+
+impl fmt::Display for Faults {
+    fn fmt<W: fmt::Write>(&self, f: &mut fmt::Formatter<W>) -> fmt::Result {
+        write!(f, "{} with no fault", self.whole)?;
+        for (name, count) in FAULTS.iter().zip(self.by_fault.iter()) {
+            if *count > 0 {
+                write!(f, ", {count} with {name}")?;
+            }
+        }
+        Ok(())
+    }
+}

@@ -1,0 +1,90 @@
+// Layers under a log, and how many of a run's calls pass them.
+use std::alloc::{AllocError, Global};
+
+/// A layer over a log's disk of 32 sectors.
+#[derive(Clone, Copy, PartialEq, Eq)]
+pub enum Layer {
+    Linear,
+    Error,
+    /// Up for ten seconds, then down for five.
+    Flakey,
+    /// Its block 3 fails one write.
+    Dust,
+    Delay,
+}
+
+const LAYERS: [Layer; 5] = [
+    Layer::Linear,
+    Layer::Error,
+    Layer::Flakey,
+    Layer::Dust,
+    Layer::Delay,
+];
+
+/// How many stacks there are of no layer, one, two and three: 1 + 5 + 25 + 125.
+pub const STACKS: u64 = 156;
+
+/// The most layers of a stack.
+const DEPTH: u64 = 3;
+
+/// A moment at which the flakey layer is down.
+pub const LATE: u64 = 12_000;
+
+/// The calls of a run that change the log's disk: one makes the log, two write the write's entry and its data, two the entries of the flush
+/// and of the end mark, and two settle these three: a flush and a write of the super.
+pub const WHOLE_RUN: u64 = 7;
+
+impl Layer {
+    /// Its table line.
+    pub fn line(self) -> &'static str {
+        match self {
+            Layer::Linear => "0 32 linear disk 0",
+            Layer::Error => "0 32 error",
+            Layer::Flakey => "0 32 flakey disk 0 10 5",
+            Layer::Dust => "0 32 dust disk 0 512",
+            Layer::Delay => "0 32 delay disk 0 1 disk 0 2 disk 0 3",
+        }
+    }
+
+    // How many of a run's calls it passes before it fails one, where the log is made at moment 0 and the rest is done at this one. The log's
+    // sector 3 is first written by the fourth call.
+    fn passes(self, moment: u64) -> u64 {
+        match self {
+            Layer::Linear | Layer::Delay => WHOLE_RUN,
+            Layer::Error => 0,
+            Layer::Flakey => { if moment == LATE { 1 } else { WHOLE_RUN } }
+            Layer::Dust => 3,
+        }
+    }
+}
+
+/// How many of a run's calls pass these layers, and a fuse over them, before one fails.
+pub fn passed(layers: &[Layer], moment: u64, fuse: Option<u64>) -> u64 {
+    let mut passed = fuse.unwrap_or(WHOLE_RUN).min(WHOLE_RUN);
+    for layer in layers {
+        passed = passed.min(layer.passes(moment));
+    }
+    passed
+}
+
+/// The stack of a number below `STACKS`, which are numbered like numbers in digits of one to five.
+pub fn stack_of(alloc: Global, number: u64) -> Result<Vec<Layer>, AllocError> {
+    let mut layers = Vec::new(alloc);
+    let mut rest = number;
+    for _ in 0..DEPTH {
+        if rest > 0 {
+            rest -= 1;
+            layers.push(layer_at(rest % 5))?;
+            rest /= 5;
+        }
+    }
+    Ok(layers)
+}
+
+// The layer of a number below five.
+fn layer_at(number: u64) -> Layer {
+    LAYERS
+        .get(number as usize)
+        .copied()
+        .unwrap_or(Layer::Linear)
+}

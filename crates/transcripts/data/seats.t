@@ -1,0 +1,259 @@
+Several seats, each a thread of its own, over one recorder: two write, one of them flushes.
+
+  $ write script
+  > data 16
+  > log 64
+  > seats 2
+  > s0 w 1 1 11
+  > s0 f
+  > s1 w 2 1 22
+  $ dmlw run script log
+  seat 0: 2 done 0 logged 0 failed 0 not logged 0 refused
+  seat 1: 1 done 0 logged 0 failed 0 not logged 0 refused
+  4 6
+  $ dmlw status log
+  4 6
+
+A mark over a log with no room for it: logging ends, and nobody waits for ever.
+
+  $ write script
+  > data 16
+  > log 2
+  > seats 1
+  > s0 mark x
+  $ dmlw run script log
+  seat 0: 0 done 0 logged 0 failed 1 not logged 0 refused
+  0 0 logging_disabled
+  [3]
+
+A write with FUA whose entry fits, where the end mark doesn't.
+
+  $ write script
+  > data 16
+  > log 4
+  > seats 1
+  > s0 w 5 1 41 fua
+  $ dmlw run script log
+  seat 0: 0 done 1 logged 0 failed 0 not logged 0 refused
+  1 2 logging_disabled
+  [3]
+  $ dmlw list log
+  super version 1 entries 1 sectorsize 512
+  0 @1 write 5+1 fua
+
+A seat that does all that a seat can do, over a log with sectors of 512 bytes and one of 4,096.
+
+  $ write script
+  > data 64
+  > log 128
+  > seats 1
+  > s0 w 8 8 41
+  > s0 w 8 8 42 flush meta
+  > s0 d 16 8
+  > s0 f
+  > s0 mark here
+  > s0 mark 
+  > s0 w 0 8 43 flush fua meta
+  $ dmlw run script log
+  seat 0: 4 done 3 logged 0 failed 0 not logged 0 refused
+  8 32
+  $ dmlw list log
+  super version 1 entries 8 sectorsize 512
+  0 @1 write 8+8
+  1 @10 write 8+8 flush meta
+  2 @19 discard 16+8
+  3 @20 flush
+  4 @21 mark here
+  5 @22 mark 
+  6 @23 write 0+8 flush fua meta
+  7 @32 mark dm-log-writes-end
+  $ write script
+  > data 64
+  > log 128 4096
+  > seats 1
+  > s0 w 8 8 41
+  > s0 w 8 8 42 flush meta
+  > s0 d 16 8
+  > s0 f
+  > s0 mark here
+  > s0 mark 
+  > s0 w 0 8 43 flush fua meta
+  $ dmlw run script log
+  seat 0: 4 done 3 logged 0 failed 0 not logged 0 refused
+  8 95
+  $ dmlw list log
+  super version 1 entries 8 sectorsize 4096
+  0 @1 write 1+1
+  1 @3 write 1+1 flush meta
+  2 @5 discard 2+1
+  3 @6 flush
+  4 @7 mark here
+  5 @8 mark 
+  6 @9 write 0+1 flush fua meta
+  7 @11 mark dm-log-writes-end
+
+A seat with no lines has done nothing.
+
+  $ write script
+  > data 16
+  > log 64
+  > seats 3
+  > s2 f
+  $ dmlw run script log
+  seat 0: 0 done 0 logged 0 failed 0 not logged 0 refused
+  seat 1: 0 done 0 logged 0 failed 0 not logged 0 refused
+  seat 2: 1 done 0 logged 0 failed 0 not logged 0 refused
+  2 2
+  $ dmlw list log
+  super version 1 entries 2 sectorsize 512
+  0 @1 flush
+  1 @2 mark dm-log-writes-end
+
+Layers over both disks: requests fail, the log's device fails, the data disk lies.
+
+  $ write script
+  > data 16
+  > log 64
+  > seats 2
+  > data-layer 0 16 error
+  > s0 w 1 1 11
+  > s1 w 2 1 22 fua
+  > s1 f
+  $ dmlw run script log
+  seat 0: 0 done 0 logged 1 failed 0 not logged 0 refused
+  seat 1: 0 done 0 logged 2 failed 0 not logged 0 refused
+  4 6
+  $ write script
+  > data 16
+  > log 64
+  > seats 1
+  > log-layer 0 64 fuse disk 0 0
+  > s0 w 1 1 11
+  $ remove log
+  $ dmlw run script log
+  ! dmlw: 19 Device
+  [3]
+  $ show log
+  no such file
+  $ write script
+  > data 16
+  > log 64
+  > seats 1
+  > log-layer 0 64 fuse disk 0 2
+  > s0 w 1 1 11 fua
+  > s0 f
+  > s0 mark x
+  $ dmlw run script log
+  seat 0: 1 done 0 logged 0 failed 2 not logged 0 refused
+  0 0 logging_disabled
+  [3]
+  $ write script
+  > data 16
+  > log 64
+  > seats 1
+  > data-layer 0 16 flakey disk 0 0 10 1 drop_writes
+  > s0 w 1 1 11
+  > s0 f
+  $ dmlw run script log
+  seat 0: 2 done 0 logged 0 failed 0 not logged 0 refused
+  3 4
+  lies 2 0
+
+Scripts that are refused, and a log that would be written over its script.
+
+  $ write script
+  > data 16
+  > log 64
+  > seats 2
+  > s2 f
+  $ dmlw run script log
+  ! dmlw: line 4: 30 BadLine
+  [1]
+  $ write script
+  > data 16
+  > log 64
+  > seats 1
+  > s0 w 15 2 11
+  $ dmlw run script log
+  ! dmlw: line 4: 3 PastEnd
+  [1]
+  $ write script
+  > data 16
+  > log 64
+  > s0 f
+  $ dmlw run script log
+  ! dmlw: line 3: 30 BadLine
+  [1]
+  $ write script
+  > data 16
+  > log 64
+  > seats 1
+  $ dmlw run script script
+  ! dmlw: 32 File
+  [1]
+  $ dmlw run none log
+  ! dmlw: 32 File
+  [1]
+  $ dmlw record script log
+  ! dmlw: line 3: 30 BadLine
+  [1]
+
+What `--explain` says of such a script.
+
+  $ write script
+  > data 16
+  > log 64
+  > seats 2
+  > s2 f
+  $ dmlw --explain run script log
+  ! dmlw: line 4: 30 BadLine
+  !   line 4 of script: s2 f
+  !   the lines of a script of seats, which count from 0, are in this order:
+  !     data <sectors>
+  !     log <sectors> [4096]
+  !     seats <n>
+  !     data-layer 0 <length> <target> ..
+  !     log-layer 0 <length> <target> ..
+  !     s<k> w <first> <count> <byte> [flush] [fua] [meta]
+  !     s<k> f
+  !     s<k> d <first> <count>
+  !     s<k> mark <text>
+  [1]
+  $ write script
+  > data 16
+  > log 64
+  $ dmlw --explain run script log
+  ! dmlw: line 3: 30 BadLine
+  !   script ends before its line 3; a script of seats begins with the lines `data`, `log` and `seats`:
+  !     data <sectors>
+  !     log <sectors> [4096]
+  !     seats <n>
+  !     data-layer 0 <length> <target> ..
+  !     log-layer 0 <length> <target> ..
+  !     s<k> w <first> <count> <byte> [flush] [fua] [meta]
+  !     s<k> f
+  !     s<k> d <first> <count>
+  !     s<k> mark <text>
+  [1]
+  $ write script
+  > data 16
+  > log 64
+  > seats 1
+  > s0 w 15 2 11
+  $ dmlw --explain run script log
+  ! dmlw: line 4: 3 PastEnd
+  !   line 4 of script: s0 w 15 2 11
+  !   the request ends past the data disk: its first sector and its count come to more than `data` says
+  [1]
+  $ write script
+  > data 16
+  > log 64
+  > seats 1
+  > s0 f
+  $ dmlw --explain run script log
+  seat 0: 1 done 0 logged 0 failed 0 not logged 0 refused
+  2 2
+  $ dmlw --explain run script script
+  ! dmlw: 32 File
+  !   script and script are one file: the log would be written over its script
+  [1]

@@ -3,7 +3,7 @@
 
   examples.py [PROGRAM]      PROGRAM: the built program, else crates/dmlw/out/dmlw
 
-A command is a word list in backticks, or a line of an indented block, that begins with ./dmlw, truncate, printf or examples/. What it prints stands behind the word `prints`: in
+A command is a word list in backticks, or a line of an indented block, that begins with ./dmlw, truncate, printf, awk or examples/. What it prints stands behind the word `prints`: in
 the next indented block, or in backticks, a line each. The commands of a page run one after another in one folder. Ends with status 1 where a text differs.
 Needs nothing but Python 3.
 """
@@ -12,7 +12,7 @@ import os, pathlib, re, shutil, subprocess, sys, tempfile
 ROOT = pathlib.Path(__file__).resolve().parent.parent
 PROGRAM = os.path.realpath(sys.argv[1]) if len(sys.argv) > 1 else str(ROOT / "crates/dmlw/out/dmlw")
 PAGES = ("README.md", "docs/USING.md")
-IS_COMMAND = re.compile(r"^(\./dmlw|truncate|printf|examples/\S+\.sh) \S")
+IS_COMMAND = re.compile(r"^(\./dmlw|truncate|printf|awk|examples/\S+\.sh) \S")
 # What needs devices, a log of the reader's own, or all proofs.
 NOT_HERE = re.compile(r"my\.log|before\.img|\.ci/run|/dev/|CHECK|LOG|SCRIPT|IMAGE|bad\.script")
 

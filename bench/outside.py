@@ -3,12 +3,14 @@
 
   outside.py [PROGRAM]      PROGRAM: the built program, else crates/dmlw/out/dmlw
 
-Prints a line for each trial, and ends with status 1 where one fails. The trial on a full disk needs the right to mount, and is else left out.
+Prints a line for each trial, and ends with status 1 where one fails. The trials that need the right to mount or to set up a loop device, or a file system's own
+tools, are left out where these are missing, with a line that begins with `--`.
 """
-import os, pathlib, subprocess, sys, tempfile, threading
+import os, pathlib, pty, re, shutil, struct, subprocess, sys, tempfile, threading
 
 
-PROGRAM = os.path.realpath(sys.argv[1]) if len(sys.argv) > 1 else str(pathlib.Path(__file__).resolve().parent.parent / "crates/dmlw/out/dmlw")
+ROOT = pathlib.Path(__file__).resolve().parent.parent
+PROGRAM = os.path.realpath(sys.argv[1]) if len(sys.argv) > 1 else str(ROOT / "crates/dmlw/out/dmlw")
 FIRST = b"data 16\nlog 32\nw a 5 1 41\nc a\nf b\nc b\nclose\n"
 TOLD = b"a ok\nb ok\n3 4\n"
 failed = []
@@ -104,13 +106,10 @@ def replays(room):
         out.write_bytes(image)
         ran = run("judge", script, moment, out)
         trial(f"judge at {moment} says {told.decode().strip()}", (ran.returncode, ran.stdout, ran.stderr) == (status, told, b""), ran)
-    loop = pathlib.Path(__file__).resolve().parent.parent / "examples/each-mark.sh"
-    ran = subprocess.run([loop, log, first, "cmp", first], capture_output=True)
-    trial("examples/each-mark.sh goes over the marks", ran.returncode == 0 and ran.stdout == b"replayed 3\nentry 2: passed\n", ran)
 
 
 def texts(room):
-    page = (pathlib.Path(__file__).resolve().parent.parent / "docs/FORMATS.md").read_bytes()
+    page = (ROOT / "docs/FORMATS.md").read_bytes()
     ran = run("help", "formats")
     trial("help formats prints docs/FORMATS.md", (ran.returncode, ran.stdout, ran.stderr) == (0, page, b""))
     script = room / "script"
@@ -182,7 +181,219 @@ def killed(room):
     trial("a killed run leaves the older log or the whole one", not torn, torn)
 
 
+def make_home(room):
+    """A folder with the launcher, beside a program that it takes for current, and with the examples."""
+    home = room / "home"
+    shutil.copytree(ROOT / "examples", home / "examples")
+    shutil.copy(ROOT / "dmlw", home)
+    (home / "crates.txt").touch()
+    (home / "crates/dmlw/out").mkdir(parents=True)
+    (home / "crates/dmlw/out/dmlw").symlink_to(PROGRAM)
+    (home / "crates/dmlw/out/dmlw.built").touch()
+    return home
+
+
+def terminal(room):
+    at_terminal, end = pty.openpty()
+    ran = subprocess.run([room / "home/dmlw", "list", room / "none"], stdout=subprocess.PIPE, stderr=end)
+    os.close(end)
+    told = os.read(at_terminal, 65536).replace(b"\r\n", b"\n")
+    os.close(at_terminal)
+    exact = run("--explain", "list", room / "none").stderr
+    trial("at a terminal the launcher explains", (ran.returncode, ran.stdout, told) == (1, b"", exact) and exact.count(b"\n") > 1, (ran, told, exact))
+    ran = subprocess.run([room / "home/dmlw", "list", room / "none"], capture_output=True)
+    trial("and in a script it doesn't", (ran.returncode, ran.stdout, ran.stderr) == (1, b"", b"dmlw: 32 File\n"), ran)
+
+
+def each(room):
+    log, first, each = room / "marks.log", room / "first", room / "home/examples/each.sh"
+    run("record", ROOT / "examples/marks.script", log)
+    first.write_bytes(bytes(8192))
+    told = {0: "mark before the flush", 1: "write 4+1", 2: "write 8+2 flush fua", 3: "discard 4+1", 4: "mark dm-log-writes-end"}
+    for which, numbers in (("marks", [0, 4]), ("flushes", [2]), ("fua", [2]), ("all", [0, 1, 2, 3, 4])):
+        ran = subprocess.run([each, which, log, first, "sh", "-c", 'test -s "$1"', "sh"], capture_output=True, text=True)
+        wanted = "".join(f"entry {it} ({told[it]}): passed\n" for it in numbers) + f"{len(numbers)} checked, 0 failed\n"
+        trial(f"examples/each.sh {which} goes over its entries", (ran.returncode, ran.stdout, ran.stderr) == (0, wanted, ""), ran)
+    # Only before the first write the image is the first one.
+    check = ["sh", "-c", f'cmp -s "{first}" "$1" || ! echo differs', "sh"]
+    wanted = "entry 0 (mark before the flush): passed\nentry 1 (write 4+1): failed\n  replayed 2\n  differs\n"
+    ran = subprocess.run([each, "--stop", "all", log, first, *check], capture_output=True, text=True)
+    trial("with --stop it ends at a failure", (ran.returncode, ran.stdout) == (1, wanted + "2 checked, 1 failed\n"), ran)
+    ran = subprocess.run([each, "all", log, first, *check], capture_output=True, text=True)
+    trial("and else it goes on", ran.returncode == 1 and ran.stdout.startswith(wanted) and ran.stdout.endswith("\n5 checked, 4 failed\n"), ran)
+    wrong = {"no words": [], "no check": ["--stop", "marks", log, first], "another first word": ["every", log, first, "true"],
+             "no log": ["all", room / "none", first, "true"], "no such check": ["all", log, first, "no-such"]}
+    for name, words in wrong.items():
+        ran = subprocess.run([each, *words], capture_output=True)
+        trial(f"examples/each.sh with {name} doesn't begin", (ran.returncode, ran.stdout) == (2, b"") and ran.stderr != b"", ran)
+    (room / "cut.log").write_bytes(log.read_bytes()[:3072])
+    ran = subprocess.run([each, "all", room / "cut.log", first, "true"], capture_output=True, text=True)
+    trial("of a log that is cut it tells the fault", ran.returncode == 1 and "21 CutShort" in ran.stderr and ran.stdout.startswith("entry 0 ("), ran)
+
+
+# A file system's tools, the size of a small one, the words that make it, and where its superblock is. Of an ext4 without checksums nothing but the
+# superblock tells of the damage, which a check is to find and not to mend.
+SYSTEMS = {
+    "ext4": (["mkfs.ext4", "e2fsck"], 16 << 20, ["-qF", "-O", "^metadata_csum"], 1024),
+    "xfs": (["mkfs.xfs", "xfs_repair"], 300 << 20, ["-q"], 0),
+    "btrfs": (["mkfs.btrfs", "btrfs"], 128 << 20, ["-q"], 65536),
+}
+
+
+def crashed(kind, image, room):
+    """A copy of a file system as it is while it is mounted, or none where it can't be mounted here."""
+    at, copy = room / "mounted", room / "crashed"
+    at.mkdir(exist_ok=True)
+    if subprocess.run(["mount", "-t", kind, "-o", "loop", image, at], capture_output=True).returncode:
+        return None
+    try:
+        for number in range(20):
+            (at / f"file{number}").write_bytes(b"x" * 3000)
+        (at / "file3").rename(at / "moved")
+        subprocess.run(["sync", "-f", at])
+        subprocess.run(["cp", "--sparse=always", image, copy])
+    finally:
+        subprocess.run(["umount", at])
+    return copy
+
+
+def make_system(kind, image):
+    """Makes a small file system in an image; false where its tools aren't here."""
+    tools, size, words, _ = SYSTEMS[kind]
+    missing = [it for it in tools if not shutil.which(it)]
+    if missing:
+        print(f"--   examples/check-{kind}.sh: no {missing[0]}")
+        return False
+    with open(image, "wb") as it:
+        it.truncate(size)
+    subprocess.run([tools[0], *words, image], capture_output=True, check=True)
+    return True
+
+
+def damage(kind, image):
+    """Writes zeroes over an image's superblock."""
+    with open(image, "r+b") as it:
+        it.seek(SYSTEMS[kind][3])
+        it.write(bytes(512))
+
+
+def checks(room):
+    for kind in SYSTEMS:
+        image, check = room / kind, ROOT / f"examples/check-{kind}.sh"
+        if not make_system(kind, image):
+            continue
+        ran = subprocess.run([check, image], capture_output=True)
+        trial(f"{kind}: a whole image passes", ran.returncode == 0, ran)
+        copy = crashed(kind, image, room)
+        if copy:
+            ran = subprocess.run([check, copy], capture_output=True)
+            trial(f"{kind}: one that lost power passes", ran.returncode == 0, ran)
+            copy.unlink()
+        else:
+            print(f"--   {kind} that lost power: no right to mount it, or no loop device")
+        damage(kind, image)
+        ran = subprocess.run([check, image], capture_output=True)
+        trial(f"{kind}: one with a damaged superblock fails", ran.returncode != 0, ran)
+        image.unlink()
+
+
+def log_of(images):
+    """A log that writes one image of a disk after another, each in pieces of 2,048 sectors, and then a mark."""
+    entries, size = [], 2048 * 512
+    for name, image in images.items():
+        for at in range(0, len(image), size):
+            entries.append(struct.pack("<QQQQ", at // 512, size // 512, 0, 0).ljust(512, b"\0") + image[at : at + size])
+        entries.append((struct.pack("<QQQQ", 0, 0, 8, len(name)) + name.encode()).ljust(512, b"\0"))
+    return struct.pack("<QQQI", 0x6A736677736872, 1, len(entries), 512).ljust(512, b"\0") + b"".join(entries)
+
+
+def each_of_ext4(room):
+    image, log = room / "ext4", room / "ext4.log"
+    if not make_system("ext4", image):
+        return
+    images = {"whole": image.read_bytes()}
+    copy = crashed("ext4", image, room)
+    if copy:
+        images["lost power"] = copy.read_bytes()
+        copy.unlink()
+    damage("ext4", image)
+    images["damaged"] = image.read_bytes()
+    log.write_bytes(log_of(images))
+    image.write_bytes(bytes(len(images["whole"])))
+    ran = subprocess.run([room / "home/examples/each.sh", "marks", log, image, ROOT / "examples/check-ext4.sh"], capture_output=True, text=True)
+    told = [it for it in ran.stdout.split("\n") if it.startswith("entry ")]
+    wanted = [f"entry {17 * at + 16} (mark {name}): {'failed' if name == 'damaged' else 'passed'}" for at, name in enumerate(images)]
+    trial("examples/each.sh finds the entry that broke an ext4", ran.returncode == 1 and told == wanted, ran)
+
+
+def loop_device(file):
+    ran = subprocess.run(["losetup", "--find", "--show", file], capture_output=True, text=True) if shutil.which("losetup") else None
+    return ran.stdout.strip() if ran and ran.returncode == 0 else None
+
+
+def devices(room):
+    script, kept, held = room / "script", room / "kept.log", {}
+    script.write_bytes(FIRST)
+    run("record", script, kept)
+    contents = {"log": b"l" * 16384, "first": bytes(8192), "out": b"o" * 12288}
+    try:
+        for name, content in contents.items():
+            (room / f"{name}.disk").write_bytes(content)
+            held[name] = loop_device(room / f"{name}.disk")
+            if not held[name]:
+                print("--   block devices: no loop device, or no right to set one up")
+                return
+        on_devices(room, script, kept, held)
+    finally:
+        for it in held.values():
+            if it:
+                subprocess.run(["losetup", "--detach", it])
+
+
+def on_devices(room, script, kept, held):
+    log, first, out = (pathlib.Path(held[it]) for it in ("log", "first", "out"))
+    ran = run("record", script, log)
+    trial("a log is written to a device", (ran.returncode, ran.stdout) == (0, TOLD) and log.read_bytes() == kept.read_bytes() and log.is_block_device(), ran)
+    for command in ("list", "status"):
+        ran = run(command, log)
+        trial(f"{command} reads a device", ran.returncode == 0 and ran.stdout == run(command, kept).stdout, ran)
+    left = bytes(2560) + b"A" * 512 + bytes(5120)
+    ran = run("replay", log, first, out, "flush")
+    trial("replay reads devices, and writes the beginning of one", (ran.returncode, ran.stdout) == (0, b"replayed 2\n") and out.read_bytes() == left + b"o" * 4096, ran)
+    ran = run("replay", log, out, first, "flush")
+    trial("a device that is too small is refused", (ran.returncode, ran.stderr) == (1, b"dmlw: 32 File\n"), ran)
+    ran = run("replay", log, first, log, "flush")
+    trial("a log's device isn't written over", ran.returncode == 1 and log.read_bytes() == kept.read_bytes(), ran)
+    ran = run("replay", log, out, out, "flush")
+    trial("a device may be replayed in place", ran.returncode == 0 and out.read_bytes() == left + b"o" * 4096, ran)
+    with open(room / "large.disk", "wb") as it:
+        it.truncate((512 << 20) + 512)
+    held["large"] = loop_device(room / "large.disk")
+    ran = run("list", held["large"])
+    trial("a device of more than 512 MiB is refused", (ran.returncode, ran.stdout, ran.stderr) == (1, b"", b"dmlw: 32 File\n"), ran)
+
+
+def manual(_):
+    page = (ROOT / "docs/dmlw.1").read_text(encoding="utf-8")
+    commands = page.partition(".SH COMMANDS\n")[2].partition("\n.SH ")[0]
+    stand = dict(re.findall(r'^\.TP\n\.BI "(\w+) " "([^"]*)"$', commands, re.M))
+    listed = re.findall(r"^  (\w+)  ", run("--help").stdout.decode().partition("Commands:\n")[2].partition("\n\n")[0], re.M)
+    trial("docs/dmlw.1 has the program's commands, and no other", listed and sorted(stand) == sorted(listed), (listed, list(stand)))
+    for command in listed:
+        usage = re.search(rf"^Usage: \S+ {command}(.*)$", run(command, "--help").stdout.decode(), re.M)
+        words = re.findall(r"<(\w+)>", usage.group(1)) if usage else None
+        if command != "help":
+            trial(f"docs/dmlw.1 has the words of {command}", words and stand.get(command) == " ".join(words), (usage, stand.get(command)))
+    for show in (["man", "--warnings", "-l"], ["groff", "-man", "-Tutf8", "-ww"]):
+        if shutil.which(show[0]):
+            ran = subprocess.run([*show, ROOT / "docs/dmlw.1"], capture_output=True)
+            trial(f"{show[0]} shows docs/dmlw.1 without a warning", (ran.returncode, ran.stderr) == (0, b"") and b"dm-log-writes" in ran.stdout, ran)
+        else:
+            print(f"--   docs/dmlw.1: no {show[0]}")
+
+
 with tempfile.TemporaryDirectory() as at:
-    for part in (files, memory, replays, texts, pipes, full_disk, killed):
+    make_home(pathlib.Path(at))
+    for part in (files, memory, replays, texts, terminal, each, checks, each_of_ext4, devices, manual, pipes, full_disk, killed):
         part(pathlib.Path(at))
 sys.exit(1 if failed else 0)

@@ -1,0 +1,91 @@
+#!/usr/bin/env python3
+"""Measures `dmlw run`: scripts of 1, 2, 4 and 8 seats, of plain writes with a flush each 100 calls, and of FUA writes alone. Prints for each the CPU time, the ratio to the plain Rust
+program of bench/seats.rs, which has the same three locks over the same lists and disks, the calls a second of a clock, and the memory of a call. Needs Python 3, and for the peer a rustc.
+
+usage: bench/run.py [PROGRAM]     (PROGRAM: the built dmlw, else it is built by ./dmlw)
+       bench/run.py [PROGRAM] --many    (64 seats of 1,000 FUA writes, within 60 seconds)
+"""
+import os
+import shutil
+import subprocess
+import sys
+import tempfile
+import time
+
+from measure import ROOT, base, build, measure
+
+CALLS = {"plain": 100_000, "fua": 20_000}
+
+
+def script(kind, seats, calls):
+    """A script of so many calls in all: each seat writes sectors of its own."""
+    own = calls // seats
+    lines = [f"data {calls}", f"log {2 * calls + 4}", f"seats {seats}"]
+    for place in range(own):
+        for seat in range(seats):
+            first = seat * own + place
+            if kind == "fua":
+                lines.append(f"s{seat} w {first} 1 5a fua")
+            elif place % 100 == 99:
+                lines.append(f"s{seat} f")
+            else:
+                lines.append(f"s{seat} w {first} 1 5a")
+    return ("\n".join(lines) + "\n").encode()
+
+
+def peer_of(folder):
+    rustc = shutil.which("rustc")
+    if rustc is None:
+        return None
+    subprocess.run([rustc, "--edition", "2021", "-O", "-o", f"{folder}/seats", f"{ROOT}/bench/seats.rs"], check=True)
+    return f"{folder}/seats"
+
+
+def clock(words, text):
+    """The least seconds of a clock of five runs, and what the last printed."""
+    least = None
+    with tempfile.TemporaryDirectory() as folder:
+        with open(f"{folder}/script", "wb") as it:
+            it.write(text)
+        for _ in range(5):
+            begun = time.monotonic()
+            told = subprocess.run(words, cwd=folder, check=True, stdout=subprocess.PIPE, text=True).stdout
+            least = min(least or 1e9, time.monotonic() - begun)
+    return least, told
+
+
+def many(program):
+    text = script("fua", 64, 64_000)
+    with tempfile.TemporaryDirectory() as folder:
+        with open(f"{folder}/script", "wb") as it:
+            it.write(text)
+        begun = time.monotonic()
+        subprocess.run([program, "run", "script", "log"], cwd=folder, check=True, stdout=subprocess.DEVNULL, timeout=60)
+        print(f"64 seats of 1,000 FUA writes: {time.monotonic() - begun:.1f} s")
+
+
+def main():
+    words = [it for it in sys.argv[1:] if not it.startswith("--")]
+    program = os.path.abspath(words[0]) if words else build()
+    if "--many" in sys.argv:
+        return many(program)
+    always = base(program)
+    with tempfile.TemporaryDirectory() as folder:
+        peer = peer_of(folder)
+        print("| calls | seats | CPU s | times the peer's | calls a second | times the peer's | bytes a call |")
+        print("|---|---|---|---|---|---|---|")
+        for kind, calls in CALLS.items():
+            for seats in (1, 2, 4, 8):
+                text = script(kind, seats, calls)
+                ours = measure(program, ["run", "script", "log"], {"script": text}, 3)
+                theirs = measure(peer, ["script", "log"], {"script": text}, 3) if peer else None
+                wall, _ = clock([program, "run", "script", "log"], text)
+                other, _ = clock([peer, "script", "log"], text) if peer else (None, None)
+                rate = f"{other / wall:.2f}" if other else ""
+                image = (2 * calls + 4) * 512
+                memory = (ours.peak - always - image - 512 * calls - 16 * (3 * calls + 4)) / calls
+                print(f"| {kind} | {seats} | {ours.seconds:.2f} | {ours.beside(theirs).strip()} | {calls / wall:,.0f} | {rate} | {memory:.0f} |", flush=True)
+
+
+if __name__ == "__main__":
+    main()

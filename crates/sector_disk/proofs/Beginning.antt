@@ -1,9 +1,6 @@
 -- How a disk's past begins: when it is made, and at a crash.
-use Rattle.std.proofs.Common.{◌≡◌, ℕ, ◌-◌, ◌/◌, ◌<◌, false, List, [], ◌∷◌, ◌++◌, length, replicate, refl, ap, subst, sym, ◌∙◌, inl, inr, arith}
+use Rattle.std.proofs.Common.{◌≡◌, ℕ, ◌-◌, ◌/◌, ◌<◌, false, true, List, [], ◌∷◌, ◌++◌, length, replicate, refl, ap, subst, sym, ◌∙◌, inl, inr, arith}
 use Rattle.std.proofs.lemmas.Bool.{cases_lt}
-use Rattle.std.proofs.lemmas.List.{get_or-replicate, length-replicate}
-use Rattle.std.proofs.lemmas.Option.{slice_get_past, unwrap_or-slice_get}
-use Rattle.std.specs.Prelude.{Option, unwrap_or}
 use Rattle.sectors.specs.Content.{Content, discards, put, sector_of, writes}
 use Rattle.sectors.specs.ContentLaws.{put-writes}
 use Rattle.blockdev.specs.View.{View}
@@ -14,8 +11,9 @@ use Rattle.sector_disk.specs.CandidateLaws.{syncs_start}
 use Rattle.sector_disk.specs.Shown.{cache_of}
 use Rattle.sector_disk.specs.Sizes.{Begins}
 use Rattle.sector_disk.specs.inside.Chosen.{AreChosen}
-use Rattle.sector_disk.specs.inside.Storage.{ArePlaced, AreWithin, IsKept, content_at, past_of, place_of, value_at, values_of}
-use Rattle.sector_disk.proofs.Keeping.{kept_begun, past_begun}
+use Rattle.sector_disk.specs.inside.Storage.{ArePlaced, AreWithin, IsKept, content_at, is_table, past_of, place_of, value_at, values_of}
+use Rattle.sector_disk.proofs.Choosing.{first_chosen}
+use Rattle.sector_disk.proofs.Keeping.{kept_begun, past_begun, place_past, table_cases}
 use Rattle.sector_disk.proofs.Reading.{discarded}
 
 -- a past that begins with a content begins with an equal one
@@ -36,22 +34,14 @@ begins_fresh n start content same = record {
   moment = refl;
 }
 
--- each sector has the first place
-first_place : (n sector : ℕ) → place_of (replicate n 0) sector ≡ 0
-first_place n sector = elim (cases_lt sector n) [
-  | inl within ↦ unwrap_or-slice_get (replicate n 0) sector 0 ∙ get_or-replicate n sector 0 0 within
-  | inr past ↦ ap (λ (o : Option ℕ). unwrap_or o 0) (slice_get_past (replicate n 0) sector (let size = length-replicate {A = ℕ} n 0 in omega arith))
-]
-
 -- a disk that is one call begins with its values over zeroes
-pub begins_made : (sectors n m : ℕ) (calls none : List Call) (base : List ℕ) (call : Call) → calls ≡ none ++ call ∷ [] → none ≡ [] → base ≡ replicate m 0 → sectors ≡ n
+pub begins_made : (sectors n : ℕ) (calls none : List Call) (base : List ℕ) (call : Call) → calls ≡ none ++ call ∷ [] → none ≡ [] → base ≡ [] → sectors ≡ n
     → Begins n (put (values_of call) (λ _. replicate 512 0)) (view_of sectors (content_at calls base) (past_of calls 1 false))
-begins_made sectors n m calls none base call one empty zeroes same =
+begins_made sectors n calls none base call one empty bare same =
     let Made : List Call → Type 0 = λ cs. Begins n (put (values_of call) (λ _. replicate 512 0)) (view_of sectors (content_at cs base) (past_of cs 1 false)) in
     let Sized : ℕ → Type 0 = λ size. Begins n (put (values_of call) (λ _. replicate 512 0)) (view_of size (content_at (call ∷ []) base) []) in
     subst Made (sym (one ∙ ap (λ (cs : List Call). cs ++ call ∷ []) empty)) (subst Sized (sym same) (begins_fresh n (content_at (call ∷ []) base) (put (values_of call) (λ _. replicate 512 0)) (λ s h.
-    let place : place_of base s ≡ 0 = ap (λ (xs : List ℕ). place_of xs s) zeroes ∙ first_place m s in
-    ap (λ (p : ℕ). value_at (call ∷ []) p s) place)))
+    ap (λ (places : List ℕ). value_at (call ∷ []) (place_of places s) s) bare)))
 
 -- what a disk of zeroes begins with
 pub zeroes_made : (n : ℕ) (v : View) → Begins n (put (discards 0 n) (λ _. replicate 512 0)) v → Begins n (λ _. replicate 512 0) v
@@ -66,25 +56,33 @@ image_made bytes v = begins_same (length bytes / 512) (put (writes 0 bytes) (λ 
 
 -- what was chosen of a disk
 pub chosen_of : (disk : SectorDisk) (calls : List Call) (newest picks chosen : List ℕ) → calls ≡ disk.calls.items → newest ≡ disk.newest.items
-    → ((cache : Cache) → ArePlaced calls disk.synced newest cache → AreChosen calls cache picks (length newest) chosen)
+    → length chosen ≡ length newest
+    → ((cache : Cache) → ArePlaced calls disk.synced (length newest) newest cache → AreChosen calls cache picks (length newest) chosen)
     → AreChosen disk.calls.items (cache_of disk) picks disk.sectors chosen
-chosen_of disk calls newest picks chosen same_calls same_newest choice =
-    let Calls : List Call → Type 0 = λ cs. AreChosen cs (cache_of disk) picks disk.sectors chosen in
-    let Count : ℕ → Type 0 = λ n. AreChosen calls (cache_of disk) picks n chosen in
-    let Placed : List Call → Type 0 = λ cs. ArePlaced cs disk.synced newest (cache_of disk) in
-    let Newest : List ℕ → Type 0 = λ places. ArePlaced disk.calls.items disk.synced places (cache_of disk) in
-    subst Calls same_calls (subst Count (ap length same_newest ∙ disk.kept.newest_length) (
-    choice (cache_of disk) (subst Placed (sym same_calls) (subst Newest (sym same_newest) disk.kept.placed))
-    ))
+chosen_of disk calls newest picks chosen same_calls same_newest size choice = elim (table_cases disk.sectors (length disk.newest.items) disk.kept.table) [
+  | inl none ↦
+      first_chosen disk.calls.items disk.synced disk.sectors disk.newest.items picks chosen (cache_of disk) none (size ∙ ap length same_newest ∙ none)
+      disk.kept.synced_some disk.kept.placed
+  | inr whole ↦
+      let count = ap length same_newest ∙ whole in
+      let Calls : List Call → Type 0 = λ cs. AreChosen cs (cache_of disk) picks disk.sectors chosen in
+      let Count : ℕ → Type 0 = λ n. AreChosen calls (cache_of disk) picks n chosen in
+      let Placed : List Call → Type 0 = λ cs. ArePlaced cs disk.synced (length newest) newest (cache_of disk) in
+      let Newest : List ℕ → Type 0 = λ places. ArePlaced disk.calls.items disk.synced (length newest) places (cache_of disk) in
+      let Sized : ℕ → Type 0 = λ n. ArePlaced disk.calls.items disk.synced n disk.newest.items (cache_of disk) in
+      subst Calls same_calls (subst Count count (
+      choice (cache_of disk) (subst Placed (sym same_calls) (subst Newest (sym same_newest) (subst Sized (sym count) disk.kept.placed)))
+      ))
+]
 
 -- the places that were chosen are those of calls
-chosen-within : (disk : SectorDisk) (picks chosen : List ℕ) → AreChosen disk.calls.items (cache_of disk) picks disk.sectors chosen → length chosen ≡ disk.sectors
+chosen-within : (disk : SectorDisk) (picks chosen : List ℕ) → AreChosen disk.calls.items (cache_of disk) picks disk.sectors chosen → is_table disk.sectors (length chosen) ≡ true
     → AreWithin disk.calls.items chosen
-chosen-within disk picks chosen choice size = record {
+chosen-within disk picks chosen choice table = record {
   each = λ sector. elim (cases_lt sector disk.sectors) [
     | inl within ↦ choice.within sector within
     | inr past ↦
-        let none = ap (λ (o : Option ℕ). unwrap_or o 0) (slice_get_past chosen sector (omega arith)) in
+        let none = place_past chosen sector (elim (table_cases disk.sectors (length chosen) table) [ inl empty ↦ omega arith | inr whole ↦ omega arith ]) in
         let some = disk.kept.base_within.each 0 in
         omega arith
   ];
@@ -92,13 +90,13 @@ chosen-within disk picks chosen choice size = record {
 
 -- what holds of the fields holds after a crash
 pub kept_chosen : (disk : SectorDisk) (picks newest chosen : List ℕ) (count : ℕ) → AreChosen disk.calls.items (cache_of disk) picks disk.sectors chosen
-    → length chosen ≡ disk.sectors → newest ≡ chosen → count ≡ length disk.calls.items
+    → is_table disk.sectors (length chosen) ≡ true → newest ≡ chosen → count ≡ length disk.calls.items
     → IsKept disk.sectors disk.calls.items newest chosen count count false
-kept_chosen disk picks newest chosen count choice size same is =
+kept_chosen disk picks newest chosen count choice table same is =
     let Newest : List ℕ → Type 0 = λ places. IsKept disk.sectors disk.calls.items places chosen count count false in
     let Count : ℕ → Type 0 = λ n. IsKept disk.sectors disk.calls.items chosen chosen n n false in
     subst Newest (sym same) (subst Count (sym is) (
-    kept_begun disk.sectors disk.calls.items chosen disk.kept.some disk.kept.few size (chosen-within disk picks chosen choice size)
+    kept_begun disk.sectors disk.calls.items chosen disk.kept.some disk.kept.few table (chosen-within disk picks chosen choice table)
     ))
 
 -- a crash leaves what its picks name

@@ -68,12 +68,12 @@ gather-kept content index old first rest is earlier =
     ∙ ap (gather content 0) more
 
 -- an image over which later calls were put is the content
-pub given : (calls : List Call) (places : List ℕ) (first : Call) (bytes : Vec ℕ Global) (image : List ℕ) → first ≡ get_or calls 0 first
-    → first.change ≡ Write bytes → image ≡ bytes.items → is_image_in (slice_get calls 0) (length places) ≡ true
-    → gather (put_over (take (length calls - 1) (drop 1 calls)) places image) 0 (length places) ≡ gather (content_at calls places) 0 (length places)
-given [] places first bytes image at is same covers = cc
-given (call ∷ later) places first bytes image at is same covers =
-    gather-ext (put_over (take (length (call ∷ later) - 1) later) places image) (content_at (call ∷ later) places) 0 0 (length places)
+pub given : (calls : List Call) (places : List ℕ) (sectors : ℕ) (first : Call) (bytes : Vec ℕ Global) (image : List ℕ) → first ≡ get_or calls 0 first
+    → first.change ≡ Write bytes → image ≡ bytes.items → is_image_in (slice_get calls 0) sectors ≡ true
+    → gather (put_over (take (length calls - 1) (drop 1 calls)) places image) 0 sectors ≡ gather (content_at calls places) 0 sectors
+given [] places sectors first bytes image at is same covers = cc
+given (call ∷ later) places sectors first bytes image at is same covers =
+    gather-ext (put_over (take (length (call ∷ later) - 1) later) places image) (content_at (call ∷ later) places) 0 0 sectors
     (λ s within. each (place_of places (0 + s)) (0 + s) (omega arith))
   where
     change_is : call.change ≡ Write bytes
@@ -83,16 +83,16 @@ given (call ∷ later) places first bytes image at is same covers =
     split true b both = (refl, both)
     split false b both = cc
 
-    parts : ((call.first == 0) ≡ true) × (is_write_of call.change (length places) ≡ true)
-    parts = split (call.first == 0) (is_write_of call.change (length places)) covers
+    parts : ((call.first == 0) ≡ true) × (is_write_of call.change sectors ≡ true)
+    parts = split (call.first == 0) (is_write_of call.change sectors) covers
 
     zero_is : call.first ≡ 0
     zero_is = eqb-true call.first 0 parts.0
 
-    size_is : length bytes.items ≡ length places * 512
-    size_is = eqb-true (length bytes.items) (length places * 512) (sym (ap (λ (change : Change). is_write_of change (length places)) change_is) ∙ parts.1)
+    size_is : length bytes.items ≡ sectors * 512
+    size_is = eqb-true (length bytes.items) (sectors * 512) (sym (ap (λ (change : Change). is_write_of change sectors) change_is) ∙ parts.1)
 
-    each : (place sector : ℕ) → sector < length places → left_at (take (length (call ∷ later) - 1) later) image place sector ≡ value_at (call ∷ later) place sector
+    each : (place sector : ℕ) → sector < sectors → left_at (take (length (call ∷ later) - 1) later) image place sector ≡ value_at (call ∷ later) place sector
     each zero sector within =
         let size = size_is in
         ap (λ (xs : List ℕ). sector_of xs sector) same

@@ -1,8 +1,8 @@
 -- What holds of a disk's fields holds after each call.
 use Rattle.std.proofs.Common.{◌≡◌, ℕ, suc, zero, ◌+◌, ◌-◌, ◌/◌, ◌<◌, ◌≤◌, ◌&&◌, Bool, true, false, Some, None, List, [], ◌∷◌, ◌++◌, length, take, drop, replicate, refl, ap, subst, sym, ◌∙◌, inl, inr, arith}
-use Rattle.std.proofs.lemmas.Bool.{and_parts, cases_lt, le-leb, leb-true, lt-ltb}
-use Rattle.std.proofs.lemmas.List.{get_or-drop, get_or-take}
-use Rattle.std.proofs.lemmas.Option.{unwrap_or-slice_get}
+use Rattle.std.proofs.lemmas.Bool.{and_parts, cases_lt, eq-eqb, eqb-true, le-leb, leb-true, lt-ltb}
+use Rattle.std.proofs.lemmas.List.{get_or-drop, get_or-replicate, get_or-take, length-replicate}
+use Rattle.std.proofs.lemmas.Option.{slice_get_past, unwrap_or-slice_get}
 use Rattle.std.proofs.Math.ListN.{get_or}
 use Rattle.std.specs.Prelude.{◌⊎◌, Option, not, nat_le, nat_lt, slice_get, unwrap_or}
 use Rattle.sectors.specs.Content.{Content, over, sector_of}
@@ -13,12 +13,68 @@ use Rattle.sector_disk.specs.declared.call.Change.{Change}
 use Rattle.sector_disk.specs.declared.call.Change.TheVariants.{Write, Discard}
 use Rattle.sector_disk.specs.Candidates.{Cache, Puts, Step, cache_after, candidates_after}
 use Rattle.sector_disk.specs.inside.Added.{IsFilled, count_of}
-use Rattle.sector_disk.specs.inside.Storage.{AreWithin, ArePlaced, IsKept, IsPlaced, back, before_at, before_in, cache_of, change_values, content_at, flushed_if, is_chain, is_open, is_plain, past_of, place_of, step_after, steps_of, value_at, value_in, values_of}
+use Rattle.sector_disk.specs.inside.Storage.{AreWithin, ArePlaced, IsKept, IsPlaced, back, before_at, before_in, cache_of, change_values, content_at, flushed_if, is_chain, is_open, is_plain, is_table, past_of, place_of, step_after, steps_of, value_at, value_in, values_of}
 use Rattle.sector_disk.proofs.Chains.{chain-within}
 
 -- equal functions
 pub same_content : (c d : Content) → ((s : ℕ) → c s ≡ d s) → c ≡ d
 same_content c d same = λ i s. same s i
+
+-- a table with a place for each sector is one
+pub whole_table : (n : ℕ) → is_table n n ≡ true
+whole_table zero = refl
+whole_table (suc n) = eq-eqb (suc n) (suc n) refl
+
+-- a table is empty or has a place for each sector
+pub table_cases : (sectors n : ℕ) → is_table sectors n ≡ true → (n ≡ 0) ⊎ (n ≡ sectors)
+table_cases sectors zero is = inl refl
+table_cases sectors (suc n) is = inr (eqb-true (suc n) sectors is)
+
+-- a sector behind a table has the first call's place, and so has each sector of a new table
+pub place_past : (places : List ℕ) (sector : ℕ) → length places ≤ sector → place_of places sector ≡ 0
+place_past places sector past = ap (λ (o : Option ℕ). unwrap_or o 0) (slice_get_past places sector past)
+
+pub first_place : (n sector : ℕ) → place_of (replicate n 0) sector ≡ 0
+first_place n sector = elim (cases_lt sector n) [
+  | inl within ↦ unwrap_or-slice_get (replicate n 0) sector 0 ∙ get_or-replicate n sector 0 0 within
+  | inr past ↦ place_past (replicate n 0) sector (let size = length-replicate {A = ℕ} n 0 in omega arith)
+]
+
+-- so a new table has the places that none has
+new_place : (n : ℕ) (none table : List ℕ) → length none ≡ 0 → table ≡ replicate n 0 → (sector : ℕ) → place_of none sector ≡ place_of table sector
+new_place n none table empty zeroes sector =
+    place_past none sector (omega arith)
+    ∙ sym (ap (λ (xs : List ℕ). place_of xs sector) zeroes ∙ first_place n sector)
+
+-- and the content stays
+pub start_opened : (n : ℕ) (calls : List Call) (none table : List ℕ) → length none ≡ 0 → table ≡ replicate n 0 → content_at calls none ≡ content_at calls table
+start_opened n calls none table empty zeroes =
+    same_content (content_at calls none) (content_at calls table) (λ s. ap (λ (p : ℕ). value_at calls p s) (new_place n none table empty zeroes s))
+
+-- what holds of the fields holds when the tables are made
+pub kept_opened : (sectors : ℕ) (calls : List Call) (newest base places others : List ℕ) (begun synced : ℕ) (flushed : Bool)
+    → IsKept sectors calls newest base begun synced flushed → length newest ≡ 0 → places ≡ replicate sectors 0 → others ≡ replicate sectors 0
+    → IsKept sectors calls places others begun synced flushed
+kept_opened sectors calls newest base places others begun synced flushed kept empty zeroes others_zeroes = record {
+  some = kept.some;
+  few = kept.few;
+  table = ap (is_table sectors) (ap length zeroes ∙ length-replicate sectors 0) ∙ whole_table sectors;
+  base_length = ap length (others_zeroes ∙ sym zeroes);
+  begun_within = kept.begun_within;
+  synced_some = kept.synced_some;
+  synced_within = kept.synced_within;
+  synced_now = kept.synced_now;
+  base_within = record { each = λ s. let h = kept.base_within.each s in let is = ap (λ (xs : List ℕ). place_of xs s) others_zeroes ∙ first_place sectors s in omega arith };
+  placed =
+      let Start : Content → Type 0 = λ start. ArePlaced calls synced sectors places (cache_after start (past_of calls begun flushed)) in
+      subst Start (start_opened sectors calls base others (kept.base_length ∙ empty) others_zeroes) (record {
+        each = λ sector h.
+            let now = (cache_of calls base begun flushed).now sector in
+            let may = (cache_of calls base begun flushed).may sector in
+            let Placed : ℕ → Type 0 = λ place. IsPlaced calls synced sector place now may in
+            subst Placed (new_place sectors newest places empty zeroes sector) (kept.placed.each sector h);
+      });
+}
 
 -- calls that were there stay as they were when one is added: their values, what came before, whether they are open
 call-kept : (calls : List Call) (call : Call) (place : ℕ) → place < length calls → slice_get (calls ++ call ∷ []) place ≡ slice_get calls place
@@ -233,34 +289,35 @@ cache-put calls call base begun flushed within base_within after =
 
 -- what holds of the fields holds when a call is added
 pub kept-put : (sectors : ℕ) (calls : List Call) (newest filled base : List ℕ) (begun synced : ℕ) (flushed : Bool) (call : Call)
-    → IsKept sectors calls newest base begun synced flushed → call.after_flush ≡ flushed
+    → IsKept sectors calls newest base begun synced flushed → length newest ≡ sectors → call.after_flush ≡ flushed
     → call.before.items ≡ take (count_of call.change) (drop call.first newest)
     → IsFilled call.first (count_of call.change) (length calls) newest filled
     → IsKept sectors (calls ++ call ∷ []) filled base begun synced false
-kept-put sectors calls newest filled base begun synced flushed call kept after before fills =
+kept-put sectors calls newest filled base begun synced flushed call kept opened after before fills =
     let more = length-snoc calls call in
     record {
       some = kept.some;
       few = kept.few;
-      newest_length = fills.size ∙ kept.newest_length;
-      base_length = kept.base_length;
+      table = ap (is_table sectors) (fills.size ∙ opened) ∙ whole_table sectors;
+      base_length = kept.base_length ∙ sym fills.size;
       begun_within = let h = kept.begun_within in omega arith;
+      synced_some = kept.synced_some;
       synced_within = let h = kept.synced_within in omega arith;
       synced_now = λ is. cc;
       base_within = record { each = λ s. let h = kept.base_within.each s in omega arith };
       placed =
-          let Placed : Cache → Type 0 = λ cache. ArePlaced (calls ++ call ∷ []) synced filled cache in
+          let Placed : Cache → Type 0 = λ cache. ArePlaced (calls ++ call ∷ []) synced sectors filled cache in
           subst Placed (sym (cache-put calls call base begun flushed kept.begun_within kept.base_within after)) (record { each = each });
     }
   where
     cache : Cache
     cache = cache_of calls base begun flushed
 
-    each : (sector : ℕ) → sector < length filled → IsPlaced (calls ++ call ∷ []) synced sector (place_of filled sector)
+    each : (sector : ℕ) → sector < sectors → IsPlaced (calls ++ call ∷ []) synced sector (place_of filled sector)
         (unwrap_or (values_of call sector) ((cache_of calls base begun flushed).now sector))
         (candidates_after (values_of call sector) call.fua ((cache_of calls base begun flushed).may sector))
     each sector h =
-        let old = kept.placed.each sector (let size = fills.size in omega arith) in
+        let old = kept.placed.each sector h in
         let now = (cache_of calls base begun flushed).now sector in
         let may = (cache_of calls base begun flushed).may sector in
         let Placed : ℕ → Option (List ℕ) → Type 0 = λ place o. IsPlaced (calls ++ call ∷ []) synced sector place (unwrap_or o now) (candidates_after o call.fua may) in
@@ -290,15 +347,15 @@ kept-put sectors calls newest filled base begun synced flushed call kept after b
 
 -- the same, for calls that are these
 pub kept_added : (sectors : ℕ) (calls all : List Call) (newest filled base : List ℕ) (begun synced count : ℕ) (flushed : Bool) (call : Call)
-    → all ≡ calls ++ call ∷ [] → IsKept sectors calls newest base begun synced flushed → call.after_flush ≡ flushed
+    → all ≡ calls ++ call ∷ [] → IsKept sectors calls newest base begun synced flushed → length newest ≡ sectors → call.after_flush ≡ flushed
     → count ≡ count_of call.change → call.before.items ≡ take count (drop call.first newest)
     → IsFilled call.first count (length calls) newest filled
     → IsKept sectors all filled base begun synced false
-kept_added sectors calls all newest filled base begun synced count flushed call added kept after counted before fills =
+kept_added sectors calls all newest filled base begun synced count flushed call added kept opened after counted before fills =
     let Kept : List Call → Type 0 = λ cs. IsKept sectors cs filled base begun synced false in
     let Filled : ℕ → Type 0 = λ n. IsFilled call.first n (length calls) newest filled in
     subst Kept (sym added) (
-    kept-put sectors calls newest filled base begun synced flushed call kept after
+    kept-put sectors calls newest filled base begun synced flushed call kept opened after
     (before ∙ ap (λ (n : ℕ). take n (drop call.first newest)) counted) (subst Filled counted fills)
     )
 
@@ -334,9 +391,10 @@ pub kept_flushed : (sectors : ℕ) (calls : List Call) (newest base : List ℕ) 
 kept_flushed sectors calls newest base begun synced flushed kept = record {
   some = kept.some;
   few = kept.few;
-  newest_length = kept.newest_length;
+  table = kept.table;
   base_length = kept.base_length;
   begun_within = kept.begun_within;
+  synced_some = let h = kept.synced_some in let most = kept.synced_within in omega arith;
   synced_within = omega arith;
   synced_now = λ is. refl;
   base_within = kept.base_within;
@@ -363,20 +421,21 @@ kept_synced sectors calls newest base begun synced count flushed kept is =
     subst Kept (sym is) (kept_flushed sectors calls newest base begun synced flushed kept)
 
 -- after a crash, when the past begins anew with these places
-pub kept_begun : (sectors : ℕ) (calls : List Call) (places : List ℕ) → 0 < sectors → sectors ≤ 1048576 → length places ≡ sectors
+pub kept_begun : (sectors : ℕ) (calls : List Call) (places : List ℕ) → 0 < sectors → sectors ≤ 1048576 → is_table sectors (length places) ≡ true
     → AreWithin calls places → IsKept sectors calls places places (length calls) (length calls) false
-kept_begun sectors calls places some few size within = record {
+kept_begun sectors calls places some few table within = record {
   some = some;
   few = few;
-  newest_length = size;
-  base_length = size;
+  table = table;
+  base_length = refl;
   begun_within = omega arith;
+  synced_some = let first = within.each 0 in omega arith;
   synced_within = omega arith;
   synced_now = λ is. refl;
   base_within = within;
   placed =
       let none : length calls - length calls ≡ 0 = omega arith in
-      let Placed : ℕ → Type 0 = λ n. ArePlaced calls (length calls) places (cache_after (content_at calls places) (steps_of calls (length calls) n)) in
+      let Placed : ℕ → Type 0 = λ n. ArePlaced calls (length calls) sectors places (cache_after (content_at calls places) (steps_of calls (length calls) n)) in
       subst Placed (sym none) (record {
         each = λ sector h.
             let place = place_of places sector in

@@ -74,7 +74,7 @@ pub read_now : (disk : SectorDisk) (first n : ℕ) → first + n ≤ disk.sector
     → gather (content_at disk.calls.items disk.newest.items) first n ≡ gather (cache_of disk).now first n
 read_now disk first n within =
     gather-ext (content_at disk.calls.items disk.newest.items) (cache_of disk).now first first n
-    (λ s h. let size = disk.kept.newest_length in (disk.kept.placed.each (first + s) (omega arith)).value)
+    (λ s h. (disk.kept.placed.each (first + s) (omega arith)).value)
 
 -- what was read of a disk is its content
 pub read_of : (disk : SectorDisk) (calls : List Call) (newest buffer : List ℕ) (first n : ℕ) → calls ≡ disk.calls.items → newest ≡ disk.newest.items
@@ -92,10 +92,9 @@ pub record IsGiven (disk : SectorDisk) (image : List ℕ) : Type 0 where
   pub length : length image ≡ 512 * (shown_of disk).size
 
 -- what was read of all the sectors of a disk is its image
-pub given_of : (disk : SectorDisk) (calls : List Call) (newest image : List ℕ) → calls ≡ disk.calls.items → newest ≡ disk.newest.items
-    → image ≡ gather (content_at calls newest) 0 (length newest) → IsGiven disk image
-given_of disk calls newest image same_calls same_newest is =
-    let count = ap length same_newest ∙ disk.kept.newest_length in
+pub given_of : (disk : SectorDisk) (calls : List Call) (newest image : List ℕ) (n : ℕ) → calls ≡ disk.calls.items → newest ≡ disk.newest.items
+    → n ≡ disk.sectors → image ≡ gather (content_at calls newest) 0 n → IsGiven disk image
+given_of disk calls newest image n same_calls same_newest count is =
     let whole = content_whole disk in
     let read = read_of disk calls newest image 0 disk.sectors same_calls same_newest (omega arith) (is ∙ ap (gather (content_at calls newest) 0) count) in
     record {

@@ -1,7 +1,7 @@
 ghost use Rattle.std.specs.Prelude.{true, ◌∷◌, ◌++◌, ◌≡◌, ◌%◌, ◌*◌, ◌+◌, ◌/◌, ◌≤◌, IfOk, MatchOption, None, OnErr, OnOk, Some, [], drop, length, slice_get, take, ℕ};
 ghost use Rattle.sector_disk.specs.inside.Added.{IsFilled, count_of};
 ghost use Rattle.sector_disk.specs.inside.Given.{is_image_in, is_write_of, put_over};
-ghost use Rattle.sector_disk.specs.inside.Storage.{before_at, content_at, is_open, value_at, value_in};
+ghost use Rattle.sector_disk.specs.inside.Storage.{before_at, content_at, is_open, place_of, value_at, value_in};
 ghost use Rattle.sectors.specs.Content.{gather, writes};
 
 use sectors::SECTOR_BYTES;
@@ -83,10 +83,17 @@ fn read_place(calls: &[Call], place: usize, sector: u64, buffer: &mut [u8])
     }
 }
 
+// The place of a sector: the first call's where there is no table yet.
+fn place_of(places: &[usize], sector: usize) -> usize
+    ensures { result ≡ place_of places.now sector }
+{
+    places.get(sector).copied().unwrap_or(0)
+}
+
 /// Reads whole sectors, each as the call at its place left it.
 pub fn read_places(calls: &[Call], places: &[usize], first: usize, buffer: &mut [u8])
     requires whole { length buffer.old % 512 ≡ 0 }
-    requires within { first + length buffer.old / 512 ≤ length places.now }
+    requires within { first + length buffer.old / 512 ≤ 1048576 }
     ensures { buffer.new ≡ gather (content_at calls.now places.now) first (length buffer.old / 512) }
 {
     for index in 0..buffer.len() / SECTOR {
@@ -94,7 +101,7 @@ pub fn read_places(calls: &[Call], places: &[usize], first: usize, buffer: &mut 
         let from = index * SECTOR;
         read_place(
             calls,
-            places[sector],
+            place_of(places, sector),
             sector as u64,
             &mut buffer[from..from + SECTOR],
         );
@@ -124,12 +131,13 @@ fn is_write_of(change: &Change, sectors: usize) -> bool
 }
 
 // Puts into an image, each in its place, the sectors that calls after the first one left.
-fn put_later(later: &[Call], places: &[usize], image: &mut [u8])
-    requires { length image.old ≡ 512 * length places.now }
-    ensures { image.new ≡ gather (put_over later.now places.now image.old) 0 (length places.now) }
+fn put_later(later: &[Call], places: &[usize], sectors: usize, image: &mut [u8])
+    requires whole { length image.old ≡ 512 * sectors }
+    requires few { sectors ≤ 1048576 }
+    ensures { image.new ≡ gather (put_over later.now places.now image.old) 0 sectors }
 {
-    for sector in 0..places.len() {
-        let place = places[sector];
+    for sector in 0..sectors {
+        let place = place_of(places, sector);
         if place > 0 {
             let from = sector * SECTOR;
             read_place(
@@ -143,23 +151,25 @@ fn put_later(later: &[Call], places: &[usize], image: &mut [u8])
 }
 
 // Puts them into an image that is a vector.
-fn put_in(later: &[Call], places: &[usize], image: &mut Vec<u8>)
-    requires { length image.old.items ≡ 512 * length places.now }
-    ensures { image.new.items ≡ gather (put_over later.now places.now image.old.items) 0 (length places.now) }
+fn put_in(later: &[Call], places: &[usize], sectors: usize, image: &mut Vec<u8>)
+    requires whole { length image.old.items ≡ 512 * sectors }
+    requires few { sectors ≤ 1048576 }
+    ensures { image.new.items ≡ gather (put_over later.now places.now image.old.items) 0 sectors }
 {
-    put_later(later, places, image);
+    put_later(later, places, sectors, image);
 }
 
 /// The bytes of all sectors, each as the call at its place left it, in the bytes of the first call, which is a write of all of them.
-pub fn take_image(alloc: Global, calls: &mut [Call], places: &[usize]) -> Vec<u8>
-    requires { is_image_in (slice_get calls.old 0) (length places.now) ≡ true }
-    ensures { result.items ≡ gather (content_at calls.old places.now) 0 (length places.now) }
+pub fn take_image(alloc: Global, calls: &mut [Call], places: &[usize], sectors: usize) -> Vec<u8>
+    requires image { is_image_in (slice_get calls.old 0) sectors ≡ true }
+    requires few { sectors ≤ 1048576 }
+    ensures { result.items ≡ gather (content_at calls.old places.now) 0 sectors }
 {
     let mut image = Vec::new(alloc);
     if let [first, later @ ..] = calls {
         if let Change::Write(bytes) = &mut first.change {
             image = mem::replace(bytes, image);
-            put_in(later, places, &mut image);
+            put_in(later, places, sectors, &mut image);
         }
     }
     image

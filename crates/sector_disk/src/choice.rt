@@ -49,7 +49,7 @@ pub fn choose(
 )
     requires { length chosen.old.items ≡ length newest.now }
     ensures length { length chosen.new.items ≡ length newest.now }
-    ensures chosen { (cache : Cache) → ArePlaced calls.now synced newest.now cache →
+    ensures chosen { (cache : Cache) → ArePlaced calls.now synced (length newest.now) newest.now cache →
         AreChosen calls.now cache picks.now (length newest.now) chosen.new.items }
 {
     let mut unsynced = 0;

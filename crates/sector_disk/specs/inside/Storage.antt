@@ -1,5 +1,5 @@
 -- How a disk stores its past: its calls in order, and for each sector the place of the newest call that put a value there.
-use Rattle.std.specs.Prelude.{◌≡◌, ℕ, suc, zero, ◌+◌, ◌-◌, ◌<◌, ◌≤◌, ◌&&◌, not, nat_le, nat_lt, Bool, true, false, Option, None, Some, unwrap_or, List, [], ◌∷◌, ◌++◌, length, replicate, slice_get}
+use Rattle.std.specs.Prelude.{◌≡◌, ℕ, suc, zero, ◌+◌, ◌-◌, ◌<◌, ◌≤◌, ◌==◌, ◌&&◌, not, nat_le, nat_lt, Bool, true, false, Option, None, Some, unwrap_or, List, [], ◌∷◌, ◌++◌, length, replicate, slice_get}
 use Rattle.sectors.specs.Content.{Content, Patch, discards, writes}
 use Rattle.sector_disk.specs.declared.call.Call.{Call}
 use Rattle.sector_disk.specs.declared.call.Change.{Change}
@@ -60,7 +60,7 @@ steps_of calls begun (suc n) = step_after (slice_get calls (begun + n)) (steps_o
 abbrev pub past_of : List Call → ℕ → Bool → List Step
 past_of calls begun flushed = flushed_if flushed (steps_of calls begun (length calls - begun))
 
--- a sector's place
+-- a sector's place; the first call's where there is no table yet
 abbrev pub place_of : List ℕ → ℕ → ℕ
 place_of places sector = unwrap_or (slice_get places sector) 0
 
@@ -96,23 +96,29 @@ pub record IsPlaced (calls : List Call) (synced sector place : ℕ) (now : List 
   pub chain : is_chain calls synced sector (length may) place ≡ true
   pub few : length may ≤ length calls
 
--- each sector of a disk has its newest call at its place
-pub record ArePlaced (calls : List Call) (synced : ℕ) (newest : List ℕ) (cache : Cache) : Type 0 where
-  pub each : (sector : ℕ) → sector < length newest
+-- each of so many sectors of a disk has its newest call at its place
+pub record ArePlaced (calls : List Call) (synced sectors : ℕ) (newest : List ℕ) (cache : Cache) : Type 0 where
+  pub each : (sector : ℕ) → sector < sectors
       → IsPlaced calls synced sector (place_of newest sector) (cache.now sector) (cache.may sector)
 
 -- each place is one of a call
 pub record AreWithin (calls : List Call) (places : List ℕ) : Type 0 where
   pub each : (sector : ℕ) → place_of places sector < length calls
 
+-- a table of so many places has one for each sector, or there is none yet
+abbrev pub is_table : ℕ → ℕ → Bool
+is_table sectors zero = true
+is_table sectors (suc n) = suc n == sectors
+
 -- what always holds of a disk's fields
 pub record IsKept (sectors : ℕ) (calls : List Call) (newest base : List ℕ) (begun synced : ℕ) (flushed : Bool) : Type 0 where
   pub some : 0 < sectors
   pub few : sectors ≤ 1048576
-  pub newest_length : length newest ≡ sectors
-  pub base_length : length base ≡ sectors
+  pub table : is_table sectors (length newest) ≡ true
+  pub base_length : length base ≡ length newest
   pub begun_within : begun ≤ length calls
+  pub synced_some : 0 < synced
   pub synced_within : synced ≤ length calls
   pub synced_now : flushed ≡ true → synced ≡ length calls
   pub base_within : AreWithin calls base
-  pub placed : ArePlaced calls synced newest (cache_of calls base begun flushed)
+  pub placed : ArePlaced calls synced sectors newest (cache_of calls base begun flushed)

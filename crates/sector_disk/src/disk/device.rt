@@ -1,4 +1,4 @@
-ghost use Rattle.std.specs.Prelude.{◌∷◌, ◌+◌, ◌≤◌, OnErr, OnOk};
+ghost use Rattle.std.specs.Prelude.{◌≡◌, ◌∷◌, ◌+◌, ◌≤◌, OnErr, OnOk, length};
 ghost use Rattle.sector_disk.specs.Candidates.{Puts};
 ghost use Rattle.sector_disk.specs.Shown.{Does, HasPast, shown_of, steps_of};
 ghost use Rattle.sector_disk.specs.inside.Added.{count_of};
@@ -12,6 +12,20 @@ use blockdev::BlockDev;
 use std::alloc::AllocError;
 
 impl SectorDisk {
+    // Makes the tables of places, where there are none yet. Where there is no memory, nothing is changed.
+    fn open_tables(&mut self) -> Result<(), AllocError>
+        ensures made { OnOk result (length self.new.newest.items ≡ self.new.sectors) }
+        ensures same { HasPast self.old self.new (steps_of self.old) }
+    {
+        if !self.newest.is_empty() {
+            return Ok(());
+        }
+        let newest = vec![in self.alloc; 0; self.sectors as usize]?;
+        self.base = vec![in self.alloc; 0; self.sectors as usize]?;
+        self.newest = newest;
+        Ok(())
+    }
+
     // Does a write or a discard, and keeps it. Where there is no memory, nothing is changed.
     fn put(&mut self, first: u64, change: Change, fua: bool) -> Result<(), AllocError>
         requires { first + count_of change ≤ self.old.sectors }
@@ -19,6 +33,7 @@ impl SectorDisk {
             (HasPast self.old self.new (Puts (change_values first change) fua ∷ steps_of self.old)) }
         ensures err { OnErr result (HasPast self.old self.new (steps_of self.old)) }
     {
+        self.open_tables()?;
         let count = change.sectors() as usize;
         let before = copy_places(self.alloc, &self.newest, first as usize, count)?;
         let call = Call {

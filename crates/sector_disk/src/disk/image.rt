@@ -1,4 +1,4 @@
-ghost use Rattle.std.specs.Prelude.{◌≡◌, ◌*◌, ◌/◌, ◌≤◌, IfOk, length, replicate};
+ghost use Rattle.std.specs.Prelude.{◌≡◌, ◌*◌, ◌/◌, ◌%◌, ◌≤◌, IfOk, length, replicate};
 ghost use Rattle.sector_disk.specs.Shown.{shown_of};
 ghost use Rattle.sector_disk.specs.Sizes.{Begins, IsDiskSize, IsImageSize};
 ghost use Rattle.sector_disk.specs.inside.Added.{count_of};
@@ -16,8 +16,6 @@ fn make(alloc: Global, change: Change) -> Result<SectorDisk, AllocError>
         Begins (count_of change) (put (change_values 0 change) (λ _. replicate 512 0)) (shown_of disk)) }
 {
     let sectors = change.sectors();
-    let newest = vec![in alloc; 0; sectors as usize]?;
-    let base = vec![in alloc; 0; sectors as usize]?;
     let mut calls = Vec::new(alloc);
     calls.push(Call {
         first: 0,
@@ -30,8 +28,8 @@ fn make(alloc: Global, change: Change) -> Result<SectorDisk, AllocError>
         alloc,
         sectors,
         calls,
-        newest,
-        base,
+        newest: Vec::new(alloc),
+        base: Vec::new(alloc),
         begun: 1,
         synced: 1,
         flushed: false,
@@ -40,22 +38,28 @@ fn make(alloc: Global, change: Change) -> Result<SectorDisk, AllocError>
 
 // Reads all the sectors of a disk.
 fn read_all(calls: &[Call], places: &[usize], image: &mut Vec<u8>)
-    requires { length image.old.items ≡ 512 * length places.now }
-    ensures { image.new.items ≡ gather (content_at calls.now places.now) 0 (length places.now) }
+    requires whole { length image.old.items % 512 ≡ 0 }
+    requires few { length image.old.items / 512 ≤ 1048576 }
+    ensures { image.new.items ≡ gather (content_at calls.now places.now) 0 (length image.old.items / 512) }
 {
     read_places(calls, places, 0, image);
 }
 
 // Gives the bytes of all the sectors of a disk, which goes: in the bytes of its first call, where that is a write of all sectors.
-fn give_all(alloc: Global, calls: Vec<Call>, places: &[usize]) -> Result<Vec<u8>, AllocError>
-    requires { length places.now ≤ 1048576 }
-    ensures { IfOk result (λ image. image.items ≡ gather (content_at calls.items places.now) 0 (length places.now)) }
+fn give_all(
+    alloc: Global,
+    calls: Vec<Call>,
+    places: &[usize],
+    sectors: usize,
+) -> Result<Vec<u8>, AllocError>
+    requires { sectors ≤ 1048576 }
+    ensures { IfOk result (λ image. image.items ≡ gather (content_at calls.items places.now) 0 sectors) }
 {
     let mut calls = calls;
-    if begins_with_image(&calls, places.len()) {
-        return Ok(take_image(alloc, &mut calls, places));
+    if begins_with_image(&calls, sectors) {
+        return Ok(take_image(alloc, &mut calls, places, sectors));
     }
-    let mut image = vec![in alloc; 0; places.len() * SECTOR]?;
+    let mut image = vec![in alloc; 0; sectors * SECTOR]?;
     read_all(&calls, places, &mut image);
     Ok(image)
 }
@@ -101,10 +105,11 @@ impl SectorDisk {
     {
         let SectorDisk {
             alloc,
+            sectors,
             calls,
             newest,
             ..
         } = self;
-        give_all(alloc, calls, &newest)
+        give_all(alloc, calls, &newest, sectors as usize)
     }
 }

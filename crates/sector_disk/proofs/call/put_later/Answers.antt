@@ -1,5 +1,4 @@
 use Rattle.std.proofs.Common.{◌≡◌, ◌+◌, ◌*◌, ◌∙◌, ◌-◌, ap, arith, drop, length, sym, take}
-use Rattle.std.proofs.lemmas.Option.{unwrap_or-slice_get}
 use Rattle.sector_disk.specs.inside.Given.{put_over}
 use Rattle.sector_disk.specs.inside.Storage.{place_of, value_at}
 use Rattle.sector_disk.proofs.Giving.{gather-kept, left_first, left_later, rest-next, rest-put}
@@ -18,12 +17,12 @@ loop-sector-preserved c =
     let kept = c.loop-sector.auto.image in
     let here = c.loop-sector-test.true in
     let from : sector ≡ 0 + sector = omega arith in
-    let place = unwrap_or-slice_get places sector 0 in
+    let place = c.place_of-place.ensures in
     elim c.if-place-gt0.branch [
       | then-place-gt0 w ↦
           let later_is = w.if-place-gt0.true in
           let value = w.read_place.new.buffer in
-          let read = w.read_place.ensures ∙ ap (λ p. value_at later (p - 1) sector) (sym place)
+          let read = w.read_place.ensures ∙ ap (λ p. value_at later (p - 1) sector) place
           ∙ sym (left_later later first (place_of places sector) sector (omega arith)) ∙ ap content from in
           let size = ap length w.read_place.ensures ∙ length-value_at later _ sector in (
             gather-next content 0 sector c.loop-sector.image _ value (omega arith) size w.image-is read earlier.0,

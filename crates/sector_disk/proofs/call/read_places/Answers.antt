@@ -1,5 +1,4 @@
-use Rattle.std.proofs.Common.{◌+◌, length, ap, refl, sym, ◌∙◌, arith}
-use Rattle.std.proofs.lemmas.Option.{unwrap_or-slice_get}
+use Rattle.std.proofs.Common.{◌+◌, length, ap, refl, ◌∙◌, arith}
 use Rattle.sector_disk.specs.inside.Storage.{content_at, place_of, value_at}
 use Rattle.sector_disk.proofs.Reading.{gather-next, length-value_at}
 use Rattle.sector_disk.proofs.call.read_places.Goals as goal
@@ -9,7 +8,7 @@ loop-index-preserved c =
     let calls = c.args.calls.now in
     let places = c.args.places.now in
     let sector = c.args.first + c.loop-index.index in
-    let read = c.read_place.ensures ∙ ap (λ place. value_at calls place sector) (sym (unwrap_or-slice_get places sector 0)) in
+    let read = c.read_place.ensures ∙ ap (λ place. value_at calls place sector) c.place_of.ensures in
     let size = ap length read ∙ length-value_at calls (place_of places sector) sector in
     let kept = c.loop-index.auto.buffer in
     let here = c.loop-index-test.true in

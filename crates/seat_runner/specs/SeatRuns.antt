@@ -1,5 +1,5 @@
 -- What a run of several seats comes to.
-use Rattle.std.specs.Prelude.{◌≡◌, ◌==◌, ◌⊎◌, ℕ, false, List, [], ◌∷◌, length, slice_get, Some, if◌then◌else◌}
+use Rattle.std.specs.Prelude.{◌≡◌, ◌==◌, ◌⊎◌, ℕ, ◌*◌, false, List, [], ◌∷◌, length, slice_get, Some, if◌then◌else◌}
 use Rattle.bio.specs.declared.outcome.End.{End}
 use Rattle.bio.specs.declared.outcome.End.TheVariants as ends
 use Rattle.bio.specs.declared.outcome.Status.{Status}
@@ -19,7 +19,7 @@ use Rattle.lock_state.specs.Calls.{Holds}
 use Rattle.lock_state.specs.Comparing.{Each}
 use Rattle.lock_state.specs.History.{Part, first_cause, named, new_part, owned}
 use Rattle.lock_state.specs.Legal.{LegalHistory}
-use Rattle.lock_state.specs.Placed.{entries_in}
+use Rattle.lock_state.specs.Placed.{Ground, StandsOn, entries_in, ground_of}
 use Rattle.log_format.specs.LogOf.{status_of}
 use Rattle.log_store.specs.Calls.{HasFaulted}
 use Rattle.run_error.specs.declared.run_error.RunError.{RunError}
@@ -28,46 +28,53 @@ use Rattle.run_error.specs.Errors.{refused_by}
 use Rattle.refusals.specs.declared.refusal.Refusal.{Refusal}
 use Rattle.refusals.specs.declared.refusal.Refusal.TheVariants as refusals
 use Rattle.script_runner.specs.declared.recording.Lies.{Lies}
-use Rattle.script_runner.specs.OnDisks.{IsStackOf}
+use Rattle.script_runner.specs.OnDisks.{IsStackOf, seen_on}
 use Rattle.script_runner.specs.Submitted.{bio_of}
-use Rattle.seat_runner.specs.declared.tally.Outcome.{Outcome}
 use Rattle.seat_runner.specs.declared.tally.Tally.{Tally}
-use Rattle.seat_runner.specs.Tallies.{mark_outcome, outcome_of, tally_of}
+use Rattle.seat_runner.specs.Tallies.{Came, joined, mark_outcome, mark_receipt_in, outcome_of, receipt_in, receipts_of, tally_of}
 use Rattle.shared.specs.Answers.{Answered, Marked}
 use Rattle.shared.specs.Closing.{Agrees, IsReceipt, LeavesLog}
 use Rattle.shared.specs.declared.answer.Answer.{Answer}
 use Rattle.shared.specs.declared.answer.MarkAnswer.{MarkAnswer}
 use Rattle.shared.specs.declared.closing.Closed.{Closed}
+use Rattle.table_line.specs.Standing.{some_drops}
 
 -- a seat made a call, which came to this: the recorder answered it so, and the seat's list has what goes with that answer
-abbrev pub IsMade : Part → Call → Outcome → Part → Type 0
-IsMade old (Submit submission) outcome new = (answer : Answer) × Answered old (bio_of submission) answer new × (outcome ≡ outcome_of answer)
-IsMade old (Mark text) outcome new = (answer : MarkAnswer) × Marked old text answer new × (outcome ≡ mark_outcome answer)
+abbrev pub IsMade : Part → Call → Came → Part → Type 0
+IsMade old (Submit submission) came new =
+    (answer : Answer) × Answered old (bio_of submission) answer new × (came ≡ record { outcome = outcome_of answer; receipt = receipt_in answer })
+IsMade old (Mark text) came new =
+    (answer : MarkAnswer) × Marked old text answer new × (came ≡ record { outcome = mark_outcome answer; receipt = mark_receipt_in answer })
 
 -- a seat made these calls one after the other, which came to these
-abbrev pub AreMade : Part → List Call → List Outcome → Part → Type 0
+abbrev pub AreMade : Part → List Call → List Came → Part → Type 0
 AreMade old [] [] new = new ≡ old
-AreMade old [] (outcome ∷ outcomes) new = ⊥
+AreMade old [] (came ∷ others) new = ⊥
 AreMade old (call ∷ calls) [] new = ⊥
-AreMade old (call ∷ calls) (outcome ∷ outcomes) new = (between : Part) × IsMade old call outcome between × AreMade between calls outcomes new
+AreMade old (call ∷ calls) (came ∷ others) new = (between : Part) × IsMade old call came between × AreMade between calls others new
 
 -- the calls of a seat's lines, in their order
 abbrev pub calls_of : ℕ → List SeatCall → List Call
 calls_of number [] = []
 calls_of number (line ∷ lines) = if line.seat == number then line.call ∷ calls_of number lines else calls_of number lines
 
--- A new seat of this number made the calls of its lines, one after the other, and so many of them came to what.
-pub record IsSeatRun (lines : List SeatCall) (number : ℕ) (seat : Part) (tally : Tally) : Type 0 where
-  pub outcomes : List Outcome
-  pub made : AreMade (new_part number) (calls_of number lines) outcomes seat
-  pub told : tally ≡ tally_of outcomes
+-- A new seat of this number made the calls of its lines, one after the other, so many of them came to what, and these are the receipts that it was given.
+pub record IsSeatRun (lines : List SeatCall) (number : ℕ) (seat : Part) (tally : Tally) (receipts : List Receipt) : Type 0 where
+  pub calls : List Came
+  pub made : AreMade (new_part number) (calls_of number lines) calls seat
+  pub told : tally ≡ tally_of calls
+  pub kept : receipts ≡ receipts_of calls
 
--- the seat of this number ran, and its tally is that of its place
-abbrev pub HasRun : List SeatCall → List Tally → ℕ → Part → Type 0
-HasRun lines tallies number seat = (tally : Tally) × (slice_get tallies number ≡ Some tally) × IsSeatRun lines number seat tally
+-- The seat of this number ran, and its tally and its receipts are those of its place.
+pub record HasRun (lines : List SeatCall) (tallies : List Tally) (given : List (List Receipt)) (number : ℕ) (seat : Part) : Type 0 where
+  pub tally : Tally
+  pub counted : slice_get tallies number ≡ Some tally
+  pub receipts : List Receipt
+  pub kept : slice_get given number ≡ Some receipts
+  pub ran : IsSeatRun lines number seat tally receipts
 
--- A recorder of a device of so many sectors, whose log has sectors of so many bytes, was closed with these seats and receipts, and this is what it handed back.
-pub record IsClosed (bytes sectors : ℕ) (seats : List Part) (receipts : List Receipt) (closed : Closed Stack Stack) : Type 0 where
+-- A recorder of a device of so many sectors, whose log lies on this ground and has sectors of so many bytes, was closed with these seats and receipts, and this is what it handed back.
+pub record IsClosed (ground : Ground) (bytes sectors : ℕ) (seats : List Part) (receipts : List Receipt) (closed : Closed Stack Stack) : Type 0 where
   -- what the seats noted is one legal history, to which all else was compared, and no event is missing
   pub legal : LegalHistory bytes sectors closed.core.state.events closed.by.items seats
   pub shut : has_no_close closed.core.state.events ≡ false
@@ -81,6 +88,8 @@ pub record IsClosed (bytes sectors : ℕ) (seats : List Part) (receipts : List R
       LeavesLog bytes (stack_shown closed.log).size closed.settled closed.core.state closed.end (stack_shown closed.log).content
   pub crash : (stack_shown closed.log).lies ≡ 0 → (left : Content) → (stack_shown closed.log).crash left →
       LeavesLog bytes (stack_shown closed.log).size closed.settled closed.core.state closed.end left
+  -- the log's device is the one that it was
+  pub stands : StandsOn ground (stack_shown closed.log)
   pub end : closed.end ≡ first_cause closed.stop closed.store_end
   -- unless it lied, the recorded device has what was written to it
   pub holds : (stack_shown closed.device).lies ≡ 0 → Holds (stack_shown closed.device).content closed.done.items
@@ -92,15 +101,25 @@ pub record IsRun (plan : RunPlan) (tallies : List Tally) (status : Status) (lies
   pub seats : List Part
   pub count : length seats ≡ plan.seats
   pub tallied : length tallies ≡ plan.seats
-  pub ran : (number : ℕ) (seat : Part) → slice_get seats number ≡ Some seat → HasRun plan.calls tallies number seat
-  -- the recorder was closed with them and their receipts
-  pub receipts : List Receipt
+  -- the receipts of each seat
+  pub given : List (List Receipt)
+  pub ran : (number : ℕ) (seat : Part) → slice_get seats number ≡ Some seat → HasRun plan.calls tallies given number seat
+  -- the recorder's log was made on the script's log disk, under its layers
+  pub log : Stack
+  pub blank : IsStackOf plan.log_disk log
+  -- the recorder was closed with the seats, and with all the receipts that they were given
   pub closed : Closed Stack Stack
-  pub close : IsClosed (bytes_of plan.log_size) (top_of plan.data_disk) seats receipts closed
+  pub close : IsClosed (ground_of (stack_shown log)) (bytes_of plan.log_size) (top_of plan.data_disk) seats (joined given) closed
   pub told : status ≡ closed.status
   pub lied : lies ≡ record { data_disk = (stack_shown closed.device).lies; log_disk = (stack_shown closed.log).lies }
-  -- the bytes are those of the disk beneath the log's layers
+  -- where none of the log's layers may drop writes, none of them lied
+  pub honest : some_drops plan.log_disk.layers ≡ false → lies.log_disk ≡ 0
+  -- the bytes are those of the disk beneath the log's layers, and as many as the script says
   pub bytes : image ≡ gather (shown_of (disk_of closed.log)).content 0 (shown_of (disk_of closed.log)).size
+  pub size : length image ≡ 512 * plan.log_disk.sectors
+  -- unless it lied, the bytes have the log of the history, as seen through the log's layers
+  pub logged : lies.log_disk ≡ 0 →
+      LeavesLog (bytes_of plan.log_size) (top_of plan.log_disk) closed.settled closed.core.state closed.end (seen_on plan.log_disk image)
 
 -- a run is refused for one of these: there is no memory, a request is open at the close, what is closed isn't the recorder's own, or the writer has no thread
 abbrev pub IsRunRefusal : Refusal → Type 0

@@ -1,5 +1,6 @@
 -- What became of a seat's calls, and how many came to what.
-use Rattle.std.specs.Prelude.{ℕ, ◌+◌, ◌<◌, ◌-◌, ◌^◌, Bool, true, false, List, [], ◌∷◌}
+use Rattle.std.specs.Prelude.{ℕ, ◌+◌, ◌<◌, ◌-◌, ◌^◌, Bool, true, false, List, [], ◌∷◌, ◌++◌, Option, None, Some}
+use Rattle.lock_state.specs.declared.note.Receipt.{Receipt}
 use Rattle.lock_state.specs.History.{one_if}
 use Rattle.seat_runner.specs.declared.tally.Outcome.{Outcome}
 use Rattle.seat_runner.specs.declared.tally.Outcome.TheVariants.{Done, Failed, Logged, NotLogged, Refused}
@@ -24,6 +25,41 @@ mark_outcome (marks.Logged receipt) = Logged
 mark_outcome (marks.NotLogged cause) = NotLogged
 mark_outcome (marks.Refused refusal) = Refused
 
+-- the receipt that a request was answered with, if there is one
+abbrev pub receipt_in : Answer → Option Receipt
+receipt_in answers.Done = None
+receipt_in (answers.Read bytes) = None
+receipt_in (answers.Logged receipt) = Some receipt
+receipt_in (answers.Failed error) = None
+receipt_in (answers.NotLogged cause) = None
+receipt_in (answers.Refused bad) = None
+
+-- and that of a mark
+abbrev pub mark_receipt_in : MarkAnswer → Option Receipt
+mark_receipt_in (marks.Logged receipt) = Some receipt
+mark_receipt_in (marks.NotLogged cause) = None
+mark_receipt_in (marks.Refused refusal) = None
+
+-- what a call came to: its outcome, and the receipt that its seat was given, if there is one
+pub record Came : Type 0 where
+  pub outcome : Outcome
+  pub receipt : Option Receipt
+
+-- receipts, and one more, if there is one
+abbrev pub and_kept : List Receipt → Option Receipt → List Receipt
+and_kept receipts None = receipts
+and_kept receipts (Some receipt) = receipts ++ receipt ∷ []
+
+-- the receipts that calls were answered with, in their order
+abbrev pub receipts_of : List Came → List Receipt
+receipts_of [] = []
+receipts_of (came ∷ others) = and_kept [] came.receipt ++ receipts_of others
+
+-- all of several lists of receipts, one list behind the other
+abbrev pub joined : List (List Receipt) → List Receipt
+joined [] = []
+joined (receipts ∷ others) = receipts ++ joined others
+
 -- whether a call came to this
 abbrev pub is_done : Outcome → Bool
 is_done Done = true
@@ -46,18 +82,18 @@ is_refused Refused = true
 is_refused _ = false
 
 -- how many of these came to this
-abbrev pub how_many : (Outcome → Bool) → List Outcome → ℕ
+abbrev pub how_many : (Outcome → Bool) → List Came → ℕ
 how_many comes [] = 0
-how_many comes (outcome ∷ outcomes) = one_if (comes outcome) + how_many comes outcomes
+how_many comes (came ∷ others) = one_if (comes came.outcome) + how_many comes others
 
 -- how many of these came to what
-abbrev pub tally_of : List Outcome → Tally
-tally_of outcomes = record {
-  done = how_many is_done outcomes;
-  logged = how_many is_logged outcomes;
-  failed = how_many is_failed outcomes;
-  not_logged = how_many is_not_logged outcomes;
-  refused = how_many is_refused outcomes;
+abbrev pub tally_of : List Came → Tally
+tally_of calls = record {
+  done = how_many is_done calls;
+  logged = how_many is_logged calls;
+  failed = how_many is_failed calls;
+  not_logged = how_many is_not_logged calls;
+  refused = how_many is_refused calls;
 }
 
 -- the tally of no calls

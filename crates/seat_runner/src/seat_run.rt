@@ -1,7 +1,10 @@
 //! A script's run, from its disks to the log's disk.
 ghost use Rattle.std.specs.Prelude.{◌≡◌, ◌<◌, ℕ, IfErr, IfOk, length, map};
+ghost use Rattle.lock_state.specs.Placed.{ground_of};
+ghost use Rattle.seat_runner.specs.Tallies.{joined};
 ghost use Rattle.bio.specs.declared.outcome.End.TheVariants as ends;
 ghost use Rattle.bio.specs.Sizes.{bytes_of};
+ghost use Rattle.dmlw_script.specs.RunPlans.{IsRunPlan};
 ghost use Rattle.layer_table.specs.Layers.{disk_of, stack_shown};
 ghost use Rattle.log_store.specs.Calls.{HasFaulted};
 ghost use Rattle.run_error.specs.declared.run_error.RunError.TheVariants.{LoggingEnded};
@@ -10,16 +13,16 @@ ghost use Rattle.script_runner.specs.OnDisks.{IsStackOf};
 ghost use Rattle.sector_disk.specs.Shown.{shown_of};
 ghost use Rattle.sectors.specs.Content.{gather};
 ghost use Rattle.seat_runner.specs.inside.Playing.{AreNewPlayers, FitsRecorder};
-ghost use Rattle.seat_runner.specs.SeatRuns.{FailsRun, IsClosed, IsRun, IsRunRefusal, calls_of};
+ghost use Rattle.seat_runner.specs.SeatRuns.{FailsRun, IsClosed, IsRun, IsRunRefusal};
 ghost use Rattle.shared.specs.Seats.{AreNewSeats};
 
 use crate::running::run_all;
 use crate::tally::Tally;
-use crate::work::{Work, is_own};
+use crate::work::Work;
 use bio::{End, Status};
 use blockdev::BlockDev;
 use board::Names;
-use dmlw_script::{RunScript, SeatCall};
+use dmlw_script::RunScript;
 use layer_table::Stack;
 use lock_state::{Receipt, Run, Seat};
 use refusals::Refusal;
@@ -74,11 +77,13 @@ fn run_on<R: Run + Names + Send + Sync, H: Threads + Wait + Sync>(
 ) -> Result<Ran, RunError>
     requires ledger { (unnamed.ledger.name ≡ R.name) × (unnamed.ledger.parts ≡ R.parts) × (unnamed.ledger.parts ≡ script.now.seats) }
     requires some { 0 < script.now.seats }
+    requires script { IsRunPlan script.now }
     requires table { unnamed.table ≡ R.table }
     requires board { unnamed.board ≡ R.board }
     requires fits { FitsRecorder R.sector_bytes R.sectors script.now }
     requires device { IsStackOf script.now.data_disk device }
     requires log { IsStackOf script.now.log_disk log }
+    requires ground { R.log ≡ ground_of (stack_shown log) }
     ensures ran { IfOk result (λ ran.
         IsRun script.now ran.tallies.items ran.status ran.lies (gather (shown_of ran.disk).content 0 (shown_of ran.disk).size)) }
     ensures faults { IfErr result (FailsRun script.now) }
@@ -89,7 +94,7 @@ fn run_on<R: Run + Names + Send + Sync, H: Threads + Wait + Sync>(
         mut writer,
         readers: _,
     } = start::<R>(alloc, unnamed, device, log, script)?;
-    let works = works_of(alloc, script, seats)?;
+    let works = works_of(alloc, seats, script.seats())?;
     let works = run_all(rt, script, &recorder, &mut writer, works)?;
     let Parts {
         seats,
@@ -114,6 +119,7 @@ fn start<R: Run + Names>(
     requires fits { FitsRecorder R.sector_bytes R.sectors script.now }
     requires device { IsStackOf script.now.data_disk device }
     requires log { IsStackOf script.now.log_disk log }
+    requires ground { R.log ≡ ground_of (stack_shown log) }
     ensures seats { IfOk result (λ started. AreNewSeats script.now.seats started.seats.items) }
     ensures faults { IfErr result (FailsRun script.now) }
 {
@@ -131,35 +137,21 @@ fn end_of(refused: (Stack, Stack, End)) -> End
     refused.2
 }
 
-// The seats before their first calls, with room for their receipts.
+// The seats, of which there are so many, before their first calls.
 fn works_of<R: Run + Names>(
     alloc: Global,
-    script: &RunScript,
     seats: Vec<Seat<R>>,
+    many: u64,
 ) -> Result<Vec<Work<R>>, AllocError>
-    requires { AreNewSeats script.now.seats seats.items }
-    ensures { IfOk result (λ works. AreNewPlayers script.now.seats works.items) }
+    requires { AreNewSeats many seats.items }
+    ensures { IfOk result (λ works. AreNewPlayers many works.items) }
 {
-    let mut works = Vec::new(alloc);
+    let mut works = Vec::with_capacity(alloc, many as usize)?;
     for seat in seats {
         let number = works.len() as u64;
-        let receipts = own_count(script.calls(), number);
-        works.push(Work::new(alloc, number, seat, receipts)?)?;
+        works.push(Work::new(alloc, number, seat))?;
     }
     Ok(works)
-}
-
-// How many of the lines are the seat's own.
-fn own_count(lines: &[SeatCall], number: u64) -> usize
-    ensures { result ≡ length (calls_of number lines.now) }
-{
-    let mut count = 0;
-    for place in 0..lines.len() {
-        if is_own(&lines[place], number) {
-            count += 1;
-        }
-    }
-    count
 }
 
 // What the seats leave.
@@ -170,10 +162,11 @@ struct Parts<R: Run + Names> {
 }
 
 // The seats, their tallies in the same order, and all receipts.
-#[tactic(auto, using(crate::proofs::Runs::map_push))]
+#[tactic(auto, using(crate::proofs::Runs::map_push, crate::proofs::Runs::joined_next))]
 fn parts_of<R: Run + Names>(alloc: Global, works: Vec<Work<R>>) -> Result<Parts<R>, AllocError>
     ensures seats { IfOk result (λ parts. parts.seats.items ≡ map (λ player. player.part) works.items) }
     ensures tallies { IfOk result (λ parts. parts.tallies.items ≡ map (λ player. player.tally) works.items) }
+    ensures receipts { IfOk result (λ parts. parts.receipts.items ≡ joined (map (λ player. player.receipts) works.items)) }
 {
     let mut seats = Vec::new(alloc);
     let mut tallies = Vec::new(alloc);
@@ -198,7 +191,7 @@ fn close<R: Run + Names>(
     receipts: Vec<Receipt>,
 ) -> Result<Closed<Stack, Stack>, Refusal>
     requires { (length seats.items ≡ R.parts) × (0 < R.parts) }
-    ensures closed { IfOk result (IsClosed R.sector_bytes R.sectors seats.items receipts.items) }
+    ensures closed { IfOk result (IsClosed R.log R.sector_bytes R.sectors seats.items receipts.items) }
     ensures refused { IfErr result IsRunRefusal }
 {
     match recorder.close(seats, writer, receipts) {

@@ -1,11 +1,11 @@
 //! What one thread does at its seat.
-ghost use Rattle.std.specs.Prelude.{◌≡◌, ◌==◌, IfOk, Ok, true};
+ghost use Rattle.std.specs.Prelude.{◌≡◌, ◌==◌, ◌<◌, Ok, true, vec_capacity, vec_len};
 ghost use Rattle.dmlw_script.specs.declared.seat_call.Call.TheVariants.{Mark, Submit};
 ghost use Rattle.dmlw_script.specs.Plans.{submission_answer};
 ghost use Rattle.dmlw_script.specs.Lines.{is_line_text};
 ghost use Rattle.lock_state.specs.History.{new_part};
-ghost use Rattle.seat_runner.specs.inside.Playing.{CanMake, DoesLine, DoesLines, FitsRecorder, new_player};
-ghost use Rattle.seat_runner.specs.SeatRuns.{IsMade};
+ghost use Rattle.seat_runner.specs.inside.Playing.{CanMake, DoesLine, DoesLines, FitsRecorder, Makes, new_player};
+ghost use Rattle.seat_runner.specs.Tallies.{and_kept, mark_receipt_in, receipt_in};
 
 use crate::tally::{Outcome, Tally};
 use bio::Ms;
@@ -15,7 +15,7 @@ use dmlw_script::{Call, RunScript, SeatCall, Submission};
 use lock_state::{Receipt, Run, Seat};
 use script_runner::{LastData, bio_of};
 use shared::{Answer, MarkAnswer, Shared};
-use std::alloc::{AllocError, Global};
+use std::alloc::Global;
 use std::marker::Model;
 use std::sync::Wait;
 
@@ -25,7 +25,7 @@ pub struct Work<R: Run + Names> {
     pub(crate) number: u64,
     pub(crate) seat: Seat<R>,
     pub(crate) tally: Tally,
-    // There is room for one of each of its calls.
+    // Those that its calls were answered with, in their order.
     pub(crate) receipts: Vec<Receipt>,
     last: LastData,
 }
@@ -39,23 +39,18 @@ impl<R: Run + Names> Model for Work<R> {
 }
 
 impl<R: Run + Names> Work<R> {
-    /// A seat of this number, before its first call, with room for so many receipts.
-    pub fn new(
-        alloc: Global,
-        number: u64,
-        seat: Seat<R>,
-        receipts: usize,
-    ) -> Result<Work<R>, AllocError>
+    /// A seat of this number, before its first call.
+    pub fn new(alloc: Global, number: u64, seat: Seat<R>) -> Work<R>
         requires { seat ≡ new_part number }
-        ensures { IfOk result (λ work. work ≡ new_player number) }
+        ensures { result ≡ new_player number }
     {
-        Ok(Work {
+        Work {
             number,
             seat,
             tally: Tally::none(),
-            receipts: Vec::with_capacity(alloc, receipts)?,
+            receipts: Vec::new(alloc),
             last: LastData::none(alloc),
-        })
+        }
     }
 
     /// Makes the calls of the seat's own lines in their order, at moment 0.
@@ -91,7 +86,7 @@ impl<R: Run + Names> Work<R> {
         self.tally.count(outcome);
     }
 
-    // Makes a call.
+    // Makes a call. The room for its receipt is got first: where there is no memory for that the call fails, or the mark is refused, and the recorder isn't asked.
     fn make<D: BlockDev + Drop, L: BlockDev + Drop, H: Wait>(
         &mut self,
         rt: &H,
@@ -99,8 +94,7 @@ impl<R: Run + Names> Work<R> {
         recorder: &Shared<D, L, R>,
     ) -> Outcome
         requires { CanMake R.sector_bytes R.sectors call.now }
-        ensures made { IsMade self.old.part call.now result self.new.part }
-        ensures same { (self.new.number ≡ self.old.number) × (self.new.tally ≡ self.old.tally) }
+        ensures made { Makes call.now self.old result self.new }
     {
         match call {
             Call::Submit(submission) => self.submit(rt, *submission, recorder),
@@ -109,6 +103,7 @@ impl<R: Run + Names> Work<R> {
     }
 
     // Submits a request. Where there is no memory for its data it fails, and the recorder isn't asked.
+    #[tactic(auto, using(crate::proofs::Seats::makes_request, crate::proofs::Seats::fails))]
     fn submit<D: BlockDev + Drop, L: BlockDev + Drop, H: Wait>(
         &mut self,
         rt: &H,
@@ -116,19 +111,21 @@ impl<R: Run + Names> Work<R> {
         recorder: &Shared<D, L, R>,
     ) -> Outcome
         requires { submission_answer R.sector_bytes R.sectors submission ≡ Ok tt }
-        ensures made { IsMade self.old.part (Submit submission) result self.new.part }
-        ensures same { (self.new.number ≡ self.old.number) × (self.new.tally ≡ self.old.tally) }
+        ensures made { Makes (Submit submission) self.old result self.new }
     {
+        if self.receipts.reserve(1).is_err() {
+            return Outcome::Failed;
+        }
         let Ok(bio) = bio_of(&mut self.last, submission) else {
             return Outcome::Failed;
         };
         let answer = recorder.submit(rt, &mut self.seat, bio, Ms::new(0));
-        self.keep(receipt_of(&answer));
+        keep(&mut self.receipts, receipt_of(&answer));
         Outcome::of_request(&answer)
     }
 
     // Marks the log.
-    #[tactic(auto, using(crate::proofs::Seats::line_is_text))]
+    #[tactic(auto, using(crate::proofs::Seats::line_is_text, crate::proofs::Seats::makes_mark, crate::proofs::Seats::refused))]
     fn mark<D: BlockDev + Drop, L: BlockDev + Drop, H: Wait>(
         &mut self,
         rt: &H,
@@ -136,33 +133,38 @@ impl<R: Run + Names> Work<R> {
         recorder: &Shared<D, L, R>,
     ) -> Outcome
         requires { is_line_text text.now ≡ true }
-        ensures made { IsMade self.old.part (Mark text.now) result self.new.part }
-        ensures same { (self.new.number ≡ self.old.number) × (self.new.tally ≡ self.old.tally) }
+        ensures made { Makes (Mark text.now) self.old result self.new }
     {
-        let answer = recorder.mark(rt, &mut self.seat, text);
-        self.keep(mark_receipt(&answer));
-        Outcome::of_mark(&answer)
-    }
-
-    // Keeps a receipt, if there is one, for the close. That takes no memory while there is room.
-    fn keep(&mut self, receipt: Option<Receipt>)
-        ensures { (self.new.number ≡ self.old.number) × (self.new.part ≡ self.old.part) × (self.new.tally ≡ self.old.tally) }
-    {
-        if let Some(receipt) = receipt {
-            let _ = self.receipts.push(receipt);
+        if self.receipts.reserve(1).is_err() {
+            return Outcome::Refused;
         }
+        let answer = recorder.mark(rt, &mut self.seat, text);
+        keep(&mut self.receipts, mark_receipt(&answer));
+        Outcome::of_mark(&answer)
     }
 }
 
 // Whether the line is that of the seat of this number.
-pub(crate) fn is_own(line: &SeatCall, number: u64) -> bool
+fn is_own(line: &SeatCall, number: u64) -> bool
     ensures { result ≡ (line.now.seat == number) }
 {
     line.seat == number
 }
 
+// Keeps a receipt, if there is one, for the close. There is room for it.
+fn keep(receipts: &mut Vec<Receipt>, receipt: Option<Receipt>)
+    requires { vec_len receipts.old < vec_capacity receipts.old }
+    ensures { receipts.new.items ≡ and_kept receipts.old.items receipt }
+{
+    if let Some(receipt) = receipt {
+        receipts.push_reserved(receipt);
+    }
+}
+
 // The receipt of a request that was logged.
-fn receipt_of(answer: &Answer) -> Option<Receipt> {
+fn receipt_of(answer: &Answer) -> Option<Receipt>
+    ensures { result ≡ receipt_in answer.now }
+{
     match answer {
         Answer::Logged(receipt) => Some(*receipt),
         _ => None,
@@ -170,7 +172,9 @@ fn receipt_of(answer: &Answer) -> Option<Receipt> {
 }
 
 // The receipt of a mark that was logged.
-fn mark_receipt(answer: &MarkAnswer) -> Option<Receipt> {
+fn mark_receipt(answer: &MarkAnswer) -> Option<Receipt>
+    ensures { result ≡ mark_receipt_in answer.now }
+{
     match answer {
         MarkAnswer::Logged(receipt) => Some(*receipt),
         _ => None,

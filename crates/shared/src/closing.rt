@@ -9,7 +9,7 @@ ghost use Rattle.lock_state.specs.Closing.{IsShort};
 ghost use Rattle.lock_state.specs.Comparing.{BeginsTaken, Each};
 ghost use Rattle.lock_state.specs.History.{Part, first_cause, named, owned};
 ghost use Rattle.lock_state.specs.Legal.{LegalHistory};
-ghost use Rattle.lock_state.specs.Placed.{LeavesBeginning, entries_in};
+ghost use Rattle.lock_state.specs.Placed.{LeavesBeginning, StandsOn, entries_in};
 ghost use Rattle.shared.specs.Closing.{Agrees, Differs, IfBusy, IfForeign, IsReceipt, LeavesLog};
 
 use crate::desk::Desk;
@@ -102,6 +102,7 @@ impl<D: BlockDev + Drop, L: BlockDev + Drop, R: Run + Names> Shared<D, L, R> {
             LeavesLog R.sector_bytes (L.shown c.log).size c.settled c.core.state c.end left) }
         ensures log { IfOk result (λ c. (L.shown c.log).lies ≡ 0 →
             LeavesLog R.sector_bytes (L.shown c.log).size c.settled c.core.state c.end (L.shown c.log).content) }
+        ensures stands { IfOk result (λ c. StandsOn R.log (L.shown c.log)) }
         ensures status { IfOk result (λ c. c.status ≡ status_of R.sector_bytes (entries_in c.placed.items) c.end) }
         ensures holds { IfOk result (λ c. (D.shown c.device).lies ≡ 0 → Holds (D.shown c.device).content c.done.items) }
         ensures end { IfOk result (λ c. c.end ≡ first_cause c.stop c.store_end) }
@@ -111,6 +112,7 @@ impl<D: BlockDev + Drop, L: BlockDev + Drop, R: Run + Names> Shared<D, L, R> {
             f.closed.placed.items f.closed.settled f.closed.store_end f.closed.done.items seats.items receipts.items)) }
         ensures foreign_legal { IfErr result (λ e. IfForeign e (λ f. (has_no_close f.closed.core.state.events ≡ false)
             × LegalHistory R.sector_bytes R.sectors f.closed.core.state.events f.closed.by.items [])) }
+        ensures foreign_stands { IfErr result (λ e. IfForeign e (λ f. StandsOn R.log (L.shown f.closed.log))) }
         ensures foreign_counts { IfErr result (λ e. IfForeign e (λ f.
             length seats.items ≡ R.parts → 0 < R.parts → named f.closed.by.items ≡ owned seats.items)) }
         ensures foreign_back { IfErr result (λ e. IfForeign e (λ f.
@@ -244,6 +246,7 @@ fn finish<D: BlockDev + Drop, L: BlockDev + Drop, R: Run>(
     ensures same { (result.core.state.events ≡ queue.core.events) × (result.by.items ≡ queue.by) }
     ensures crash { (L.shown result.log).lies ≡ 0 → (left : Content) → (L.shown result.log).crash left →
         LeavesLog R.sector_bytes (L.shown result.log).size result.settled result.core.state result.end left }
+    ensures stands { StandsOn R.log (L.shown result.log) }
     ensures status { result.status ≡ status_of R.sector_bytes (entries_in result.placed.items) result.end }
     ensures holds { (D.shown result.device).lies ≡ 0 → Holds (D.shown result.device).content result.done.items }
     ensures end { result.end ≡ first_cause result.stop result.store_end }
@@ -269,6 +272,7 @@ fn take_apart<D: BlockDev + Drop, L: BlockDev + Drop, R: Run>(
     ensures legal { LegalHistory R.sector_bytes R.sectors result.core.state.events result.by.items [] }
     ensures leaves { (L.shown result.log).lies ≡ 0 → (left : Content) → (L.shown result.log).crash left →
         LeavesBeginning R.sector_bytes (L.shown result.log).size result.settled (entries_in result.placed.items) left }
+    ensures stands { StandsOn R.log (L.shown result.log) }
     ensures status { result.status ≡ status_of R.sector_bytes (entries_in result.placed.items) result.end }
     ensures holds { (D.shown result.device).lies ≡ 0 → Holds (D.shown result.device).content result.done.items }
     ensures end { result.end ≡ first_cause result.stop result.store_end }

@@ -1,6 +1,7 @@
 //! A recorder of one seat: its calls, a close that wasn't asked for, and one that writes all by itself.
 ghost use Rattle.std.specs.Prelude.{◌≡◌};
 ghost use Rattle.sector_disk.specs.Shown.{shown_of};
+ghost use Rattle.shared_tests.specs.Disks.{disk_ground};
 
 use bio::{Bio, Bytes, Ms};
 use board::Names;
@@ -23,7 +24,7 @@ fn start<R: Run + Names>(
     requires ledger { (unnamed.ledger.name ≡ R.name) × (unnamed.ledger.parts ≡ R.parts) × (unnamed.ledger.parts ≡ 1) }
     requires table { unnamed.table ≡ R.table }
     requires board { unnamed.board ≡ R.board }
-    requires sectors { R.sectors ≡ 16 }
+    requires sectors { (R.sectors ≡ 16) × (R.log ≡ disk_ground 16) }
     requires sector_size { R.sector_bytes ≡ 512 }
 {
     let device = SectorDisk::new(alloc, SECTORS)?;
@@ -51,7 +52,7 @@ fn unasked<R: Run + Names, H: Wait>(
     requires ledger { (unnamed.ledger.name ≡ R.name) × (unnamed.ledger.parts ≡ R.parts) × (unnamed.ledger.parts ≡ 1) }
     requires table { unnamed.table ≡ R.table }
     requires board { unnamed.board ≡ R.board }
-    requires sectors { R.sectors ≡ 16 }
+    requires sectors { (R.sectors ≡ 16) × (R.log ≡ disk_ground 16) }
     requires sector_size { R.sector_bytes ≡ 512 }
 {
     let Some(started) = start::<R>(alloc, unnamed)? else {
@@ -89,7 +90,7 @@ fn recorded<R: Run + Names, H: Wait>(
     requires ledger { (unnamed.ledger.name ≡ R.name) × (unnamed.ledger.parts ≡ R.parts) × (unnamed.ledger.parts ≡ 1) }
     requires table { unnamed.table ≡ R.table }
     requires board { unnamed.board ≡ R.board }
-    requires sectors { R.sectors ≡ 16 }
+    requires sectors { (R.sectors ≡ 16) × (R.log ≡ disk_ground 16) }
     requires sector_size { R.sector_bytes ≡ 512 }
 {
     let Some(started) = start::<R>(alloc, unnamed)? else {
@@ -139,7 +140,7 @@ fn start_and_write<R: Run + Names, H: Wait>(
     requires ledger { (unnamed.ledger.name ≡ R.name) × (unnamed.ledger.parts ≡ R.parts) × (unnamed.ledger.parts ≡ 1) }
     requires table { unnamed.table ≡ R.table }
     requires board { unnamed.board ≡ R.board }
-    requires sectors { R.sectors ≡ 16 }
+    requires sectors { (R.sectors ≡ 16) × (R.log ≡ disk_ground 16) }
     requires sector_size { R.sector_bytes ≡ 512 }
 {
     let Some(started) = start::<R>(alloc, unnamed)? else {
@@ -191,6 +192,7 @@ fn foreign_seats<B: Run + Names, C: Run + Names, H: Wait>(
     requires ledger { (unnamed.ledger.name ≡ B.name) × (unnamed.ledger.parts ≡ B.parts) × (unnamed.ledger.parts ≡ 1) }
     requires table { (unnamed.table ≡ B.table) × (unnamed.board ≡ B.board) }
     requires sectors { (B.sectors ≡ 16) × (C.sectors ≡ 16) }
+    requires logs { (B.log ≡ disk_ground 16) × (C.log ≡ disk_ground 16) }
     requires sector_size { (B.sector_bytes ≡ 512) × (C.sector_bytes ≡ 512) }
     requires other_ledger { (other.ledger.name ≡ C.name) × (other.ledger.parts ≡ C.parts) × (other.ledger.parts ≡ 1) }
     requires other_table { (other.table ≡ C.table) × (other.board ≡ C.board) }

@@ -1,6 +1,7 @@
 //! Runs a recorder with a thread for each seat and one that writes the log, and closes it.
 ghost use Rattle.std.specs.Prelude.{◌≡◌, ◌<◌, ◌≤◌};
 ghost use Rattle.std.specs.Thread.{IsSend};
+ghost use Rattle.lock_state.specs.Placed.{ground_of};
 
 use crate::gate::Sign;
 use crate::work::{Call, Player, Tally, Work};
@@ -284,6 +285,7 @@ pub fn play<
     requires table { unnamed.table ≡ R.table }
     requires board { unnamed.board ≡ R.board }
     requires sectors { (D.shown device).size ≡ R.sectors }
+    requires log { R.log ≡ ground_of (L.shown log) }
     requires sector_size { R.sector_bytes ≡ 512 }
 {
     let Ok(started) = Shared::<D, L, R>::new(alloc, unnamed, device, log, count, readers) else {

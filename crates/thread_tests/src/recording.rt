@@ -1,6 +1,7 @@
 //! Two seats record requests through the values behind the locks, what was queued is placed, and all is compared at the end.
 ghost use Rattle.std.specs.Prelude.{◌≡◌};
 ghost use Rattle.bio.specs.Sizes.{bytes_of};
+ghost use Rattle.lock_state.specs.Placed.{ground_of};
 ghost use Rattle.log_store.specs.Shown.{store_of};
 ghost use Rattle.sector_disk.specs.Shown.{shown_of};
 
@@ -164,7 +165,7 @@ fn two_seats_record<R: Run>(
     requires holders { fresh ≡ R.table }
     requires size { bytes_of size ≡ R.sector_bytes }
     requires sectors { R.sectors ≡ 64 }
-    requires store { (store_of store).sector_bytes ≡ R.sector_bytes }
+    requires store { ((store_of store).sector_bytes ≡ R.sector_bytes) × (R.log ≡ ground_of (store_of store).device) }
     requires empty { (store_of store).placed ≡ 0 }
     requires device { (shown_of device).size ≡ 64 }
 {

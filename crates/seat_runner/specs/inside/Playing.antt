@@ -7,9 +7,10 @@ use Rattle.dmlw_script.specs.Plans.{top_of}
 use Rattle.dmlw_script.specs.RunPlans.{call_answer, FitsLine, RunPlan}
 use Rattle.lock_state.specs.declared.note.Receipt.{Receipt}
 use Rattle.lock_state.specs.History.{Part, new_part}
+use Rattle.seat_runner.specs.declared.tally.Outcome.{Outcome}
 use Rattle.seat_runner.specs.declared.tally.Tally.{Tally}
-use Rattle.seat_runner.specs.SeatRuns.{IsSeatRun}
-use Rattle.seat_runner.specs.Tallies.{no_calls}
+use Rattle.seat_runner.specs.SeatRuns.{IsMade, IsSeatRun}
+use Rattle.seat_runner.specs.Tallies.{Came, and_kept, no_calls}
 
 -- what contracts see of a seat at work: its number, its part, what its calls came to so far, and the receipts that it has
 pub record Player : Type 0 where
@@ -32,16 +33,25 @@ pub record CanMake (bytes sectors : ℕ) (call : Call) : Type 0 where
   pub tested : call_answer bytes sectors call ≡ Ok tt
   pub spelled : FitsLine call
 
+-- A seat makes a call, which comes to this outcome; it keeps the receipt that it was given, if there is one.
+pub record Makes (call : Call) (old : Player) (outcome : Outcome) (new : Player) : Type 0 where
+  pub came : Came
+  pub made : IsMade old.part call came new.part
+  pub told : came.outcome ≡ outcome
+  pub kept : new.receipts ≡ and_kept old.receipts came.receipt
+  pub number : new.number ≡ old.number
+  pub tally : new.tally ≡ old.tally
+
 -- A line is done: where it is the seat's own its call was made, and counted.
 pub record DoesLine (line : SeatCall) (old new : Player) : Type 0 where
   pub number : new.number ≡ old.number
-  pub ran : (before : List SeatCall) → length before < 2 ^ 64 - 1 → IsSeatRun before old.number old.part old.tally
-      → IsSeatRun (before ++ line ∷ []) old.number new.part new.tally
+  pub ran : (before : List SeatCall) → length before < 2 ^ 64 - 1 → IsSeatRun before old.number old.part old.tally old.receipts
+      → IsSeatRun (before ++ line ∷ []) old.number new.part new.tally new.receipts
 
 -- Lines are done one after another.
 pub record DoesLines (lines : List SeatCall) (old new : Player) : Type 0 where
   pub number : new.number ≡ old.number
-  pub ran : (number : ℕ) → old ≡ new_player number → IsSeatRun lines number new.part new.tally
+  pub ran : (number : ℕ) → old ≡ new_player number → IsSeatRun lines number new.part new.tally new.receipts
 
 -- Seats that have made no call, in the order of their numbers.
 pub record AreNewPlayers (many : ℕ) (players : List Player) : Type 0 where
@@ -51,4 +61,4 @@ pub record AreNewPlayers (many : ℕ) (players : List Player) : Type 0 where
 -- Each seat made the calls of its lines.
 pub record HavePlayed (lines : List SeatCall) (many : ℕ) (players : List Player) : Type 0 where
   pub count : length players ≡ many
-  pub each : (number : ℕ) (player : Player) → slice_get players number ≡ Some player → IsSeatRun lines number player.part player.tally
+  pub each : (number : ℕ) (player : Player) → slice_get players number ≡ Some player → IsSeatRun lines number player.part player.tally player.receipts

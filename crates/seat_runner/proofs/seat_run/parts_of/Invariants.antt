@@ -1,5 +1,6 @@
 use Rattle.std.proofs.Common.{◌≡◌, map}
 use Rattle.seat_runner.specs.inside.Playing.{Player}
+use Rattle.seat_runner.specs.Tallies.{joined}
 use Rattle.seat_runner.proofs.seat_run.parts_of.Given as goal
 
 abbrev pub invariant-loop-work : goal.invariant-loop-work
@@ -8,3 +9,4 @@ invariant-loop-work g l =
     × (goal.iterator-loop-work g).is_finite l.work-iterator
     × (l.seats.items ≡ map (λ (player : Player). player.part) l.yielded)
     × (l.tallies.items ≡ map (λ (player : Player). player.tally) l.yielded)
+    × (l.receipts.items ≡ joined (map (λ (player : Player). player.receipts) l.yielded))

@@ -28,6 +28,7 @@ pub returns-clause-ran : goal.returns-clause-ran
 returns-clause-ran g c =
     let parts = c.in_ok-seats.field-0 in
     let left = c.ran_of.ensures in
-    is_run _ _ c.args.script.now c.in_ok-works-2.works.items parts.seats.items _ parts.receipts.items c.in_ok-closed.closed _ _ _ c.requires.fits
-    c.in_ok-works-2.ensures.played c.in_ok-seats.ensures.seats (left.tallies ∙ c.in_ok-seats.ensures.tallies) c.in_ok-closed.ensures.closed left.status left.lies
+    is_run _ _ _ c.args.script.now c.args.log c.in_ok-works-2.works.items parts.seats.items _ parts.receipts.items c.in_ok-closed.closed _ _ _ c.requires.fits
+    c.requires.ground c.requires.script.room c.requires.log c.in_ok-works-2.ensures.played c.in_ok-seats.ensures.seats (left.tallies ∙ c.in_ok-seats.ensures.tallies)
+    c.in_ok-seats.ensures.receipts c.in_ok-closed.ensures.closed left.status left.lies
     (ap (λ (disk : SectorDisk). gather (shown_of disk).content 0 (shown_of disk).size) left.disk)

@@ -10,6 +10,6 @@ loop-seat-preserved g c =
       tt,
       tt,
       subst (AreNewPlayers _) (sym c.in_ok-push.ensures.items)
-          (players_push (length done) _ c.loop-seat.works.items c.in_ok-new.field-0 (long_push done c.in-Some.seat) c.loop-seat.invariant.2
-          (c.in_ok-new.ensures ∙ ap new_player at)),
+          (players_push (length done) _ c.loop-seat.works.items c.new.result (long_push done c.in-Some.seat) c.loop-seat.invariant.2
+          (c.new.ensures ∙ ap new_player at)),
     )

@@ -1,3 +1,4 @@
+use Rattle.shared_tests.specs.Disks.{disk_ground}
 use Rattle.shared_tests.proofs.closes.a_close_that_was_not_asked_for_is_busy.Given as goal
 
 abbrev pub ghosts-unasked-R-Ledger : goal.ghosts-unasked-R-Ledger
@@ -7,7 +8,7 @@ abbrev pub ghosts-unasked-R-Whose : goal.ghosts-unasked-R-Whose
 ghosts-unasked-R-Whose g a = record { table = a.unnamed.table }
 
 abbrev pub ghosts-unasked-R-Run : goal.ghosts-unasked-R-Run
-ghosts-unasked-R-Run g a = record { sectors = 16; sector_bytes = 512 }
+ghosts-unasked-R-Run g a = record { sectors = 16; sector_bytes = 512; log = disk_ground 16 }
 
 abbrev pub ghosts-unasked-R-Names : goal.ghosts-unasked-R-Names
 ghosts-unasked-R-Names g a = record { board = a.unnamed.board }

@@ -1,3 +1,4 @@
+use Rattle.shared_tests.specs.Disks.{disk_ground}
 use Rattle.shared_tests.proofs.closes.a_seat_writes_flushes_and_reads.Given as goal
 
 abbrev pub ghosts-recorded-R-Ledger : goal.ghosts-recorded-R-Ledger
@@ -7,7 +8,7 @@ abbrev pub ghosts-recorded-R-Whose : goal.ghosts-recorded-R-Whose
 ghosts-recorded-R-Whose g a = record { table = a.unnamed.table }
 
 abbrev pub ghosts-recorded-R-Run : goal.ghosts-recorded-R-Run
-ghosts-recorded-R-Run g a = record { sectors = 16; sector_bytes = 512 }
+ghosts-recorded-R-Run g a = record { sectors = 16; sector_bytes = 512; log = disk_ground 16 }
 
 abbrev pub ghosts-recorded-R-Names : goal.ghosts-recorded-R-Names
 ghosts-recorded-R-Names g a = record { board = a.unnamed.board }

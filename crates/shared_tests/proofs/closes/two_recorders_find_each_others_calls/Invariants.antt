@@ -1,3 +1,4 @@
+use Rattle.shared_tests.specs.Disks.{disk_ground}
 use Rattle.shared_tests.proofs.closes.two_recorders_find_each_others_calls.Given as goal
 
 abbrev pub ghosts-foreign_seats-B-Ledger : goal.ghosts-foreign_seats-B-Ledger
@@ -7,7 +8,7 @@ abbrev pub ghosts-foreign_seats-B-Whose : goal.ghosts-foreign_seats-B-Whose
 ghosts-foreign_seats-B-Whose g a = record { table = a.unnamed.table }
 
 abbrev pub ghosts-foreign_seats-B-Run : goal.ghosts-foreign_seats-B-Run
-ghosts-foreign_seats-B-Run g a = record { sectors = 16; sector_bytes = 512 }
+ghosts-foreign_seats-B-Run g a = record { sectors = 16; sector_bytes = 512; log = disk_ground 16 }
 
 abbrev pub ghosts-foreign_seats-B-Names : goal.ghosts-foreign_seats-B-Names
 ghosts-foreign_seats-B-Names g a = record { board = a.unnamed.board }
@@ -19,7 +20,7 @@ abbrev pub ghosts-foreign_seats-C-Whose : goal.ghosts-foreign_seats-C-Whose
 ghosts-foreign_seats-C-Whose g a = record { table = a.other.table }
 
 abbrev pub ghosts-foreign_seats-C-Run : goal.ghosts-foreign_seats-C-Run
-ghosts-foreign_seats-C-Run g a = record { sectors = 16; sector_bytes = 512 }
+ghosts-foreign_seats-C-Run g a = record { sectors = 16; sector_bytes = 512; log = disk_ground 16 }
 
 abbrev pub ghosts-foreign_seats-C-Names : goal.ghosts-foreign_seats-C-Names
 ghosts-foreign_seats-C-Names g a = record { board = a.other.board }

@@ -1,3 +1,4 @@
+use Rattle.lock_state.specs.Placed.{ground_of}
 use Rattle.sector_disk.specs.Shown.{shown_of}
 use Rattle.shared_tests.proofs.scenes.stage.Given as goal
 
@@ -8,7 +9,11 @@ abbrev pub ghosts-play-R-Whose : goal.ghosts-play-R-Whose
 ghosts-play-R-Whose g a = record { table = a.unnamed.table }
 
 abbrev pub ghosts-play-R-Run : goal.ghosts-play-R-Run
-ghosts-play-R-Run g a = record { sectors = (shown_of a.device.lower).size; sector_bytes = 512 }
+ghosts-play-R-Run g a = record {
+  sectors = (shown_of a.device.lower).size;
+  sector_bytes = 512;
+  log = ground_of (shown_of a.log.lower);
+}
 
 abbrev pub ghosts-play-R-Names : goal.ghosts-play-R-Names
 ghosts-play-R-Names g a = record { board = a.unnamed.board }

@@ -1,4 +1,6 @@
 use Rattle.bio.specs.Sizes.{bytes_of}
+use Rattle.lock_state.specs.Placed.{ground_of}
+use Rattle.log_store.specs.Shown.{store_of}
 use Rattle.thread_tests.proofs.recording.two_seats.Given as goal
 
 abbrev pub ghosts-two_seats_record-R-Ledger : goal.ghosts-two_seats_record-R-Ledger
@@ -8,4 +10,4 @@ abbrev pub ghosts-two_seats_record-R-Whose : goal.ghosts-two_seats_record-R-Whos
 ghosts-two_seats_record-R-Whose g a = record { table = a.fresh }
 
 abbrev pub ghosts-two_seats_record-R-Run : goal.ghosts-two_seats_record-R-Run
-ghosts-two_seats_record-R-Run g a = record { sectors = 64; sector_bytes = bytes_of a.size }
+ghosts-two_seats_record-R-Run g a = record { sectors = 64; sector_bytes = bytes_of a.size; log = ground_of (store_of a.store).device }

@@ -7,5 +7,5 @@ returns-then-not-is_own g c = skips c.args.line.now _ c.args.self.now c.self.vie
 
 pub returns : goal.returns
 returns g c =
-    does c.args.line.now _ c.args.self.now _ _ c.count.new.self c.self-2.inside.receipts.items c.make-outcome.result c.self.view_is c.self-2.view_is
-    (sym c.is_own.ensures ∙ c.if-not-is_own.false) c.make-outcome.ensures.made c.make-outcome.ensures.same c.count.ensures
+    does c.args.line.now _ c.args.self.now _ _ c.count.new.self c.make-outcome.result c.self.view_is c.self-2.view_is
+    (sym c.is_own.ensures ∙ c.if-not-is_own.false) c.make-outcome.ensures.made c.count.ensures

@@ -1,0 +1,7 @@
+-- What a recorder's log lies on in these tests.
+use Rattle.std.specs.Prelude.{ℕ, false}
+use Rattle.lock_state.specs.Placed.{Ground}
+
+-- a disk of so many sectors, under no layers
+abbrev pub disk_ground : ℕ → Ground
+disk_ground sectors = record { size = sectors; place = record { origin = 0; disk = sectors }; can_lie = false; lies = 0 }

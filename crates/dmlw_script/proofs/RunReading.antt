@@ -33,7 +33,7 @@ use Rattle.dmlw_script.specs.RunPlans.{call_answer, data_layer, lines_of_run, lo
 use Rattle.dmlw_script.specs.RunReading.{IsReadAsRun}
 use Rattle.dmlw_script.specs.inside.Drafts.{◌>>=◌, as_refusal}
 use Rattle.dmlw_script.specs.inside.Heads as heads_inside
-use Rattle.dmlw_script.specs.inside.Heads.{head_step, layer_in, layer_step, with_log}
+use Rattle.dmlw_script.specs.inside.Heads.{head_step, layer_step, with_log}
 use Rattle.dmlw_script.specs.inside.Readers.{at_line, IsFault, Reads}
 use Rattle.dmlw_script.specs.inside.RunParsing.{parse_run_line}
 use Rattle.dmlw_script.specs.inside.RunReaders.{call_line, finished_run, is_closed, is_seat_count, nothing_read, read_run_lines, read_run_text, run_finish_step, run_line_step, said_step, seats_line, with_call, with_run_head, RunProgress}

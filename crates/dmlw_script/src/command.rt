@@ -1,3 +1,4 @@
+//! The commands that a script's lines are.
 use crate::disk_name::DiskName;
 use bio::{Bytes, Ms};
 

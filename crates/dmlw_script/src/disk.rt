@@ -1,3 +1,4 @@
+//! A disk of a script: its sectors, and the layers over it.
 ghost use Rattle.std.specs.Prelude.{◌≡◌, OnOk};
 ghost use Rattle.dmlw_script.specs.Plans.{top_of};
 ghost use Rattle.dmlw_script.specs.Reading.{bare, with_layer};

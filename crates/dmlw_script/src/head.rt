@@ -1,3 +1,4 @@
+//! The head of a script: its disks, the size of its log's sectors, and its layers, in their order.
 ghost use Rattle.std.specs.Prelude.{◌≡◌, List, false, ℕ};
 ghost use Rattle.bio.specs.Sizes.{bytes_of};
 ghost use Rattle.dmlw_script.specs.Plans.{is_disk_size as is_a_disk_size, is_log_disk_size as is_a_log_disk_size, is_within as is_within_them};

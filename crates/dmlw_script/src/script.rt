@@ -1,3 +1,4 @@
+//! A script that was read: its disks, its commands, and the crash that ends it, if one does.
 ghost use Rattle.std.specs.Prelude.{◌≡◌, ◌≤◌, ◌/◌, option_copied, option_map};
 
 use crate::command::Command;

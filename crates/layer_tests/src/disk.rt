@@ -1,3 +1,4 @@
+//! The disk in memory.
 use crate::calls::{ask, byte_of, look, play, read_of, step};
 use bio::{DevError, Ms};
 use blockdev::BlockDev;

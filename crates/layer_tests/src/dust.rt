@@ -1,3 +1,4 @@
+//! Layers with bad blocks.
 use crate::calls::talk;
 use bio::Ms;
 use blockdev::{BlockDev, Message};

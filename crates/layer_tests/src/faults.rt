@@ -1,3 +1,4 @@
+//! Layers that fail or drop calls.
 use crate::calls::{calls, look, play};
 use bio::Ms;
 use blockdev::BlockDev;

@@ -1,3 +1,4 @@
+//! Stacks of layers by their table lines.
 ghost use Rattle.std.specs.Prelude.{◌≡◌};
 ghost use Rattle.std.specs.List.{AllByRecursion};
 ghost use Rattle.table_line.specs.declared.layer_spec.Target.TheVariants.{Linear};

@@ -1,3 +1,4 @@
+//! The core: events, and the completion list of them.
 use bio::{Bio, Bytes, End, Id};
 use pending::*;
 use std::alloc::{AllocError, Global};

@@ -1,3 +1,4 @@
+//! The parts that lines are made of: a first word, numbers and ids.
 ghost use Rattle.std.specs.Prelude.{◌≡◌, ◌++◌, ◌∷◌, decimal, OnOk};
 ghost use Rattle.dmlw_script.specs.Ids.{letters_of};
 

@@ -1,3 +1,4 @@
+//! The lines that are no submissions: ends, marks, turns, moments and messages.
 ghost use Rattle.std.specs.Prelude.{◌≡◌, ◌++◌, ◌∷◌, codes, decimal, OnOk};
 ghost use Rattle.dmlw_script.specs.Grammar.{message_verb};
 ghost use Rattle.dmlw_script.specs.CanonicalText.{step_text};

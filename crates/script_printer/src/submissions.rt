@@ -1,3 +1,4 @@
+//! The lines of submissions.
 ghost use Rattle.std.specs.Prelude.{◌≡◌, ◌<◌, ◌++◌, ◌∷◌, decimal, OnOk};
 ghost use Rattle.dmlw_script.specs.Grammar.{spaced};
 ghost use Rattle.dmlw_script.specs.Ids.{letters_of};

@@ -1,3 +1,4 @@
+//! What a line asks of the recorder: that a request is submitted, or that one has ended.
 ghost use Rattle.std.specs.Prelude.{◌≡◌, ◌≤◌, Ok, ℕ};
 ghost use Rattle.dmlw_script.specs.Plans.{submission_answer};
 ghost use Rattle.recorder.specs.Growth.{RecorderGoes};

@@ -1,3 +1,4 @@
+//! Hands a script's request over to the data device.
 ghost use Rattle.std.specs.Prelude.{◌≡◌, ◌*◌, IfSome, Ok, option_map, IsTrue, is_ok, length, true, false};
 ghost use Rattle.bio.specs.Check.{check_answer, range_answer};
 ghost use Rattle.blockdev.specs.Calls.{Flushes, IsByteRange, IsRange, Writes};

@@ -1,3 +1,4 @@
+//! The headline, of a recorder over a stack of layers.
 ghost use Rattle.std.specs.Prelude.{◌++◌, ◌≡◌, ◌≤◌, [], List, None, Some, false, length, slice_get, take, ℕ};
 ghost use Rattle.bio.specs.declared.event.CoreEvent.TheVariants.{Mark};
 ghost use Rattle.recorder.specs.declared.reply.Reply.TheVariants.{Queued};

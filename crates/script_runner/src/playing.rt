@@ -1,3 +1,4 @@
+//! Runs a script on two disks in memory, each under its layers, over a new log.
 ghost use Rattle.std.specs.Prelude.{◌≡◌, ◌≤◌, ◌/◌, ◌⊎◌, IfErr, IfOk};
 ghost use Rattle.bio.specs.Sizes.{bytes_of};
 ghost use Rattle.dmlw_script.specs.Plans.{IsDisk, top_of};

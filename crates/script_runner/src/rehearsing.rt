@@ -1,3 +1,4 @@
+//! Runs a script for its events alone: `rehearse` is what a judge asks for.
 ghost use Rattle.std.specs.Prelude.{◌≡◌, IfErr, IfOk, true};
 ghost use Rattle.bio.specs.Lawful.{all_aligned, is_lawful};
 ghost use Rattle.bio.specs.Sizes.{bytes_of};

@@ -1,3 +1,4 @@
+//! The request that a line submits, and what became of it.
 ghost use Rattle.std.specs.Prelude.{◌≡◌, IfOk, IsOk, Ok, false, ℕ};
 ghost use Rattle.bio.specs.Check.{check_sized_answer};
 ghost use Rattle.bio.specs.Requests.{has_data};

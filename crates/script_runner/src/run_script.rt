@@ -1,3 +1,4 @@
+//! Runs all lines of a script, up to the first one that is refused.
 ghost use Rattle.bio.specs.Sizes.{bytes_of};
 ghost use Rattle.dmlw_script.specs.Plans.{top_of};
 ghost use Rattle.recorder.specs.Shown.{core_of};

@@ -1,3 +1,4 @@
+//! A script's run, line by line: `Running` has the recorder, the data device and the script's requests.
 ghost use Rattle.std.specs.Prelude.{IsTrue};
 ghost use Rattle.std.specs.List.{list_all};
 ghost use Rattle.script_runner.specs.Submitted.{fits_device};

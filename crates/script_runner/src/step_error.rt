@@ -1,3 +1,4 @@
+//! Why a line stops the run of its script.
 ghost use Rattle.std.specs.Prelude.{◌≡◌};
 ghost use Rattle.std.specs.IoError.{error_kind};
 ghost use Rattle.run_error.specs.Errors.{io_refusal, memory_error, refused_by};

@@ -1,3 +1,4 @@
+//! A device that fails.
 ghost use Rattle.std.specs.Prelude.{false};
 ghost use Rattle.blockdev.specs.Counted.{counted, lawful_counted};
 

@@ -1,3 +1,4 @@
+//! A device that fails just one of its calls.
 ghost use Rattle.std.specs.Prelude.{◌≡◌, ◌+◌, ◌^◌, ◌-◌, false, min, true};
 ghost use Rattle.blockdev.specs.Counted.{counted, lawful_counted};
 

@@ -1,3 +1,4 @@
+//! A device that loses each call, and counts a lie.
 ghost use Rattle.std.specs.Prelude.{true};
 ghost use Rattle.blockdev.specs.Counted.{counted, lawful_counted};
 

@@ -1,3 +1,4 @@
+//! A device that does its calls and answers that they failed, from some call on.
 ghost use Rattle.std.specs.Prelude.{false};
 ghost use Rattle.blockdev.specs.Counted.{counted, lawful_counted};
 

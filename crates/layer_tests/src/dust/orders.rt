@@ -1,3 +1,4 @@
+//! The messages of a layer with bad blocks.
 use super::{by_sector, over, talk_over};
 use crate::calls::{answer_of, ask, read_of};
 use bio::Ms;

@@ -1,3 +1,4 @@
+//! Which calls a replay makes.
 use super::{disk_of, image_of, number_of, upto_of};
 use log_reader::LogReader;
 use refusals::Refusal;

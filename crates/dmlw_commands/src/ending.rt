@@ -1,3 +1,4 @@
+//! How a command ends: its exit, and the line that reports a fault.
 ghost use Rattle.std.specs.Prelude.{◌≡◌, ◌++◌, [], Err, OnOk, true};
 ghost use Rattle.std.specs.Io.KnownBytes.{Appends, Keeps};
 ghost use Rattle.dmlw_commands.specs.declared.exit.Exit.{Exit};

@@ -1,3 +1,4 @@
+//! The exit status of a command.
 ghost use Rattle.std.specs.Prelude.{◌≡◌};
 ghost use Rattle.dmlw_commands.specs.Exits.{exit_at, exit_of, status_of};
 

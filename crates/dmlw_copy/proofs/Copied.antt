@@ -46,7 +46,7 @@ use Rattle.dmlw_files.specs.Images.{IsImage, image_of}
 use Rattle.dmlw_copy.specs.declared.images.Copied.{Copied}
 use Rattle.dmlw_copy.specs.declared.stop.Stop.{Stop}
 use Rattle.dmlw_copy.specs.declared.stop.Stop.TheVariants as stops
-use Rattle.dmlw_copy.specs.CopiesLog.{FailsCopy, FailsOnImage, HasStopCause, IsCopied, IsCopiedFrom, LacksRoom, StopsCopy, memory, of_image, stopped, unopened}
+use Rattle.dmlw_copy.specs.CopiesLog.{FailsCopy, FailsOnImage, HasStopCause, IsCopied, IsCopiedFrom, LacksRoom, StopsCopy, memory, of_image, unopened}
 use Rattle.dmlw_copy.specs.OnDisks.{IsBegun, IsCopiedOn, IsOpened, RefusesOpen}
 
 -- a device that counts no faults hasn't failed

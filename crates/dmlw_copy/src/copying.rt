@@ -9,7 +9,7 @@ ghost use Rattle.dmlw_files.specs.Files.{KeepsFiles, MatchesContents, one_more};
 ghost use Rattle.dmlw_files.specs.Images.{image_of};
 ghost use Rattle.dmlw_copy.specs.CopiesLog.{Copies, EndsCopying, FailsCopy, HoldsCopied, IsCopiedFrom, copied_line};
 
-use crate::ending::{end_copying, refusal_of};
+use crate::ending::{end_copying, stopped_of};
 use crate::images::{Copied, copy_image};
 use crate::stop::Stop;
 use dmlw_commands::{Ended, Exit};
@@ -49,7 +49,7 @@ pub fn copy<F: Files, O: Write, E: Write>(
     ensures apart { names.entry.log.now ≡ names.entry.out.now → F.writes files.new ≡ F.writes files.old }
 {
     let done = copy_file(alloc, names, sectors, files, out);
-    let more = explain_copying(alloc, explains, refusal_of(done), names, files);
+    let more = explain_copying(alloc, explains, stopped_of(done), names, files);
     end_copying(alloc, done, more.as_str(), out, err)
 }
 

@@ -181,7 +181,7 @@ ends_task (tasks.Judge script moment image) contents writes_old writes_new old n
 ends_task (tasks.Path script moment image) contents writes_old writes_new old new t ended ends = ends_silently writes_old writes_new ended.exit ends.unwritten
 ends_task (tasks.Formats page) contents writes_old writes_new old new t ended ends = ends_silently writes_old writes_new ended.exit ends.unwritten
 ends_task (tasks.Show error) contents writes_old writes_new old new t ended ends = ends_silently writes_old writes_new ended.exit ends.unwritten
-ends_task (tasks.Flawed flaw) contents writes_old writes_new old new t ended ends = ends_silently writes_old writes_new ended.exit ends.unwritten
+ends_task (tasks.Flawed flaw word) contents writes_old writes_new old new t ended ends = ends_silently writes_old writes_new ended.exit ends.unwritten
 
 -- a line with nothing behind it
 nothing_behind : (old new : Option (List ℕ)) (line more : List ℕ) → more ≡ [] → Appends old new (line ++ more) → Appends old new line
@@ -283,7 +283,7 @@ task_tells (tasks.Judge script moment image) contents writes_old writes_new old 
 task_tells (tasks.Path script moment image) contents writes_old writes_new old new t ended ends off = told_finding t ends.done ended off ends.tells
 task_tells (tasks.Formats page) contents writes_old writes_new old new t ended ends off = told_by t ends.told.done ended off ends.told.tells
 task_tells (tasks.Show error) contents writes_old writes_new old new t ended ends off = text_tells (kind_of error) t ended ends.ends ends.tells off
-task_tells (tasks.Flawed flaw) contents writes_old writes_new old new t ended ends off =
+task_tells (tasks.Flawed flaw word) contents writes_old writes_new old new t ended ends off =
     subst (λ (e : Exit). TellsBy e ended t.before t.after) (sym ends.usage) tt
 
 -- where there was no memory to read words, that is what they are read as

@@ -268,8 +268,8 @@ replay_ends : (task : Task) (log first out what : Text) (given : Upto) (contents
 replay_ends (tasks.Replay files upto) log first out what given contents before after old new t ended is asks ends =
     of_words files upto log first out what
     (λ l f o u. EndsReplaying (contents l) (contents f) o u before after old new t ended) asks ends
-replay_ends (tasks.Flawed flaws.What) log first out what given contents before after old new t ended is asks ends =
-    let (word, is_word, none) = asks in absurd (subst (λ (w : Text). IsWhat w given → ⊥) (sym (same_some what word is_word)) (none given) is)
+replay_ends (tasks.Flawed flaws.What told) log first out what given contents before after old new t ended is asks ends =
+    let (is_word, none) = asks in absurd (subst (λ (w : Text). IsWhat w given → ⊥) (sym (same_some what told.now is_word)) (none given) is)
 replay_ends (tasks.Show error) log first out what given contents before after old new t ended is asks ends = (
   given,
   is,
@@ -284,8 +284,8 @@ image_left : (task : Task) (log first out what : Text) (given : Upto) (contents 
     → TaskLeaves task contents later old new ended.exit → ended.exit ≡ Done → LeavesReplayed what (contents log) (contents first) (later out)
 image_left (tasks.Replay files upto) log first out what given contents later before after old new t ended is asks ends leaves done =
     of_words files upto log first out what (λ l f o u. HoldsReplayed (contents l) (contents f) u (later o)) asks (leaves done)
-image_left (tasks.Flawed flaws.What) log first out what given contents later before after old new t ended is asks ends leaves done =
-    let (word, is_word, none) = asks in absurd (subst (λ (w : Text). IsWhat w given → ⊥) (sym (same_some what word is_word)) (none given) is)
+image_left (tasks.Flawed flaws.What told) log first out what given contents later before after old new t ended is asks ends leaves done =
+    let (is_word, none) = asks in absurd (subst (λ (w : Text). IsWhat w given → ⊥) (sym (same_some what told.now is_word)) (none given) is)
 image_left (tasks.Show error) log first out what given contents later before after old new t ended is asks ends leaves done =
     absurd (not_done ended.exit (memory_ends (kind_of error) before after old new t ended asks ends).ends done)
 image_left task log first out what given contents later before after old new t ended is asks ends leaves done = absurd asks
@@ -314,8 +314,8 @@ copy_ends : (task : Task) (log out word : Text) (sectors : ℕ) (contents : List
     → EndsCopying (contents log) out sectors before after old new t ended
 copy_ends (tasks.Copy files asked) log out word sectors contents before after old new t ended is asks ends =
     of_copy files asked log out word sectors (λ l o n. EndsCopying (contents l) o n before after old new t ended) is asks ends
-copy_ends (tasks.Flawed flaws.Sectors) log out word sectors contents before after old new t ended is asks ends =
-    let (found, is_word, none) = asks in absurd (copy_named word sectors found is is_word none)
+copy_ends (tasks.Flawed flaws.Sectors told) log out word sectors contents before after old new t ended is asks ends =
+    let (is_word, none) = asks in absurd (copy_named word sectors told.now is is_word none)
 copy_ends (tasks.Show error) log out word sectors contents before after old new t ended is asks ends =
     copy_refused (contents log) out sectors before after old new t ended (memory_ends (kind_of error) before after old new t ended asks ends)
 copy_ends task log out word sectors contents before after old new t ended is asks ends = absurd asks
@@ -327,8 +327,8 @@ copy_left : (task : Task) (log out word : Text) (sectors : ℕ) (contents later 
     → TaskLeaves task contents later old new ended.exit → ended.exit ≡ Done → HoldsCopied (contents log) sectors (later out)
 copy_left (tasks.Copy files asked) log out word sectors contents later before after old new t ended is asks ends leaves done =
     of_copy files asked log out word sectors (λ l o n. HoldsCopied (contents l) n (later o)) is asks (leaves done)
-copy_left (tasks.Flawed flaws.Sectors) log out word sectors contents later before after old new t ended is asks ends leaves done =
-    let (found, is_word, none) = asks in absurd (copy_named word sectors found is is_word none)
+copy_left (tasks.Flawed flaws.Sectors told) log out word sectors contents later before after old new t ended is asks ends leaves done =
+    let (is_word, none) = asks in absurd (copy_named word sectors told.now is is_word none)
 copy_left (tasks.Show error) log out word sectors contents later before after old new t ended is asks ends leaves done =
     absurd (not_done ended.exit (memory_ends (kind_of error) before after old new t ended asks ends).ends done)
 copy_left task log out word sectors contents later before after old new t ended is asks ends leaves done = absurd asks
@@ -363,8 +363,8 @@ judge_ends (tasks.Judge s n i) script m image moment contents before after old n
     let (is_script, is_image, word, is_word, named) = asks in
     of_question contents script image m s.now i.now word moment n (λ asked. EndsJudging asked before after old new t ended) number is_script is_image is_word
     named ends
-judge_ends (tasks.Flawed flaws.Moment) script m image moment contents before after old new t ended number asks ends =
-    let (word, is_word, none) = asks in absurd (number_named m word moment number is_word none)
+judge_ends (tasks.Flawed flaws.Moment told) script m image moment contents before after old new t ended number asks ends =
+    let (is_word, none) = asks in absurd (number_named m told.now moment number is_word none)
 judge_ends (tasks.Show error) script m image moment contents before after old new t ended number asks ends =
     answer_refused verdict_meaning (asked_of contents script moment image) before after old new t ended
     (memory_ends (kind_of error) before after old new t ended asks ends)
@@ -379,8 +379,8 @@ path_ends (tasks.Path s n i) script m image moment contents before after old new
     let (is_script, is_image, word, is_word, named) = asks in
     of_question contents script image m s.now i.now word moment n (λ asked. EndsFinding asked before after old new t ended) number is_script is_image is_word
     named ends
-path_ends (tasks.Flawed flaws.Moment) script m image moment contents before after old new t ended number asks ends =
-    let (word, is_word, none) = asks in absurd (number_named m word moment number is_word none)
+path_ends (tasks.Flawed flaws.Moment told) script m image moment contents before after old new t ended number asks ends =
+    let (is_word, none) = asks in absurd (number_named m told.now moment number is_word none)
 path_ends (tasks.Show error) script m image moment contents before after old new t ended number asks ends =
     answer_refused finding_meaning (asked_of contents script moment image) before after old new t ended
     (memory_ends (kind_of error) before after old new t ended asks ends)

@@ -349,13 +349,13 @@ no_what (Count n) named = let byte = same_number 120 101 (one_byte _ _ named.1) 
 no_what (Mark text) named = let byte = same_number 120 109 (one_byte _ _ named) in omega arith
 no_what Flush named = let byte = same_number 120 102 (one_byte _ _ named) in omega arith
 
-asks_what : AsksBy names.Replay (replay_rows (codes "x")) (tasks.Flawed flaws.What)
-asks_what = (codes "x", refl, no_what)
+asks_what : AsksBy names.Replay (replay_rows (codes "x")) (tasks.Flawed flaws.What (str (codes "x")))
+asks_what = (refl, no_what)
 
-asks_what_fine : AsksBy names.Replay (replay_rows (codes "flush")) (tasks.Flawed flaws.What) → ⊥
-asks_what_fine (what, is, none) = none Flush (sym (same_some _ _ is))
+asks_what_fine : AsksBy names.Replay (replay_rows (codes "flush")) (tasks.Flawed flaws.What (str (codes "flush"))) → ⊥
+asks_what_fine (is, none) = none Flush refl
 
-asks_what_moment : AsksBy names.Replay (replay_rows (codes "x")) (tasks.Flawed flaws.Moment) → ⊥
+asks_what_moment : AsksBy names.Replay (replay_rows (codes "x")) (tasks.Flawed flaws.Moment (str (codes "x"))) → ⊥
 asks_what_moment asks = asks
 
 -- a copy of this file for that one, on a disk of so many sectors, and others
@@ -370,15 +370,14 @@ asks_copy_sectors (log, out, word, is, count) =
     let same = same_number 48 49 (ap number_value (same_some _ _ is) ∙ count.number.1) in omega arith
 
 -- a SECTORS below 8 and one past 1,048,576, and one that may be, told as none
-asks_sectors : AsksBy names.Copy (copy_rows (codes "7")) (tasks.Flawed flaws.Sectors)
-asks_sectors = (codes "7", refl, λ n count. let same = same_number 7 n count.number.1 in let least = count.least in omega arith)
+asks_sectors : AsksBy names.Copy (copy_rows (codes "7")) (tasks.Flawed flaws.Sectors (str (codes "7")))
+asks_sectors = (refl, λ n count. let same = same_number 7 n count.number.1 in let least = count.least in omega arith)
 
-asks_sectors_past : AsksBy names.Copy (copy_rows (codes "1048577")) (tasks.Flawed flaws.Sectors)
-asks_sectors_past = (codes "1048577", refl, λ n count. let same = same_number 1048577 n count.number.1 in let most = count.most in omega arith)
+asks_sectors_past : AsksBy names.Copy (copy_rows (codes "1048577")) (tasks.Flawed flaws.Sectors (str (codes "1048577")))
+asks_sectors_past = (refl, λ n count. let same = same_number 1048577 n count.number.1 in let most = count.most in omega arith)
 
-asks_sectors_fine : AsksBy names.Copy (copy_rows (codes "8")) (tasks.Flawed flaws.Sectors) → ⊥
-asks_sectors_fine (word, is, none) =
-    none 8 (record { number = (ap is_number (sym (same_some _ _ is)), ap number_value (sym (same_some _ _ is))); least = omega arith; most = omega arith })
+asks_sectors_fine : AsksBy names.Copy (copy_rows (codes "8")) (tasks.Flawed flaws.Sectors (str (codes "8"))) → ⊥
+asks_sectors_fine (is, none) = none 8 (record { number = (refl, refl); least = omega arith; most = omega arith })
 
 -- a judging of these files at this moment, and of others
 asks_judge : AsksBy names.Judge (judge_rows (codes "12")) (tasks.Judge (str (codes "a")) 12 (str (codes "c")))
@@ -405,20 +404,20 @@ asks_path_judge : AsksBy names.Path (judge_rows (codes "12")) (tasks.Judge (str 
 asks_path_judge asks = asks
 
 -- an M that is no number, and one that is, told as none
-asks_moment : AsksBy names.Judge (judge_rows (codes "1x")) (tasks.Flawed flaws.Moment)
-asks_moment = (codes "1x", refl, refl)
+asks_moment : AsksBy names.Judge (judge_rows (codes "1x")) (tasks.Flawed flaws.Moment (str (codes "1x")))
+asks_moment = (refl, refl)
 
-asks_moment_fine : AsksBy names.Judge (judge_rows (codes "12")) (tasks.Flawed flaws.Moment) → ⊥
-asks_moment_fine (m, is, none) = let same : true ≡ false = ap is_number (same_some _ _ is) ∙ none in cc
+asks_moment_fine : AsksBy names.Judge (judge_rows (codes "12")) (tasks.Flawed flaws.Moment (str (codes "12"))) → ⊥
+asks_moment_fine (is, none) = let same : true ≡ false = none in cc
 
-asks_moment_what : AsksBy names.Judge (judge_rows (codes "1x")) (tasks.Flawed flaws.What) → ⊥
+asks_moment_what : AsksBy names.Judge (judge_rows (codes "1x")) (tasks.Flawed flaws.What (str (codes "1x"))) → ⊥
 asks_moment_what asks = asks
 
 -- a task of another command, and a text that is shown for another reason than memory
 asks_another : AsksBy names.List log_rows (tasks.Status (str (codes "b"))) → ⊥
 asks_another asks = asks
 
-asks_flaw : AsksBy names.Record record_rows (tasks.Flawed flaws.What) → ⊥
+asks_flaw : AsksBy names.Record record_rows (tasks.Flawed flaws.What (str (codes "x"))) → ⊥
 asks_flaw asks = asks
 
 asks_page : (page : Bor (List ℕ)) → AsksBy names.Status log_rows (tasks.Formats page) → ⊥
@@ -506,8 +505,8 @@ page_read page = tt
 page_list : (log : Bor (List ℕ)) → IsRead page_line (tasks.List log) → ⊥
 page_list log read = read
 
-page_flaw : (flaw : Flaw) → IsRead page_line (tasks.Flawed flaw) → ⊥
-page_flaw flaw read = read
+page_flaw : (flaw : Flaw) (word : Bor (List ℕ)) → IsRead page_line (tasks.Flawed flaw word) → ⊥
+page_flaw flaw word read = read
 
 page_help : (error : Error) → kind_of error ≡ DisplayHelp → IsRead page_line (tasks.Show error) → ⊥
 page_help error is read = let same : DisplayHelp ≡ OutOfMemory = sym is ∙ read in cc
@@ -703,25 +702,27 @@ what_usage : (t : Telling) (ended : Ended) → ReplaysWhat (codes "flush") None 
 what_usage t ended (upto, named, told) is = replayed_usage told.done (sym told.tells.exits ∙ is)
 
 -- what is told of a flaw, and a flaw that asks for a file, ends as refused, prints on the output, or is told by no line
-flaw_what : flaw_text flaws.What ≡ codes "error: <WHAT> is entries:<n>, mark:<text> or flush\n"
+flaw_what : flaw_text flaws.What (codes "x")
+    ≡ codes "error: invalid value 'x' for '<WHAT>'\n  [possible values: entries:<n>, mark:<text>, flush]\n\nFor more information, try 'dmlw help replay'.\n"
 flaw_what = refl
 
-flaw_moment : flaw_text flaws.Moment ≡ codes "error: <M> is a number of 1 to 20 digits, below 2^64\n"
+flaw_moment : flaw_text flaws.Moment (codes "-")
+    ≡ codes "error: invalid value '-' for '<M>'\n  [possible values: a number of 1 to 20 digits, below 2^64]\n\nFor more information, try 'dmlw help judge'.\n"
 flaw_moment = refl
 
-flaw_asking : (t : Telling) (ended : Ended) → EndsFlawed flaws.What (Some []) (Some (a_write ∷ [])) None None t ended → ⊥
+flaw_asking : (t : Telling) (ended : Ended) → EndsFlawed flaws.What (codes "x") (Some []) (Some (a_write ∷ [])) None None t ended → ⊥
 flaw_asking t ended told = let none = told.unwritten in cc
 
-flaw_refused : (t : Telling) (ended : Ended) → EndsFlawed flaws.What None None None None t ended → ended.exit ≡ exits.Refused → ⊥
+flaw_refused : (t : Telling) (ended : Ended) → EndsFlawed flaws.What (codes "x") None None None None t ended → ended.exit ≡ exits.Refused → ⊥
 flaw_refused t ended told is = let same : exits.Usage ≡ exits.Refused = sym told.usage ∙ is in cc
 
-flaw_printing : (t : Telling) (ended : Ended) → EndsFlawed flaws.What None None (Some []) (Some (1 ∷ [])) t ended → ⊥
+flaw_printing : (t : Telling) (ended : Ended) → EndsFlawed flaws.What (codes "x") None None (Some []) (Some (1 ∷ [])) t ended → ⊥
 flaw_printing t ended told = let none = told.silent in cc
 
-flaw_silent : (ended : Ended) → EndsFlawed flaws.Moment None None None None (stream_told [] []) ended → ended.is_told ≡ true → ⊥
+flaw_silent : (ended : Ended) → EndsFlawed flaws.Moment (codes "x") None None None None (stream_told [] []) ended → ended.is_told ≡ true → ⊥
 flaw_silent ended told took = let grew = told.told took in cc
 
-flaw_told : EndsFlawed flaws.What None None (Some []) (Some []) (stream_told [] (flaw_text flaws.What)) (record { exit = exits.Usage; is_told = true })
+flaw_told : EndsFlawed flaws.What (codes "x") None None (Some []) (Some []) (stream_told [] (flaw_text flaws.What (codes "x"))) (record { exit = exits.Usage; is_told = true })
 flaw_told = record { unwritten = refl; usage = refl; silent = refl; told = λ took. refl }
 
 -- how tasks end that no law tells of: a page that isn't printed, a text and a flaw that ask for a file
@@ -736,7 +737,7 @@ task_text contents error t ended is told done =
     text_done t ended (subst (λ (kind : ErrorKind). EndsText kind None None None None t ended) is told) done
 
 task_flaw : (contents : List ℕ → Option (List ℕ)) (t : Telling) (ended : Ended)
-    → EndsTask (tasks.Flawed flaws.What) contents None None None None t ended → ended.exit ≡ exits.Refused → ⊥
+    → EndsTask (tasks.Flawed flaws.What (str (codes "x"))) contents None None None None t ended → ended.exit ≡ exits.Refused → ⊥
 task_flaw contents t ended told is = flaw_refused t ended told is
 
 -- a line that asks for an explanation is read as the same line that doesn't, and may tell more

@@ -1,5 +1,5 @@
 -- What a command line comes to.
-use Rattle.std.specs.Prelude.{◌≡◌, ◌≤◌, ◌⊎◌, ℕ, Bool, true, false, Err, IfErr, List, MatchResult, Option, Result, codes}
+use Rattle.std.specs.Prelude.{◌≡◌, ◌≤◌, ◌⊎◌, ◌++◌, ℕ, Bool, true, false, Err, IfErr, List, MatchResult, Option, Result, codes}
 use Rattle.std.specs.declared.io.ErrorKind.{ErrorKind as IoErrorKind}
 use Rattle.std.specs.declared.io.ErrorKind.TheVariants.{InvalidData}
 use Rattle.std.specs.Io.KnownBytes.{Appends, Keeps}
@@ -102,19 +102,26 @@ ReplaysWhat what log_file first_file name writes_old writes_new old new t ended 
 abbrev pub LeavesReplayed : List ℕ → Option (List ℕ) → Option (List ℕ) → Option (List ℕ) → Type 0
 LeavesReplayed what log_file first_file written = (upto : Upto) × IsWhat what upto × HoldsReplayed log_file first_file upto written
 
+-- the argument that such a word stands for, the forms that are possible there, and where help is
+abbrev pub flaw_forms : Flaw → List ℕ
+flaw_forms flaws.What =
+    codes "'<WHAT>'\n  [possible values: entries:<n>, mark:<text>, flush]\n\nFor more information, try 'dmlw help replay'."
+flaw_forms flaws.Sectors =
+    codes "'<SECTORS>'\n  [possible values: a number from 8 to 1048576]\n\nFor more information, try 'dmlw help copy'."
+flaw_forms flaws.Moment =
+    codes "'<M>'\n  [possible values: a number of 1 to 20 digits, below 2^64]\n\nFor more information, try 'dmlw help judge'."
+
 -- what a user is told of a word that is none of those that stand in its place
-abbrev pub flaw_text : Flaw → List ℕ
-flaw_text flaws.What = codes "error: <WHAT> is entries:<n>, mark:<text> or flush\n"
-flaw_text flaws.Sectors = codes "error: <SECTORS> is a number from 8 to 1048576\n"
-flaw_text flaws.Moment = codes "error: <M> is a number of 1 to 20 digits, below 2^64\n"
+abbrev pub flaw_text : Flaw → List ℕ → List ℕ
+flaw_text flaw word = codes "error: invalid value '" ++ (word ++ (codes "' for " ++ (flaw_forms flaw ++ codes "\n")))
 
 -- How a command line ends that has such a word: as a usage fault, of which the text was told. Nothing was printed on the output, and no file
 -- was asked to be written.
-pub record EndsFlawed (flaw : Flaw) (writes_old writes_new : Option (List Write)) (old new : Option (List ℕ)) (t : Telling) (ended : Ended) : Type 0 where
+pub record EndsFlawed (flaw : Flaw) (word : List ℕ) (writes_old writes_new : Option (List Write)) (old new : Option (List ℕ)) (t : Telling) (ended : Ended) : Type 0 where
   pub unwritten : writes_new ≡ writes_old
   pub usage : ended.exit ≡ Usage
   pub silent : new ≡ old
-  pub told : ended.is_told ≡ true → Appends t.before t.after (flaw_text flaw)
+  pub told : ended.is_told ≡ true → Appends t.before t.after (flaw_text flaw word)
 
 -- how a task ends, over files that hold this
 abbrev pub EndsTask : Task → (List ℕ → Option (List ℕ)) → Option (List Write) → Option (List Write) → Option (List ℕ) → Option (List ℕ) → Telling → Ended → Type 0
@@ -134,7 +141,7 @@ EndsTask (tasks.Path script moment image) contents writes_old writes_new old new
     EndsFinding (record { script = contents script.now; image = contents image.now; moment = moment }) writes_old writes_new old new t ended
 EndsTask (tasks.Formats page) contents writes_old writes_new old new t ended = EndsPage page.now writes_old writes_new old new t ended
 EndsTask (tasks.Show error) contents writes_old writes_new old new t ended = EndsText (kind_of error) writes_old writes_new old new t ended
-EndsTask (tasks.Flawed flaw) contents writes_old writes_new old new t ended = EndsFlawed flaw writes_old writes_new old new t ended
+EndsTask (tasks.Flawed flaw word) contents writes_old writes_new old new t ended = EndsFlawed flaw word.now writes_old writes_new old new t ended
 
 -- What a recording or a run leaves in its log's file, by how it ends: what `holds` says of it where it is done; so it does where logging ended,
 -- unless each file holds what it held.

@@ -27,17 +27,17 @@ AsksBy names.List rows (tasks.List log) = IsWord rows (codes "LOG") log.now
 AsksBy names.Status rows (tasks.Status log) = IsWord rows (codes "LOG") log.now
 AsksBy names.Replay rows (tasks.Replay files upto) = IsWord rows (codes "LOG") files.log.now × IsWord rows (codes "FIRST") files.first.now
     × IsWord rows (codes "OUT") files.out.now × (what : Text) × IsWord rows (codes "WHAT") what × IsWhat what upto
-AsksBy names.Replay rows (tasks.Flawed flaws.What) = (what : Text) × IsWord rows (codes "WHAT") what × IsNoWhat what
+AsksBy names.Replay rows (tasks.Flawed flaws.What what) = IsWord rows (codes "WHAT") what.now × IsNoWhat what.now
 AsksBy names.Copy rows (tasks.Copy files sectors) = IsWord rows (codes "LOG") files.log.now × IsWord rows (codes "OUT") files.out.now
     × (word : Text) × IsWord rows (codes "SECTORS") word × IsSectorCount word sectors
-AsksBy names.Copy rows (tasks.Flawed flaws.Sectors) =
-    (word : Text) × IsWord rows (codes "SECTORS") word × ((sectors : ℕ) → IsSectorCount word sectors → ⊥)
+AsksBy names.Copy rows (tasks.Flawed flaws.Sectors word) =
+    IsWord rows (codes "SECTORS") word.now × ((sectors : ℕ) → IsSectorCount word.now sectors → ⊥)
 AsksBy names.Judge rows (tasks.Judge script moment image) = IsWord rows (codes "SCRIPT") script.now × IsWord rows (codes "IMAGE") image.now
     × (m : Text) × IsWord rows (codes "M") m × IsNumber m moment
-AsksBy names.Judge rows (tasks.Flawed flaws.Moment) = (m : Text) × IsWord rows (codes "M") m × (is_number m ≡ false)
+AsksBy names.Judge rows (tasks.Flawed flaws.Moment m) = IsWord rows (codes "M") m.now × (is_number m.now ≡ false)
 AsksBy names.Path rows (tasks.Path script moment image) = IsWord rows (codes "SCRIPT") script.now × IsWord rows (codes "IMAGE") image.now
     × (m : Text) × IsWord rows (codes "M") m × IsNumber m moment
-AsksBy names.Path rows (tasks.Flawed flaws.Moment) = (m : Text) × IsWord rows (codes "M") m × (is_number m ≡ false)
+AsksBy names.Path rows (tasks.Flawed flaws.Moment m) = IsWord rows (codes "M") m.now × (is_number m.now ≡ false)
 AsksBy name rows (tasks.Show error) = kind_of error ≡ OutOfMemory
 AsksBy name rows task = ⊥
 

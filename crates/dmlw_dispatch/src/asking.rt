@@ -1,3 +1,4 @@
+//! The task of each command, by the words that were entered for it.
 ghost use Rattle.std.specs.Prelude.{◌≡◌, IfSome, is_some, option_map, true};
 ghost use Rattle.clap.specs.Words.{first_of, found_of, rows_of};
 ghost use Rattle.dmlw_dispatch.specs.Names.{HasWords};
@@ -63,7 +64,7 @@ pub fn replay_task<'a>(found: &ArgMatches<'a>) -> Option<Task<'a>>
             let names = ReplayNames { log, first, out };
             Some(Task::Replay { names, upto })
         }
-        None => Some(Task::Flawed(Flaw::What)),
+        None => Some(Task::Flawed(Flaw::What, what)),
     }
 }
 
@@ -80,7 +81,7 @@ pub fn copy_task<'a>(found: &ArgMatches<'a>) -> Option<Task<'a>>
             let names = CopyNames { log, out };
             Some(Task::Copy { names, sectors })
         }
-        None => Some(Task::Flawed(Flaw::Sectors)),
+        None => Some(Task::Flawed(Flaw::Sectors, sectors)),
     }
 }
 
@@ -98,7 +99,7 @@ pub fn judge_task<'a>(found: &ArgMatches<'a>) -> Option<Task<'a>>
             moment,
             image,
         }),
-        None => Some(Task::Flawed(Flaw::Moment)),
+        None => Some(Task::Flawed(Flaw::Moment, moment)),
     }
 }
 
@@ -116,7 +117,7 @@ pub fn path_task<'a>(found: &ArgMatches<'a>) -> Option<Task<'a>>
             moment,
             image,
         }),
-        None => Some(Task::Flawed(Flaw::Moment)),
+        None => Some(Task::Flawed(Flaw::Moment, moment)),
     }
 }
 

@@ -1,3 +1,4 @@
+//! Reads a command line by `clap`, and finds the task that it asks for.
 ghost use Rattle.std.specs.Prelude.{◌≡◌, ◌⊎◌, List, ℕ, ◌++◌, IfOk, IfSome, None, OnOk, Some, false, is_some, map, not, true};
 ghost use Rattle.std.specs.List.{filter, list_any};
 ghost use Rattle.clap.specs.Words.{FailsBy, fault_of, found_of, kind_of, rows_of, subcommand_of, subcommand_rows_of};

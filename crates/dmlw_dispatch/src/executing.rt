@@ -1,4 +1,5 @@
-ghost use Rattle.std.specs.Prelude.{◌≡◌, ◌⊎◌, Bool, IfErr, MatchResult, false, map, true};
+//! Does what a command line asks for: `execute` is all that the program calls.
+ghost use Rattle.std.specs.Prelude.{◌≡◌, ◌⊎◌, Bool, IfErr, MatchResult, OnOk, false, map, true};
 ghost use Rattle.std.specs.Io.KnownBytes.{Appends, Keeps};
 ghost use Rattle.std.specs.IoError.{error_kind};
 ghost use Rattle.clap.specs.Words.{kind_of};
@@ -112,7 +113,7 @@ fn perform<F: Files, O: Write, E: Write, H: Threads + Wait + Sync>(
         } => path(alloc, explains, script, moment, image, files, out, err),
         Task::Formats(page) => print_page(alloc, page, out, err),
         Task::Show(text) => show(alloc, text, out, err),
-        Task::Flawed(flaw) => tell_flaw(flaw, err),
+        Task::Flawed(flaw, word) => tell_flaw(flaw, word, err),
     }
 }
 
@@ -149,14 +150,23 @@ fn write_page<O: Write>(page: &str, out: &mut O) -> Result<(), RunError>
 }
 
 // Tells that a word is none of those that stand in its place.
-fn tell_flaw<E: Write>(flaw: Flaw, err: &mut E) -> Ended
+fn tell_flaw<E: Write>(flaw: Flaw, word: &str, err: &mut E) -> Ended
     ensures usage { result.exit ≡ Usage }
-    ensures told { result.is_told ≡ true → Appends (E.contents err.old) (E.contents err.new) (flaw_text flaw) }
+    ensures told { result.is_told ≡ true → Appends (E.contents err.old) (E.contents err.new) (flaw_text flaw word.now) }
 {
     Ended {
         exit: Exit::Usage,
-        is_told: write_page(flaw.text(), err).is_ok(),
+        is_told: write_flaw(flaw, word, err).is_ok(),
     }
+}
+
+fn write_flaw<E: Write>(flaw: Flaw, word: &str, err: &mut E) -> io::Result<()>
+    ensures { OnOk result (Appends (E.contents err.old) (E.contents err.new) (flaw_text flaw word.now)) }
+{
+    let forms = flaw.forms();
+    writeln!(err, "error: invalid value '{word}' for {forms}")?;
+    err.flush()?;
+    Ok(())
 }
 
 // Shows the text of a command line that has no other task.

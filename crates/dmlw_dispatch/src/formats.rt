@@ -60,7 +60,7 @@ layer begins on what stands beneath it, within which it lies. Requests are withi
 | `0 <length> linear <dev> <offset>` | passes each call |
 | `0 <length> error` | fails each call |
 | `0 <length> flakey <dev> <offset> <up> <down>` | passes each call for `up` seconds, then fails each for `down` seconds, and so on from moment 0; together 1 to 4,294,967,295 seconds |
-| the same, then `0`, or `1` and a feature | while it is down: `error_reads` fails reads alone, `error_writes` all but reads; `drop_writes` does nothing of a write, discard or flush and tells that it was done, which is a lie |
+| the same, then `0`, or `1` and a feature | while it is down: `error_reads` fails reads alone, `error_writes` all but reads; `drop_writes` does nothing of a write, discard or flush and reports it as done, which is a lie |
 | `0 <length> fuse <dev> <offset> <calls>` | passes so many writes, discards and flushes, and fails each one behind them; reads pass |
 | `0 <length> dust <dev> <offset> <blksz>` | has bad blocks of so many bytes, a power of two from 512 to 1,073,741,824: none at first, and they fail no call until messages list some and enable it |
 | `0 <length> delay <dev> <offset> <ms>` | begins each call so much later, at most 4,294,967,295 milliseconds |
@@ -108,7 +108,7 @@ and after which the disk holds the image. A request's value lands in the cache, 
 of the runs is printed is left open.
 
 M, and n of `entries:<n>`, are 1 to 20 decimal digits of a value below 2^64. Another M, a WHAT of no such form, or another SECTORS is a
-usage fault, told before a file is read.
+usage fault, which is reported before a file is read.
 
 Each beginning of a recorded log replays to a content that flush, FUA and completion allow a disk to hold, to which these requests were sent, had power failed
 there.
@@ -130,7 +130,7 @@ and two lower case hexadecimal digits.
 A fault is one line on standard error: `dmlw: <number> <name>`, or `dmlw: line <n>: <number> <name>` of a script's line, or
 `dmlw: <number> <name> after <n> entries` of a replay or a copy that stopped there.
 
-| No | Name | When a command tells it |
+| No | Name | When it is reported |
 |---|---|---|
 | 2 | Memory | there is no memory; of a `close`, with its line |
 | 3, 4, 5 | PastEnd, TooLong, NotWhole | a request past the disk's end, of over 2,048 sectors, of none |
@@ -153,14 +153,15 @@ A fault is one line on standard error: `dmlw: <number> <name>`, or `dmlw: line <
 | 37 | Foreign | what a run's seats or its log hold isn't what its history has of them |
 | 38 | NoThread | the thread that writes a run's log can't be started; nothing was run |
 
-`crates/refusals` has the whole table; the other numbers no command tells. Names of files are UTF-8 text; a word that
+`crates/refusals` has the whole table; no command reports the other numbers. Names of files are UTF-8 text; a word that
 isn't is a usage fault (2).
 
 ## With `--explain`
 
 The word `--explain`, in any place after the program's name, changes no other line. It adds to standard error, behind the fault's line, lines that
 each begin with two spaces: of a script's line the line itself, its number, the usual cause where it is seen (a carriage return, a byte order
-mark, a tab, an upper case letter), the first word that doesn't fit, and the form that the line is to have; of a file its name and the system's
-reason. At status 0 it says where a script has no `close`. Their wording may change; the other lines' doesn't. A file of that very name is
+mark, a tab, an upper case letter), or the first word that doesn't fit, or what its place asks for, and the form that the line is to have; of a
+log how many entries it has, or which comes next; of an image its size; of a file its name and the system's reason; where `judge` says no the
+line of the event that rules the sector out. At status 0 it says where a script has no `close`. Their wording may change; the other lines' doesn't. A file of that very name is
 given as `./--explain`.
 "#;

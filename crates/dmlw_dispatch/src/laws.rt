@@ -1,3 +1,4 @@
+//! Laws of command lines: each is a function whose contract it is, and which runs to nothing.
 ghost use Rattle.std.specs.Prelude.{◌≡◌, ◌∷◌, [], List, Option, Some, false, true, ℕ};
 ghost use Rattle.dmlw_dispatch.specs.CommandLine.{command_words, is_positional};
 ghost use Rattle.dmlw_dispatch.specs.Commands.{DoesWords, LeavesLog, LeavesReplayed, LeavesRun, ReplaysWhat};

@@ -1,3 +1,4 @@
+//! The names of the commands.
 ghost use Rattle.std.specs.Prelude.{◌≡◌};
 ghost use Rattle.dmlw_dispatch.specs.Names.{name_of};
 

@@ -1,3 +1,4 @@
+//! The program's command line, as `clap` reads it: its commands, their words and their help.
 ghost use Rattle.std.specs.Prelude.{◌≡◌, IfOk, codes, false};
 ghost use Rattle.clap.specs.Words.{App, app_of, new_app, rule_of, with_rule, with_subcommand};
 ghost use Rattle.dmlw_dispatch.specs.CommandLine.{IsCommandOf, bare_app, command_app, needed, program_app};
@@ -6,12 +7,47 @@ ghost use Rattle.dmlw_dispatch.specs.declared.name.Name.TheVariants as names;
 use clap::{Arg, Command};
 use std::alloc::{AllocError, Global};
 
-// What help says after its lists.
-const AFTER_HELP: &str = "\
+// What `help` prints. It has the commands that `program_command` has, and `help formats`, which is none of them.
+const HELP: &str = "\
+Records block requests in a log, and reads logs back
+
+Usage: dmlw [--explain] <COMMAND>
+
+Commands:
+  record        Records the requests of a script in a new log
+  run           Runs the seats of a script in threads, and records them in a new log
+  list          Lists the entries of a log
+  status        Prints how many entries a log has, and how far they reach
+  replay        Replays a prefix of a log on an image
+  copy          Copies a log to one with sectors of 4096 bytes
+  judge         Judges whether an image could have been on the device
+  path          Tells how an image could have come to the device
+  help          Prints this page; behind it a command: the words of that command
+  help formats  Prints the grammar of scripts, the faults and the limits
+
+Options:
+      --explain  In any place: behind a fault's line stands what helps
+  -h, --help     Print help
+  -V, --version  Print version
+
 Exit status: 0 done, 1 refused or ruled out, 2 usage, 3 logging ended before its time.
-A status such as 3 4 says: 3 entries, of which the last uses sector 4.
-With --explain, in any place: what helps stands behind a fault's line.
-dmlw help formats: the grammar of scripts, the faults and the limits.";
+A status such as 3 4 says: 3 entries, of which the last uses sector 4.";
+
+// What an event is, by which `judge` and `path` count.
+const EVENTS: &str = "\
+An event is a line of the script that submits a request (w, f, d) or ends one (c), a mark, or the
+close; so is the end of logging, where that comes first. Events count from 0. Other lines are none.
+
+  data 16
+  log 32
+  w a 5 1 41    event 0
+  c a           event 1
+  f b           event 2
+  c b           event 3
+  close         event 4
+
+M is 0 to 5 here. At 3 the flush hasn't ended: sector 5 may hold zeroes, or the bytes of a. At 4 it
+has, and made a sure: event 0 rules zeroes out. With --explain its line of the script is printed.";
 
 /// The program's command line, as `clap` is to read it.
 pub fn program_command<'a>(alloc: Global) -> Result<Command<'a>, AllocError>
@@ -21,7 +57,11 @@ pub fn program_command<'a>(alloc: Global) -> Result<Command<'a>, AllocError>
     let program = with_command(program, run_command(alloc))?;
     let list = log_command(alloc, "list", "Lists the entries of a log");
     let program = with_command(program, list)?;
-    let status = log_command(alloc, "status", "Tells how far a log has come");
+    let status = log_command(
+        alloc,
+        "status",
+        "Prints how many entries a log has, and how far they reach",
+    );
     let program = with_command(program, status)?;
     let program = with_command(program, replay_command(alloc))?;
     let program = with_command(program, copy_command(alloc))?;
@@ -34,9 +74,8 @@ fn bare_command<'a>(alloc: Global) -> Command<'a>
     ensures { app_of result ≡ bare_app }
 {
     Command::new(alloc, "dmlw")
-        .about("Records block requests in a log, and reads logs back")
         .version("0.1 (log format version 1)")
-        .after_help(AFTER_HELP)
+        .override_help(HELP)
         .subcommand_required(true)
         .arg_required_else_help(true)
 }
@@ -91,7 +130,7 @@ fn replay_command<'a>(alloc: Global) -> Result<Command<'a>, AllocError>
     ensures { IfOk result (IsCommandOf (command_app names.Replay)) }
 {
     Command::new(alloc, "replay")
-        .about("Replays the beginning of a log on an image")
+        .about("Replays a prefix of a log on an image")
         .arg(argument(alloc, "LOG", "The log to read"))?
         .arg(argument(alloc, "FIRST", "The image to begin with"))?
         .arg(argument(alloc, "OUT", "The image to write"))?
@@ -113,6 +152,7 @@ fn judge_command<'a>(alloc: Global) -> Result<Command<'a>, AllocError>
 {
     Command::new(alloc, "judge")
         .about("Judges whether an image could have been on the device")
+        .after_help(EVENTS)
         .arg(argument(alloc, "SCRIPT", "The script to read"))?
         .arg(argument(alloc, "M", "The number of events before the power failure"))?
         .arg(argument(alloc, "IMAGE", "The image to judge"))
@@ -123,6 +163,7 @@ fn path_command<'a>(alloc: Global) -> Result<Command<'a>, AllocError>
 {
     Command::new(alloc, "path")
         .about("Tells how an image could have come to the device")
+        .after_help(EVENTS)
         .arg(argument(alloc, "SCRIPT", "The script to read"))?
         .arg(argument(alloc, "M", "The number of events before the power failure"))?
         .arg(argument(alloc, "IMAGE", "The image to judge"))

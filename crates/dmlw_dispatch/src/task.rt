@@ -1,5 +1,6 @@
+//! The tasks that a command line asks for.
 ghost use Rattle.std.specs.Prelude.{◌≡◌};
-ghost use Rattle.dmlw_dispatch.specs.Commands.{flaw_text};
+ghost use Rattle.dmlw_dispatch.specs.Commands.{flaw_forms};
 
 use crate::sector_count::SectorCount;
 use clap::Error;
@@ -53,8 +54,8 @@ pub enum Task<'a> {
     Formats(&'static str),
     /// To show a text: help, the version, or why the line isn't one of the program's.
     Show(Error),
-    /// To tell that a word is none of those that stand in its place.
-    Flawed(Flaw),
+    /// To tell that this word is none of those that stand in its place.
+    Flawed(Flaw, &'a str),
 }
 
 /// A word that `clap` lets through, and that is none of the program's.
@@ -69,14 +70,20 @@ pub enum Flaw {
 }
 
 impl Flaw {
-    /// What the user is told of it.
-    pub fn text(self) -> &'static str
-        ensures { result.now ≡ flaw_text self }
+    /// The argument that the word stands for, the forms that are possible there, and where help is.
+    pub fn forms(self) -> &'static str
+        ensures { result.now ≡ flaw_forms self }
     {
         match self {
-            Flaw::What => "error: <WHAT> is entries:<n>, mark:<text> or flush\n",
-            Flaw::Sectors => "error: <SECTORS> is a number from 8 to 1048576\n",
-            Flaw::Moment => "error: <M> is a number of 1 to 20 digits, below 2^64\n",
+            Flaw::What => {
+                "'<WHAT>'\n  [possible values: entries:<n>, mark:<text>, flush]\n\nFor more information, try 'dmlw help replay'."
+            }
+            Flaw::Sectors => {
+                "'<SECTORS>'\n  [possible values: a number from 8 to 1048576]\n\nFor more information, try 'dmlw help copy'."
+            }
+            Flaw::Moment => {
+                "'<M>'\n  [possible values: a number of 1 to 20 digits, below 2^64]\n\nFor more information, try 'dmlw help judge'."
+            }
         }
     }
 }

@@ -1,4 +1,28 @@
+//! What helps against a refusal, in general.
+use log_format::MAGIC;
 use refusals::Refusal;
+use std::fmt;
+use std::fmt::Write;
+
+/// Writes what helps against a refusal of this file, if there is anything to say.
+pub(crate) fn write_advice<W: Write>(name: &str, refusal: Refusal, to: &mut W) -> fmt::Result {
+    if refusal == Refusal::BadMagic {
+        return write_magic(name, to);
+    }
+    match advice(refusal) {
+        "" => Ok(()),
+        advice => writeln!(to, "  {name}: {advice}"),
+    }
+}
+
+// Writes what this file should begin with, if it were a log.
+fn write_magic<W: Write>(name: &str, to: &mut W) -> fmt::Result {
+    write!(to, "  {name}: it doesn't begin with the 8 bytes of a log,")?;
+    for byte in MAGIC.to_le_bytes() {
+        write!(to, " {byte:02x}")?;
+    }
+    writeln!(to, ": it isn't a log")
+}
 
 /// What helps where a command is refused so: one sentence, or none where its name says it all.
 pub(crate) fn advice(refusal: Refusal) -> &'static str {
@@ -29,12 +53,13 @@ pub(crate) fn advice(refusal: Refusal) -> &'static str {
         Refusal::Device => "the log's device failed",
         Refusal::CutShort =>
             "the log is shorter than it says: it was cut, or wasn't written to its end; what stands before the fault is whole",
-        Refusal::NoSuchMark => "no mark of the log has this text: `dmlw list` tells its marks",
+        Refusal::NoSuchMark => "no mark of the log has this text: `dmlw list` prints its marks",
         Refusal::NoFlush =>
-            "the log has no entry with FLUSH that is no mark: `dmlw list` tells its entries",
+            "the log has no entry with FLUSH that is no mark: `dmlw list` prints its entries",
         Refusal::PastTarget =>
             "the next entry reaches past the end of the image: give it the sectors of the device that was recorded",
-        Refusal::PastEntries => "the log has fewer entries: `dmlw status` tells how many it counts",
+        Refusal::PastEntries =>
+            "the log has fewer entries: `dmlw status` prints how many it counts",
         Refusal::Busy =>
             "a request is still open here: end each by a line `c <id>` before the `close`",
         Refusal::BadId =>

@@ -1,14 +1,22 @@
-//! What `--explain` adds behind a fault's line: which line of a script is at fault and the word that doesn't fit, which file can't be used and why,
-//! and what helps against a refusal. Nothing where it isn't asked for; no file is changed for it. The texts are shown by tests.
+//! What `--explain` adds behind a fault's line: which line of a script is at fault and the word
+//! that doesn't fit, which file can't be used and why, and what helps against a refusal. Nothing
+//! where it isn't asked for; no file is changed for it. The texts are shown by tests.
 #![tactic(auto)]
 
+pub use counted::{Counted, counted_sectors};
 pub use explaining::{
     CopyNames, ReplayNames, explain_copying, explain_judging, explain_reading, explain_recording,
-    explain_replaying,
+    explain_replaying, explain_running,
 };
-pub use running::explain_running;
+pub use logs::Stopped;
 
 mod advice;
+mod counted;
 mod explaining;
+mod files;
 mod line;
-mod running;
+mod logs;
+mod messages;
+mod places;
+mod refused_line;
+mod script_text;

@@ -1,4 +1,5 @@
-ghost use Rattle.std.specs.Prelude.{◌≡◌, ◌≤◌, IfOk, IfSome, None, length, vec_len};
+//! The system's files.
+ghost use Rattle.std.specs.Prelude.{◌≡◌, ◌≤◌, IfOk, None, is_some, length, vec_len};
 
 use crate::files::{FileError, Files, Trouble};
 use crate::pieces::{PIECE, used_sectors, write_sectors};
@@ -37,7 +38,7 @@ impl<'a, R: std::rt::Files> HostFiles<'a, R> {
     fn keep(&mut self, trouble: Trouble) -> FileError {
         let error = match &trouble {
             Trouble::Read(error) | Trouble::Write(error) => FileError::from(error.kind()),
-            Trouble::TooLong => FileError::Unusable,
+            Trouble::TooLong(_) => FileError::Unusable,
         };
         self.trouble = Some(trouble);
         error
@@ -49,15 +50,19 @@ impl<R: std::rt::Files> Files for HostFiles<'_, R> {
 
     ghost writes = { λ _. None };
 
+    ghost has_trouble = { λ files. is_some files.trouble };
+
     fn read(&mut self, alloc: Global, name: &str, limit: u64) -> Result<Vec<u8>, FileError> {
+        self.trouble = None;
         match read_file(self.runtime, alloc, name, limit) {
-            Ok(Some(bytes)) => Ok(bytes),
-            Ok(None) => Err(self.keep(Trouble::TooLong)),
+            Ok(Ok(bytes)) => Ok(bytes),
+            Ok(Err(length)) => Err(self.keep(Trouble::TooLong(length))),
             Err(error) => Err(self.keep(Trouble::Read(error))),
         }
     }
 
     fn write(&mut self, alloc: Global, name: &str, disk: SectorDisk) -> Result<(), FileError> {
+        self.trouble = None;
         match write_file(self.runtime, alloc, name, disk) {
             Ok(()) => Ok(()),
             Err(error) => Err(self.keep(Trouble::Write(error))),
@@ -82,24 +87,24 @@ impl<R: std::rt::Files> Files for HostFiles<'_, R> {
     }
 }
 
-// The whole of a file, where it isn't longer than this.
+// The whole of a file, or how long it is, as the system has it, where it is longer than this.
 fn read_file<R: std::rt::Files>(
     runtime: &R,
     alloc: Global,
     name: &str,
     limit: u64,
-) -> io::Result<Option<Vec<u8>>>
-    ensures { IfOk result (λ found. IfSome found (λ bytes. vec_len bytes ≤ limit)) }
+) -> io::Result<Result<Vec<u8>, u64>>
+    ensures { IfOk result (λ found. IfOk found (λ bytes. vec_len bytes ≤ limit)) }
 {
     let file = fs::open(runtime, name)?;
-    let room = file.metadata()?.len().min(limit);
-    let mut bytes = Vec::with_capacity(alloc, room as usize)?;
+    let length = file.metadata()?.len();
+    let mut bytes = Vec::with_capacity(alloc, length.min(limit) as usize)?;
     // One byte more than the limit says a file that is too long.
     file.take(limit.saturating_add(1)).read_to_end(&mut bytes)?;
     if bytes.len() as u64 > limit {
-        return Ok(None);
+        return Ok(Err(length));
     }
-    Ok(Some(bytes))
+    Ok(Ok(bytes))
 }
 
 // Writes the image of a disk to the file of a name. The buffer for its pieces is there before any file is touched.

@@ -1,3 +1,4 @@
+//! Reads an image from a file: whole sectors, 512 MiB at most.
 ghost use Rattle.std.specs.Prelude.{◌≡◌, IfErr, IfOk};
 ghost use Rattle.run_error.specs.Errors.{IsFileError, memory_error};
 ghost use Rattle.dmlw_files.specs.Files.{KeepsFiles, MatchesContents};

@@ -1,3 +1,4 @@
+//! The output of a program whose reader may go away.
 use std::io;
 use std::io::Write;
 

@@ -1,3 +1,4 @@
+//! Reads a script's text from a file: 4 MiB at most.
 ghost use Rattle.std.specs.Prelude.{◌≡◌, ◌≤◌, IfErr, IfOk, length};
 ghost use Rattle.dmlw_files.specs.declared.files.FileError.{FileError};
 ghost use Rattle.dmlw_files.specs.Files.{IsWithin, KeepsFiles, MatchesContents};

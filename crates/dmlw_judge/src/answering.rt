@@ -14,7 +14,7 @@ ghost use Rattle.dmlw_files.specs.Images.{IsImage};
 ghost use Rattle.dmlw_judge.specs.Judgements.{Answers, CanJudge, CannotJudge, EndsAnswering, HasAnswer, HasNoVerdict, blank, exit_answered, question};
 
 use crate::answer::Answer;
-use crate::moments::last_moment;
+use crate::moments::{explain_moment, last_moment};
 use bio::CoreEvent;
 use dmlw_commands::{Ended, end, end_well};
 use dmlw_explain::explain_judging;
@@ -45,7 +45,7 @@ pub(crate) fn ask<A: Answer, F: Files, O: Write, E: Write>(
     ensures kept { KeepsFiles (F.contents files.old) (F.contents files.new) }
 {
     let answered: Result<A, RunError> = answer_files(alloc, script, moment, image, files, out);
-    let more = explain_answered(alloc, explains, &answered, script, image, files);
+    let more = explain_answered(alloc, explains, &answered, script, moment, image, files);
     end_answering(alloc, &answered, more.as_str(), out, err)
 }
 
@@ -55,6 +55,7 @@ fn explain_answered<A: Answer, F: Files>(
     explains: bool,
     answered: &Result<A, RunError>,
     script: &str,
+    moment: u64,
     image: &str,
     files: &mut F,
 ) -> String
@@ -64,6 +65,9 @@ fn explain_answered<A: Answer, F: Files>(
 {
     match answered {
         Ok(answer) => answer.explain(alloc, explains, script, files),
+        Err(fault) if *fault == RunError::from(Refusal::BadMoment) => {
+            explain_moment(alloc, explains, script, moment, image, files)
+        }
         Err(fault) => explain_judging(alloc, explains, Err(*fault), script, image, files),
     }
 }

@@ -5,7 +5,7 @@ ghost use Rattle.std.specs.List.{flat_map};
 ghost use Rattle.dmlw_judge.specs.Paths.{finding_meaning, step_line};
 
 use crate::answer::Answer;
-use crate::step_lines::explain_run;
+use crate::step_lines::{explain_event, explain_run};
 use bio::CoreEvent;
 use dmlw_commands::Exit;
 use dmlw_files::Files;
@@ -49,7 +49,10 @@ impl Answer for Finding {
     ) -> String {
         match self {
             Finding::Run(run) => explain_run(alloc, explains, run, script, files),
-            Finding::RuledOut { .. } => String::new(alloc),
+            Finding::RuledOut { by: Some(id), .. } => {
+                explain_event(alloc, explains, *id, script, files)
+            }
+            Finding::RuledOut { by: None, .. } => String::new(alloc),
         }
     }
 

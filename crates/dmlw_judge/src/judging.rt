@@ -5,6 +5,7 @@ ghost use Rattle.dmlw_judge.specs.Judgements.{EndsJudging, verdict_meaning};
 
 use crate::answer::Answer;
 use crate::answering::ask;
+use crate::step_lines::explain_event;
 use bio::CoreEvent;
 use dmlw_commands::{Ended, Exit};
 use dmlw_files::Files;
@@ -59,11 +60,16 @@ impl Answer for Verdict {
     fn explain<F: Files>(
         &self,
         alloc: Global,
-        _explains: bool,
-        _script: &str,
-        _files: &mut F,
+        explains: bool,
+        script: &str,
+        files: &mut F,
     ) -> String {
-        String::new(alloc)
+        match *self {
+            Verdict::No { by: Some(id), .. } => {
+                explain_event(alloc, explains, id, script, files)
+            }
+            _ => String::new(alloc),
+        }
     }
 
     fn exit(&self) -> Exit {

@@ -1,10 +1,23 @@
-ghost use Rattle.std.specs.Prelude.{◌≡◌, ◌≤◌, Some, length};
+//! The moments of a run that a question may name, and what `--explain` tells of one that it may
+//! not.
+ghost use Rattle.std.specs.Prelude.{◌≡◌, ◌≤◌, [], Some, false, length};
+ghost use Rattle.std.specs.String.{string_bytes};
 ghost use Rattle.bio.specs.Events.{is_stop};
+ghost use Rattle.dmlw_files.specs.Files.{KeepsFiles};
 ghost use Rattle.pending.specs.Moments.{last_moment};
 
 use bio::CoreEvent;
+use dmlw_explain::{Counted, counted_sectors};
+use dmlw_files::{Files, read_image, read_text};
+use dmlw_script::read_script;
+use script_runner::rehearse;
+use sectors::SECTOR_BYTES;
+use std::alloc::Global;
+use std::fmt;
+use std::fmt::Write;
 
-/// The last moment of a list of events: how many of them stand before the Stop, or how many there are. Each number up to it is a moment.
+/// The last moment of a list of events: how many of them stand before the Stop, or how many there
+/// are. Each number up to it is a moment.
 pub fn last_moment(events: &[CoreEvent]) -> usize
     ensures last { result ≡ last_moment events.now }
     ensures within { result ≤ length events.now }
@@ -22,4 +35,108 @@ fn is_stop(event: &CoreEvent) -> bool
     ensures { result ≡ is_stop (Some event.now) }
 {
     matches!(event, CoreEvent::Stop(_))
+}
+
+// How many moments a run has, and why no more.
+#[derive(Clone, Copy)]
+struct Moments {
+    last: u64,
+    // Logging ended before the script did.
+    has_stopped: bool,
+    // The sectors of the data disk, as seen from the top of its layers.
+    sectors: u64,
+    has_layers: bool,
+}
+
+/// What `--explain` adds where a moment, or an image's size, is none of a script's: lines that each
+/// begin with two spaces. Empty where it isn't asked for, or where there is no memory for it.
+pub(crate) fn explain_moment<F: Files>(
+    alloc: Global,
+    explains: bool,
+    script: &str,
+    moment: u64,
+    image: &str,
+    files: &mut F,
+) -> String
+    ensures silent { explains ≡ false → string_bytes result ≡ [] }
+    ensures kept { KeepsFiles (F.contents files.old) (F.contents files.new) }
+    ensures unwritten { F.writes files.new ≡ F.writes files.old }
+{
+    let mut text = String::new(alloc);
+    if !explains {
+        return text;
+    }
+    match write_moment(alloc, script, moment, image, files, &mut text) {
+        Ok(()) => text,
+        Err(_) => String::new(alloc),
+    }
+}
+
+// Writes how many events the run of a script has, or how many sectors its disk and an image.
+fn write_moment<F: Files, W: Write>(
+    alloc: Global,
+    script: &str,
+    moment: u64,
+    image: &str,
+    files: &mut F,
+    to: &mut W,
+) -> fmt::Result
+    ensures kept { KeepsFiles (F.contents files.old) (F.contents files.new) }
+    ensures unwritten { F.writes files.new ≡ F.writes files.old }
+{
+    let text = read_text(alloc, script, files).map_err(|_| fmt::Error)?;
+    let moments = moments_of(alloc, &text).ok_or(fmt::Error)?;
+    let image_sectors = read_image(alloc, image, files)
+        .map_err(|_| fmt::Error)?
+        .len() as u64
+        / SECTOR_BYTES;
+    write_last(script, moment, moments, to)?;
+    if image_sectors != moments.sectors {
+        let image_size = counted_sectors(image_sectors);
+        let disk = moments.sectors;
+        let layers = if moments.has_layers {
+            ", seen from the top of its layers"
+        } else {
+            ""
+        };
+        writeln!(
+            to,
+            "  the image {image} has {image_size}, and the data disk of {script} {disk}{layers}"
+        )?;
+    }
+    Ok(())
+}
+
+// Writes how many events a run has, where a moment is past the last of them.
+fn write_last<W: Write>(script: &str, moment: u64, moments: Moments, to: &mut W) -> fmt::Result {
+    if moment <= moments.last {
+        return Ok(());
+    }
+    let events = Counted {
+        count: moments.last,
+        one: "event",
+        many: "events",
+    };
+    let until = if moments.has_stopped {
+        " before logging ended"
+    } else {
+        ""
+    };
+    writeln!(
+        to,
+        "  the run of {script} has {events}{until}; you asked for {moment}"
+    )
+}
+
+// The moments of the run of the script that a text spells, where it has one.
+fn moments_of(alloc: Global, text: &[u8]) -> Option<Moments> {
+    let script = read_script(alloc, text).ok()?;
+    let rehearsed = rehearse(alloc, text, &script).ok()?;
+    let last = last_moment(rehearsed.events());
+    Some(Moments {
+        last: last as u64,
+        has_stopped: last < rehearsed.events().len(),
+        sectors: script.data().top_sectors(),
+        has_layers: !script.data().layers().is_empty(),
+    })
 }

@@ -1,11 +1,13 @@
-//! What `--explain` adds behind a run: the line of the script that each step belongs to.
+//! What `--explain` adds behind a run: the line of the script that each step belongs to; and behind
+//! a no the line of the event that rules the sector out.
 //!
-//! A request's submission and its landings belong to the line that submits it, its end to the line that ends it, a destage to what landed last,
-//! and power goes after the line of the last call.
+//! A request's submission and its landings belong to the line that submits it, its end to the line
+//! that ends it, a destage to what landed last, and power goes after the line of the last call.
 ghost use Rattle.std.specs.Prelude.{◌≡◌, [], false};
 ghost use Rattle.std.specs.String.{string_bytes};
 ghost use Rattle.dmlw_files.specs.Files.{KeepsFiles};
 
+use bio::Id;
 use dmlw_files::{Files, read_text};
 use std::alloc::{AllocError, Global};
 use std::fmt;
@@ -29,8 +31,8 @@ struct Told {
     landed: usize,
 }
 
-// The lines that the steps of a run belong to, each behind its step, by the script in a file: lines that begin with two spaces. Empty where it isn't
-// asked for, or where there is no memory for it.
+// The lines that the steps of a run belong to, each behind its step, by the script in a file: lines
+// that begin with two spaces. Empty where it isn't asked for, or where there is no memory for it.
 pub(crate) fn explain_run<F: Files>(
     alloc: Global,
     explains: bool,
@@ -49,6 +51,52 @@ pub(crate) fn explain_run<F: Files>(
     match write_run(alloc, run, script, files, &mut text) {
         Ok(()) => text,
         Err(_) => String::new(alloc),
+    }
+}
+
+/// The line that an event of a run stands in, by the script in a file: a line that begins with two
+/// spaces. Empty where it isn't asked for, where there is none, or where there is no memory for it.
+pub(crate) fn explain_event<F: Files>(
+    alloc: Global,
+    explains: bool,
+    event: Id,
+    script: &str,
+    files: &mut F,
+) -> String
+    ensures silent { explains ≡ false → string_bytes result ≡ [] }
+    ensures kept { KeepsFiles (F.contents files.old) (F.contents files.new) }
+    ensures unwritten { F.writes files.new ≡ F.writes files.old }
+{
+    let mut text = String::new(alloc);
+    if !explains {
+        return text;
+    }
+    match write_event(alloc, event, script, files, &mut text) {
+        Ok(()) => text,
+        Err(_) => String::new(alloc),
+    }
+}
+
+// Writes which line of the script in a file an event is.
+fn write_event<F: Files, W: Write>(
+    alloc: Global,
+    event: Id,
+    script: &str,
+    files: &mut F,
+    to: &mut W,
+) -> fmt::Result
+    ensures kept { KeepsFiles (F.contents files.old) (F.contents files.new) }
+    ensures unwritten { F.writes files.new ≡ F.writes files.old }
+{
+    let text = read_text(alloc, script, files).map_err(|_| fmt::Error)?;
+    let lines = event_lines(alloc, &text).map_err(|_| fmt::Error)?;
+    let place = event.place();
+    match lines.get(place as usize) {
+        Some(EventLine { number, text }) => {
+            let text = str::from_utf8(text).unwrap_or_default();
+            writeln!(to, "  event {place} is line {number} of {script}: {text}")
+        }
+        None => Ok(()),
     }
 }
 
@@ -115,7 +163,8 @@ fn write_steps<W: Write>(lines: &[EventLine], run: &[Step], to: &mut W) -> fmt::
     Ok(())
 }
 
-// Writes a step with its line; it stands alone where it has none, as power that goes before the first event.
+// Writes a step with its line; it stands alone where it has none, as power that goes before the
+// first event.
 fn write_step<W: Write>(step: Step, line: Option<&EventLine>, to: &mut W) -> fmt::Result {
     let Some(EventLine { number, text }) = line else {
         return writeln!(to, "    {step}");
@@ -128,7 +177,8 @@ fn write_step<W: Write>(step: Step, line: Option<&EventLine>, to: &mut W) -> fmt
 }
 
 impl Told {
-    // The place of the event that a step belongs to, where the steps before it were told. None for power that goes before the first event.
+    // The place of the event that a step belongs to, where the steps before it were told. None for
+    // power that goes before the first event.
     fn place_of(&mut self, lines: &[EventLine], step: Step) -> Option<usize> {
         match step {
             Step::Submit(id) => Some(self.pass(id.place() as usize)),

@@ -1,9 +1,11 @@
+//! How a replay ends.
 ghost use Rattle.std.specs.Prelude.{◌≡◌, ◌++◌, [], true};
 ghost use Rattle.std.specs.Io.KnownBytes.{Appends, Keeps};
 ghost use Rattle.dmlw_replay.specs.Replays.{replay_exit, replay_line};
 
 use crate::stop::Stop;
 use dmlw_commands::{Ended, end, report_stopped};
+use dmlw_explain::Stopped;
 use refusals::Refusal;
 use run_error::RunError;
 use std::alloc::Global;
@@ -32,12 +34,13 @@ pub(crate) fn end_replaying<O: Write, E: Write>(
     }
 }
 
-/// What a replay was refused by that came to this.
-pub(crate) fn refusal_of(done: Result<u64, Stop>) -> Option<Refusal> {
-    match done {
-        Ok(_) => None,
-        Err(Stop::Fault(RunError::Refused(fault))) => Some(fault.refusal),
-        Err(Stop::Fault(RunError::LoggingEnded(end))) => Some(Refusal::from(end)),
-        Err(Stop::Replay(fault)) => Some(Refusal::from(fault.cause)),
-    }
+/// Why a replay ended that came to this, if it wasn't done.
+pub(crate) fn stopped_of(done: Result<u64, Stop>) -> Option<Stopped> {
+    let (refusal, applied) = match done {
+        Ok(_) => return None,
+        Err(Stop::Fault(RunError::Refused(fault))) => (fault.refusal, 0),
+        Err(Stop::Fault(RunError::LoggingEnded(end))) => (Refusal::from(end), 0),
+        Err(Stop::Replay(fault)) => (Refusal::from(fault.cause), fault.applied),
+    };
+    Some(Stopped { refusal, applied })
 }

@@ -1,3 +1,4 @@
+//! `replay LOG FIRST OUT WHAT`: applies a log, up to the entry that is named, to an image.
 ghost use Rattle.std.specs.Prelude.{◌≡◌, ◌⊎◌, IfErr, IfOk, OnErr, OnOk};
 ghost use Rattle.std.specs.Io.KnownBytes.{Appends};
 ghost use Rattle.run_error.specs.Errors.{IsFileError};
@@ -8,7 +9,7 @@ ghost use Rattle.dmlw_files.specs.Files.{KeepsFiles, MatchesContents, one_more};
 ghost use Rattle.dmlw_files.specs.Images.{image_of};
 ghost use Rattle.dmlw_replay.specs.Replays.{EndsReplaying, FailsReplay, HoldsReplayed, IsReplayedFrom, Replays, replayed_line};
 
-use crate::ending::{end_replaying, refusal_of};
+use crate::ending::{end_replaying, stopped_of};
 use crate::images::{Replayed, replay_images};
 use crate::stop::Stop;
 use dmlw_commands::{Ended, Exit};
@@ -47,7 +48,7 @@ pub fn replay<F: Files, O: Write, E: Write>(
     ensures apart { names.entry.log.now ≡ names.entry.out.now → F.writes files.new ≡ F.writes files.old }
 {
     let done = replay_files(alloc, names, upto, files, out);
-    let more = explain_replaying(alloc, explains, refusal_of(done), names, files);
+    let more = explain_replaying(alloc, explains, stopped_of(done), names, files);
     end_replaying(alloc, done, more.as_str(), out, err)
 }
 

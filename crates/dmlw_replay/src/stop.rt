@@ -1,3 +1,4 @@
+//! Why a log isn't replayed.
 ghost use Rattle.std.specs.Prelude.{◌≡◌};
 ghost use Rattle.dmlw_replay.specs.declared.stop.Stop.TheVariants as stops;
 

@@ -1,3 +1,4 @@
+//! The word of `replay` that names where a replay ends.
 ghost use Rattle.std.specs.Prelude.{◌≡◌, IfSome, None};
 ghost use Rattle.dmlw_replay.specs.Whats.{IsNoWhat, IsWhat};
 

@@ -1,5 +1,5 @@
 //! Files in memory, by their names.
-ghost use Rattle.std.specs.Prelude.{None};
+ghost use Rattle.std.specs.Prelude.{None, false};
 
 use dmlw_files::{FileError, Files, Trouble};
 use sector_disk::SectorDisk;
@@ -50,6 +50,8 @@ impl Files for Folder {
     ghost contents = { λ _ _. None };
 
     ghost writes = { λ _. None };
+
+    ghost has_trouble = { λ _. false };
 
     fn read(&mut self, alloc: Global, name: &str, limit: u64) -> Result<Vec<u8>, FileError> {
         let Some(bytes) = self.bytes(name) else {

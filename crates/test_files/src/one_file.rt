@@ -1,4 +1,5 @@
-ghost use Rattle.std.specs.Prelude.{None};
+//! Files in memory: the two that are read hold the same, and one is written.
+ghost use Rattle.std.specs.Prelude.{None, false};
 
 use dmlw_files::{FileError, Files, Trouble};
 use sector_disk::SectorDisk;
@@ -29,6 +30,8 @@ impl Files for OneFile<'_> {
     ghost contents = { λ _ _. None };
 
     ghost writes = { λ _. None };
+
+    ghost has_trouble = { λ _. false };
 
     fn read(&mut self, alloc: Global, name: &str, limit: u64) -> Result<Vec<u8>, FileError> {
         let is_known = name == "script" || name == "image";

@@ -122,38 +122,74 @@ Command lines after one another, on what the ones before have written.
 A word that is none of those that stand in its place.
 
   $ dmlw replay script zeroes other what
-  ! error: <WHAT> is entries:<n>, mark:<text> or flush
+  ! error: invalid value 'what' for '<WHAT>'
+  !   [possible values: entries:<n>, mark:<text>, flush]
+  ! 
+  ! For more information, try 'dmlw help replay'.
   [2]
   $ dmlw replay script zeroes other entries:18446744073709551616
-  ! error: <WHAT> is entries:<n>, mark:<text> or flush
+  ! error: invalid value 'entries:18446744073709551616' for '<WHAT>'
+  !   [possible values: entries:<n>, mark:<text>, flush]
+  ! 
+  ! For more information, try 'dmlw help replay'.
   [2]
   $ dmlw replay script zeroes other entries:000000000000000000001
-  ! error: <WHAT> is entries:<n>, mark:<text> or flush
+  ! error: invalid value 'entries:000000000000000000001' for '<WHAT>'
+  !   [possible values: entries:<n>, mark:<text>, flush]
+  ! 
+  ! For more information, try 'dmlw help replay'.
   [2]
   $ dmlw replay script zeroes other entries:
-  ! error: <WHAT> is entries:<n>, mark:<text> or flush
+  ! error: invalid value 'entries:' for '<WHAT>'
+  !   [possible values: entries:<n>, mark:<text>, flush]
+  ! 
+  ! For more information, try 'dmlw help replay'.
   [2]
   $ dmlw replay script zeroes other entries:1x
-  ! error: <WHAT> is entries:<n>, mark:<text> or flush
+  ! error: invalid value 'entries:1x' for '<WHAT>'
+  !   [possible values: entries:<n>, mark:<text>, flush]
+  ! 
+  ! For more information, try 'dmlw help replay'.
   [2]
   $ dmlw replay script zeroes other flush2
-  ! error: <WHAT> is entries:<n>, mark:<text> or flush
+  ! error: invalid value 'flush2' for '<WHAT>'
+  !   [possible values: entries:<n>, mark:<text>, flush]
+  ! 
+  ! For more information, try 'dmlw help replay'.
   [2]
   $ dmlw replay script zeroes other mark
-  ! error: <WHAT> is entries:<n>, mark:<text> or flush
+  ! error: invalid value 'mark' for '<WHAT>'
+  !   [possible values: entries:<n>, mark:<text>, flush]
+  ! 
+  ! For more information, try 'dmlw help replay'.
   [2]
   $ dmlw replay script zeroes other --explain Flush
-  ! error: <WHAT> is entries:<n>, mark:<text> or flush
+  ! error: invalid value 'Flush' for '<WHAT>'
+  !   [possible values: entries:<n>, mark:<text>, flush]
+  ! 
+  ! For more information, try 'dmlw help replay'.
   [2]
   $ dmlw judge script x zeroes
-  ! error: <M> is a number of 1 to 20 digits, below 2^64
+  ! error: invalid value 'x' for '<M>'
+  !   [possible values: a number of 1 to 20 digits, below 2^64]
+  ! 
+  ! For more information, try 'dmlw help judge'.
   [2]
   $ dmlw judge script 18446744073709551616 zeroes
-  ! error: <M> is a number of 1 to 20 digits, below 2^64
+  ! error: invalid value '18446744073709551616' for '<M>'
+  !   [possible values: a number of 1 to 20 digits, below 2^64]
+  ! 
+  ! For more information, try 'dmlw help judge'.
   [2]
   $ dmlw judge script +1 zeroes
-  ! error: <M> is a number of 1 to 20 digits, below 2^64
+  ! error: invalid value '+1' for '<M>'
+  !   [possible values: a number of 1 to 20 digits, below 2^64]
+  ! 
+  ! For more information, try 'dmlw help judge'.
   [2]
   $ dmlw judge script --explain 1.0 zeroes
-  ! error: <M> is a number of 1 to 20 digits, below 2^64
+  ! error: invalid value '1.0' for '<M>'
+  !   [possible values: a number of 1 to 20 digits, below 2^64]
+  ! 
+  ! For more information, try 'dmlw help judge'.
   [2]

@@ -229,21 +229,32 @@ What helps: of a log that is too small, and of an entry that isn't aligned.
   $ quiet dmlw record script log
   $ dmlw --explain copy log out 16
   ! dmlw: 18 Full after 0 entries
-  !   out: the next entry doesn't fit: give the new log more sectors
+  !   the next entry of log, in sectors of 512 bytes: 0 @1 write 8+16
+  !   it doesn't fit: give the new log more sectors
   [1]
   $ dmlw --explain copy log out 64
   ! dmlw: 28 Unaligned after 1 entries
-  !   log: with log sectors of 4096 bytes the place and the length of each request and entry are multiples of 4096 bytes, which are 8 sectors of 512 bytes
+  !   the next entry of log, in sectors of 512 bytes: 1 @18 write 24+1
+  !   its place and its length aren't both multiples of 4096 bytes, as each of a log with such sectors is
   [1]
 
 A SECTORS that is none is a usage fault, before any file is read.
 
   $ dmlw copy absent out 7
-  ! error: <SECTORS> is a number from 8 to 1048576
+  ! error: invalid value '7' for '<SECTORS>'
+  !   [possible values: a number from 8 to 1048576]
+  ! 
+  ! For more information, try 'dmlw help copy'.
   [2]
   $ dmlw copy absent out 1048577
-  ! error: <SECTORS> is a number from 8 to 1048576
+  ! error: invalid value '1048577' for '<SECTORS>'
+  !   [possible values: a number from 8 to 1048576]
+  ! 
+  ! For more information, try 'dmlw help copy'.
   [2]
   $ dmlw copy absent out many
-  ! error: <SECTORS> is a number from 8 to 1048576
+  ! error: invalid value 'many' for '<SECTORS>'
+  !   [possible values: a number from 8 to 1048576]
+  ! 
+  ! For more information, try 'dmlw help copy'.
   [2]

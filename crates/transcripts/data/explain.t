@@ -7,7 +7,7 @@ What --explain adds behind a fault.
   $ dmlw --explain record script log
   ! dmlw: line 3: 3 PastEnd
   !   line 3 of script: w a 16 1 41
-  !   the request ends past the data disk: its first sector and its count come to more than `data` says
+  !   the request 16+1 reaches past the data disk, which has 16 sectors, from 0 on
   [1]
   $ write script
   > data 16
@@ -56,7 +56,7 @@ What --explain adds behind a fault.
   $ dmlw --explain record script log
   ! dmlw: line 3: 3 PastEnd
   !   line 3 of script: w a 16 1 41 flush fua meta
-  !   the request ends past the data disk: its first sector and its count come to more than `data` says
+  !   the request 16+1 reaches past the data disk, which has 16 sectors, from 0 on
   [1]
   $ write script
   > data 16
@@ -125,7 +125,7 @@ What --explain adds behind a fault.
   $ dmlw --explain record script log
   ! dmlw: line 3: 30 BadLine
   !   line 3 of script: message log x enable
-  !   the word `x` isn't <layer>: a decimal number
+  !   the word `x` isn't <layer>: a decimal number below 2^64
   !   the form of the line: message <disk> <layer> <text>
   [1]
   $ write script
@@ -160,7 +160,6 @@ What --explain adds behind a fault.
   ! dmlw: line 3: 30 BadLine
   !   line 3 of script: mark caf\xc3\xa9
   !   it has a byte that isn't ASCII text
-  !   `data` is the first line, `log` the second, both of 1 to 1048576 sectors; then come the layers, and then the others; moments don't go back
   !   the form of the line: mark <text>
   [1]
   $ write script
@@ -180,7 +179,7 @@ What --explain adds behind a fault.
   $ dmlw --explain record script log
   ! dmlw: line 3: 30 BadLine
   !   line 3 of script: w a five 1 41
-  !   the word `five` isn't <first>: a decimal number
+  !   the word `five` isn't <first>: a decimal number below 2^64
   !   the form of the line: w <id> <first> <count> <byte> [flush] [fua] [meta]
   [1]
   $ write script
@@ -215,22 +214,6 @@ What --explain adds behind a fault.
   ! dmlw: line 3: 30 BadLine
   !   line 3 of script: W a 5 1 41
   !   it has an upper case letter: words are in lower case
-  !   no line begins with the word `W`; the lines are:
-  !     data <sectors>
-  !     log <sectors> [4096]
-  !     data-layer 0 <length> <target> ..
-  !     log-layer 0 <length> <target> ..
-  !     at <ms>
-  !     w <id> <first> <count> <byte> [flush] [fua] [meta]
-  !     f <id>
-  !     d <id> <first> <count>
-  !     c <id>
-  !     r <first> <count>
-  !     turn
-  !     mark <text>
-  !     message <disk> <layer> <text>
-  !     close
-  !     crash <pick> ..
   [1]
   $ write script
   > data 16
@@ -240,7 +223,6 @@ What --explain adds behind a fault.
   ! dmlw: line 3: 30 BadLine
   !   line 3 of script: w a  5 1 41
   !   it has a space too many: one stands between words, none at an end
-  !   the word `` isn't <first>: a decimal number
   !   the form of the line: w <id> <first> <count> <byte> [flush] [fua] [meta]
   [1]
   $ write script
@@ -250,7 +232,7 @@ What --explain adds behind a fault.
   $ dmlw --explain record script log
   ! dmlw: line 3: 30 BadLine
   !   line 3 of script: data 16
-  !   `data` is the first line, `log` the second, both of 1 to 1048576 sectors; then come the layers, and then the others; moments don't go back
+  !   line 1 is `data` already: it stands once in a script
   !   the form of the line: data <sectors>
   [1]
   $ write script
@@ -260,7 +242,7 @@ What --explain adds behind a fault.
   $ dmlw --explain record script log
   ! dmlw: line 3: 31 BadId
   !   line 3 of script: c a
-  !   an id is submitted once in a script, and `c <id>` ends one that was submitted and hasn't ended
+  !   no line before this one submits `a`
   [1]
   $ write script
   > data 16
@@ -269,7 +251,7 @@ What --explain adds behind a fault.
   $ dmlw --explain record script log
   ! dmlw: line 3: 4 TooLong
   !   line 3 of script: w a 5 3000 41
-  !   a request has at most 2048 sectors
+  !   the request has 3000 sectors, and one has at most 2048
   [1]
   $ write script
   > data 16
@@ -287,7 +269,7 @@ What --explain adds behind a fault.
   $ dmlw --explain record script log
   ! dmlw: line 3: 30 BadLine
   !   line 3 of script: at x
-  !   the word `x` isn't <ms>: a decimal number
+  !   the word `x` isn't <ms>: a decimal number below 2^64
   !   the form of the line: at <ms>
   [1]
   $ write script
@@ -334,7 +316,7 @@ What --explain adds behind a fault.
   $ dmlw --explain record script log
   ! dmlw: line 3: 12 OutOfRange
   !   line 3 of script: log-layer 0 32 linear disk 1
-  !   a number of the layer's line is out of range, or the layer ends past what stands beneath it
+  !   the layer 1+32 ends past what stands beneath it, which has 32 sectors, from 0 on
   [1]
   $ write script
   > data 16
@@ -353,6 +335,5 @@ What --explain adds behind a fault.
   ! dmlw: line 3: 30 BadLine
   !   line 3 of script: f \xc3\xa9
   !   it has a byte that isn't ASCII text
-  !   the word `\xc3\xa9` isn't <id>: 1 to 16 of the characters a to z and 0 to 9
   !   the form of the line: f <id>
   [1]

@@ -280,27 +280,27 @@ Texts that are shown are flushed too, and so are faults.
   $ stuck:full dmlw help
   Records block requests in a log, and reads logs back
   
-  Usage: dmlw <COMMAND>
+  Usage: dmlw [--explain] <COMMAND>
   
   Commands:
-    record  Records the requests of a script in a new log
-    run     Runs the seats of a script in threads, and records them in a new log
-    list    Lists the entries of a log
-    status  Tells how far a log has come
-    replay  Replays the beginning of a log on an image
-    copy    Copies a log to one with sectors of 4096 bytes
-    judge   Judges whether an image could have been on the device
-    path    Tells how an image could have come to the device
-    help    Print this message or the help of the given subcommand(s)
+    record        Records the requests of a script in a new log
+    run           Runs the seats of a script in threads, and records them in a new log
+    list          Lists the entries of a log
+    status        Prints how many entries a log has, and how far they reach
+    replay        Replays a prefix of a log on an image
+    copy          Copies a log to one with sectors of 4096 bytes
+    judge         Judges whether an image could have been on the device
+    path          Tells how an image could have come to the device
+    help          Prints this page; behind it a command: the words of that command
+    help formats  Prints the grammar of scripts, the faults and the limits
   
   Options:
+        --explain  In any place: behind a fault's line stands what helps
     -h, --help     Print help
     -V, --version  Print version
   
   Exit status: 0 done, 1 refused or ruled out, 2 usage, 3 logging ended before its time.
   A status such as 3 4 says: 3 entries, of which the last uses sector 4.
-  With --explain, in any place: what helps stands behind a fault's line.
-  dmlw help formats: the grammar of scripts, the faults and the limits.
   ! dmlw: 32 File
   [1]
   $ stuck:full dmlw --version
@@ -316,7 +316,10 @@ Texts that are shown are flushed too, and so are faults.
   (not all told)
   [2]
   $ deaf dmlw judge small x sector
-  ! error: <M> is a number of 1 to 20 digits, below 2^64
+  ! error: invalid value 'x' for '<M>'
+  !   [possible values: a number of 1 to 20 digits, below 2^64]
+  ! 
+  ! For more information, try 'dmlw help judge'.
   (not all told)
   [2]
   $ deaf dmlw list none

@@ -94,7 +94,10 @@ At no event the disk is as it was; past the last one there is no moment.
   ! dmlw: 34 BadMoment
   [1]
   $ dmlw path script 18446744073709551616 one
-  ! error: <M> is a number of 1 to 20 digits, below 2^64
+  ! error: invalid value '18446744073709551616' for '<M>'
+  !   [possible values: a number of 1 to 20 digits, below 2^64]
+  ! 
+  ! For more information, try 'dmlw help judge'.
   [2]
 
 A flush is held back by nothing: what it made sure stays, and the FUA write's value stands over the older one.
@@ -358,7 +361,10 @@ What isn't a script, an image or a moment is refused as by `judge`.
   ! dmlw: 32 File
   [1]
   $ dmlw path script x one
-  ! error: <M> is a number of 1 to 20 digits, below 2^64
+  ! error: invalid value 'x' for '<M>'
+  !   [possible values: a number of 1 to 20 digits, below 2^64]
+  ! 
+  ! For more information, try 'dmlw help judge'.
   [2]
   $ dmlw path script 0
   ! error: the following required arguments were not provided:

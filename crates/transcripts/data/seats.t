@@ -208,23 +208,15 @@ What `--explain` says of such a script.
   $ dmlw --explain run script log
   ! dmlw: line 4: 30 BadLine
   !   line 4 of script: s2 f
-  !   the lines of a script of seats, which count from 0, are in this order:
-  !     data <sectors>
-  !     log <sectors> [4096]
-  !     seats <n>
-  !     data-layer 0 <length> <target> ..
-  !     log-layer 0 <length> <target> ..
-  !     s<k> w <first> <count> <byte> [flush] [fua] [meta]
-  !     s<k> f
-  !     s<k> d <first> <count>
-  !     s<k> mark <text>
+  !   there is no seat 2: there are 2, s0 to s1
+  !   the form of the line: s<k> f
   [1]
   $ write script
   > data 16
   > log 64
   $ dmlw --explain run script log
   ! dmlw: line 3: 30 BadLine
-  !   script ends before its line 3; a script of seats begins with the lines `data`, `log` and `seats`:
+  !   script ends before its line 3; a script begins with the lines `data`, `log` and `seats`:
   !     data <sectors>
   !     log <sectors> [4096]
   !     seats <n>
@@ -243,7 +235,7 @@ What `--explain` says of such a script.
   $ dmlw --explain run script log
   ! dmlw: line 4: 3 PastEnd
   !   line 4 of script: s0 w 15 2 11
-  !   the request ends past the data disk: its first sector and its count come to more than `data` says
+  !   the request 15+2 reaches past the data disk, which has 16 sectors, from 0 on
   [1]
   $ write script
   > data 16

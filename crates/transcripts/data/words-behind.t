@@ -83,27 +83,27 @@ Command lines with `--explain`, behind two hyphens, and of words that are none.
   $ dmlw
   ! Records block requests in a log, and reads logs back
   ! 
-  ! Usage: dmlw <COMMAND>
+  ! Usage: dmlw [--explain] <COMMAND>
   ! 
   ! Commands:
-  !   record  Records the requests of a script in a new log
-  !   run     Runs the seats of a script in threads, and records them in a new log
-  !   list    Lists the entries of a log
-  !   status  Tells how far a log has come
-  !   replay  Replays the beginning of a log on an image
-  !   copy    Copies a log to one with sectors of 4096 bytes
-  !   judge   Judges whether an image could have been on the device
-  !   path    Tells how an image could have come to the device
-  !   help    Print this message or the help of the given subcommand(s)
+  !   record        Records the requests of a script in a new log
+  !   run           Runs the seats of a script in threads, and records them in a new log
+  !   list          Lists the entries of a log
+  !   status        Prints how many entries a log has, and how far they reach
+  !   replay        Replays a prefix of a log on an image
+  !   copy          Copies a log to one with sectors of 4096 bytes
+  !   judge         Judges whether an image could have been on the device
+  !   path          Tells how an image could have come to the device
+  !   help          Prints this page; behind it a command: the words of that command
+  !   help formats  Prints the grammar of scripts, the faults and the limits
   ! 
   ! Options:
+  !       --explain  In any place: behind a fault's line stands what helps
   !   -h, --help     Print help
   !   -V, --version  Print version
   ! 
   ! Exit status: 0 done, 1 refused or ruled out, 2 usage, 3 logging ended before its time.
   ! A status such as 3 4 says: 3 entries, of which the last uses sector 4.
-  ! With --explain, in any place: what helps stands behind a fault's line.
-  ! dmlw help formats: the grammar of scripts, the faults and the limits.
   [2]
 
 What says why a command is refused stands behind its line.
@@ -112,19 +112,19 @@ What says why a command is refused stands behind its line.
   $ quiet dmlw record script log
   $ dmlw --explain replay absent zeroes other flush
   ! dmlw: 32 File
-  !   absent isn't 512 to 536870912 bytes long, in whole sectors of 512 bytes
+  !   absent can't be read, or has more than the 536870912 bytes of a log or an image
   [1]
   $ dmlw replay absent zeroes other flush --explain
   ! dmlw: 32 File
-  !   absent isn't 512 to 536870912 bytes long, in whole sectors of 512 bytes
+  !   absent can't be read, or has more than the 536870912 bytes of a log or an image
   [1]
   $ dmlw judge script 9 zeroes --explain
   ! dmlw: 34 BadMoment
-  !   script: a moment is a number of the run's events, and the image has the sectors of the data disk under its layers
+  !   the run of script has 5 events; you asked for 9
   [1]
   $ dmlw judge script --explain 0 absent
   ! dmlw: 32 File
-  !   absent isn't 512 to 536870912 bytes long, in whole sectors of 512 bytes
+  !   absent can't be read, or has more than the 536870912 bytes of a log or an image
   [1]
   $ dmlw judge --explain script 0 zeroes
   yes
@@ -134,7 +134,7 @@ What says why a command is refused stands behind its line.
   [1]
   $ dmlw list absent --explain
   ! dmlw: 32 File
-  !   absent isn't 512 to 536870912 bytes long, in whole sectors of 512 bytes
+  !   absent can't be read, or has more than the 536870912 bytes of a log or an image
   [1]
   $ dmlw status --explain zeroes
   ! dmlw: 13 BadMagic
@@ -142,7 +142,7 @@ What says why a command is refused stands behind its line.
   [1]
   $ dmlw status absent --explain
   ! dmlw: 32 File
-  !   absent isn't 512 to 536870912 bytes long, in whole sectors of 512 bytes
+  !   absent can't be read, or has more than the 536870912 bytes of a log or an image
   [1]
   $ image first 8192
   $ dmlw --explain replay log first out flush
@@ -150,7 +150,7 @@ What says why a command is refused stands behind its line.
   $ image first 8192
   $ dmlw --explain replay log first out entries:4
   ! dmlw: 33 PastEntries after 0 entries
-  !   log: the log has fewer entries: `dmlw status` tells how many it counts
+  !   log: the log has 3 entries
   [1]
   $ image first 8192
   $ dmlw --explain replay first first out flush
@@ -165,20 +165,26 @@ What says why a command is refused stands behind its line.
   $ image first 8192
   $ dmlw --explain replay none first out flush
   ! dmlw: 32 File
-  !   none isn't 512 to 536870912 bytes long, in whole sectors of 512 bytes
+  !   none can't be read, or has more than the 536870912 bytes of a log or an image
   [1]
   $ dmlw --explain replay log absent out flush
   ! dmlw: 32 File
-  !   absent isn't 512 to 536870912 bytes long, in whole sectors of 512 bytes
+  !   absent can't be read, or has more than the 536870912 bytes of a log or an image
   [1]
 
 Words are judged before any file is read.
 
   $ dmlw replay none none other what
-  ! error: <WHAT> is entries:<n>, mark:<text> or flush
+  ! error: invalid value 'what' for '<WHAT>'
+  !   [possible values: entries:<n>, mark:<text>, flush]
+  ! 
+  ! For more information, try 'dmlw help replay'.
   [2]
   $ dmlw judge none x none
-  ! error: <M> is a number of 1 to 20 digits, below 2^64
+  ! error: invalid value 'x' for '<M>'
+  !   [possible values: a number of 1 to 20 digits, below 2^64]
+  ! 
+  ! For more information, try 'dmlw help judge'.
   [2]
 
 A command line of any length is read.
@@ -197,7 +203,6 @@ What editors do to a script.
   ! dmlw: line 1: 30 BadLine
   !   line 1 of script: data 16\r
   !   it ends with a carriage return: lines end with a line feed alone
-  !   the word `16\r` isn't <sectors>: a decimal number
   !   the form of the line: data <sectors>
   [1]
   $ escaped script
@@ -207,22 +212,6 @@ What editors do to a script.
   ! dmlw: line 1: 30 BadLine
   !   line 1 of script: data\t16
   !   it has a tab: one space stands between words
-  !   no line begins with the word `data\t16`; the lines are:
-  !     data <sectors>
-  !     log <sectors> [4096]
-  !     data-layer 0 <length> <target> ..
-  !     log-layer 0 <length> <target> ..
-  !     at <ms>
-  !     w <id> <first> <count> <byte> [flush] [fua] [meta]
-  !     f <id>
-  !     d <id> <first> <count>
-  !     c <id>
-  !     r <first> <count>
-  !     turn
-  !     mark <text>
-  !     message <disk> <layer> <text>
-  !     close
-  !     crash <pick> ..
   [1]
   $ write script
   > data 16
@@ -252,22 +241,6 @@ What editors do to a script.
   ! dmlw: line 1: 30 BadLine
   !   line 1 of script: \xef\xbb\xbfdata 16
   !   it begins with a byte order mark (ef bb bf): save the script as text without one
-  !   no line begins with the word `\xef\xbb\xbfdata`; the lines are:
-  !     data <sectors>
-  !     log <sectors> [4096]
-  !     data-layer 0 <length> <target> ..
-  !     log-layer 0 <length> <target> ..
-  !     at <ms>
-  !     w <id> <first> <count> <byte> [flush] [fua] [meta]
-  !     f <id>
-  !     d <id> <first> <count>
-  !     c <id>
-  !     r <first> <count>
-  !     turn
-  !     mark <text>
-  !     message <disk> <layer> <text>
-  !     close
-  !     crash <pick> ..
   [1]
 
 A script without a close leaves an empty log, and that is no fault. Where all is well nothing is added.
@@ -309,25 +282,25 @@ A script without a close leaves an empty log, and that is no fault. Where all is
   $ dmlw --explain judge script 0 image
   ! dmlw: line 3: 3 PastEnd
   !   line 3 of script: w a 2 1 41
-  !   the request ends past the data disk: its first sector and its count come to more than `data` says
+  !   the request 2+1 reaches past the data disk, which has 2 sectors, from 0 on
   [1]
   $ write script
   > data 2
   > log 32
   $ dmlw --explain judge script 0 image
   ! dmlw: 34 BadMoment
-  !   script: a moment is a number of the run's events, and the image has the sectors of the data disk under its layers
+  !   the image image has 1 sector, and the data disk of script 2
   [1]
   $ image image 100
   $ dmlw --explain judge script 0 image
   ! dmlw: 32 File
-  !   image isn't 512 to 536870912 bytes long, in whole sectors of 512 bytes
+  !   image has 100 bytes, which is 100 more than whole sectors of 512
   [1]
   $ escaped image
   > a text\
   $ dmlw --explain list image
   ! dmlw: 32 File
-  !   image isn't 512 to 536870912 bytes long, in whole sectors of 512 bytes
+  !   image has 6 bytes, which is 6 more than whole sectors of 512
   [1]
   $ write script
   > data 16
@@ -344,5 +317,5 @@ A script without a close leaves an empty log, and that is no fault. Where all is
   0 @1 write 5+1
   1 @3 flush
   ! dmlw: 21 CutShort
-  !   log: the log is shorter than it says: it was cut, or wasn't written to its end; what stands before the fault is whole
+  !   log: it counts 3 entries: the log is shorter than it says: it was cut, or wasn't written to its end; what stands before the fault is whole
   [1]

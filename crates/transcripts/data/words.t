@@ -3,51 +3,51 @@ Command lines and their texts.
   $ dmlw --help
   Records block requests in a log, and reads logs back
   
-  Usage: dmlw <COMMAND>
+  Usage: dmlw [--explain] <COMMAND>
   
   Commands:
-    record  Records the requests of a script in a new log
-    run     Runs the seats of a script in threads, and records them in a new log
-    list    Lists the entries of a log
-    status  Tells how far a log has come
-    replay  Replays the beginning of a log on an image
-    copy    Copies a log to one with sectors of 4096 bytes
-    judge   Judges whether an image could have been on the device
-    path    Tells how an image could have come to the device
-    help    Print this message or the help of the given subcommand(s)
+    record        Records the requests of a script in a new log
+    run           Runs the seats of a script in threads, and records them in a new log
+    list          Lists the entries of a log
+    status        Prints how many entries a log has, and how far they reach
+    replay        Replays a prefix of a log on an image
+    copy          Copies a log to one with sectors of 4096 bytes
+    judge         Judges whether an image could have been on the device
+    path          Tells how an image could have come to the device
+    help          Prints this page; behind it a command: the words of that command
+    help formats  Prints the grammar of scripts, the faults and the limits
   
   Options:
+        --explain  In any place: behind a fault's line stands what helps
     -h, --help     Print help
     -V, --version  Print version
   
   Exit status: 0 done, 1 refused or ruled out, 2 usage, 3 logging ended before its time.
   A status such as 3 4 says: 3 entries, of which the last uses sector 4.
-  With --explain, in any place: what helps stands behind a fault's line.
-  dmlw help formats: the grammar of scripts, the faults and the limits.
   $ dmlw help
   Records block requests in a log, and reads logs back
   
-  Usage: dmlw <COMMAND>
+  Usage: dmlw [--explain] <COMMAND>
   
   Commands:
-    record  Records the requests of a script in a new log
-    run     Runs the seats of a script in threads, and records them in a new log
-    list    Lists the entries of a log
-    status  Tells how far a log has come
-    replay  Replays the beginning of a log on an image
-    copy    Copies a log to one with sectors of 4096 bytes
-    judge   Judges whether an image could have been on the device
-    path    Tells how an image could have come to the device
-    help    Print this message or the help of the given subcommand(s)
+    record        Records the requests of a script in a new log
+    run           Runs the seats of a script in threads, and records them in a new log
+    list          Lists the entries of a log
+    status        Prints how many entries a log has, and how far they reach
+    replay        Replays a prefix of a log on an image
+    copy          Copies a log to one with sectors of 4096 bytes
+    judge         Judges whether an image could have been on the device
+    path          Tells how an image could have come to the device
+    help          Prints this page; behind it a command: the words of that command
+    help formats  Prints the grammar of scripts, the faults and the limits
   
   Options:
+        --explain  In any place: behind a fault's line stands what helps
     -h, --help     Print help
     -V, --version  Print version
   
   Exit status: 0 done, 1 refused or ruled out, 2 usage, 3 logging ended before its time.
   A status such as 3 4 says: 3 entries, of which the last uses sector 4.
-  With --explain, in any place: what helps stands behind a fault's line.
-  dmlw help formats: the grammar of scripts, the faults and the limits.
   $ dmlw record --help
   Records the requests of a script in a new log
   
@@ -62,51 +62,51 @@ Command lines and their texts.
   $ dmlw help
   Records block requests in a log, and reads logs back
   
-  Usage: dmlw <COMMAND>
+  Usage: dmlw [--explain] <COMMAND>
   
   Commands:
-    record  Records the requests of a script in a new log
-    run     Runs the seats of a script in threads, and records them in a new log
-    list    Lists the entries of a log
-    status  Tells how far a log has come
-    replay  Replays the beginning of a log on an image
-    copy    Copies a log to one with sectors of 4096 bytes
-    judge   Judges whether an image could have been on the device
-    path    Tells how an image could have come to the device
-    help    Print this message or the help of the given subcommand(s)
+    record        Records the requests of a script in a new log
+    run           Runs the seats of a script in threads, and records them in a new log
+    list          Lists the entries of a log
+    status        Prints how many entries a log has, and how far they reach
+    replay        Replays a prefix of a log on an image
+    copy          Copies a log to one with sectors of 4096 bytes
+    judge         Judges whether an image could have been on the device
+    path          Tells how an image could have come to the device
+    help          Prints this page; behind it a command: the words of that command
+    help formats  Prints the grammar of scripts, the faults and the limits
   
   Options:
+        --explain  In any place: behind a fault's line stands what helps
     -h, --help     Print help
     -V, --version  Print version
   
   Exit status: 0 done, 1 refused or ruled out, 2 usage, 3 logging ended before its time.
   A status such as 3 4 says: 3 entries, of which the last uses sector 4.
-  With --explain, in any place: what helps stands behind a fault's line.
-  dmlw help formats: the grammar of scripts, the faults and the limits.
   $ dmlw help
   Records block requests in a log, and reads logs back
   
-  Usage: dmlw <COMMAND>
+  Usage: dmlw [--explain] <COMMAND>
   
   Commands:
-    record  Records the requests of a script in a new log
-    run     Runs the seats of a script in threads, and records them in a new log
-    list    Lists the entries of a log
-    status  Tells how far a log has come
-    replay  Replays the beginning of a log on an image
-    copy    Copies a log to one with sectors of 4096 bytes
-    judge   Judges whether an image could have been on the device
-    path    Tells how an image could have come to the device
-    help    Print this message or the help of the given subcommand(s)
+    record        Records the requests of a script in a new log
+    run           Runs the seats of a script in threads, and records them in a new log
+    list          Lists the entries of a log
+    status        Prints how many entries a log has, and how far they reach
+    replay        Replays a prefix of a log on an image
+    copy          Copies a log to one with sectors of 4096 bytes
+    judge         Judges whether an image could have been on the device
+    path          Tells how an image could have come to the device
+    help          Prints this page; behind it a command: the words of that command
+    help formats  Prints the grammar of scripts, the faults and the limits
   
   Options:
+        --explain  In any place: behind a fault's line stands what helps
     -h, --help     Print help
     -V, --version  Print version
   
   Exit status: 0 done, 1 refused or ruled out, 2 usage, 3 logging ended before its time.
   A status such as 3 4 says: 3 entries, of which the last uses sector 4.
-  With --explain, in any place: what helps stands behind a fault's line.
-  dmlw help formats: the grammar of scripts, the faults and the limits.
   $ dmlw list --help
   Lists the entries of a log
   
@@ -118,7 +118,7 @@ Command lines and their texts.
   Options:
     -h, --help  Print help
   $ dmlw help status
-  Tells how far a log has come
+  Prints how many entries a log has, and how far they reach
   
   Usage: dmlw status <LOG>
   
@@ -132,123 +132,123 @@ Command lines and their texts.
   $ dmlw --help
   Records block requests in a log, and reads logs back
   
-  Usage: dmlw <COMMAND>
+  Usage: dmlw [--explain] <COMMAND>
   
   Commands:
-    record  Records the requests of a script in a new log
-    run     Runs the seats of a script in threads, and records them in a new log
-    list    Lists the entries of a log
-    status  Tells how far a log has come
-    replay  Replays the beginning of a log on an image
-    copy    Copies a log to one with sectors of 4096 bytes
-    judge   Judges whether an image could have been on the device
-    path    Tells how an image could have come to the device
-    help    Print this message or the help of the given subcommand(s)
+    record        Records the requests of a script in a new log
+    run           Runs the seats of a script in threads, and records them in a new log
+    list          Lists the entries of a log
+    status        Prints how many entries a log has, and how far they reach
+    replay        Replays a prefix of a log on an image
+    copy          Copies a log to one with sectors of 4096 bytes
+    judge         Judges whether an image could have been on the device
+    path          Tells how an image could have come to the device
+    help          Prints this page; behind it a command: the words of that command
+    help formats  Prints the grammar of scripts, the faults and the limits
   
   Options:
+        --explain  In any place: behind a fault's line stands what helps
     -h, --help     Print help
     -V, --version  Print version
   
   Exit status: 0 done, 1 refused or ruled out, 2 usage, 3 logging ended before its time.
   A status such as 3 4 says: 3 entries, of which the last uses sector 4.
-  With --explain, in any place: what helps stands behind a fault's line.
-  dmlw help formats: the grammar of scripts, the faults and the limits.
   $ dmlw --help
   Records block requests in a log, and reads logs back
   
-  Usage: dmlw <COMMAND>
+  Usage: dmlw [--explain] <COMMAND>
   
   Commands:
-    record  Records the requests of a script in a new log
-    run     Runs the seats of a script in threads, and records them in a new log
-    list    Lists the entries of a log
-    status  Tells how far a log has come
-    replay  Replays the beginning of a log on an image
-    copy    Copies a log to one with sectors of 4096 bytes
-    judge   Judges whether an image could have been on the device
-    path    Tells how an image could have come to the device
-    help    Print this message or the help of the given subcommand(s)
+    record        Records the requests of a script in a new log
+    run           Runs the seats of a script in threads, and records them in a new log
+    list          Lists the entries of a log
+    status        Prints how many entries a log has, and how far they reach
+    replay        Replays a prefix of a log on an image
+    copy          Copies a log to one with sectors of 4096 bytes
+    judge         Judges whether an image could have been on the device
+    path          Tells how an image could have come to the device
+    help          Prints this page; behind it a command: the words of that command
+    help formats  Prints the grammar of scripts, the faults and the limits
   
   Options:
+        --explain  In any place: behind a fault's line stands what helps
     -h, --help     Print help
     -V, --version  Print version
   
   Exit status: 0 done, 1 refused or ruled out, 2 usage, 3 logging ended before its time.
   A status such as 3 4 says: 3 entries, of which the last uses sector 4.
-  With --explain, in any place: what helps stands behind a fault's line.
-  dmlw help formats: the grammar of scripts, the faults and the limits.
   $ dmlw --help
   Records block requests in a log, and reads logs back
   
-  Usage: dmlw <COMMAND>
+  Usage: dmlw [--explain] <COMMAND>
   
   Commands:
-    record  Records the requests of a script in a new log
-    run     Runs the seats of a script in threads, and records them in a new log
-    list    Lists the entries of a log
-    status  Tells how far a log has come
-    replay  Replays the beginning of a log on an image
-    copy    Copies a log to one with sectors of 4096 bytes
-    judge   Judges whether an image could have been on the device
-    path    Tells how an image could have come to the device
-    help    Print this message or the help of the given subcommand(s)
+    record        Records the requests of a script in a new log
+    run           Runs the seats of a script in threads, and records them in a new log
+    list          Lists the entries of a log
+    status        Prints how many entries a log has, and how far they reach
+    replay        Replays a prefix of a log on an image
+    copy          Copies a log to one with sectors of 4096 bytes
+    judge         Judges whether an image could have been on the device
+    path          Tells how an image could have come to the device
+    help          Prints this page; behind it a command: the words of that command
+    help formats  Prints the grammar of scripts, the faults and the limits
   
   Options:
+        --explain  In any place: behind a fault's line stands what helps
     -h, --help     Print help
     -V, --version  Print version
   
   Exit status: 0 done, 1 refused or ruled out, 2 usage, 3 logging ended before its time.
   A status such as 3 4 says: 3 entries, of which the last uses sector 4.
-  With --explain, in any place: what helps stands behind a fault's line.
-  dmlw help formats: the grammar of scripts, the faults and the limits.
   $ dmlw --help
   Records block requests in a log, and reads logs back
   
-  Usage: dmlw <COMMAND>
+  Usage: dmlw [--explain] <COMMAND>
   
   Commands:
-    record  Records the requests of a script in a new log
-    run     Runs the seats of a script in threads, and records them in a new log
-    list    Lists the entries of a log
-    status  Tells how far a log has come
-    replay  Replays the beginning of a log on an image
-    copy    Copies a log to one with sectors of 4096 bytes
-    judge   Judges whether an image could have been on the device
-    path    Tells how an image could have come to the device
-    help    Print this message or the help of the given subcommand(s)
+    record        Records the requests of a script in a new log
+    run           Runs the seats of a script in threads, and records them in a new log
+    list          Lists the entries of a log
+    status        Prints how many entries a log has, and how far they reach
+    replay        Replays a prefix of a log on an image
+    copy          Copies a log to one with sectors of 4096 bytes
+    judge         Judges whether an image could have been on the device
+    path          Tells how an image could have come to the device
+    help          Prints this page; behind it a command: the words of that command
+    help formats  Prints the grammar of scripts, the faults and the limits
   
   Options:
+        --explain  In any place: behind a fault's line stands what helps
     -h, --help     Print help
     -V, --version  Print version
   
   Exit status: 0 done, 1 refused or ruled out, 2 usage, 3 logging ended before its time.
   A status such as 3 4 says: 3 entries, of which the last uses sector 4.
-  With --explain, in any place: what helps stands behind a fault's line.
-  dmlw help formats: the grammar of scripts, the faults and the limits.
   $ dmlw --help
   Records block requests in a log, and reads logs back
   
-  Usage: dmlw <COMMAND>
+  Usage: dmlw [--explain] <COMMAND>
   
   Commands:
-    record  Records the requests of a script in a new log
-    run     Runs the seats of a script in threads, and records them in a new log
-    list    Lists the entries of a log
-    status  Tells how far a log has come
-    replay  Replays the beginning of a log on an image
-    copy    Copies a log to one with sectors of 4096 bytes
-    judge   Judges whether an image could have been on the device
-    path    Tells how an image could have come to the device
-    help    Print this message or the help of the given subcommand(s)
+    record        Records the requests of a script in a new log
+    run           Runs the seats of a script in threads, and records them in a new log
+    list          Lists the entries of a log
+    status        Prints how many entries a log has, and how far they reach
+    replay        Replays a prefix of a log on an image
+    copy          Copies a log to one with sectors of 4096 bytes
+    judge         Judges whether an image could have been on the device
+    path          Tells how an image could have come to the device
+    help          Prints this page; behind it a command: the words of that command
+    help formats  Prints the grammar of scripts, the faults and the limits
   
   Options:
+        --explain  In any place: behind a fault's line stands what helps
     -h, --help     Print help
     -V, --version  Print version
   
   Exit status: 0 done, 1 refused or ruled out, 2 usage, 3 logging ended before its time.
   A status such as 3 4 says: 3 entries, of which the last uses sector 4.
-  With --explain, in any place: what helps stands behind a fault's line.
-  dmlw help formats: the grammar of scripts, the faults and the limits.
   $ dmlw help record
   Records the requests of a script in a new log
   
@@ -282,7 +282,7 @@ Command lines and their texts.
   Options:
     -h, --help  Print help
   $ dmlw help replay
-  Replays the beginning of a log on an image
+  Replays a prefix of a log on an image
   
   Usage: dmlw replay <LOG> <FIRST> <OUT> <WHAT>
   
@@ -295,7 +295,7 @@ Command lines and their texts.
   Options:
     -h, --help  Print help
   $ dmlw help replay
-  Replays the beginning of a log on an image
+  Replays a prefix of a log on an image
   
   Usage: dmlw replay <LOG> <FIRST> <OUT> <WHAT>
   
@@ -308,7 +308,7 @@ Command lines and their texts.
   Options:
     -h, --help  Print help
   $ dmlw help replay
-  Replays the beginning of a log on an image
+  Replays a prefix of a log on an image
   
   Usage: dmlw replay <LOG> <FIRST> <OUT> <WHAT>
   
@@ -332,6 +332,20 @@ Command lines and their texts.
   
   Options:
     -h, --help  Print help
+  
+  An event is a line of the script that submits a request (w, f, d) or ends one (c), a mark, or the
+  close; so is the end of logging, where that comes first. Events count from 0. Other lines are none.
+  
+    data 16
+    log 32
+    w a 5 1 41    event 0
+    c a           event 1
+    f b           event 2
+    c b           event 3
+    close         event 4
+  
+  M is 0 to 5 here. At 3 the flush hasn't ended: sector 5 may hold zeroes, or the bytes of a. At 4 it
+  has, and made a sure: event 0 rules zeroes out. With --explain its line of the script is printed.
   $ dmlw help judge
   Judges whether an image could have been on the device
   
@@ -344,6 +358,20 @@ Command lines and their texts.
   
   Options:
     -h, --help  Print help
+  
+  An event is a line of the script that submits a request (w, f, d) or ends one (c), a mark, or the
+  close; so is the end of logging, where that comes first. Events count from 0. Other lines are none.
+  
+    data 16
+    log 32
+    w a 5 1 41    event 0
+    c a           event 1
+    f b           event 2
+    c b           event 3
+    close         event 4
+  
+  M is 0 to 5 here. At 3 the flush hasn't ended: sector 5 may hold zeroes, or the bytes of a. At 4 it
+  has, and made a sure: event 0 rules zeroes out. With --explain its line of the script is printed.
   $ dmlw frob
   ! error: unrecognized subcommand 'frob'
   ! 
@@ -422,53 +450,53 @@ Command lines and their texts.
   $ dmlw help
   Records block requests in a log, and reads logs back
   
-  Usage: dmlw <COMMAND>
+  Usage: dmlw [--explain] <COMMAND>
   
   Commands:
-    record  Records the requests of a script in a new log
-    run     Runs the seats of a script in threads, and records them in a new log
-    list    Lists the entries of a log
-    status  Tells how far a log has come
-    replay  Replays the beginning of a log on an image
-    copy    Copies a log to one with sectors of 4096 bytes
-    judge   Judges whether an image could have been on the device
-    path    Tells how an image could have come to the device
-    help    Print this message or the help of the given subcommand(s)
+    record        Records the requests of a script in a new log
+    run           Runs the seats of a script in threads, and records them in a new log
+    list          Lists the entries of a log
+    status        Prints how many entries a log has, and how far they reach
+    replay        Replays a prefix of a log on an image
+    copy          Copies a log to one with sectors of 4096 bytes
+    judge         Judges whether an image could have been on the device
+    path          Tells how an image could have come to the device
+    help          Prints this page; behind it a command: the words of that command
+    help formats  Prints the grammar of scripts, the faults and the limits
   
   Options:
+        --explain  In any place: behind a fault's line stands what helps
     -h, --help     Print help
     -V, --version  Print version
   
   Exit status: 0 done, 1 refused or ruled out, 2 usage, 3 logging ended before its time.
   A status such as 3 4 says: 3 entries, of which the last uses sector 4.
-  With --explain, in any place: what helps stands behind a fault's line.
-  dmlw help formats: the grammar of scripts, the faults and the limits.
   $ dmlw help
   Records block requests in a log, and reads logs back
   
-  Usage: dmlw <COMMAND>
+  Usage: dmlw [--explain] <COMMAND>
   
   Commands:
-    record  Records the requests of a script in a new log
-    run     Runs the seats of a script in threads, and records them in a new log
-    list    Lists the entries of a log
-    status  Tells how far a log has come
-    replay  Replays the beginning of a log on an image
-    copy    Copies a log to one with sectors of 4096 bytes
-    judge   Judges whether an image could have been on the device
-    path    Tells how an image could have come to the device
-    help    Print this message or the help of the given subcommand(s)
+    record        Records the requests of a script in a new log
+    run           Runs the seats of a script in threads, and records them in a new log
+    list          Lists the entries of a log
+    status        Prints how many entries a log has, and how far they reach
+    replay        Replays a prefix of a log on an image
+    copy          Copies a log to one with sectors of 4096 bytes
+    judge         Judges whether an image could have been on the device
+    path          Tells how an image could have come to the device
+    help          Prints this page; behind it a command: the words of that command
+    help formats  Prints the grammar of scripts, the faults and the limits
   
   Options:
+        --explain  In any place: behind a fault's line stands what helps
     -h, --help     Print help
     -V, --version  Print version
   
   Exit status: 0 done, 1 refused or ruled out, 2 usage, 3 logging ended before its time.
   A status such as 3 4 says: 3 entries, of which the last uses sector 4.
-  With --explain, in any place: what helps stands behind a fault's line.
-  dmlw help formats: the grammar of scripts, the faults and the limits.
   $ dmlw replay --help
-  Replays the beginning of a log on an image
+  Replays a prefix of a log on an image
   
   Usage: dmlw replay <LOG> <FIRST> <OUT> <WHAT>
   
@@ -481,7 +509,7 @@ Command lines and their texts.
   Options:
     -h, --help  Print help
   $ dmlw replay --help
-  Replays the beginning of a log on an image
+  Replays a prefix of a log on an image
   
   Usage: dmlw replay <LOG> <FIRST> <OUT> <WHAT>
   
@@ -505,6 +533,20 @@ Command lines and their texts.
   
   Options:
     -h, --help  Print help
+  
+  An event is a line of the script that submits a request (w, f, d) or ends one (c), a mark, or the
+  close; so is the end of logging, where that comes first. Events count from 0. Other lines are none.
+  
+    data 16
+    log 32
+    w a 5 1 41    event 0
+    c a           event 1
+    f b           event 2
+    c b           event 3
+    close         event 4
+  
+  M is 0 to 5 here. At 3 the flush hasn't ended: sector 5 may hold zeroes, or the bytes of a. At 4 it
+  has, and made a sure: event 0 rules zeroes out. With --explain its line of the script is printed.
   $ dmlw help judge
   Judges whether an image could have been on the device
   
@@ -517,6 +559,20 @@ Command lines and their texts.
   
   Options:
     -h, --help  Print help
+  
+  An event is a line of the script that submits a request (w, f, d) or ends one (c), a mark, or the
+  close; so is the end of logging, where that comes first. Events count from 0. Other lines are none.
+  
+    data 16
+    log 32
+    w a 5 1 41    event 0
+    c a           event 1
+    f b           event 2
+    c b           event 3
+    close         event 4
+  
+  M is 0 to 5 here. At 3 the flush hasn't ended: sector 5 may hold zeroes, or the bytes of a. At 4 it
+  has, and made a sure: event 0 rules zeroes out. With --explain its line of the script is printed.
   $ dmlw replay
   ! error: the following required arguments were not provided:
   !   <LOG>
@@ -553,10 +609,16 @@ Command lines and their texts.
   ! For more information, try '--help'.
   [2]
   $ dmlw replay a b c what
-  ! error: <WHAT> is entries:<n>, mark:<text> or flush
+  ! error: invalid value 'what' for '<WHAT>'
+  !   [possible values: entries:<n>, mark:<text>, flush]
+  ! 
+  ! For more information, try 'dmlw help replay'.
   [2]
   $ dmlw replay a b c entries:18446744073709551616
-  ! error: <WHAT> is entries:<n>, mark:<text> or flush
+  ! error: invalid value 'entries:18446744073709551616' for '<WHAT>'
+  !   [possible values: entries:<n>, mark:<text>, flush]
+  ! 
+  ! For more information, try 'dmlw help replay'.
   [2]
   $ dmlw judge a 1
   ! error: the following required arguments were not provided:
@@ -583,5 +645,8 @@ Command lines and their texts.
   ! For more information, try '--help'.
   [2]
   $ dmlw judge a x b
-  ! error: <M> is a number of 1 to 20 digits, below 2^64
+  ! error: invalid value 'x' for '<M>'
+  !   [possible values: a number of 1 to 20 digits, below 2^64]
+  ! 
+  ! For more information, try 'dmlw help judge'.
   [2]

@@ -1,0 +1,40 @@
+use std::fmt;
+
+/// A number of things, with the word for one or for more of them: `1 entry`, `3 entries`.
+#[derive(Clone, Copy, Debug)]
+pub struct Counted {
+    /// How many they are.
+    pub count: u64,
+    /// The word for one.
+    pub one: &'static str,
+    /// The word for any other number.
+    pub many: &'static str,
+}
+
+impl fmt::Display for Counted {
+    fn fmt<W: fmt::Write>(&self, f: &mut fmt::Formatter<W>) -> fmt::Result {
+        let Counted { count, one, many } = *self;
+        if count == 1 {
+            return write!(f, "1 {one}");
+        }
+        write!(f, "{count} {many}")
+    }
+}
+
+/// So many sectors.
+pub fn counted_sectors(count: u64) -> Counted {
+    Counted {
+        count,
+        one: "sector",
+        many: "sectors",
+    }
+}
+
+/// So many entries.
+pub(crate) fn counted_entries(count: u64) -> Counted {
+    Counted {
+        count,
+        one: "entry",
+        many: "entries",
+    }
+}

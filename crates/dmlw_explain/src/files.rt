@@ -1,0 +1,178 @@
+//! Which file of a command can't be used, and why. What was read is read again for it.
+ghost use Rattle.std.specs.Prelude.{◌≡◌};
+ghost use Rattle.dmlw_files.specs.Files.{KeepsFiles};
+
+use dmlw_files::{Files, MAX_IMAGE_BYTES, MAX_SCRIPT_BYTES, Trouble};
+use sectors::SECTOR_BYTES;
+use std::alloc::Global;
+use std::fmt;
+use std::fmt::Write;
+
+/// Writes that two names are those of one file.
+pub(crate) fn write_same<W: Write>(one: &str, other: &str, over: &str, to: &mut W) -> fmt::Result {
+    writeln!(to, "  {one} and {other} are one file: {over}")
+}
+
+/// Writes which file of a recording can't be used, and why.
+pub(crate) fn write_file_of_recording<F: Files, W: Write>(
+    alloc: Global,
+    script: &str,
+    log: &str,
+    files: &mut F,
+    to: &mut W,
+) -> fmt::Result
+    ensures kept { KeepsFiles (F.contents files.old) (F.contents files.new) }
+    ensures unwritten { F.writes files.new ≡ F.writes files.old }
+{
+    if files.is_same(script, log) {
+        return write_same(script, log, "the log would be written over its script", to);
+    }
+    if let Some(Trouble::Write(error)) = files.trouble() {
+        return writeln!(to, "  {log} can't be written: {error}");
+    }
+    if write_script_file(alloc, script, files, to)? {
+        return Ok(());
+    }
+    write_output(to)
+}
+
+/// Writes which of a script and an image can't be used, and why.
+pub(crate) fn write_file_of_judging<F: Files, W: Write>(
+    alloc: Global,
+    script: &str,
+    image: &str,
+    files: &mut F,
+    to: &mut W,
+) -> fmt::Result
+    ensures kept { KeepsFiles (F.contents files.old) (F.contents files.new) }
+    ensures unwritten { F.writes files.new ≡ F.writes files.old }
+{
+    if write_script_file(alloc, script, files, to)? || write_image_file(alloc, image, files, to)? {
+        return Ok(());
+    }
+    write_output(to)
+}
+
+/// Writes why the file of a log can't be used, or that the output can't.
+pub(crate) fn write_file_of_reading<F: Files, W: Write>(
+    alloc: Global,
+    log: &str,
+    files: &mut F,
+    to: &mut W,
+) -> fmt::Result
+    ensures kept { KeepsFiles (F.contents files.old) (F.contents files.new) }
+    ensures unwritten { F.writes files.new ≡ F.writes files.old }
+{
+    if write_image_file(alloc, log, files, to)? {
+        return Ok(());
+    }
+    write_output(to)
+}
+
+/// Writes which of a log, a first image and an image that is written can't be used, and why; a copy
+/// has no first image, and names its log twice.
+pub(crate) fn write_file_of_writing<F: Files, W: Write>(
+    alloc: Global,
+    log: &str,
+    first: &str,
+    out: &str,
+    files: &mut F,
+    to: &mut W,
+) -> fmt::Result
+    ensures kept { KeepsFiles (F.contents files.old) (F.contents files.new) }
+    ensures unwritten { F.writes files.new ≡ F.writes files.old }
+{
+    if files.is_same(log, out) {
+        return write_same(log, out, "the image would be written over the log", to);
+    }
+    if let Some(Trouble::Write(error)) = files.trouble() {
+        return writeln!(to, "  {out} can't be written: {error}");
+    }
+    if write_image_file(alloc, log, files, to)? || write_image_file(alloc, first, files, to)? {
+        return Ok(());
+    }
+    write_output(to)
+}
+
+fn write_output<W: Write>(to: &mut W) -> fmt::Result {
+    writeln!(to, "  the standard output can't be written")
+}
+
+// Writes why a script's file can't be read, and answers whether there is a reason.
+fn write_script_file<F: Files, W: Write>(
+    alloc: Global,
+    script: &str,
+    files: &mut F,
+    to: &mut W,
+) -> Result<bool, fmt::Error>
+    ensures kept { KeepsFiles (F.contents files.old) (F.contents files.new) }
+    ensures unwritten { F.writes files.new ≡ F.writes files.old }
+{
+    if files.read(alloc, script, MAX_SCRIPT_BYTES).is_ok() {
+        return Ok(false);
+    }
+    write_unread(script, MAX_SCRIPT_BYTES, "a script", files, to)?;
+    Ok(true)
+}
+
+// Writes why a file isn't an image, and answers whether there is a reason.
+fn write_image_file<F: Files, W: Write>(
+    alloc: Global,
+    image: &str,
+    files: &mut F,
+    to: &mut W,
+) -> Result<bool, fmt::Error>
+    ensures kept { KeepsFiles (F.contents files.old) (F.contents files.new) }
+    ensures unwritten { F.writes files.new ≡ F.writes files.old }
+{
+    match files.read(alloc, image, MAX_IMAGE_BYTES) {
+        Ok(bytes) => write_length(image, bytes.len() as u64, to),
+        Err(_) => {
+            write_unread(image, MAX_IMAGE_BYTES, "a log or an image", files, to)?;
+            Ok(true)
+        }
+    }
+}
+
+// Writes that so many bytes are no image, where they aren't, and answers whether that is so.
+fn write_length<W: Write>(image: &str, length: u64, to: &mut W) -> Result<bool, fmt::Error> {
+    let over = length % SECTOR_BYTES;
+    if length == 0 {
+        writeln!(
+            to,
+            "  {image} is empty: a log or an image has at least {SECTOR_BYTES} bytes"
+        )?;
+    } else if over != 0 {
+        writeln!(
+            to,
+            "  {image} has {length} bytes, which is {over} more than whole sectors of {SECTOR_BYTES}"
+        )?;
+    }
+    Ok(length == 0 || over != 0)
+}
+
+// Writes why a file that is to be of some kind couldn't be read.
+fn write_unread<F: Files, W: Write>(
+    name: &str,
+    limit: u64,
+    kind: &str,
+    files: &F,
+    to: &mut W,
+) -> fmt::Result {
+    match files.trouble() {
+        Some(Trouble::Read(error)) | Some(Trouble::Write(error)) => {
+            writeln!(to, "  {name} can't be read: {error}")
+        }
+        Some(Trouble::TooLong(length)) if *length > limit => writeln!(
+            to,
+            "  {name} has {length} bytes, and {kind} at most {limit}"
+        ),
+        Some(Trouble::TooLong(_)) => {
+            writeln!(to, "  {name} has more than the {limit} bytes of {kind}")
+        }
+        None => writeln!(
+            to,
+            "  {name} can't be read, or has more than the {limit} bytes of {kind}"
+        ),
+    }
+}

@@ -20,6 +20,21 @@ impl Told {
     }
 }
 
+/// What a command line is to tell: it ends with status 1 where there is a fault.
+#[derive(Clone, Copy)]
+pub struct Wanted<'a> {
+    pub line: &'a str,
+    pub out: &'a str,
+    pub err: &'a str,
+}
+
+impl Wanted<'_> {
+    /// Whether this was told.
+    pub fn is_met(&self, told: &Told) -> bool {
+        told.is(u8::from(!self.err.is_empty()), self.out, self.err)
+    }
+}
+
 /// What a command line after the program's name tells of a folder's files.
 pub fn ask<H: Threads + Wait + Sync>(
     rt: &H,

@@ -1,7 +1,8 @@
 // Logs that were cut, or of which one byte was changed: what is told of each.
-use crate::asking::{Told, ask, folder_of};
+use crate::asking::{Wanted, ask, folder_of};
 use crate::faults::{Faults, LOG_FAULTS, REPLAY_FAULTS};
-use crate::report::Report;
+use crate::report::{Report, check};
+use crate::{images, targets};
 use std::alloc::{AllocError, Global};
 use std::sync::Wait;
 use std::thread::Threads;
@@ -21,6 +22,9 @@ const LISTED: [&str; 4] = [
     "1 @3 flush\n",
     "2 @4 mark dm-log-writes-end\n",
 ];
+
+// What is told of a log that is too short.
+const CUT: &str = "dmlw: 21 CutShort\n";
 
 // The length of a sector, of the data disk, and of the part of a log that is changed byte by byte, in bytes; and the sectors of a log.
 const SECTOR: usize = 512;
@@ -56,14 +60,22 @@ struct Seen {
     flushed: Faults,
 }
 
-/// Cuts a log to each of its sectors, then changes each byte of another one's first two sectors, and reports what is told of these.
+/// Reads images of chosen fields, cuts a log to each of its sectors, changes each byte of another one's first two sectors, replays the first log onto
+/// devices that fail or lie, and reports what is told of these.
 pub fn run<H: Threads + Wait + Sync>(
     rt: &H,
     alloc: Global,
     report: &mut Report,
 ) -> Result<(), AllocError> {
+    images::run(rt, alloc, report)?;
     run_cuts(rt, alloc, report)?;
-    run_damages(rt, alloc, report)
+    run_damages(rt, alloc, report)?;
+    targets::run(rt, alloc, report)
+}
+
+/// The log of a write that a flush makes sure.
+pub fn plain_log<H: Threads + Wait + Sync>(rt: &H, alloc: Global) -> Result<Vec<u8>, AllocError> {
+    log_of(rt, alloc, FLUSHED)
 }
 
 // The log that a script leaves.
@@ -77,15 +89,16 @@ fn log_of<H: Threads + Wait + Sync>(
     Vec::from_slice(alloc, folder.bytes("log").unwrap_or_default())
 }
 
-// Lists the first log cut to each number of sectors.
+// Reads the first log cut to each number of sectors.
 fn run_cuts<H: Threads + Wait + Sync>(
     rt: &H,
     alloc: Global,
     report: &mut Report,
 ) -> Result<(), AllocError> {
-    let log = log_of(rt, alloc, FLUSHED)?;
+    let log = plain_log(rt, alloc)?;
     let before = report.differ();
     let mut folder = Folder::new(alloc);
+    folder.put(alloc, "zeroes", vec![in alloc; 0; DATA_BYTES]?)?;
     for sectors in 1..=LOG_SECTORS {
         let cut = log
             .get(..sectors.saturating_mul(SECTOR))
@@ -111,18 +124,39 @@ fn check_cut<H: Threads + Wait + Sync>(
         4 => 3,
         _ => 4,
     };
-    let is_whole = lines == LISTED.len();
-    let mut wanted = String::new(alloc);
+    let mut listed = String::new(alloc);
     for line in LISTED.iter().take(lines) {
-        wanted.push_str(line)?;
+        listed.push_str(line)?;
     }
-    let listed = ask(rt, alloc, "list log", folder)?;
-    let fault = if is_whole { "" } else { "dmlw: 21 CutShort\n" };
-    if !listed.is(u8::from(!is_whole), wanted.as_str(), fault) {
-        let case = format!(in alloc; "cut to {sectors} sectors")?;
-        report.differs(case.as_str(), &listed, wanted.as_str())?;
-    }
-    Ok(())
+    let (status, replayed) = if lines == LISTED.len() {
+        ("3 4\n", "replayed 3\n")
+    } else {
+        ("", "")
+    };
+    let (fault, stop) = match lines {
+        0 => (CUT, CUT),
+        3 => (CUT, "dmlw: 21 CutShort after 2 entries\n"),
+        _ => ("", ""),
+    };
+    let wanted = [
+        Wanted {
+            line: "list log",
+            out: listed.as_str(),
+            err: fault,
+        },
+        Wanted {
+            line: "status log",
+            out: status,
+            err: fault,
+        },
+        Wanted {
+            line: "replay log zeroes out entries:3",
+            out: replayed,
+            err: stop,
+        },
+    ];
+    let case = format!(in alloc; "cut to {sectors} sectors")?;
+    check(rt, alloc, case.as_str(), &wanted, folder, report)
 }
 
 // Reads the second log with each of its first bytes set to each value.

@@ -8,9 +8,11 @@ mod asking;
 mod damage;
 mod devices;
 mod faults;
+mod images;
 mod layers;
 mod report;
 mod seats;
+mod targets;
 
 use crate::report::Report;
 use std::alloc::{AllocError, Global};
@@ -39,6 +41,8 @@ fn run<H: Threads + Wait + Sync>(
     match name {
         "layers" => devices::run(rt, alloc, report),
         "logs" => damage::run(rt, alloc, report),
+        "images" => images::run(rt, alloc, report),
+        "targets" => targets::run(rt, alloc, report),
         "seats" => seats::run(rt, alloc, report),
         _ => report.line("no such series"),
     }

@@ -1,6 +1,9 @@
 // What is printed of a series, and how many of its cases came out otherwise.
-use crate::asking::Told;
+use crate::asking::{Told, Wanted, ask};
 use std::alloc::{AllocError, Global};
+use std::sync::Wait;
+use std::thread::Threads;
+use test_files::Folder;
 
 /// The text of a report, and its count of differences.
 #[derive(Drop)]
@@ -43,4 +46,24 @@ impl Report {
         self.text.push_str(told.err.as_str())?;
         writeln!(self.text, "wanted:\n{wanted}")
     }
+}
+
+/// Does each command line over a folder's files, and notes each that tells something else than is wanted, with the name of the case.
+pub fn check<H: Threads + Wait + Sync>(
+    rt: &H,
+    alloc: Global,
+    case: &str,
+    wanted: &[Wanted<'_>],
+    folder: &mut Folder,
+    report: &mut Report,
+) -> Result<(), AllocError> {
+    for each in wanted {
+        let told = ask(rt, alloc, each.line, folder)?;
+        if !each.is_met(&told) {
+            let name = format!(in alloc; "{case}: {}", each.line)?;
+            let both = format!(in alloc; "{}{}", each.out, each.err)?;
+            report.differs(name.as_str(), &told, both.as_str())?;
+        }
+    }
+    Ok(())
 }

@@ -14,7 +14,7 @@ PROGRAM = os.path.realpath(sys.argv[1]) if len(sys.argv) > 1 else str(ROOT / "cr
 PAGES = ("README.md", "docs/USING.md")
 IS_COMMAND = re.compile(r"^(\./dmlw|truncate|printf|awk|examples/\S+\.sh) \S")
 # What needs devices, a log of the reader's own, or all proofs.
-NOT_HERE = re.compile(r"my\.log|before\.img|\.ci/run|/dev/|CHECK|LOG|SCRIPT|IMAGE|bad\.script")
+NOT_HERE = re.compile(r"my\.log|before\.img|\.ci/run|/dev/|CHECK|LOG|SCRIPT|IMAGE|bad\.script|--rebuild")
 
 
 def paragraphs(text):

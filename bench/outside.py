@@ -6,8 +6,9 @@
 Prints a line for each trial, and ends with status 1 where one fails. The trials that need the right to mount or to set up a loop device, or a file system's own
 tools, are left out where these are missing, with a line that begins with `--`.
 """
-import os, pathlib, pty, re, shutil, struct, subprocess, sys, tempfile, threading
+import hashlib, lzma, os, pathlib, pty, re, shutil, struct, subprocess, sys, tempfile, threading
 
+import release
 
 ROOT = pathlib.Path(__file__).resolve().parent.parent
 PROGRAM = os.path.realpath(sys.argv[1]) if len(sys.argv) > 1 else str(ROOT / "crates/dmlw/out/dmlw")
@@ -205,6 +206,46 @@ def terminal(room):
     trial("and in a script it doesn't", (ran.returncode, ran.stdout, ran.stderr) == (1, b"", b"dmlw: 32 File\n"), ran)
 
 
+def ship(home):
+    """Gives a folder with the launcher a release/ of the program that is tried, and takes away what was built or unpacked there."""
+    release.root = str(home)
+    program = pathlib.Path(PROGRAM).read_bytes()
+    for it in ("crates/dmlw/out", ".cache", "release"):
+        shutil.rmtree(home / it, ignore_errors=True)
+    (home / "release").mkdir()
+    (home / release.PACKED).write_bytes(lzma.compress(program))
+    (home / release.BUILT).write_text(f"sources {release.sum_of_sources()}\nprogram {hashlib.sha256(program).hexdigest()}\n")
+
+
+def shipped(room):
+    home, bare = room / "shipping", dict(os.environ, PATH="/usr/bin:/bin")
+    (home / "crates/words/src").mkdir(parents=True)
+    shutil.copy(ROOT / "dmlw", home)
+    (home / "crates.txt").write_text("words:\n")
+    source = home / "crates/words/src/lib.rt"
+    source.write_text("//! Words.\n")
+
+    def launched(*words):
+        return subprocess.run([home / "dmlw", *words], capture_output=True, env=bare)
+
+    if not shutil.which("xz", path=bare["PATH"]) or shutil.which("rt", path=bare["PATH"]):
+        print("--   release/: no xz, or rt stands among the system's commands")
+        return
+    ship(home)
+    version = run("--version").stdout
+    for which in ("unpacks the shipped program", "and has it then"):
+        ran = launched("--version")
+        trial(f"the launcher {which}", (ran.returncode, ran.stdout, ran.stderr) == (0, version, b""), ran)
+    source.write_text("//! Other words.\n")
+    ran = launched("--version")
+    trial("where a source differs it is not run", ran.returncode == 1 and b"toolchain is missing" in ran.stderr, ran)
+    ship(home)
+    packed = home / release.PACKED
+    packed.write_bytes(lzma.compress(b"another"))
+    ran = launched("--version")
+    trial("nor where it is another than was built", ran.returncode == 1 and b"is not the one" in ran.stderr, ran)
+
+
 def each(room):
     log, first, each = room / "marks.log", room / "first", room / "home/examples/each.sh"
     run("record", ROOT / "examples/marks.script", log)
@@ -378,11 +419,14 @@ def manual(_):
     commands = page.partition(".SH COMMANDS\n")[2].partition("\n.SH ")[0]
     stand = dict(re.findall(r'^\.TP\n\.BI "(\w+) " "([^"]*)"$', commands, re.M))
     listed = re.findall(r"^  (\w+)  ", run("--help").stdout.decode().partition("Commands:\n")[2].partition("\n\n")[0], re.M)
+    abouts = dict(re.findall(r"^  (\w+)  +(\S.*)$", run("--help").stdout.decode(), re.M))
     trial("docs/dmlw.1 has the program's commands, and no other", listed and sorted(stand) == sorted(listed), (listed, list(stand)))
     for command in listed:
         usage = re.search(rf"^Usage: \S+ {command}(.*)$", run(command, "--help").stdout.decode(), re.M)
         words = re.findall(r"<(\w+)>", usage.group(1)) if usage else None
         if command != "help":
+            about = run(command, "--help").stdout.decode().split("\n")[0]
+            trial(f"help lists what {command} does", abouts.get(command) == about, (abouts.get(command), about))
             trial(f"docs/dmlw.1 has the words of {command}", words and stand.get(command) == " ".join(words), (usage, stand.get(command)))
     for show in (["man", "--warnings", "-l"], ["groff", "-man", "-Tutf8", "-ww"]):
         if shutil.which(show[0]):
@@ -394,6 +438,6 @@ def manual(_):
 
 with tempfile.TemporaryDirectory() as at:
     make_home(pathlib.Path(at))
-    for part in (files, memory, replays, texts, terminal, each, checks, each_of_ext4, devices, manual, pipes, full_disk, killed):
+    for part in (files, memory, replays, texts, terminal, shipped, each, checks, each_of_ext4, devices, manual, pipes, full_disk, killed):
         part(pathlib.Path(at))
 sys.exit(1 if failed else 0)

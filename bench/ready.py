@@ -3,12 +3,15 @@
 
   bench/ready.py [--count]
         Says which files `rt fmt` would change (the gate refuses their crate whole), which edits, of must-fail/ and of planted/, name a text that doesn't stand
-        once in its file, which edits have no row in docs/PLANTED.md, and where that page's counts aren't those of its rows. --count writes the counts.
-        Says also where docs/HEADLINE.md isn't what bench/headline.py writes, and which places the documents cite that aren't there.
+        once in its file, which edits have no row in docs/lab/PLANTED.md, and where that page's counts aren't those of its rows. --count writes the counts.
+        Says also where docs/HEADLINE.md isn't what bench/headline.py writes, which places the documents cite that aren't there, and where release/ is there and
+        isn't of the tree at hand (bench/release.py).
 
 The repository's files stay as they are, but for the counts. It needs the kit's `rt` on the PATH.
 """
 import glob, os, re, shutil, subprocess, sys, tempfile
+
+import release
 
 root = os.path.dirname(os.path.dirname(os.path.abspath(__file__)))
 
@@ -58,7 +61,7 @@ def rows_of(page):
     for line in page.split("\n"):
         head = re.match(r"### `(\w+)`", line)
         section = head.group(1) if head else section
-        if line.startswith("| ") and not line.startswith("| Bug") and "---" not in line:
+        if section and line.startswith("| ") and not line.startswith("| Bug") and "---" not in line:
             cells = [it.strip() for it in line.strip().strip("|").split(" | ")]
             yield section, cells[0], cells[-1]
 
@@ -81,22 +84,22 @@ def headline_off():
 def main():
     edits = sorted(glob.glob(f"{root}/crates/*/must-fail/*.edit"))
     planted = sorted(glob.glob(f"{root}/crates/*/planted/*.edit"))
-    page = text_of(f"{root}/docs/PLANTED.md")
+    page = text_of(f"{root}/docs/lab/PLANTED.md")
     rows = list(rows_of(page))
     by_tests = [it for it in rows if re.search(r"\btests?\b", it[2]) and "goal" not in it[2] and "check of" not in it[2]]
-    found = [*not_laid_out(), *edits_off(edits + planted), *cited(), *headline_off()]
+    found = [*not_laid_out(), *edits_off(edits + planted), *cited(), *headline_off(), *release.off()]
     for edit in edits + planted:
         crate, name = edit.split("/")[-3], os.path.basename(edit)[:-5].replace("-", " ")
         if not any(section == crate and bug.replace("`", "").split(" (")[0].lower() == name for section, bug, _ in rows):
-            found.append(f"{os.path.relpath(edit, root)}: no row in docs/PLANTED.md")
+            found.append(f"{os.path.relpath(edit, root)}: no row in docs/lab/PLANTED.md")
     wanted = re.sub(r"\d+ bugs, of which \d+ are refused", f"{len(rows)} bugs, of which {len(by_tests)} are refused", page)
     wanted = re.sub(r"^\d+ of them stand in", f"{len(edits)} of them stand in", wanted, flags=re.M)
     wanted = re.sub(r"\d+ more stand in", f"{len(planted)} more stand in", wanted)
     if wanted != page and "--count" in sys.argv:
-        with open(f"{root}/docs/PLANTED.md", "w", encoding="utf-8") as it:
+        with open(f"{root}/docs/lab/PLANTED.md", "w", encoding="utf-8") as it:
             it.write(wanted)
     elif wanted != page:
-        found.append(f"docs/PLANTED.md: {len(rows)} bugs, {len(by_tests)} by tests, {len(edits)} edits")
+        found.append(f"docs/lab/PLANTED.md: {len(rows)} bugs, {len(by_tests)} by tests, {len(edits)} edits")
     print("\n".join(found) or "ready")
     return 1 if found else 0
 

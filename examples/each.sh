@@ -5,7 +5,7 @@
 #
 # marks are the marks, flushes the entries with FLUSH, fua those with FUA, all every entry. CHECK is run with its words and then the image's name, as
 # `examples/check-ext4.sh`; it may change the image, which is made anew for each step. Each step prints `entry 12 (mark NAME): passed` or `failed`, in brackets
-# what `dmlw list` tells of the entry, and a failed one behind it what the replay and the check said. The last line is a count. With --stop the first failure ends
+# what `dmlw list` prints of the entry, and a failed one behind it what the replay and the check said. The last line is a count. With --stop the first failure ends
 # it. Ends with status 0 where all passed, 1 where one failed or the log has a fault, and 2 where it can't begin.
 #
 # n steps cost n replays, each from the log's first entry, since `dmlw replay` has no start entry. So going on from the image of the step before would

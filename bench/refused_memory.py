@@ -220,7 +220,10 @@ def seats_answer(told, log, is_one):
     out, err, status = told
     if err:
         is_named = (err, status) in (("dmlw: 2 Memory\n", 1), ("dmlw: 20 Memory\n", 3), ("dmlw: 38 NoThread\n", 1))
-        return "refused: " + err.strip() if is_named and log == OLDER and out == "" else "differs: refused otherwise"
+        # Where the log's file finds no memory, the seats' lines and the status are printed before.
+        is_late = err == "dmlw: 2 Memory\n" and out.count("\n") == SEATS + 1
+        good = is_named and log == OLDER and (out == "" or is_late)
+        return "refused: " + err.strip() + (" after lines" if out else "") if good else "differs: refused otherwise"
     lines = out.splitlines()
     tallies = [re.fullmatch(rf"seat {seat}: (\d+) done (\d+) logged (\d+) failed (\d+) not logged (\d+) refused", line) for seat, line in enumerate(lines[:SEATS])]
     if len(lines) != SEATS + 1 or None in tallies:

@@ -219,10 +219,10 @@ def ship(home):
 
 def shipped(room):
     home, bare = room / "shipping", dict(os.environ, PATH="/usr/bin:/bin")
-    (home / "crates/words/src").mkdir(parents=True)
+    (home / "crates/text_words/src").mkdir(parents=True)
     shutil.copy(ROOT / "dmlw", home)
     (home / "crates.txt").write_text("words:\n")
-    source = home / "crates/words/src/lib.rt"
+    source = home / "crates/text_words/src/lib.rt"
     source.write_text("//! Words.\n")
 
     def launched(*words):

@@ -1,2 +1,3 @@
+-- The lemmas of `bio`; the proof of a function stands in the folder of its source file.
 pub mod Examples
 pub mod PossibleRows

@@ -1,3 +1,5 @@
+-- Whether a request may be sent to a device of so many sectors, and else the first reason against
+-- it: what `check` and `check_sized` answer.
 use Rattle.std.specs.Prelude.{ℕ, ◌+◌, ◌/◌, ◌%◌, ◌==◌, length, Bool, Result, Ok, Err, nat_lt, if◌then◌else◌}
 use Rattle.bio.specs.declared.request.Bio.{Bio}
 use Rattle.bio.specs.declared.request.Bio.TheVariants.{Write, Flush, Discard, Read}

@@ -1,3 +1,4 @@
+-- The definitions that the contracts of `bio` are written in.
 pub mod Moments
 pub mod Causes
 pub mod Refusals

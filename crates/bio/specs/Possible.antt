@@ -44,7 +44,7 @@ is_kept events sector id = is_durable events id && covers_at sector (slice_get e
 abbrev pub has_kept : List CoreEvent → ℕ → Bool
 has_kept events sector = any_below (is_kept events sector) (length events)
 
--- the request of this place ended before a durable one that put its value in the sector
+-- the request of this place ended before a durable request that covers the sector was submitted
 abbrev pub is_replaced : List CoreEvent → ℕ → ℕ → Bool
 is_replaced events sector id = any_below (λ later. is_kept events sector later && is_before events id later) (length events)
 
@@ -61,7 +61,7 @@ values_at (Some (Submit bio)) = values_of bio
 values_at _ = nothing
 
 -- Could the sector hold what `now` has there, where `first` was there before the first event: that value, where no durable request
--- covers the sector, or the value of a request that was submitted, where it ended before no durable one over the sector.
+-- covers the sector, or the value of a request that was submitted, where it didn't end before a durable one over the sector was submitted.
 abbrev pub PossibleAt : List CoreEvent → Content → Content → ℕ → Type 0
 PossibleAt events first now sector =
     ((now sector ≡ first sector) × (has_kept events sector ≡ false))

@@ -1,3 +1,5 @@
+-- What a request is to the rest: which sectors it covers, whether it flushes, has
+-- FUA, is aligned, and whether two overlap.
 use Rattle.std.specs.Prelude.{ℕ, ◌+◌, ◌/◌, ◌%◌, ◌==◌, Bool, true, false, ◌&&◌, length, nat_lt, nat_le}
 use Rattle.bio.specs.declared.request.Bio.{Bio}
 use Rattle.bio.specs.declared.request.Bio.TheVariants.{Write, Flush, Discard, Read}

@@ -1,3 +1,4 @@
+//! The data of a request and the text of a mark: bytes that clones can share.
 ghost use Rattle.std.specs.Prelude.{◌≡◌, ◌==◌, IfOk, length};
 ghost use Rattle.std.specs.Arc.{arc_value};
 

@@ -1,3 +1,5 @@
+//! What the definitions in `specs/` come to, in plain words: covered sectors,
+//! overlaps, order of ends, and lawful event lists.
 ghost use Rattle.std.specs.Prelude.{◌≡◌, ◌≢◌, ◌↔◌, ◌+◌, ◌/◌, ◌<◌, ◌≤◌, Bool, EachIndex, IsTrue, List, Ok, Some, false, length, slice_index, ℕ};
 ghost use Rattle.bio.specs.declared.event.CoreEvent.{CoreEvent};
 ghost use Rattle.bio.specs.declared.request.Bio.{Bio};

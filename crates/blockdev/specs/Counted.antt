@@ -5,7 +5,7 @@ use Rattle.std.specs.Prelude.{◌⊎◌, ◌||◌, Result, min}
 use Rattle.bio.specs.declared.outcome.DevError.{DevError}
 use Rattle.sectors.specs.Content.{Patch}
 use Rattle.blockdev.specs.View.{IsLawful, View, last_count}
-use Rattle.blockdev.specs.Law.{Goes, HasCause, Lands, NoLie, Stays, Syncs}
+use Rattle.blockdev.specs.Law.{DeviceFrame, HasCause, WriteDone, NoLie, CrashSetKept, FlushDone}
 
 -- the sum of two counts, which stops at the last one
 abbrev pub sum_of : ℕ → ℕ → ℕ
@@ -45,7 +45,7 @@ lawful_counted v faults lies drops lawful = record {
 -- where the lower device goes by a call, and the own counts don't fall, the layer does; that of its lies stays where it drops no calls
 pub goes_counted : (patch : Patch) (v w : View) (faults more_faults lies more_lies : ℕ) (drops later : Bool) → faults ≤ more_faults → lies ≤ more_lies
     → later ≡ drops → (drops ≡ false → more_lies ≡ lies)
-    → Goes patch v w → Goes patch (counted v faults lies drops) (counted w more_faults more_lies later)
+    → DeviceFrame patch v w → DeviceFrame patch (counted v faults lies drops) (counted w more_faults more_lies later)
 goes_counted patch v w faults more_faults lies more_lies drops later h k stays honest goes = record {
   size = goes.size;
   place = goes.place;
@@ -64,15 +64,15 @@ goes_counted patch v w faults more_faults lies more_lies drops later h k stays h
 }
 
 -- and what lands below, or is synced there, or stays, does so in the layer
-pub lands_counted : (patch : Patch) (fua : Bool) (v w : View) (faults more_faults lies more_lies : ℕ) (drops later : Bool) → Lands patch fua v w
-    → Lands patch fua (counted v faults lies drops) (counted w more_faults more_lies later)
+pub lands_counted : (patch : Patch) (fua : Bool) (v w : View) (faults more_faults lies more_lies : ℕ) (drops later : Bool) → WriteDone patch fua v w
+    → WriteDone patch fua (counted v faults lies drops) (counted w more_faults more_lies later)
 lands_counted patch fua v w faults more_faults lies more_lies drops later lands = record { content = lands.content; durable = lands.durable }
 
-pub syncs_counted : (w : View) (faults lies : ℕ) (drops : Bool) → Syncs w → Syncs (counted w faults lies drops)
+pub syncs_counted : (w : View) (faults lies : ℕ) (drops : Bool) → FlushDone w → FlushDone (counted w faults lies drops)
 syncs_counted w faults lies drops syncs = record { only = syncs.only }
 
-pub stays_counted : (v w : View) (faults more_faults lies more_lies : ℕ) (drops later : Bool) → Stays v w
-    → Stays (counted v faults lies drops) (counted w more_faults more_lies later)
+pub stays_counted : (v w : View) (faults more_faults lies more_lies : ℕ) (drops later : Bool) → CrashSetKept v w
+    → CrashSetKept (counted v faults lies drops) (counted w more_faults more_lies later)
 stays_counted v w faults more_faults lies more_lies drops later stays = record { crash = stays.crash }
 
 -- where the layer told no lie, the lower device told none

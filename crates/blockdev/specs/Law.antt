@@ -19,7 +19,7 @@ IsTorn patch before left = (old : Content) × before old
     × ((sector : ℕ) → (left sector ≡ old sector) ⊎ (patch sector ≡ Some (left sector)))
 
 -- What a call does at most, whatever it answers: it puts its values in some of their sectors.
-pub record Goes (patch : Patch) (v w : View) : Type 0 where
+pub record DeviceFrame (patch : Patch) (v w : View) : Type 0 where
   -- the device keeps its size, and its place on the disk beneath it
   pub size : w.size ≡ v.size
   pub place : w.place ≡ v.place
@@ -42,17 +42,17 @@ pub record Goes (patch : Patch) (v w : View) : Type 0 where
   pub honest : v.can_lie ≡ false → w.lies ≡ v.lies
 
 -- What a write or a discard does that ends well, without a new lie: it puts all of its values.
-pub record Lands (patch : Patch) (fua : Bool) (v w : View) : Type 0 where
+pub record WriteDone (patch : Patch) (fua : Bool) (v w : View) : Type 0 where
   pub content : (sector : ℕ) → w.content sector ≡ put patch v.content sector
   -- with FUA, in whatever a crash may leave too
   pub durable : IsTrue fua → (left : Content) → w.crash left → AfterWhole patch v.crash left
 
 -- What a flush does that ends well, without a new lie: a crash then leaves the content.
-pub record Syncs (w : View) : Type 0 where
+pub record FlushDone (w : View) : Type 0 where
   pub only : (left : Content) → w.crash left → (sector : ℕ) → left sector ≡ w.content sector
 
 -- What a read does to what a crash may leave: nothing.
-pub record Stays (v w : View) : Type 0 where
+pub record CrashSetKept (v w : View) : Type 0 where
   pub crash : (left : Content) → v.crash left → w.crash left
 
 -- The call told no new lie: the count of lies stayed, and isn't at its end.

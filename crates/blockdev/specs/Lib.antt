@@ -1,3 +1,4 @@
+-- The definitions that the contracts of `blockdev` are written in.
 pub mod View
 pub mod Calls
 pub mod InTurn

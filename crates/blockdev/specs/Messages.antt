@@ -8,7 +8,7 @@ use Rattle.sectors.specs.ContentLaws.{patched-same}
 use Rattle.blockdev.specs.declared.message.MessageError.{MessageError}
 use Rattle.blockdev.specs.declared.message.MessageError.TheVariants as errors
 use Rattle.blockdev.specs.Counted.{counted, sum_of}
-use Rattle.blockdev.specs.Law.{Goes, Stays}
+use Rattle.blockdev.specs.Law.{DeviceFrame, CrashSetKept}
 use Rattle.blockdev.specs.View.{View}
 
 -- the refusal that a message's error is shown by
@@ -66,7 +66,7 @@ unchanged_both u v w first second = record {
 }
 
 -- so a device goes through a message as through a call that changes nothing
-pub unchanged_goes : (v w : View) → Unchanged v w → Goes nothing v w
+pub unchanged_goes : (v w : View) → Unchanged v w → DeviceFrame nothing v w
 unchanged_goes v w same = record {
   size = same.size;
   place = same.place;
@@ -82,7 +82,7 @@ unchanged_goes v w same = record {
 }
 
 -- and what a crash may leave stays
-pub unchanged_stays : (v w : View) → Unchanged v w → Stays v w
+pub unchanged_stays : (v w : View) → Unchanged v w → CrashSetKept v w
 unchanged_stays v w same = record { crash = same.crash }
 
 -- where nothing is changed beneath a layer, nothing is in it

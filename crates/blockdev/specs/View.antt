@@ -1,3 +1,5 @@
+-- What contracts see of a block device: its content, what a crash may leave, faults and lies.
+-- `Law` says how a call changes it; `IsLawful` is what each `BlockDev` owes at all times.
 use Rattle.std.specs.Prelude.{ℕ, Bool, ◌-◌, ◌<◌, ◌≤◌, ◌^◌}
 use Rattle.sectors.specs.Content.{Content, HasWholeSectors}
 

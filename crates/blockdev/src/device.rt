@@ -1,7 +1,9 @@
+//! The trait `BlockDev`: sectors that are read, written, discarded and flushed, under contracts.
+//! Disks, layers and stacks implement it; recorders, readers and replays call devices by it alone.
 ghost use Rattle.std.specs.Prelude.{◌≡◌, ◌/◌, Bool, List, OnOk, Result, false, length, ℕ};
 ghost use Rattle.bio.specs.declared.outcome.DevError.{DevError};
 ghost use Rattle.blockdev.specs.Calls.{Call, Discards, Flushes, IsByteRange, IsRange, Reads, Writes};
-ghost use Rattle.blockdev.specs.Law.{Goes, HasCause, Lands, NoLie, Stays, Syncs};
+ghost use Rattle.blockdev.specs.Law.{DeviceFrame, HasCause, WriteDone, NoLie, CrashSetKept, FlushDone};
 ghost use Rattle.blockdev.specs.View.{IsLawful, View};
 ghost use Rattle.sectors.specs.Content.{discards, gather, nothing, writes};
 
@@ -32,8 +34,8 @@ pub trait BlockDev {
             (buffer.new ≡ gather (shown self.old).content first (length buffer.old / 512)) }
 
         // Neither the content nor what a crash may leave is changed.
-        ensures goes { Goes nothing (shown self.old) (shown self.new) }
-        ensures stays { Stays (shown self.old) (shown self.new) }
+        ensures goes { DeviceFrame nothing (shown self.old) (shown self.new) }
+        ensures stays { CrashSetKept (shown self.old) (shown self.new) }
 
         ensures cause { HasCause now (shown self.old) (shown self.new) result }
         ensures does { does self.old (Reads first buffer.old buffer.new) now result self.new };
@@ -44,11 +46,11 @@ pub trait BlockDev {
         requires { IsByteRange (shown self.old).size first (length bytes.now) }
 
         // Whatever it answers, some of the sectors have their new value, and the others what they had.
-        ensures goes { Goes (writes first bytes.now) (shown self.old) (shown self.new) }
+        ensures goes { DeviceFrame (writes first bytes.now) (shown self.old) (shown self.new) }
 
         // After an Ok, all of them have it.
         ensures lands { OnOk result (NoLie (shown self.old) (shown self.new) →
-            Lands (writes first bytes.now) fua (shown self.old) (shown self.new)) }
+            WriteDone (writes first bytes.now) fua (shown self.old) (shown self.new)) }
 
         ensures cause { HasCause now (shown self.old) (shown self.new) result }
         ensures does { does self.old (Writes first bytes.now fua) now result self.new };
@@ -59,11 +61,11 @@ pub trait BlockDev {
         requires { IsRange (shown self.old).size first count }
 
         // Whatever it answers, some of the sectors are zeroes, and the others what they were.
-        ensures goes { Goes (discards first count) (shown self.old) (shown self.new) }
+        ensures goes { DeviceFrame (discards first count) (shown self.old) (shown self.new) }
 
         // After an Ok, all of them are.
         ensures lands { OnOk result (NoLie (shown self.old) (shown self.new) →
-            Lands (discards first count) false (shown self.old) (shown self.new)) }
+            WriteDone (discards first count) false (shown self.old) (shown self.new)) }
 
         ensures cause { HasCause now (shown self.old) (shown self.new) result }
         ensures does { does self.old (Discards first count) now result self.new };
@@ -71,10 +73,10 @@ pub trait BlockDev {
     /// Makes durable what was written: after an Ok a crash leaves the content.
     fn flush(&mut self, now: Ms) -> Result<Ms, DevError>
         // Whatever it answers, the content stays, and a crash may leave nothing new.
-        ensures goes { Goes nothing (shown self.old) (shown self.new) }
+        ensures goes { DeviceFrame nothing (shown self.old) (shown self.new) }
 
         // After an Ok, a crash leaves the content.
-        ensures syncs { OnOk result (NoLie (shown self.old) (shown self.new) → Syncs (shown self.new)) }
+        ensures syncs { OnOk result (NoLie (shown self.old) (shown self.new) → FlushDone (shown self.new)) }
 
         ensures cause { HasCause now (shown self.old) (shown self.new) result }
         ensures does { does self.old Flushes now result self.new };

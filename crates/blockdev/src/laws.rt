@@ -1,5 +1,7 @@
+//! Laws of block devices, apart from the code: each function does nothing, its clause is the law.
+//! They say what a crash leaves of flushed and FUA writes, and of a call that it cuts.
 ghost use Rattle.std.specs.Prelude.{◌≡◌, ◌<◌, ◌≤◌, Bool, List, None, true, ℕ};
-ghost use Rattle.blockdev.specs.Law.{Goes, IsTorn, Lands, Syncs};
+ghost use Rattle.blockdev.specs.Law.{DeviceFrame, IsTorn, WriteDone, FlushDone};
 ghost use Rattle.sectors.specs.Content.{Content, HasBytes, HasWholeSectors, Patch, nothing, writes};
 
 use crate::BlockDev;
@@ -8,22 +10,22 @@ use crate::BlockDev;
 /// through the flush, and the flush synced.
 pub fn flushed_writes_outlive_crashes<D: BlockDev>()
     ensures { (before written flushed : D) (first : ℕ) (bytes : List ℕ) (fua : Bool) (left : Content) →
-        Lands (writes first bytes) fua (D.shown before) (D.shown written) →
-        Goes nothing (D.shown written) (D.shown flushed) → Syncs (D.shown flushed) →
+        WriteDone (writes first bytes) fua (D.shown before) (D.shown written) →
+        DeviceFrame nothing (D.shown written) (D.shown flushed) → FlushDone (D.shown flushed) →
         (D.shown flushed).crash left → HasBytes left first bytes }
 {}
 
 /// What was written with FUA is in whatever a crash leaves.
 pub fn fua_writes_outlive_crashes<D: BlockDev>()
     ensures { (before written : D) (first : ℕ) (bytes : List ℕ) (left : Content) →
-        Lands (writes first bytes) true (D.shown before) (D.shown written) →
+        WriteDone (writes first bytes) true (D.shown before) (D.shown written) →
         (D.shown written).crash left → HasBytes left first bytes }
 {}
 
 /// What is in whatever a crash leaves stays there, through each call that has no value for its sector.
 pub fn durable_sectors_stay<D: BlockDev>()
     ensures { (before after : D) (patch : Patch) (sector : ℕ) (value : List ℕ) →
-        Goes patch (D.shown before) (D.shown after) → patch sector ≡ None →
+        DeviceFrame patch (D.shown before) (D.shown after) → patch sector ≡ None →
         ((left : Content) → (D.shown before).crash left → left sector ≡ value) →
         (left : Content) → (D.shown after).crash left → left sector ≡ value }
 {}
@@ -32,7 +34,7 @@ pub fn durable_sectors_stay<D: BlockDev>()
 /// as a crash could leave it before, or has the call's value.
 pub fn calls_tear_their_own_sectors<D: BlockDev>()
     ensures { (before after : D) (patch : Patch) (left : Content) →
-        Goes patch (D.shown before) (D.shown after) → (D.shown after).crash left →
+        DeviceFrame patch (D.shown before) (D.shown after) → (D.shown after).crash left →
         IsTorn patch (D.shown before).crash left }
 {}
 
@@ -40,7 +42,7 @@ pub fn calls_tear_their_own_sectors<D: BlockDev>()
 /// sectors.
 pub fn calls_tear_their_own_sectors_at_any_moment<D: BlockDev>()
     ensures { (before after : D) (patch : Patch) (left : Content) →
-        Goes patch (D.shown before) (D.shown after) →
+        DeviceFrame patch (D.shown before) (D.shown after) →
         (D.shown after).since (D.shown before).moment left →
         IsTorn patch (D.shown before).crash left }
 {}
@@ -57,5 +59,5 @@ pub fn devices_keep_their_size<D: BlockDev>()
     ensures some { (device : D) → 0 < (D.shown device).size }
     ensures few { (device : D) → (D.shown device).size ≤ 1048576 }
     ensures kept { (before after : D) (patch : Patch) →
-        Goes patch (D.shown before) (D.shown after) → (D.shown after).size ≡ (D.shown before).size }
+        DeviceFrame patch (D.shown before) (D.shown after) → (D.shown after).size ≡ (D.shown before).size }
 {}

@@ -1,3 +1,5 @@
+//! Messages to a layer of a device, and why one is refused, which a script's run shows.
+//! A layer with bad blocks obeys them; a stack of layers hands each to the layer of its number.
 ghost use Rattle.std.specs.Prelude.{◌≡◌, List, Result, ℕ};
 ghost use Rattle.blockdev.specs.Messages.{Unchanged, message_refusal};
 

@@ -22,7 +22,7 @@ impl<T: Drop> Chains<T> {
         self.walk = Some(Walk { chain, at });
     }
 
-    /// Goes past the first value of the chain that is being walked: it's the last then. No link is changed.
+    /// DeviceFrame past the first value of the chain that is being walked: it's the last then. No link is changed.
     pub fn turn(&mut self)
         ensures chains { (chain : ℕ) → self.old.walked ≡ Some chain → self.new.chains ≡ turned self.old.chains chain }
         ensures rest { self.new ≡ record self.old { chains = self.new.chains } }

@@ -4,11 +4,11 @@
 //! whole run, byte for byte; `dmlw run SCRIPT LOG` runs one of several seats, each in a thread. `dmlw list LOG` prints a log's entries up to the first fault, `dmlw status
 //! LOG` how far the log has come. `dmlw replay LOG FIRST OUT WHAT` puts a beginning of a log on an image,
 //! `dmlw judge SCRIPT M IMAGE` says whether an image could have been on the device after M events, had power
-//! failed there. Here `dmlw_dispatch::execute` is called over the system's files and streams, of which no clause knows
+//! failed there. Here `dmlw_cli::execute` is called over the system's files and streams, of which no clause knows
 //! what they hold.
 #![tactic(auto)]
 
-use dmlw_dispatch::{execute, refuse};
+use dmlw_cli::{execute, refuse};
 use dmlw_files::{HostFiles, Output};
 use std::io::{BufWriter, Write};
 use std::process::ExitCode;

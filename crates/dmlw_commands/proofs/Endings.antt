@@ -1,3 +1,5 @@
+-- How the commands end: a recording leaves its log or each file as it was.
+-- Serves the proofs of `record_script`, `record`, `list` and `status`.
 use Rattle.std.proofs.Common.{◌≡◌, ◌∙◌, ◌⊎◌, ℕ, List, Option, None, Some, Result, Ok, Err, IfErr, IfOk, OnErr, inl, inr, refl, subst, sym}
 use Rattle.std.specs.Io.KnownBytes.{Keeps}
 use Rattle.dmlw_commands.specs.declared.ending.Ended.{Ended}
@@ -9,17 +11,17 @@ use Rattle.script_runner.specs.OnDisks.{stack_answering, DiskRun, FailsOnDisks, 
 use Rattle.script_runner.specs.Runs.{EndsRun, close, file as by_file, message}
 use Rattle.bio.specs.declared.outcome.End.{End}
 use Rattle.bio.specs.declared.outcome.Status.{Status}
-use Rattle.dmlw_commands.specs.Endings.{EndsRecording, EndsShowing, Telling, Tells, TellsLine}
+use Rattle.dmlw_commands.specs.Endings.{EndsRecording, EndsShowing, ErrStream, Tells, TellsLine}
 use Rattle.dmlw_commands.specs.Exits.{IsRefusal, exit_after, exit_at, told_line}
 use Rattle.dmlw_files.specs.Files.{AsksFor, KeepsFiles, MatchesContents, Write}
 use Rattle.dmlw_commands.specs.Lists.{Shows, ShowsFile}
 use Rattle.dmlw_commands.specs.Records.{FailsRecording, HoldsLog, IsPrintedLog, Records, PrintsLog, WritesLog, file, run as ran, text as unread}
-use Rattle.dmlw_script.specs.Plans.{Plan}
+use Rattle.dmlw_script.specs.Plans.{ScriptValue}
 use Rattle.dmlw_commands.proofs.Listing.{IsKept, shows_kept}
 use Rattle.script_runner.specs.CallLaws.{appends_kept, keeps_twice}
 
 -- why a run ended is kept
-run_kept : (text : List ℕ) (script : Plan) (old middle new : Option (List ℕ)) (start : DiskRun) (fault : RunError) → EndsRun stack_answering text script old middle start fault
+run_kept : (text : List ℕ) (script : ScriptValue) (old middle new : Option (List ℕ)) (start : DiskRun) (fault : RunError) → EndsRun stack_answering text script old middle start fault
     → Keeps middle new → EndsRun stack_answering text script old new start fault
 run_kept text script old middle new start fault (by_file f is) kept = by_file f is
 run_kept text script old middle new start fault (close place refusal printed is output) kept =
@@ -28,7 +30,7 @@ run_kept text script old middle new start fault (message place error printed is 
     message place error printed is (appends_kept old middle new printed output kept)
 
 -- why recording on disks failed is kept
-disks_kept : (text : List ℕ) (script : Plan) (old middle new : Option (List ℕ)) (fault : RunError) → FailsOnDisks text script old middle fault
+disks_kept : (text : List ℕ) (script : ScriptValue) (old middle new : Option (List ℕ)) (fault : RunError) → FailsOnDisks text script old middle fault
     → Keeps middle new → FailsOnDisks text script old new fault
 disks_kept text script old middle new fault (no_file f is) kept = no_file f is
 disks_kept text script old middle new fault (unmade f is none) kept = unmade f is (keeps_twice old middle new none kept)
@@ -81,7 +83,7 @@ records_all contents log writes_old writes_new old new (Err fault) writes fails 
 
 -- how a recording ends
 pub recording_ends : (contents : Option (List ℕ)) (log : List ℕ) (writes_old writes_middle writes_new : Option (List Write)) (old middle new : Option (List ℕ))
-    (t : Telling) (done : Result Status RunError) (ended : Ended)
+    (t : ErrStream) (done : Result Status RunError) (ended : Ended)
     → Records contents log writes_old writes_middle old middle done → Keeps middle new → writes_new ≡ writes_middle
     → TellsLine t (exit_after done) (told_line done) ended → EndsRecording contents log writes_old writes_new old new t ended
 recording_ends contents log writes_old writes_middle writes_new old middle new t done ended records kept same tells = record {
@@ -93,7 +95,7 @@ recording_ends contents log writes_old writes_middle writes_new old middle new t
 
 -- how a command on the image in a file ends
 pub showing_ends : (shows : Shows) (stable : IsKept shows) (contents : Option (List ℕ)) (writes_old writes_new : Option (List Write))
-    (old middle new : Option (List ℕ)) (t : Telling) (done : Result (Unit {0}) RunError) (ended : Ended)
+    (old middle new : Option (List ℕ)) (t : ErrStream) (done : Result (Unit {0}) RunError) (ended : Ended)
     → ShowsFile shows contents old middle done → Keeps middle new → writes_new ≡ writes_old
     → Tells t done ended → EndsShowing shows contents writes_old writes_new old new t ended
 showing_ends shows stable contents writes_old writes_new old middle new t done ended shown kept unwritten tells = record {

@@ -8,12 +8,12 @@ use Rattle.script_runner.specs.CallLaws.{appends_twice, keeps_same}
 use Rattle.bio.specs.declared.outcome.Status.{Status}
 use Rattle.refusals.specs.declared.fault.Fault.{Fault}
 use Rattle.dmlw_script.specs.Grammar.{IsTextOf}
-use Rattle.dmlw_script.specs.Plans.{Plan}
+use Rattle.dmlw_script.specs.Plans.{ScriptValue}
 use Rattle.dmlw_script.specs.Reading.{IsFaultOf, is_memory}
 use Rattle.run_error.specs.declared.run_error.RunError.{RunError}
 use Rattle.run_error.specs.declared.run_error.RunError.TheVariants.{Refused}
 use Rattle.script_runner.specs.declared.recording.Lies.{Lies}
-use Rattle.script_runner.specs.declared.recording.Recorded.{Recorded}
+use Rattle.script_runner.specs.declared.recording.RunResult.{RunResult}
 use Rattle.run_error.specs.Errors.{IsFileError, io_refusal, refused_by}
 use Rattle.script_runner.specs.OnDisks.{FailsOnDisks, IsRecorded}
 use Rattle.dmlw_files.specs.declared.files.FileError.{FileError}
@@ -45,7 +45,7 @@ fails_for_output contents before after kind fault is = file fault (subst IsFileE
 
 -- recording ended since no script was read
 pub fails_unread : (contents before : Option (List ℕ)) (bytes text : List ℕ) (error : Fault) (fault : RunError) → MatchesContents contents bytes
-    → text ≡ bytes → IsFaultOf text error error.line → ((plan : Plan) → IsTextOf text plan → error ≡ is_memory)
+    → text ≡ bytes → IsFaultOf text error error.line → ((plan : ScriptValue) → IsTextOf text plan → error ≡ is_memory)
     → fault ≡ Refused error → FailsRecording contents before before fault
 fails_unread contents before bytes text error fault is same wrong only output =
     subst (FailsRecording contents before before) (sym output)
@@ -65,7 +65,7 @@ pub fails_to_tell : (contents before after : Option (List ℕ)) (told fault : Ru
 fails_to_tell contents before after told fault is same = file fault (subst IsFileError (sym same) is)
 
 -- recording ended by a fault of the script's run
-pub fails_run : (before after : Option (List ℕ)) (text : List ℕ) (plan : Plan) (fault again : RunError) → IsTextOf text plan
+pub fails_run : (before after : Option (List ℕ)) (text : List ℕ) (plan : ScriptValue) (fault again : RunError) → IsTextOf text plan
     → FailsOnDisks text plan before after fault → again ≡ fault → FailsRecording (Some text) before after again
 fails_run before after text plan fault again spells ends same =
     subst (FailsRecording (Some text) before after) (sym same) (run_fails text plan fault refl spells ends)
@@ -80,7 +80,7 @@ fails_of_file contents before after text fault is (run_fails bytes plan f same s
     run_fails bytes plan f (subst (MatchesContents contents) (sym same) is) spells ends
 
 -- a script was recorded, and then the lines at the end were printed
-pub printed : (text : List ℕ) (plan : Plan) (before ran now : Option (List ℕ)) (status : Status) (lies : Lies) (image : List ℕ) → IsTextOf text plan
+pub printed : (text : List ℕ) (plan : ScriptValue) (before ran now : Option (List ℕ)) (status : Status) (lies : Lies) (image : List ℕ) → IsTextOf text plan
     → (lines : List ℕ) × IsRecorded plan lines status lies image × Appends before ran lines → Appends ran now (end_lines status lies)
     → IsPrintedLog (Some text) status image before now
 printed text plan before ran now status lies image spells (lines, recorded, first) second = record {
@@ -95,7 +95,7 @@ printed text plan before ran now status lies image spells (lines, recorded, firs
 }
 
 -- what was printed of a text that is a file's was printed of the file's script
-pub printed_of_text : (contents : Option (List ℕ)) (items text : List ℕ) (before after : Option (List ℕ)) (r : Result Recorded RunError)
+pub printed_of_text : (contents : Option (List ℕ)) (items text : List ℕ) (before after : Option (List ℕ)) (r : Result RunResult RunError)
     → MatchesContents contents items → text ≡ items → IfOk r (λ recorded. IsPrintedLog (Some text) recorded.status (image_of recorded.disk) before after)
     → IfOk r (λ recorded. IsPrintedLog contents recorded.status (image_of recorded.disk) before after)
 printed_of_text contents items text before after (Ok recorded) is same log = record {
@@ -111,7 +111,7 @@ printed_of_text contents items text before after (Ok recorded) is same log = rec
 printed_of_text contents items text before after (Err fault) is same log = log
 
 -- what failed of a text that is a file's failed of the file's script
-pub fails_of_text : (contents : Option (List ℕ)) (items text : List ℕ) (before after : Option (List ℕ)) (r : Result Recorded RunError)
+pub fails_of_text : (contents : Option (List ℕ)) (items text : List ℕ) (before after : Option (List ℕ)) (r : Result RunResult RunError)
     → MatchesContents contents items → text ≡ items → IfErr r (FailsRecording (Some text) before after) → IfErr r (FailsRecording contents before after)
 fails_of_text contents items text before after (Ok recorded) is same fails = fails
 fails_of_text contents items text before after (Err fault) is same fails =

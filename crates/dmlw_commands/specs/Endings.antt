@@ -11,35 +11,35 @@ use Rattle.dmlw_commands.specs.Lists.{Shows, ShowsFile}
 use Rattle.dmlw_commands.specs.Records.{Records}
 
 -- whether a command explains itself, and what the error stream held before it and after it
-pub record Telling : Type 0 where
+pub record ErrStream : Type 0 where
   pub explains : Bool
   pub before : Option (List ℕ)
   pub after : Option (List ℕ)
 
-abbrev pub telling : Bool → Option (List ℕ) → Option (List ℕ) → Telling
-telling explains before after = record { explains = explains; before = before; after = after }
+abbrev pub err_stream : Bool → Option (List ℕ) → Option (List ℕ) → ErrStream
+err_stream explains before after = record { explains = explains; before = before; after = after }
 
 -- What a command has told on the error stream that ends so, with this line to tell: that line and, where it explains itself,
 -- perhaps more behind it; nothing where there is no line, and it doesn't.
-pub record TellsLine (t : Telling) (exit : Exit) (line : List ℕ) (ended : Ended) : Type 0 where
+pub record TellsLine (t : ErrStream) (exit : Exit) (line : List ℕ) (ended : Ended) : Type 0 where
   pub exits : ended.exit ≡ exit
-  pub told : ended.is_told ≡ true → (more : List ℕ) × (t.explains ≡ false → more ≡ []) × Appends t.before t.after (line ++ more)
+  pub told : ended.err_taken ≡ true → (more : List ℕ) × (t.explains ≡ false → more ≡ []) × Appends t.before t.after (line ++ more)
   pub quiet : t.explains ≡ false → line ≡ [] → t.after ≡ t.before
 
 -- what a command has told that did this: the one line of its fault, or none where it is done
-abbrev pub Tells : Telling → Result (Unit {0}) RunError → Ended → Type 0
+abbrev pub Tells : ErrStream → Result (Unit {0}) RunError → Ended → Type 0
 Tells t done ended = TellsLine t (exit_by done) (told_line done) ended
 
 -- How the recording of a script in a log of this name ends: as what it did has it.
 pub record EndsRecording (contents : Option (List ℕ)) (log : List ℕ) (writes_old writes_new : Option (List Write)) (old new : Option (List ℕ))
-    (t : Telling) (ended : Ended) : Type 0 where
+    (t : ErrStream) (ended : Ended) : Type 0 where
   pub done : Result Status RunError
   pub recorded : Records contents log writes_old writes_new old new done
   pub tells : TellsLine t (exit_after done) (told_line done) ended
 
 -- How a command on the image in a file ends: no file was asked to be written, and it ends as what it did has it.
 pub record EndsShowing (shows : Shows) (contents : Option (List ℕ)) (writes_old writes_new : Option (List Write)) (old new : Option (List ℕ))
-    (t : Telling) (ended : Ended) : Type 0 where
+    (t : ErrStream) (ended : Ended) : Type 0 where
   pub unwritten : writes_new ≡ writes_old
   pub done : Result (Unit {0}) RunError
   pub shown : ShowsFile shows contents old new done

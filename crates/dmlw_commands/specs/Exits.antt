@@ -1,3 +1,5 @@
+-- The exit status of the program, by how a command ends, and the lines that a user is told.
+-- The replay, copy and record commands state their ends with it.
 use Rattle.std.specs.Prelude.{◌⊎◌, ◌≡◌, ℕ, List, [], ◌++◌, None, Option, Result, Ok, Err, Some, codes}
 use Rattle.std.specs.Fmt.{decimal}
 use Rattle.bio.specs.declared.outcome.End.{End}

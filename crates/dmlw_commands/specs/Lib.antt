@@ -1,3 +1,4 @@
+-- The definitions that the contracts of `dmlw_commands` are written in.
 pub use Rattle.dmlw_files.specs.Files
 pub mod Exits
 pub mod Lists

@@ -6,7 +6,7 @@ use Rattle.bio.specs.declared.outcome.Status.{Status}
 use Rattle.refusals.specs.declared.refusal.Refusal.{Refusal}
 use Rattle.dmlw_script.specs.Grammar.{IsTextOf}
 use Rattle.dmlw_script.specs.Lines.{lines_of}
-use Rattle.dmlw_script.specs.Plans.{Plan}
+use Rattle.dmlw_script.specs.Plans.{ScriptValue}
 use Rattle.dmlw_script.specs.Reading.{IsFirstFault}
 use Rattle.run_error.specs.declared.run_error.RunError.{RunError}
 use Rattle.script_runner.specs.declared.recording.Lies.{Lies}
@@ -38,7 +38,7 @@ end_lines status lies = status_line status ++ lies_line lies
 -- what its lines print and by the lines at the end.
 pub record IsPrintedLog (contents : Option (List ℕ)) (status : Status) (bytes : List ℕ) (before after : Option (List ℕ)) : Type 0 where
   pub text : List ℕ
-  pub script : Plan
+  pub script : ScriptValue
   pub lines : List ℕ
   pub lies : Lies
   pub read : MatchesContents contents text
@@ -69,7 +69,7 @@ WritesLog contents name old new before after r =
 
 -- the text is no script's
 abbrev pub IsNoScript : List ℕ → Type 0
-IsNoScript text = (script : Plan) → IsTextOf text script → ⊥
+IsNoScript text = (script : ScriptValue) → IsTextOf text script → ⊥
 
 -- A fault that ends the recording of the script in a file: a file can't be read or written or there is no memory; the
 -- file's bytes spell no script, of which the first line at fault is named, and nothing is printed; or recording their
@@ -78,7 +78,7 @@ pub data FailsRecording (contents : Option (List ℕ)) (before after : Option (L
   file : (fault : RunError) → IsFileError fault → FailsRecording contents before after fault
   text : (bytes : List ℕ) (line : ℕ) (refusal : Refusal) → MatchesContents contents bytes → IsNoScript bytes
       → IsFirstFault (lines_of bytes) line refusal → Keeps before after → FailsRecording contents before after (Refused (record { line = Some line; refusal = refusal }))
-  run : (bytes : List ℕ) (script : Plan) (fault : RunError) → MatchesContents contents bytes → IsTextOf bytes script
+  run : (bytes : List ℕ) (script : ScriptValue) (fault : RunError) → MatchesContents contents bytes → IsTextOf bytes script
       → FailsOnDisks bytes script before after fault → FailsRecording contents before after fault
 
 -- What recording a script in a log of this name comes to, from what a writer held to what it holds: where it succeeds

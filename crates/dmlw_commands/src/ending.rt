@@ -16,7 +16,7 @@ use std::io::Write;
 #[derive(Clone, Copy, Debug, PartialEq, Eq)]
 pub struct Ended {
     pub exit: Exit,
-    pub is_told: bool,
+    pub err_taken: bool,
 }
 
 /// How a command ends that did this. A fault is reported by one line, after what was printed before it, and
@@ -31,7 +31,7 @@ pub fn end<O: Write, E: Write>(
     ensures exit { result.exit ≡ exit_by done }
     ensures kept { Keeps (O.contents out.old) (O.contents out.new) }
     ensures quiet { told_line done ≡ [] → more.now ≡ [] → E.contents err.new ≡ E.contents err.old }
-    ensures told { result.is_told ≡ true → Appends (E.contents err.old) (E.contents err.new) (told_line done ++ more.now) }
+    ensures told { result.err_taken ≡ true → Appends (E.contents err.old) (E.contents err.new) (told_line done ++ more.now) }
 {
     match done {
         Ok(()) => end_well(Exit::Done, more, err),
@@ -54,7 +54,7 @@ pub fn end_recording<O: Write, E: Write>(
     ensures exit { result.exit ≡ exit_after done }
     ensures kept { Keeps (O.contents out.old) (O.contents out.new) }
     ensures quiet { told_line done ≡ [] → more.now ≡ [] → E.contents err.new ≡ E.contents err.old }
-    ensures told { result.is_told ≡ true → Appends (E.contents err.old) (E.contents err.new) (told_line done ++ more.now) }
+    ensures told { result.err_taken ≡ true → Appends (E.contents err.old) (E.contents err.new) (told_line done ++ more.now) }
 {
     match done {
         Ok(status) => end_well(Exit::from(status.end), more, err),
@@ -66,22 +66,22 @@ pub fn end_recording<O: Write, E: Write>(
 pub fn end_well<E: Write>(exit: Exit, more: &str, err: &mut E) -> Ended
     ensures exit { result.exit ≡ exit }
     ensures quiet { more.now ≡ [] → E.contents err.new ≡ E.contents err.old }
-    ensures told { result.is_told ≡ true → Appends (E.contents err.old) (E.contents err.new) more.now }
+    ensures told { result.err_taken ≡ true → Appends (E.contents err.old) (E.contents err.new) more.now }
 {
     Ended {
         exit,
-        is_told: more.is_empty() || tell(more, err).is_ok(),
+        err_taken: more.is_empty() || tell(more, err).is_ok(),
     }
 }
 
 /// Reports a fault, by one line, and `more` behind it, all in one write where there is memory for it.
 pub fn report<E: Write>(alloc: Global, fault: RunError, more: &str, err: &mut E) -> Ended
     ensures exit { result.exit ≡ exit_of fault }
-    ensures told { result.is_told ≡ true → Appends (E.contents err.old) (E.contents err.new) (fault_line fault ++ more.now) }
+    ensures told { result.err_taken ≡ true → Appends (E.contents err.old) (E.contents err.new) (fault_line fault ++ more.now) }
 {
     Ended {
         exit: Exit::from(fault),
-        is_told: tell_fault(alloc, fault, more, err).is_ok(),
+        err_taken: tell_fault(alloc, fault, more, err).is_ok(),
     }
 }
 
@@ -108,12 +108,12 @@ pub fn report_stopped<E: Write>(
     err: &mut E,
 ) -> Ended
     ensures exit { result.exit ≡ Exit.Refused }
-    ensures told { result.is_told ≡ true →
+    ensures told { result.err_taken ≡ true →
         Appends (E.contents err.old) (E.contents err.new) (stopped_line applied refusal ++ more.now) }
 {
     Ended {
         exit: Exit::Refused,
-        is_told: tell_stopped(alloc, applied, refusal, more, err).is_ok(),
+        err_taken: tell_stopped(alloc, applied, refusal, more, err).is_ok(),
     }
 }
 

@@ -3,7 +3,7 @@ ghost use Rattle.std.specs.Prelude.{◌≡◌, ◌≤◌, ◌⊎◌, IfErr, IfOk
 ghost use Rattle.std.specs.Io.KnownBytes.{Appends};
 ghost use Rattle.run_error.specs.Errors.{IsFileError};
 ghost use Rattle.dmlw_script.specs.Grammar.{IsTextOf};
-ghost use Rattle.dmlw_commands.specs.Endings.{EndsRecording, telling};
+ghost use Rattle.dmlw_commands.specs.Endings.{EndsRecording, err_stream};
 ghost use Rattle.dmlw_commands.specs.declared.exit.Exit.{Exit};
 ghost use Rattle.dmlw_commands.specs.Exits.{IsRefusal, exit_after, exit_at, exit_of};
 ghost use Rattle.std.specs.Result.{IsErrAnd};
@@ -18,7 +18,7 @@ use dmlw_files::{Files, read_text};
 use dmlw_script::{Script, read_script};
 use refusals::Refusal;
 use run_error::RunError;
-use script_runner::{Lies, Recorded};
+use script_runner::{Lies, RunResult};
 use std::alloc::Global;
 use std::io::Write;
 
@@ -36,7 +36,7 @@ pub fn record<F: Files, O: Write, E: Write>(
     err: &mut E,
 ) -> Ended
     ensures ends { EndsRecording (F.contents files.old script.now) log.now (F.writes files.old) (F.writes files.new)
-        (O.contents out.old) (O.contents out.new) (telling explains (E.contents err.old) (E.contents err.new)) result }
+        (O.contents out.old) (O.contents out.new) (err_stream explains (E.contents err.old) (E.contents err.new)) result }
     // Where it is refused each file holds what it held, and a script isn't written over. So it does where logging ended, unless the log was
     // asked to be written.
     ensures kept { IsRefusal result.exit → KeepsFiles (F.contents files.old) (F.contents files.new) }
@@ -77,7 +77,7 @@ fn record_script<F: Files, O: Write>(
     if files.is_same(script, log) {
         return Err(RunError::from(Refusal::File));
     }
-    let Recorded { disk, status, .. } = run_file(alloc, script, files, out)?;
+    let RunResult { disk, status, .. } = run_file(alloc, script, files, out)?;
     files.write(alloc, log, disk)?;
     Ok(status)
 }
@@ -88,7 +88,7 @@ fn run_file<F: Files, O: Write>(
     script: &str,
     files: &mut F,
     out: &mut O,
-) -> Result<Recorded, RunError>
+) -> Result<RunResult, RunError>
     ensures printed { IfOk result (λ recorded. IsPrintedLog (F.contents files.old script.now) recorded.status (image_of recorded.disk)
         (O.contents out.old) (O.contents out.new)) }
     ensures faults { IfErr result
@@ -102,7 +102,7 @@ fn run_file<F: Files, O: Write>(
 }
 
 // Runs the script that a text spells, and prints what happens and how far its log has come.
-fn run_text<O: Write>(alloc: Global, text: &[u8], out: &mut O) -> Result<Recorded, RunError>
+fn run_text<O: Write>(alloc: Global, text: &[u8], out: &mut O) -> Result<RunResult, RunError>
     ensures printed { IfOk result (λ recorded. IsPrintedLog (Some text.now) recorded.status (image_of recorded.disk)
         (O.contents out.old) (O.contents out.new)) }
     ensures faults { IfErr result (FailsRecording (Some text.now) (O.contents out.old) (O.contents out.new)) }
@@ -117,7 +117,7 @@ fn run_script<O: Write>(
     text: &[u8],
     script: &Script,
     out: &mut O,
-) -> Result<Recorded, RunError>
+) -> Result<RunResult, RunError>
     requires { IsTextOf text.now script.now }
     ensures printed { IfOk result (λ recorded. IsPrintedLog (Some text.now) recorded.status (image_of recorded.disk)
         (O.contents out.old) (O.contents out.new)) }

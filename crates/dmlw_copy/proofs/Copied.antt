@@ -32,7 +32,7 @@ use Rattle.log_reader.specs.Reader.{OpenRefuses, Reader}
 use Rattle.log_reader.specs.Readings.{IsReading}
 use Rattle.log_reader.specs.Reads.{Reads}
 use Rattle.log_reader.specs.Refusals.{open_device_refusal}
-use Rattle.log_store.specs.Calls.{HasFailed, StoreGoes}
+use Rattle.log_store.specs.Calls.{HasFailed, StoreFrame}
 use Rattle.log_store.specs.Store.{Store, StoreInvariant, entries_of}
 use Rattle.log_copy.specs.declared.fault.CopyError.{CopyError}
 use Rattle.log_copy.specs.declared.fault.CopyError.TheVariants as copies
@@ -149,7 +149,7 @@ placed_aligned sectors from place count es v w begun first placed =
 
 -- a copy that was done
 pub copied_on : (log : List ℕ) (sectors count : ℕ) (r : Reader) (v w : Store) → IsImage log → IsOpened log r → IsBegun sectors v
-    → HasWholeSectors r.device.size r.device.content → w.device.lies ≡ 0 → w.device.crash w.device.content → StoreGoes v w
+    → HasWholeSectors r.device.size r.device.content → w.device.lies ≡ 0 → w.device.crash w.device.content → StoreFrame v w
     → ((es : List Entry) (fault : Option LogFault) → IsLog r es fault → IsPlaced r.head.sectorsize es r.next count v w) → r.next + count ≡ r.head.count
     → (w.device.lies ≡ 0 → (left : Content) → w.device.crash left → IsLogOf w.device.size left w.sector_bytes (entries_of w))
     → IsCopiedOn log count sectors w.device
@@ -209,7 +209,7 @@ image_left log sectors count disk some done =
     }
 
 -- the next entry doesn't fit the new log, after those that are placed
-lacks_room : (sectors from place count : ℕ) (es : List Entry) (v w : Store) → IsBegun sectors v → StoreInvariant w → w.device.lies ≡ 0 → place ≡ 0 → StoreGoes v w
+lacks_room : (sectors from place count : ℕ) (es : List Entry) (v w : Store) → IsBegun sectors v → StoreInvariant w → w.device.lies ≡ 0 → place ≡ 0 → StoreFrame v w
     → IsPlaced from es place count v w → HasNoRoom from es (place + count) w → LacksRoom from es count sectors
 lacks_room sectors from place count es v w begun kept honest first goes placed none =
     let size = goes.size ∙ begun.size in
@@ -229,7 +229,7 @@ lacks_room sectors from place count es v w begun kept honest first goes placed n
 -- what stopped a copy on disks that never fail
 cause_on : (sectors applied : ℕ) (es : List Entry) (fault : Option LogFault) (r last : Reader) (v w : Store) (cause : CopyError) → IsBegun sectors v
     → r.next ≡ 0 → r.failed ≡ false → applied ≤ length es → (HasFaulted r.device last.device → ⊥) → (HasFailed v w → ⊥) → StoreInvariant w → w.device.lies ≡ 0
-    → StoreGoes v w → IsPlaced r.head.sectorsize es r.next applied v w → StopsBy es fault (r.next + applied) r last v w cause
+    → StoreFrame v w → IsPlaced r.head.sectorsize es r.next applied v w → StopsBy es fault (r.next + applied) r last v w cause
     → HasStopCause r.head es fault sectors applied cause
 cause_on sectors applied es fault r last v w (copies.Log (reads.Log found)) begun first fresh within reader store kept honest goes placed is =
     let all = is.1 in (is.0, omega arith)
@@ -261,7 +261,7 @@ copied_within from place count es v w first placed = elim (eq-zero-or-pos count)
 -- a copy that stopped
 pub stopped_on : (log : List ℕ) (sectors : ℕ) (stop : CopyFault) (r last : Reader) (v w : Store) → IsImage log → IsOpened log r → IsBegun sectors v
     → HasWholeSectors r.device.size r.device.content → (HasFaulted r.device last.device → ⊥) → (HasFailed v w → ⊥) → StoreInvariant w → w.device.lies ≡ 0
-    → StoreGoes v w → ((es : List Entry) (fault : Option LogFault) → IsLog r es fault → IsPlaced r.head.sectorsize es r.next stop.applied v w)
+    → StoreFrame v w → ((es : List Entry) (fault : Option LogFault) → IsLog r es fault → IsPlaced r.head.sectorsize es r.next stop.applied v w)
     → ((es : List Entry) (fault : Option LogFault) → IsLog r es fault → StopsBy es fault (r.next + stop.applied) r last v w stop.cause)
     → StopsCopy log sectors stop
 stopped_on log sectors stop r last v w image opened begun whole_sectors reader store kept honest goes placing stopping =

@@ -9,7 +9,7 @@ use Rattle.run_error.specs.Errors.{IsFileError}
 use Rattle.dmlw_commands.specs.declared.ending.Ended.{Ended}
 use Rattle.dmlw_commands.specs.declared.exit.Exit.{Exit}
 use Rattle.dmlw_commands.specs.declared.exit.Exit.TheVariants.{Done, Refused}
-use Rattle.dmlw_commands.specs.Endings.{Telling, TellsLine}
+use Rattle.dmlw_commands.specs.Endings.{ErrStream, TellsLine}
 use Rattle.dmlw_commands.specs.Exits.{IsRefusal, exit_of}
 use Rattle.dmlw_files.specs.Files.{KeepsFiles, MatchesContents, Write, one_more}
 use Rattle.dmlw_copy.specs.declared.stop.Stop.{Stop}
@@ -80,7 +80,7 @@ copies_kept log_file name sectors writes_old writes_new old middle new (Err stop
 
 -- how a copy ends
 pub copying_ends : (log_file : Option (List ℕ)) (name : List ℕ) (sectors : ℕ) (writes_old writes_middle writes_new : Option (List Write))
-    (old middle new : Option (List ℕ)) (t : Telling) (done : Result ℕ Stop) (ended : Ended)
+    (old middle new : Option (List ℕ)) (t : ErrStream) (done : Result ℕ Stop) (ended : Ended)
     → Copies log_file name sectors writes_old writes_middle old middle done → Keeps middle new → writes_new ≡ writes_middle
     → TellsLine t (copy_exit done) (copy_line done) ended → EndsCopying log_file name sectors writes_old writes_new old new t ended
 copying_ends log_file name sectors writes_old writes_middle writes_new old middle new t done ended came kept same tells = record {

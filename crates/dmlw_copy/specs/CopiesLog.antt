@@ -23,7 +23,7 @@ use Rattle.run_error.specs.Errors.{IsFileError, memory_error}
 use Rattle.dmlw_commands.specs.declared.ending.Ended.{Ended}
 use Rattle.dmlw_commands.specs.declared.exit.Exit.{Exit}
 use Rattle.dmlw_commands.specs.declared.exit.Exit.TheVariants.{Done, Refused}
-use Rattle.dmlw_commands.specs.Endings.{Telling, TellsLine}
+use Rattle.dmlw_commands.specs.Endings.{ErrStream, TellsLine}
 use Rattle.dmlw_commands.specs.Exits.{exit_of, fault_line, stopped_line}
 use Rattle.dmlw_commands.specs.Lists.{RefusesImage}
 use Rattle.dmlw_files.specs.Files.{MatchesContents, Write, one_more}
@@ -133,7 +133,7 @@ copy_line (Err (stops.Copy fault)) = stopped_line fault.applied (copy_refusal fa
 
 -- How the copy of the log in a file to a disk of so many sectors ends, whose image goes into the file of this name: as what it did has it.
 pub record EndsCopying (log_file : Option (List ℕ)) (name : List ℕ) (sectors : ℕ) (writes_old writes_new : Option (List Write)) (old new : Option (List ℕ))
-    (t : Telling) (ended : Ended) : Type 0 where
+    (t : ErrStream) (ended : Ended) : Type 0 where
   pub done : Result ℕ Stop
   pub copied : Copies log_file name sectors writes_old writes_new old new done
   pub tells : TellsLine t (copy_exit done) (copy_line done) ended

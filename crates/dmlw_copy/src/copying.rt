@@ -3,7 +3,7 @@ ghost use Rattle.std.specs.Prelude.{◌≡◌, ◌≤◌, ◌⊎◌, IfErr, IfOk
 ghost use Rattle.std.specs.Io.KnownBytes.{Appends};
 ghost use Rattle.run_error.specs.Errors.{IsFileError};
 ghost use Rattle.dmlw_commands.specs.declared.exit.Exit.{Exit};
-ghost use Rattle.dmlw_commands.specs.Endings.{telling};
+ghost use Rattle.dmlw_commands.specs.Endings.{err_stream};
 ghost use Rattle.dmlw_commands.specs.Exits.{IsRefusal};
 ghost use Rattle.dmlw_files.specs.Files.{KeepsFiles, MatchesContents, one_more};
 ghost use Rattle.dmlw_files.specs.Images.{image_of};
@@ -40,7 +40,7 @@ pub fn copy<F: Files, O: Write, E: Write>(
     requires most { sectors ≤ 1048576 }
     ensures ends { EndsCopying (F.contents files.old names.entry.log.now) names.entry.out.now sectors
         (F.writes files.old) (F.writes files.new) (O.contents out.old) (O.contents out.new)
-        (telling explains (E.contents err.old) (E.contents err.new)) result }
+        (err_stream explains (E.contents err.old) (E.contents err.new)) result }
     // Where it is done, OUT holds the image of the new log's disk.
     ensures written { result.exit ≡ Exit.Done → HoldsCopied (F.contents files.old names.entry.log.now) sectors (F.contents files.new names.entry.out.now) }
     // It is done or refused; where it is refused each file holds what it held, and a log isn't written over.

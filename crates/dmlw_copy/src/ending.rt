@@ -23,7 +23,7 @@ pub(crate) fn end_copying<O: Write, E: Write>(
     ensures exit { result.exit ≡ copy_exit done }
     ensures kept { Keeps (O.contents out.old) (O.contents out.new) }
     ensures quiet { copy_line done ≡ [] → more.now ≡ [] → E.contents err.new ≡ E.contents err.old }
-    ensures told { result.is_told ≡ true → Appends (E.contents err.old) (E.contents err.new) (copy_line done ++ more.now) }
+    ensures told { result.err_taken ≡ true → Appends (E.contents err.old) (E.contents err.new) (copy_line done ++ more.now) }
 {
     match done {
         Ok(_) => end(alloc, Ok(()), more, out, err),

@@ -2,7 +2,7 @@
 ghost use Rattle.std.specs.Prelude.{◌≡◌};
 ghost use Rattle.dmlw_files.specs.Files.{KeepsFiles};
 
-use dmlw_files::{Files, MAX_IMAGE_BYTES, MAX_SCRIPT_BYTES, Trouble};
+use dmlw_files::{FileFailure, Files, MAX_IMAGE_BYTES, MAX_SCRIPT_BYTES};
 use sectors::SECTOR_BYTES;
 use std::alloc::Global;
 use std::fmt;
@@ -27,7 +27,7 @@ pub(crate) fn write_file_of_recording<F: Files, W: Write>(
     if files.is_same(script, log) {
         return write_same(script, log, "the log would be written over its script", to);
     }
-    if let Some(Trouble::Write(error)) = files.trouble() {
+    if let Some(FileFailure::Write(error)) = files.failure() {
         return writeln!(to, "  {log} can't be written: {error}");
     }
     if write_script_file(alloc, script, files, to)? {
@@ -85,7 +85,7 @@ pub(crate) fn write_file_of_writing<F: Files, W: Write>(
     if files.is_same(log, out) {
         return write_same(log, out, "the image would be written over the log", to);
     }
-    if let Some(Trouble::Write(error)) = files.trouble() {
+    if let Some(FileFailure::Write(error)) = files.failure() {
         return writeln!(to, "  {out} can't be written: {error}");
     }
     if write_image_file(alloc, log, files, to)? || write_image_file(alloc, first, files, to)? {
@@ -159,15 +159,15 @@ fn write_unread<F: Files, W: Write>(
     files: &F,
     to: &mut W,
 ) -> fmt::Result {
-    match files.trouble() {
-        Some(Trouble::Read(error)) | Some(Trouble::Write(error)) => {
+    match files.failure() {
+        Some(FileFailure::Read(error)) | Some(FileFailure::Write(error)) => {
             writeln!(to, "  {name} can't be read: {error}")
         }
-        Some(Trouble::TooLong(length)) if *length > limit => writeln!(
+        Some(FileFailure::TooLong(length)) if *length > limit => writeln!(
             to,
             "  {name} has {length} bytes, and {kind} at most {limit}"
         ),
-        Some(Trouble::TooLong(_)) => {
+        Some(FileFailure::TooLong(_)) => {
             writeln!(to, "  {name} has more than the {limit} bytes of {kind}")
         }
         None => writeln!(

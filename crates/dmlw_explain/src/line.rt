@@ -4,7 +4,7 @@ use crate::places::write_place;
 use crate::script_text::{Grammar, Numbered, is_space};
 use std::fmt;
 use std::fmt::Write;
-use words::number_of;
+use text_words::number_of;
 
 // The lines that a script can have; what stands in angle brackets is a word of that kind, and in
 // square ones a word that may be left out.

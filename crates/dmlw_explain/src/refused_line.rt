@@ -11,7 +11,7 @@ use crate::script_text::{
 use refusals::Refusal;
 use std::fmt;
 use std::fmt::Write;
-use words::number_of;
+use text_words::number_of;
 
 /// Writes the line of this number of a script's text, at which a command was refused so, and what
 /// helps.

@@ -1,3 +1,5 @@
+-- What is known of files by their names: which writes were asked for, and what each file holds.
+-- The contracts of the files and of the commands that read or write them cite it.
 use Rattle.std.specs.Prelude.{◌≡◌, ◌≤◌, ◌<◌, ℕ, length, List, [], ◌∷◌, ◌++◌, Option, Some, None, option_map}
 
 -- a write that was asked for: the file's name, and the bytes that it is to hold

@@ -1,3 +1,4 @@
+-- The definitions that the contracts of `dmlw_files` are written in.
 pub mod Files
 pub mod FileErrors
 pub mod Images

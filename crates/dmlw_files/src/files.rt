@@ -55,7 +55,7 @@ impl From<FileError> for RunError {
 
 /// Why a file wasn't read or written, as the system has it.
 #[derive(Debug, Drop)]
-pub enum Trouble {
+pub enum FileFailure {
     /// It can't be read.
     Read(io::Error),
     /// It is longer than it may be: so many bytes, as the system has it. A pipe or a device has fewer there.
@@ -73,7 +73,7 @@ pub trait Files {
     ghost writes: { Self → Option (List Write) };
 
     /// Whether there is a reason why the last call failed.
-    ghost has_trouble: { Self → Bool };
+    ghost has_failure: { Self → Bool };
 
     /// The whole of a file of at most `limit` bytes. A longer file is refused; where a file's bytes are
     /// known and aren't too many, only memory can refuse it.
@@ -84,7 +84,7 @@ pub trait Files {
         ensures kept { KeepsFiles (contents self.old) (contents self.new) }
         ensures writes { writes self.new ≡ writes self.old }
         // A reason of an earlier call is gone.
-        ensures cleared { OnOk result (has_trouble self.new ≡ false) };
+        ensures cleared { OnOk result (has_failure self.new ≡ false) };
 
     /// Makes the file hold the image of a disk and no other bytes, or, where it fails, leaves each file as it was. The disk goes: its bytes
     /// may be taken out of it piece by piece, so that the image needs not be in memory as a whole.
@@ -92,11 +92,11 @@ pub trait Files {
         ensures holds { OnOk result (MatchesContents (contents self.new name.now) (image_of disk)) }
         ensures kept { OnErr result (KeepsFiles (contents self.old) (contents self.new)) }
         ensures writes { writes self.new ≡ one_more (writes self.old) name.now (image_of disk) }
-        ensures cleared { OnOk result (has_trouble self.new ≡ false) };
+        ensures cleared { OnOk result (has_failure self.new ≡ false) };
 
     /// Why the last read or write failed, where it did and that is known.
-    fn trouble(&self) -> Option<&Trouble>
-        ensures { is_some result ≡ has_trouble self.now };
+    fn failure(&self) -> Option<&FileFailure>
+        ensures { is_some result ≡ has_failure self.now };
 
     /// Whether both names are those of one file.
     fn is_same(&self, first: &str, second: &str) -> bool

@@ -1,7 +1,7 @@
 //! The system's files.
 ghost use Rattle.std.specs.Prelude.{◌≡◌, ◌≤◌, IfOk, None, is_some, length, vec_len};
 
-use crate::files::{FileError, Files, Trouble};
+use crate::files::{FileError, FileFailure, Files};
 use crate::pieces::{PIECE, used_sectors, write_sectors};
 use blockdev::BlockDev;
 use sector_disk::SectorDisk;
@@ -23,24 +23,24 @@ const MAX_BESIDE: u32 = 1000;
 #[derive(Drop)]
 pub struct HostFiles<'a, R: std::rt::Files> {
     runtime: &'a R,
-    trouble: Option<Trouble>,
+    failure: Option<FileFailure>,
 }
 
 impl<'a, R: std::rt::Files> HostFiles<'a, R> {
     pub fn new(runtime: &'a R) -> HostFiles<'a, R> {
         HostFiles {
             runtime,
-            trouble: None,
+            failure: None,
         }
     }
 
     // Keeps why a call failed.
-    fn keep(&mut self, trouble: Trouble) -> FileError {
-        let error = match &trouble {
-            Trouble::Read(error) | Trouble::Write(error) => FileError::from(error.kind()),
-            Trouble::TooLong(_) => FileError::Unusable,
+    fn keep(&mut self, failure: FileFailure) -> FileError {
+        let error = match &failure {
+            FileFailure::Read(error) | FileFailure::Write(error) => FileError::from(error.kind()),
+            FileFailure::TooLong(_) => FileError::Unusable,
         };
-        self.trouble = Some(trouble);
+        self.failure = Some(failure);
         error
     }
 }
@@ -50,27 +50,27 @@ impl<R: std::rt::Files> Files for HostFiles<'_, R> {
 
     ghost writes = { λ _. None };
 
-    ghost has_trouble = { λ files. is_some files.trouble };
+    ghost has_failure = { λ files. is_some files.failure };
 
     fn read(&mut self, alloc: Global, name: &str, limit: u64) -> Result<Vec<u8>, FileError> {
-        self.trouble = None;
+        self.failure = None;
         match read_file(self.runtime, alloc, name, limit) {
             Ok(Ok(bytes)) => Ok(bytes),
-            Ok(Err(length)) => Err(self.keep(Trouble::TooLong(length))),
-            Err(error) => Err(self.keep(Trouble::Read(error))),
+            Ok(Err(length)) => Err(self.keep(FileFailure::TooLong(length))),
+            Err(error) => Err(self.keep(FileFailure::Read(error))),
         }
     }
 
     fn write(&mut self, alloc: Global, name: &str, disk: SectorDisk) -> Result<(), FileError> {
-        self.trouble = None;
+        self.failure = None;
         match write_file(self.runtime, alloc, name, disk) {
             Ok(()) => Ok(()),
-            Err(error) => Err(self.keep(Trouble::Write(error))),
+            Err(error) => Err(self.keep(FileFailure::Write(error))),
         }
     }
 
-    fn trouble(&self) -> Option<&Trouble> {
-        self.trouble.as_ref()
+    fn failure(&self) -> Option<&FileFailure> {
+        self.failure.as_ref()
     }
 
     fn is_same(&self, first: &str, second: &str) -> bool {

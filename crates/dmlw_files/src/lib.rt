@@ -4,7 +4,7 @@
 //! A script's text and an image are read by the rules for their sizes (`specs/Images`). `Output` is a writer whose reader may go away.
 #![tactic(auto)]
 
-pub use files::{FileError, Files, Trouble};
+pub use files::{FileError, FileFailure, Files};
 pub use host_files::HostFiles;
 pub use image::{MAX_IMAGE_BYTES, read_image};
 pub use output::Output;

@@ -4,7 +4,7 @@ use Rattle.std.proofs.lemmas.List.{take_all}
 use Rattle.sectors.specs.Content.{Content, sector_of}
 use Rattle.bio.specs.declared.event.CoreEvent.{CoreEvent}
 use Rattle.bio.specs.Possible.{Possible}
-use Rattle.dmlw_script.specs.Plans.{Plan, top_of}
+use Rattle.dmlw_script.specs.Plans.{ScriptValue, top_of}
 use Rattle.judge.specs.declared.verdict.Verdict.{Verdict}
 use Rattle.judge.specs.Verdicts.{IsVerdict}
 use Rattle.world.specs.Runs.{IsReachable}
@@ -39,7 +39,7 @@ same_verdict one possible sectors events first now verdict finding holds found =
     one sectors events first now verdict (verdict_of finding) holds (finding_holds possible sectors events first now finding found)
 
 -- also by a script's events
-pub same_judged : OneVerdict → RunsArePossible → (plan : Plan) (moment : ℕ) (image : List ℕ) (verdict : Verdict) (finding : Finding)
+pub same_judged : OneVerdict → RunsArePossible → (plan : ScriptValue) (moment : ℕ) (image : List ℕ) (verdict : Verdict) (finding : Finding)
     → (judged : IsJudged plan moment image verdict) → (found : IsFound plan moment image finding) → judged.events ≡ found.events → verdict ≡ verdict_of finding
 same_judged one possible plan moment image verdict finding judged found same =
     same_verdict one possible (top_of plan.data_disk) (take moment found.events) (blank (length image)) (sector_of image) verdict finding

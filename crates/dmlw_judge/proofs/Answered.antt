@@ -10,7 +10,7 @@ use Rattle.sectors.specs.Content.{sector_of}
 use Rattle.refusals.specs.declared.fault.Fault.{Fault}
 use Rattle.refusals.specs.declared.refusal.Refusal.TheVariants as refusals
 use Rattle.dmlw_script.specs.Grammar.{IsTextOf}
-use Rattle.dmlw_script.specs.Plans.{Plan, top_of}
+use Rattle.dmlw_script.specs.Plans.{ScriptValue, top_of}
 use Rattle.dmlw_script.specs.Reading.{IsFaultOf, is_memory}
 use Rattle.run_error.specs.declared.run_error.RunError.{RunError}
 use Rattle.run_error.specs.declared.run_error.RunError.TheVariants.{Refused}
@@ -20,7 +20,7 @@ use Rattle.script_runner.specs.Rehearsals.{FailsRehearsal, IsRehearsed}
 use Rattle.dmlw_commands.specs.declared.ending.Ended.{Ended}
 use Rattle.dmlw_files.specs.declared.files.FileError.{FileError}
 use Rattle.dmlw_files.specs.declared.files.FileError.TheVariants as errors
-use Rattle.dmlw_commands.specs.Endings.{Telling, TellsLine}
+use Rattle.dmlw_commands.specs.Endings.{ErrStream, TellsLine}
 use Rattle.dmlw_commands.specs.Exits.{told_line}
 use Rattle.dmlw_files.specs.FileErrors.{file_refusal}
 use Rattle.dmlw_files.specs.Files.{MatchesContents, Write}
@@ -28,7 +28,7 @@ use Rattle.dmlw_files.specs.Images.{IsImage}
 use Rattle.dmlw_judge.specs.Judgements.{Answers, CanJudge, CannotJudge, EndsAnswering, HasAnswer, HasNoVerdict, Meaning, Question, blank, exit_answered, file, moment as no_moment, question, run as no_run, text as unread}
 
 -- an answer after these events is one of the script's run
-pub judged_by : {A : Type 0} (meaning : Meaning A) (text image : List ℕ) (asked sectors : ℕ) (plan : Plan) (events : List CoreEvent) (r : Result A RunError) → IsImage image → IsTextOf text plan
+pub judged_by : {A : Type 0} (meaning : Meaning A) (text image : List ℕ) (asked sectors : ℕ) (plan : ScriptValue) (events : List CoreEvent) (r : Result A RunError) → IsImage image → IsTextOf text plan
     → IsRehearsed plan events → is_lawful (top_of plan.data_disk) events ≡ true → all_aligned (bytes_of plan.log_size) events ≡ true → sectors ≡ top_of plan.data_disk
     → IfOk r (λ answer. CanJudge sectors events asked image × meaning.says sectors (take asked events) (blank (length image)) (sector_of image) answer)
     → IfOk r (HasAnswer meaning (question text image asked))
@@ -45,7 +45,7 @@ judged_by meaning text image asked sectors plan events (Ok answer) whole spelled
     }
 
 -- and so is a fault
-pub faulted_by : {A : Type 0} (text image : List ℕ) (asked sectors : ℕ) (plan : Plan) (events : List CoreEvent) (r : Result A RunError) → IsImage image → IsTextOf text plan
+pub faulted_by : {A : Type 0} (text image : List ℕ) (asked sectors : ℕ) (plan : ScriptValue) (events : List CoreEvent) (r : Result A RunError) → IsImage image → IsTextOf text plan
     → IsRehearsed plan events → sectors ≡ top_of plan.data_disk
     → IfErr r (λ fault. (fault ≡ memory_error) ⊎ ((fault ≡ refused_by refusals.BadMoment) × CannotJudge sectors events asked image))
     → IfErr r (HasNoVerdict (question text image asked))
@@ -57,7 +57,7 @@ faulted_by text image asked sectors plan events (Err fault) whole spelled rehear
     (subst (λ (n : ℕ). CannotJudge n events asked image) same cannot))
 
 -- a run that fails
-pub failed_run : (text image : List ℕ) (asked : ℕ) (plan : Plan) (fault again : RunError) → IsImage image → IsTextOf text plan → FailsRehearsal text plan fault
+pub failed_run : (text image : List ℕ) (asked : ℕ) (plan : ScriptValue) (fault again : RunError) → IsImage image → IsTextOf text plan → FailsRehearsal text plan fault
     → again ≡ fault → HasNoVerdict (question text image asked) again
 failed_run text image asked plan fault again whole spelled fails same =
     subst (HasNoVerdict (question text image asked)) (sym same)
@@ -65,7 +65,7 @@ failed_run text image asked plan fault again whole spelled fails same =
 
 -- a text that is no script's
 pub failed_text : (text image : List ℕ) (asked : ℕ) (error : Fault) (fault : RunError) → IsImage image → IsFaultOf text error error.line
-    → ((plan : Plan) → IsTextOf text plan → error ≡ is_memory) → fault ≡ Refused error → HasNoVerdict (question text image asked) fault
+    → ((plan : ScriptValue) → IsTextOf text plan → error ≡ is_memory) → fault ≡ Refused error → HasNoVerdict (question text image asked) fault
 failed_text text image asked error fault whole wrong only output =
     subst (HasNoVerdict (question text image asked)) (sym output) (by_line error.line refl wrong)
   where
@@ -159,7 +159,7 @@ answers_kept meaning asked old mid new (Err fault) (none, inl same) kept = (none
 answers_kept meaning asked old mid new (Err fault) (none, inr is) kept = (none, inr is)
 
 -- how the command ends
-pub answering_ends : {A : Type 0} (meaning : Meaning A) (asked : Question) (writes_old writes_mid writes_new : Option (List Write)) (old mid new : Option (List ℕ)) (t : Telling)
+pub answering_ends : {A : Type 0} (meaning : Meaning A) (asked : Question) (writes_old writes_mid writes_new : Option (List Write)) (old mid new : Option (List ℕ)) (t : ErrStream)
     (done : Result A RunError) (ended : Ended)
     → Answers meaning asked old mid done → Keeps mid new → writes_mid ≡ writes_old → writes_new ≡ writes_mid
     → TellsLine t (exit_answered meaning done) (told_line done) ended → EndsAnswering meaning asked writes_old writes_new old new t ended

@@ -1,5 +1,6 @@
+-- The lemmas of `dmlw_judge`; the proof of a function stands in the folder of its source file.
 mod Stopping
 mod Answered
 mod Agreeing
 mod Replaying
-mod Refused
+mod Counterexamples

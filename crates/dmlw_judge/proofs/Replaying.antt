@@ -14,7 +14,7 @@ use Rattle.log_format.specs.SizeLaws.{right_size}
 use Rattle.pending.specs.Beginnings.{BelongsTo, entries_of}
 use Rattle.pending.specs.CompletionList.{completion_list, dm_log_writes}
 use Rattle.pending.specs.Moments.{last_moment}
-use Rattle.dmlw_script.specs.Plans.{Plan, top_of}
+use Rattle.dmlw_script.specs.Plans.{ScriptValue, top_of}
 use Rattle.judge.specs.declared.verdict.Verdict.{Verdict}
 use Rattle.judge.specs.declared.verdict.Verdict.TheVariants.{Yes, No}
 use Rattle.judge.specs.Verdicts.{IsVerdict}
@@ -64,7 +64,7 @@ lawful_formed sectors events lawful =
     (and_parts (is_well_formed events) (all_below (λ place. is_within sectors (slice_get events place)) (length events)) lawful).0
 
 -- nor is it by a script's events
-pub judged_yes : BeginningsArePossible → (plan : Plan) (moment count : ℕ) (image : List ℕ) (verdict : Verdict) (judged : IsJudged plan moment image verdict)
+pub judged_yes : BeginningsArePossible → (plan : ScriptValue) (moment count : ℕ) (image : List ℕ) (verdict : Verdict) (judged : IsJudged plan moment image verdict)
     → IsReplayedTo (bytes_of plan.log_size) judged.events moment count image → verdict ≡ Yes
 judged_yes possible plan moment count image verdict judged replayed =
     verdict_yes possible (bytes_of plan.log_size) judged.events (top_of plan.data_disk) moment count image verdict (right_size plan.log_size) judged.aligned

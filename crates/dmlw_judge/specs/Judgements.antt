@@ -10,7 +10,7 @@ use Rattle.refusals.specs.declared.refusal.Refusal.TheVariants as refusals
 use Rattle.pending.specs.Moments.{last_moment}
 use Rattle.dmlw_script.specs.Grammar.{IsTextOf}
 use Rattle.dmlw_script.specs.Lines.{lines_of}
-use Rattle.dmlw_script.specs.Plans.{Plan, top_of}
+use Rattle.dmlw_script.specs.Plans.{ScriptValue, top_of}
 use Rattle.dmlw_script.specs.Reading.{IsFirstFault}
 use Rattle.judge.specs.declared.verdict.Verdict.{Verdict}
 use Rattle.judge.specs.declared.verdict.Verdict.TheVariants as verdicts
@@ -23,7 +23,7 @@ use Rattle.script_runner.specs.Rehearsals.{FailsRehearsal, IsRehearsed}
 use Rattle.dmlw_commands.specs.declared.ending.Ended.{Ended}
 use Rattle.dmlw_commands.specs.declared.exit.Exit.{Exit}
 use Rattle.dmlw_commands.specs.declared.exit.Exit.TheVariants as exits
-use Rattle.dmlw_commands.specs.Endings.{Telling, TellsLine}
+use Rattle.dmlw_commands.specs.Endings.{ErrStream, TellsLine}
 use Rattle.dmlw_commands.specs.Exits.{exit_of, told_line}
 use Rattle.dmlw_files.specs.Files.{MatchesContents, Write}
 use Rattle.dmlw_files.specs.Images.{IsImage}
@@ -50,7 +50,7 @@ pub record Meaning (A : Type 0) : Type 1 where
 
 -- The answer on an image, after so many events of a script's run, over zeroes; they are events of a device of the size of the data disk's top, and
 -- the requests among them are aligned to the log's sectors.
-pub record IsAnswered {A : Type 0} (meaning : Meaning A) (plan : Plan) (moment : ℕ) (image : List ℕ) (answer : A) : Type 0 where
+pub record IsAnswered {A : Type 0} (meaning : Meaning A) (plan : ScriptValue) (moment : ℕ) (image : List ℕ) (answer : A) : Type 0 where
   pub events : List CoreEvent
   pub rehearsed : IsRehearsed plan events
   pub lawful : is_lawful (top_of plan.data_disk) events ≡ true
@@ -79,7 +79,7 @@ pub record HasAnswer {A : Type 0} (meaning : Meaning A) (asked : Question) (answ
   pub text : List ℕ
   pub image : List ℕ
   pub read : AreRead asked text image
-  pub plan : Plan
+  pub plan : ScriptValue
   pub spelled : IsTextOf text plan
   pub judged : IsAnswered meaning plan asked.moment image answer
 
@@ -89,9 +89,9 @@ pub data HasNoVerdict (asked : Question) : RunError → Type 0 where
   file : (fault : RunError) → IsFileError fault → HasNoVerdict asked fault
   text : (bytes image : List ℕ) (line : ℕ) (refusal : Refusal) → AreRead asked bytes image → IsNoScript bytes
       → IsFirstFault (lines_of bytes) line refusal → HasNoVerdict asked (Refused (record { line = Some line; refusal = refusal }))
-  run : (bytes image : List ℕ) (plan : Plan) (fault : RunError) → AreRead asked bytes image → IsTextOf bytes plan
+  run : (bytes image : List ℕ) (plan : ScriptValue) (fault : RunError) → AreRead asked bytes image → IsTextOf bytes plan
       → FailsRehearsal bytes plan fault → HasNoVerdict asked fault
-  moment : (bytes image : List ℕ) (plan : Plan) (events : List CoreEvent) → AreRead asked bytes image → IsTextOf bytes plan
+  moment : (bytes image : List ℕ) (plan : ScriptValue) (events : List CoreEvent) → AreRead asked bytes image → IsTextOf bytes plan
       → IsRehearsed plan events → CannotJudge (top_of plan.data_disk) events asked.moment image
       → HasNoVerdict asked (refused_by refusals.BadMoment)
 
@@ -108,7 +108,7 @@ exit_answered meaning (Err fault) = exit_of fault
 
 -- How the command ends: no file was asked to be written, and it ends as what it did has it.
 pub record EndsAnswering {A : Type 0} (meaning : Meaning A) (asked : Question) (writes_old writes_new : Option (List Write)) (old new : Option (List ℕ))
-    (t : Telling) (ended : Ended) : Type 0 where
+    (t : ErrStream) (ended : Ended) : Type 0 where
   pub unwritten : writes_new ≡ writes_old
   pub done : Result A RunError
   pub judged : Answers meaning asked old new done
@@ -128,7 +128,7 @@ abbrev pub verdict_meaning : Meaning Verdict
 verdict_meaning = record { says = IsVerdict; printed = verdict_line; ends = exit_by_verdict }
 
 -- the verdict on an image, after so many events of a script's run, over zeroes
-abbrev pub IsJudged : Plan → ℕ → List ℕ → Verdict → Type 0
+abbrev pub IsJudged : ScriptValue → ℕ → List ℕ → Verdict → Type 0
 IsJudged plan count image verdict = IsAnswered verdict_meaning plan count image verdict
 
 -- there is a verdict: the script's file spells a script, and this is the verdict on the image by it
@@ -144,5 +144,5 @@ abbrev pub exit_judged : Result Verdict RunError → Exit
 exit_judged done = exit_answered verdict_meaning done
 
 -- how `judge` ends: as what it did has it
-abbrev pub EndsJudging : Question → Option (List Write) → Option (List Write) → Option (List ℕ) → Option (List ℕ) → Telling → Ended → Type 0
+abbrev pub EndsJudging : Question → Option (List Write) → Option (List Write) → Option (List ℕ) → Option (List ℕ) → ErrStream → Ended → Type 0
 EndsJudging asked writes_old writes_new old new t ended = EndsAnswering verdict_meaning asked writes_old writes_new old new t ended

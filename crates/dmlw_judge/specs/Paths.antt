@@ -5,11 +5,11 @@ use Rattle.judge.specs.declared.verdict.Verdict.{Verdict}
 use Rattle.judge.specs.declared.verdict.Verdict.TheVariants as verdicts
 use Rattle.world.specs.declared.step.Step.{Step}
 use Rattle.world.specs.Texts.{step_text}
-use Rattle.dmlw_script.specs.Plans.{Plan}
+use Rattle.dmlw_script.specs.Plans.{ScriptValue}
 use Rattle.dmlw_commands.specs.declared.ending.Ended.{Ended}
 use Rattle.dmlw_commands.specs.declared.exit.Exit.{Exit}
 use Rattle.dmlw_commands.specs.declared.exit.Exit.TheVariants as exits
-use Rattle.dmlw_commands.specs.Endings.{Telling}
+use Rattle.dmlw_commands.specs.Endings.{ErrStream}
 use Rattle.dmlw_files.specs.Files.{Write}
 use Rattle.world.specs.Findings.{IsFinding}
 use Rattle.world.specs.declared.finding.Finding.{Finding}
@@ -40,7 +40,7 @@ abbrev pub finding_meaning : Meaning Finding
 finding_meaning = record { says = IsFinding; printed = finding_text; ends = exit_by_finding }
 
 -- the finding on an image, after so many events of a script's run, over zeroes
-abbrev pub IsFound : Plan → ℕ → List ℕ → Finding → Type 0
+abbrev pub IsFound : ScriptValue → ℕ → List ℕ → Finding → Type 0
 IsFound plan moment image finding = IsAnswered finding_meaning plan moment image finding
 
 -- there is a finding: the script's file spells a script, and this is the finding on the image by it
@@ -48,5 +48,5 @@ abbrev pub HasFinding : Question → Finding → Type 0
 HasFinding asked finding = HasAnswer finding_meaning asked finding
 
 -- how `path` ends: as what it did has it
-abbrev pub EndsFinding : Question → Option (List Write) → Option (List Write) → Option (List ℕ) → Option (List ℕ) → Telling → Ended → Type 0
+abbrev pub EndsFinding : Question → Option (List Write) → Option (List Write) → Option (List ℕ) → Option (List ℕ) → ErrStream → Ended → Type 0
 EndsFinding asked writes_old writes_new old new t ended = EndsAnswering finding_meaning asked writes_old writes_new old new t ended

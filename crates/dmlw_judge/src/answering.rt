@@ -7,7 +7,7 @@ ghost use Rattle.sectors.specs.Content.{sector_of};
 ghost use Rattle.refusals.specs.declared.refusal.Refusal.TheVariants.{BadMoment};
 ghost use Rattle.dmlw_script.specs.Grammar.{IsTextOf};
 ghost use Rattle.run_error.specs.Errors.{IsFileError, memory_error, refused_by};
-ghost use Rattle.dmlw_commands.specs.Endings.{telling};
+ghost use Rattle.dmlw_commands.specs.Endings.{err_stream};
 ghost use Rattle.dmlw_commands.specs.Exits.{told_line};
 ghost use Rattle.dmlw_files.specs.Files.{KeepsFiles};
 ghost use Rattle.dmlw_files.specs.Images.{IsImage};
@@ -22,7 +22,7 @@ use dmlw_files::{Files, read_image, read_text};
 use dmlw_script::{Script, read_script};
 use refusals::Refusal;
 use run_error::RunError;
-use script_runner::rehearse;
+use script_runner::events_of_run;
 use sectors::SECTOR_BYTES;
 use std::alloc::Global;
 use std::io::Write;
@@ -41,7 +41,7 @@ pub(crate) fn ask<A: Answer, F: Files, O: Write, E: Write>(
 ) -> Ended
     ensures ends { EndsAnswering A.meaning (record { script = F.contents files.old script.now; image = F.contents files.old image.now; moment = moment })
         (F.writes files.old) (F.writes files.new) (O.contents out.old) (O.contents out.new)
-        (telling explains (E.contents err.old) (E.contents err.new)) result }
+        (err_stream explains (E.contents err.old) (E.contents err.new)) result }
     ensures kept { KeepsFiles (F.contents files.old) (F.contents files.new) }
 {
     let answered: Result<A, RunError> = answer_files(alloc, script, moment, image, files, out);
@@ -83,7 +83,7 @@ fn end_answering<A: Answer, O: Write, E: Write>(
     ensures exit { result.exit ≡ exit_answered A.meaning answered.now }
     ensures kept { Keeps (O.contents out.old) (O.contents out.new) }
     ensures quiet { told_line answered.now ≡ [] → more.now ≡ [] → E.contents err.new ≡ E.contents err.old }
-    ensures told { result.is_told ≡ true → Appends (E.contents err.old) (E.contents err.new) (told_line answered.now ++ more.now) }
+    ensures told { result.err_taken ≡ true → Appends (E.contents err.old) (E.contents err.new) (told_line answered.now ++ more.now) }
 {
     match answered {
         Ok(answer) => end_well(answer.exit(), more, err),
@@ -153,7 +153,7 @@ fn answer_script<A: Answer>(
     ensures faults { IfErr result (HasNoVerdict (question text.now image.now moment)) }
 {
     let sectors = script.data().top_sectors();
-    let rehearsed = rehearse(alloc, text, script)?;
+    let rehearsed = events_of_run(alloc, text, script)?;
     let answered = answer_events(alloc, rehearsed.events(), sectors, moment, image);
     answered_by((rehearsed, answered))
 }

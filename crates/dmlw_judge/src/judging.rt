@@ -1,5 +1,5 @@
 //! `judge SCRIPT M IMAGE`: whether an image could have been on a script's data disk.
-ghost use Rattle.dmlw_commands.specs.Endings.{telling};
+ghost use Rattle.dmlw_commands.specs.Endings.{err_stream};
 ghost use Rattle.dmlw_files.specs.Files.{KeepsFiles};
 ghost use Rattle.dmlw_judge.specs.Judgements.{EndsJudging, verdict_meaning};
 
@@ -34,7 +34,7 @@ pub fn judge<F: Files, O: Write, E: Write>(
 ) -> Ended
     ensures ends { EndsJudging (record { script = F.contents files.old script.now; image = F.contents files.old image.now; moment = moment })
         (F.writes files.old) (F.writes files.new) (O.contents out.old) (O.contents out.new)
-        (telling explains (E.contents err.old) (E.contents err.new)) result }
+        (err_stream explains (E.contents err.old) (E.contents err.new)) result }
     ensures kept { KeepsFiles (F.contents files.old) (F.contents files.new) }
 {
     ask::<Verdict, F, O, E>(alloc, explains, script, moment, image, files, out, err)

@@ -4,7 +4,7 @@ ghost use Rattle.bio.specs.declared.event.CoreEvent.{CoreEvent};
 ghost use Rattle.bio.specs.Lawful.{all_aligned, is_well_formed};
 ghost use Rattle.bio.specs.Sizes.{bytes_of};
 ghost use Rattle.log_format.specs.Entries.{is_sector_size};
-ghost use Rattle.dmlw_script.specs.Plans.{Plan};
+ghost use Rattle.dmlw_script.specs.Plans.{ScriptValue};
 ghost use Rattle.judge.specs.declared.verdict.Verdict.{Verdict};
 ghost use Rattle.judge.specs.declared.verdict.Verdict.TheVariants.{Yes};
 ghost use Rattle.judge.specs.Verdicts.{IsVerdict};
@@ -26,7 +26,7 @@ pub fn replayed_beginnings_are_judged_possible()
     ensures content { (size : ℕ) (events : List CoreEvent) (moment count bytes : ℕ) → IsTrue (is_sector_size size) →
         IsTrue (all_aligned size events) → is_well_formed events ≡ true → BeginsLog size events moment count →
         IsVerdict (bytes / 512) (take moment events) (blank bytes) (replayed_first size events count bytes) Yes }
-    ensures judged { (plan : Plan) (moment count : ℕ) (image : List ℕ) (verdict : Verdict) →
+    ensures judged { (plan : ScriptValue) (moment count : ℕ) (image : List ℕ) (verdict : Verdict) →
         (judged : IsJudged plan moment image verdict) → IsReplayedTo (bytes_of plan.log_size) judged.events moment count image → verdict ≡ Yes }
     ensures asked { (asked : Question) (count : ℕ) (verdict : Verdict) → (has : HasVerdict asked verdict) →
         IsReplayedTo (bytes_of has.plan.log_size) has.judged.events asked.moment count has.image → verdict ≡ Yes }
@@ -39,7 +39,7 @@ pub fn replayed_beginnings_are_judged_possible()
 pub fn findings_are_verdicts()
     ensures content { (sectors : ℕ) (events : List CoreEvent) (first now : Content) (verdict : Verdict) (finding : Finding) →
         IsVerdict sectors events first now verdict → IsFinding sectors events first now finding → verdict ≡ verdict_of finding }
-    ensures judged { (plan : Plan) (moment : ℕ) (image : List ℕ) (verdict : Verdict) (finding : Finding) →
+    ensures judged { (plan : ScriptValue) (moment : ℕ) (image : List ℕ) (verdict : Verdict) (finding : Finding) →
         (judged : IsJudged plan moment image verdict) → (found : IsFound plan moment image finding) → judged.events ≡ found.events →
         verdict ≡ verdict_of finding }
 {

@@ -10,7 +10,7 @@ use bio::CoreEvent;
 use dmlw_explain::{Counted, counted_sectors};
 use dmlw_files::{Files, read_image, read_text};
 use dmlw_script::read_script;
-use script_runner::rehearse;
+use script_runner::events_of_run;
 use sectors::SECTOR_BYTES;
 use std::alloc::Global;
 use std::fmt;
@@ -131,7 +131,7 @@ fn write_last<W: Write>(script: &str, moment: u64, moments: Moments, to: &mut W)
 // The moments of the run of the script that a text spells, where it has one.
 fn moments_of(alloc: Global, text: &[u8]) -> Option<Moments> {
     let script = read_script(alloc, text).ok()?;
-    let rehearsed = rehearse(alloc, text, &script).ok()?;
+    let rehearsed = events_of_run(alloc, text, &script).ok()?;
     let last = last_moment(rehearsed.events());
     Some(Moments {
         last: last as u64,

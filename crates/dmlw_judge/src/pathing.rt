@@ -1,5 +1,5 @@
 //! `path SCRIPT M IMAGE`: how an image could have come to a script's data disk.
-ghost use Rattle.dmlw_commands.specs.Endings.{telling};
+ghost use Rattle.dmlw_commands.specs.Endings.{err_stream};
 ghost use Rattle.dmlw_files.specs.Files.{KeepsFiles};
 ghost use Rattle.dmlw_judge.specs.Paths.{EndsFinding};
 
@@ -28,7 +28,7 @@ pub fn path<F: Files, O: Write, E: Write>(
 ) -> Ended
     ensures ends { EndsFinding (record { script = F.contents files.old script.now; image = F.contents files.old image.now; moment = moment })
         (F.writes files.old) (F.writes files.new) (O.contents out.old) (O.contents out.new)
-        (telling explains (E.contents err.old) (E.contents err.new)) result }
+        (err_stream explains (E.contents err.old) (E.contents err.new)) result }
     ensures kept { KeepsFiles (F.contents files.old) (F.contents files.new) }
 {
     ask::<Finding, F, O, E>(alloc, explains, script, moment, image, files, out, err)

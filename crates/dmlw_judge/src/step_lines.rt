@@ -192,7 +192,7 @@ impl Told {
         }
     }
 
-    // Goes past an event, and answers its place.
+    // DeviceFrame past an event, and answers its place.
     fn pass(&mut self, place: usize) -> usize {
         self.next = place.saturating_add(1);
         place

@@ -10,7 +10,7 @@ use Rattle.replay.specs.declared.upto.Upto.{Upto}
 use Rattle.dmlw_commands.specs.declared.ending.Ended.{Ended}
 use Rattle.dmlw_commands.specs.declared.exit.Exit.{Exit}
 use Rattle.dmlw_commands.specs.declared.exit.Exit.TheVariants.{Done, Refused}
-use Rattle.dmlw_commands.specs.Endings.{Telling, TellsLine}
+use Rattle.dmlw_commands.specs.Endings.{ErrStream, TellsLine}
 use Rattle.dmlw_commands.specs.Exits.{IsRefusal, exit_of}
 use Rattle.dmlw_files.specs.Files.{KeepsFiles, MatchesContents, Write, one_more}
 use Rattle.dmlw_replay.specs.declared.stop.Stop.{Stop}
@@ -81,7 +81,7 @@ replays_kept log_file first_file name upto writes_old writes_new old middle new 
 
 -- how a replay ends
 pub replaying_ends : (log_file first_file : Option (List ℕ)) (name : List ℕ) (upto : Upto) (writes_old writes_middle writes_new : Option (List Write))
-    (old middle new : Option (List ℕ)) (t : Telling) (done : Result ℕ Stop) (ended : Ended)
+    (old middle new : Option (List ℕ)) (t : ErrStream) (done : Result ℕ Stop) (ended : Ended)
     → Replays log_file first_file name upto writes_old writes_middle old middle done → Keeps middle new → writes_new ≡ writes_middle
     → TellsLine t (replay_exit done) (replay_line done) ended → EndsReplaying log_file first_file name upto writes_old writes_new old new t ended
 replaying_ends log_file first_file name upto writes_old writes_middle writes_new old middle new t done ended came kept same tells = record {

@@ -21,7 +21,7 @@ use Rattle.run_error.specs.Errors.{IsFileError, memory_error}
 use Rattle.dmlw_commands.specs.declared.ending.Ended.{Ended}
 use Rattle.dmlw_commands.specs.declared.exit.Exit.{Exit}
 use Rattle.dmlw_commands.specs.declared.exit.Exit.TheVariants.{Done, Refused}
-use Rattle.dmlw_commands.specs.Endings.{Telling, TellsLine}
+use Rattle.dmlw_commands.specs.Endings.{ErrStream, TellsLine}
 use Rattle.dmlw_commands.specs.Exits.{exit_of, fault_line, stopped_line}
 use Rattle.dmlw_files.specs.Files.{MatchesContents, Write, one_more}
 use Rattle.dmlw_files.specs.Images.{IsImage}
@@ -135,7 +135,7 @@ replay_line (Err (stops.Replay fault)) = stopped_line fault.applied (replay_refu
 
 -- How the replay of the log in a file ends, of which the image goes into the file of this name: as what it did has it.
 pub record EndsReplaying (log_file first_file : Option (List ℕ)) (name : List ℕ) (upto : Upto) (writes_old writes_new : Option (List Write))
-    (old new : Option (List ℕ)) (t : Telling) (ended : Ended) : Type 0 where
+    (old new : Option (List ℕ)) (t : ErrStream) (ended : Ended) : Type 0 where
   pub done : Result ℕ Stop
   pub replayed : Replays log_file first_file name upto writes_old writes_new old new done
   pub tells : TellsLine t (replay_exit done) (replay_line done) ended

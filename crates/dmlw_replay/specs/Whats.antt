@@ -1,6 +1,6 @@
 -- How the end of a replay is named by a word.
 use Rattle.std.specs.Prelude.{◌≡◌, ℕ, List, ◌++◌, codes}
-use Rattle.words.specs.Words.{IsNumber}
+use Rattle.text_words.specs.Words.{IsNumber}
 use Rattle.replay.specs.declared.upto.Upto.{Upto}
 use Rattle.replay.specs.declared.upto.Upto.TheVariants as uptos
 

@@ -23,7 +23,7 @@ pub(crate) fn end_replaying<O: Write, E: Write>(
     ensures exit { result.exit ≡ replay_exit done }
     ensures kept { Keeps (O.contents out.old) (O.contents out.new) }
     ensures quiet { replay_line done ≡ [] → more.now ≡ [] → E.contents err.new ≡ E.contents err.old }
-    ensures told { result.is_told ≡ true → Appends (E.contents err.old) (E.contents err.new) (replay_line done ++ more.now) }
+    ensures told { result.err_taken ≡ true → Appends (E.contents err.old) (E.contents err.new) (replay_line done ++ more.now) }
 {
     match done {
         Ok(_) => end(alloc, Ok(()), more, out, err),

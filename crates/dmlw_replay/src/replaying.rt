@@ -3,7 +3,7 @@ ghost use Rattle.std.specs.Prelude.{◌≡◌, ◌⊎◌, IfErr, IfOk, OnErr, On
 ghost use Rattle.std.specs.Io.KnownBytes.{Appends};
 ghost use Rattle.run_error.specs.Errors.{IsFileError};
 ghost use Rattle.dmlw_commands.specs.declared.exit.Exit.{Exit};
-ghost use Rattle.dmlw_commands.specs.Endings.{telling};
+ghost use Rattle.dmlw_commands.specs.Endings.{err_stream};
 ghost use Rattle.dmlw_commands.specs.Exits.{IsRefusal};
 ghost use Rattle.dmlw_files.specs.Files.{KeepsFiles, MatchesContents, one_more};
 ghost use Rattle.dmlw_files.specs.Images.{image_of};
@@ -38,7 +38,7 @@ pub fn replay<F: Files, O: Write, E: Write>(
 ) -> Ended
     ensures ends { EndsReplaying (F.contents files.old names.entry.log.now) (F.contents files.old names.entry.first.now) names.entry.out.now upto.now
         (F.writes files.old) (F.writes files.new) (O.contents out.old) (O.contents out.new)
-        (telling explains (E.contents err.old) (E.contents err.new)) result }
+        (err_stream explains (E.contents err.old) (E.contents err.new)) result }
     // Where it is done, OUT holds the image that came of it.
     ensures written { result.exit ≡ Exit.Done → HoldsReplayed (F.contents files.old names.entry.log.now) (F.contents files.old names.entry.first.now) upto.now
         (F.contents files.new names.entry.out.now) }

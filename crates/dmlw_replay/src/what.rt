@@ -3,7 +3,7 @@ ghost use Rattle.std.specs.Prelude.{◌≡◌, IfSome, None};
 ghost use Rattle.dmlw_replay.specs.Whats.{IsNoWhat, IsWhat};
 
 use replay::Upto;
-use words::number_of;
+use text_words::number_of;
 
 /// The end of a replay that a word names: `entries:<n>`, with 1 to 20 decimal digits of a value below 2^64, `mark:<text>`, whose text may be
 /// empty, or `flush`. None for any other word.

@@ -8,7 +8,7 @@ use Rattle.run_error.specs.declared.run_error.RunError.{RunError}
 use Rattle.run_error.specs.declared.run_error.RunError.TheVariants as faults
 use Rattle.bio.specs.declared.outcome.End.{End}
 use Rattle.bio.specs.declared.outcome.Status.{Status}
-use Rattle.dmlw_commands.specs.Endings.{Telling, TellsLine}
+use Rattle.dmlw_commands.specs.Endings.{ErrStream, TellsLine}
 use Rattle.dmlw_commands.specs.Exits.{IsRefusal, exit_after, exit_at, told_line}
 use Rattle.dmlw_files.specs.Files.{AsksFor, KeepsFiles, MatchesContents, Write}
 use Rattle.dmlw_run.specs.RunsLog.{EndsRunning, FailsRunning, HoldsRun, IsPrintedRun, PrintsRun, Runs, WritesRun, file, run as ran, text as unread}
@@ -61,7 +61,7 @@ runs_all contents log writes_old writes_new old new (Err fault) writes fails = (
 
 -- how a run ends
 pub running_ends : (contents : Option (List ℕ)) (log : List ℕ) (writes_old writes_middle writes_new : Option (List Write)) (old middle new : Option (List ℕ))
-    (t : Telling) (done : Result Status RunError) (ended : Ended)
+    (t : ErrStream) (done : Result Status RunError) (ended : Ended)
     → Runs contents log writes_old writes_middle old middle done → Keeps middle new → writes_new ≡ writes_middle
     → TellsLine t (exit_after done) (told_line done) ended → EndsRunning contents log writes_old writes_new old new t ended
 running_ends contents log writes_old writes_middle writes_new old middle new t done ended records kept same tells = record {

@@ -5,7 +5,7 @@ use Rattle.bio.specs.declared.outcome.Status.{Status}
 use Rattle.refusals.specs.declared.refusal.Refusal.{Refusal}
 use Rattle.dmlw_commands.specs.declared.ending.Ended.{Ended}
 use Rattle.dmlw_commands.specs.declared.exit.Exit.{Exit}
-use Rattle.dmlw_commands.specs.Endings.{Telling, TellsLine}
+use Rattle.dmlw_commands.specs.Endings.{ErrStream, TellsLine}
 use Rattle.dmlw_commands.specs.Exits.{exit_after, exit_at, told_line}
 use Rattle.dmlw_commands.specs.Records.{end_lines}
 use Rattle.dmlw_files.specs.Files.{MatchesContents, Write, one_more}
@@ -92,7 +92,7 @@ Runs contents name writes_old writes_new old new (Err fault) =
 
 -- How the run of a script over a log of this name ends: as what it did has it.
 pub record EndsRunning (contents : Option (List ℕ)) (log : List ℕ) (writes_old writes_new : Option (List Write)) (old new : Option (List ℕ))
-    (t : Telling) (ended : Ended) : Type 0 where
+    (t : ErrStream) (ended : Ended) : Type 0 where
   pub done : Result Status RunError
   pub ran : Runs contents log writes_old writes_new old new done
   pub tells : TellsLine t (exit_after done) (told_line done) ended

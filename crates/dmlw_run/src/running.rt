@@ -3,7 +3,7 @@ ghost use Rattle.std.specs.Prelude.{◌≡◌, ◌⊎◌, IfErr, IfOk, OnErr, On
 ghost use Rattle.std.specs.Io.KnownBytes.{Appends};
 ghost use Rattle.run_error.specs.Errors.{IsFileError};
 ghost use Rattle.dmlw_script.specs.RunGrammar.{IsRunText};
-ghost use Rattle.dmlw_commands.specs.Endings.{telling};
+ghost use Rattle.dmlw_commands.specs.Endings.{err_stream};
 ghost use Rattle.dmlw_commands.specs.declared.exit.Exit.{Exit};
 ghost use Rattle.dmlw_commands.specs.Exits.{IsRefusal, exit_after, exit_at, exit_of};
 ghost use Rattle.std.specs.Result.{IsErrAnd};
@@ -39,7 +39,7 @@ pub fn run<F: Files, O: Write, E: Write, H: Threads + Wait + Sync>(
     err: &mut E,
 ) -> Ended
     ensures ends { EndsRunning (F.contents files.old script.now) log.now (F.writes files.old) (F.writes files.new)
-        (O.contents out.old) (O.contents out.new) (telling explains (E.contents err.old) (E.contents err.new)) result }
+        (O.contents out.old) (O.contents out.new) (err_stream explains (E.contents err.old) (E.contents err.new)) result }
     // Where it is refused each file holds what it held, and a script isn't written over. So it does where logging ended, unless the log was
     // asked to be written.
     ensures kept { IsRefusal result.exit → KeepsFiles (F.contents files.old) (F.contents files.new) }

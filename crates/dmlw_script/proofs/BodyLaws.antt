@@ -1,3 +1,5 @@
+-- Laws of a script's body: names of requests, and one more command after others.
+-- `ReadingLaws`, `FaultLaws` and `CanonicalTextLaws` cite it.
 use Rattle.std.proofs.Common.{◌≡◌, ℕ, ◌+◌, ◌<◌, Bool, true, false, cond, List, [], ◌∷◌, ◌++◌, length, get_or, Option, Some, None, Ok, Err, ⊎_elim, refl, ap, ◌∙◌, sym, subst, arith, append_assoc}
 use Rattle.std.specs.Prelude.{Result, nat_lt}
 use Rattle.std.specs.Cmp.{IsEquivalence}
@@ -18,8 +20,8 @@ use Rattle.refusals.specs.declared.refusal.Refusal.TheVariants.{BadId, BadLine}
 use Rattle.dmlw_script.specs.declared.command.Command.{Command}
 use Rattle.dmlw_script.specs.declared.command.Command.TheVariants as commands
 use Rattle.dmlw_script.specs.declared.script_id.ScriptId.{ScriptId}
-use Rattle.dmlw_script.specs.Said.{Said}
-use Rattle.dmlw_script.specs.Said as parsed_lines
+use Rattle.dmlw_script.specs.LineMeaning.{LineMeaning}
+use Rattle.dmlw_script.specs.LineMeaning as parsed_lines
 use Rattle.dmlw_script.specs.declared.line.BodyLine.{BodyLine}
 use Rattle.dmlw_script.specs.declared.line.BodyLine.TheVariants as body_lines
 use Rattle.dmlw_script.specs.declared.command.Step.{Step}
@@ -256,7 +258,7 @@ step_grows bytes sectors b c (body_lines.Step step) e fine sound =
 -- ---- the lines of a body
 
 -- the lines of what was read of a body
-abbrev pub lines_of_draft : Body → List Said
+abbrev pub lines_of_draft : Body → List LineMeaning
 lines_of_draft b = lines_of_body b.names 0 b.body
 
 -- one more command has one more line
@@ -265,7 +267,7 @@ lines_push : (names : List ScriptId) (n : ℕ) (body : List Command) (command : 
 lines_push names n [] command = ap (λ (k : ℕ). parsed_lines.Body (line_at names k command) ∷ []) (omega arith)
 lines_push names n (c ∷ body) command =
     let count : count_after_command n c + submissions body ≡ n + submissions (c ∷ body) = omega (arith, count_after_command-is n c, submissions-cons c body) in
-    ap (λ (ls : List Said). parsed_lines.Body (line_at names n c) ∷ ls)
+    ap (λ (ls : List LineMeaning). parsed_lines.Body (line_at names n c) ∷ ls)
     (lines_push names (count_after_command n c) body command
     ∙ ap (λ (k : ℕ). lines_of_body names (count_after_command n c) body ++ parsed_lines.Body (line_at names k command) ∷ []) count)
 
@@ -290,7 +292,7 @@ lines_kept bytes sectors names more n done (c ∷ body) counted well_formed numb
     ∙ line_kept bytes sectors names more done c (submissions body) well_formed.0 (omega (arith, numbered, counted, sum))
     ∙ ap (λ (k : ℕ). line_at names k c) (sym counted) in
     ap (λ (x : BodyLine). parsed_lines.Body x ∷ lines_of_body (names ++ more) (count_after_command n c) body) first
-    ∙ ap (λ (ls : List Said). parsed_lines.Body (line_at names n c) ∷ ls)
+    ∙ ap (λ (ls : List LineMeaning). parsed_lines.Body (line_at names n c) ∷ ls)
     (lines_kept bytes sectors names more (count_after_command n c) (done ++ c ∷ []) body (omega (arith, count, counted, submissions-push done c)) well_formed.1
     (omega (arith, numbered, sum, count)))
 
@@ -301,13 +303,13 @@ lines_grow bytes sectors b c s sound g =
     ap (λ (ns : List ScriptId). lines_of_body ns 0 b.body) g.grown_names ∙ lines_kept bytes sectors b.names g.names 0 [] b.body refl sound.well_formed (sound.numbered ∙ omega arith) in
     let last : line_at c.names (0 + submissions b.body) g.command ≡ s = ap (λ (k : ℕ). line_at c.names k g.command) (omega (arith, sound.numbered)) ∙ g.says in
     ap (λ (cs : List Command). lines_of_body c.names 0 cs) g.grown_body ∙ lines_push c.names 0 b.body g.command
-    ∙ ap (λ (ls : List Said). ls ++ parsed_lines.Body (line_at c.names (0 + submissions b.body) g.command) ∷ []) kept
+    ∙ ap (λ (ls : List LineMeaning). ls ++ parsed_lines.Body (line_at c.names (0 + submissions b.body) g.command) ∷ []) kept
     ∙ ap (λ (x : BodyLine). lines_of_draft b ++ parsed_lines.Body x ∷ []) last
 
 -- ---- runs
 
 -- what was read after the lines that say this
-abbrev pub run : Progress → List Said → Result Progress Refusal
+abbrev pub run : Progress → List LineMeaning → Result Progress Refusal
 run p ss = fold parsed_step p ss
 
 -- the head is whole, and this was read of the body

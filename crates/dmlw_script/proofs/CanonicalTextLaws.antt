@@ -1,3 +1,5 @@
+-- The one text of a script is a text of it, and lines with line feeds make a text.
+-- Serves the laws `each_script_has_a_text` and `lines_make_a_text`.
 use Rattle.std.proofs.Common.{◌≡◌, ◌≢◌, ℕ, zero, suc, ◌+◌, ◌-◌, ◌^◌, ◌<◌, ◌≤◌, Bool, true, false, not, ◌&&◌, cond, List, [], ◌∷◌, ◌++◌, length, Option, Some, None, Ok, Err, refl, ap, ◌∙◌, sym, subst, arith, append_assoc}
 use Rattle.std.specs.Prelude.{◌/◌, ◌%◌, ◌==◌, codes, decimal, flat_map, map, nat_eq, nat_le, nat_lt, replicate, Result}
 use Rattle.std.specs.Char.{is_ascii_digit}
@@ -17,8 +19,8 @@ use Rattle.dmlw_script.specs.declared.command.Command.TheVariants as commands
 use Rattle.dmlw_script.specs.declared.disk_name.DiskName.{DiskName}
 use Rattle.dmlw_script.specs.declared.disk_name.DiskName.TheVariants as disks
 use Rattle.dmlw_script.specs.declared.script_id.ScriptId.{ScriptId}
-use Rattle.dmlw_script.specs.Said.{Said}
-use Rattle.dmlw_script.specs.Said as parsed_lines
+use Rattle.dmlw_script.specs.LineMeaning.{LineMeaning}
+use Rattle.dmlw_script.specs.LineMeaning as parsed_lines
 use Rattle.dmlw_script.specs.declared.line.HeadLine.TheVariants as head_lines
 use Rattle.dmlw_script.specs.declared.line.BodyLine.TheVariants as body_lines
 use Rattle.dmlw_script.specs.declared.command.Submission.{Submission}
@@ -27,14 +29,14 @@ use Rattle.dmlw_script.specs.declared.command.Step.{Step}
 use Rattle.dmlw_script.specs.declared.command.Step.TheVariants as steps
 use Rattle.dmlw_script.specs.inside.Parsing.{step, submit}
 use Rattle.dmlw_script.specs.Grammar.{layer_verb, message_verb, spaced, IsId, ParsesAs, IsTextOf}
-use Rattle.words.specs.WordLaws.{decimal_number, number_model}
+use Rattle.text_words.specs.WordLaws.{decimal_number, number_model}
 use Rattle.dmlw_script.specs.Lines.{with_line_feeds, is_ascii_line, is_line_byte, is_line_text, is_skipped, unskipped, lines_of, IsUnbroken}
 use Rattle.dmlw_script.specs.Ids.{is_id, is_name_byte, letters_of, script_id}
-use Rattle.dmlw_script.specs.Plans.{ArePicks, CanFollow, count_after_command, head_of, layer_line, line_at, lines_behind_head, lines_of_body, name_at, lines_of_script, range_test, step_answer, submission_answer, submissions, top_of, with_ending, Disk, HasLineText, IsDisk, IsName, IsWellFormed, IsPlan, Plan, WritesByte}
+use Rattle.dmlw_script.specs.Plans.{ArePicks, CanFollow, count_after_command, head_of, layer_line, line_at, lines_behind_head, lines_of_body, name_at, lines_of_script, range_test, step_answer, submission_answer, submissions, top_of, with_ending, Disk, HasLineText, IsDisk, IsName, IsWellFormed, IsPlan, ScriptValue, WritesByte}
 use Rattle.table_line.specs.Standing.{CanStand}
 use Rattle.dmlw_script.specs.CanonicalText.{line_text, canonical_text}
 use Rattle.dmlw_script.specs.Words.{byte_text, hex_digit}
-use Rattle.words.specs.Words.{before_byte, IsNumber}
+use Rattle.text_words.specs.Words.{before_byte, IsNumber}
 use Rattle.table_line.specs.LineLaws.{printed_again}
 use Rattle.table_line.specs.Ranges.{IsLayerSpec, IsTargetInRange}
 use Rattle.table_line.specs.Texts as table_texts
@@ -127,7 +129,7 @@ pub record IsWrittenAs {A : Type 0} (text : A → List ℕ) (is_said : List ℕ 
   pub good : IsLineText (text s)
 
 -- the same, of a recorder's line
-abbrev pub IsWritten : Said → Type 0
+abbrev pub IsWritten : LineMeaning → Type 0
 IsWritten s = IsWrittenAs line_text ParsesAs s
 
 -- a first word and a number
@@ -247,12 +249,12 @@ crash_written picks low = record {
 }
 
 -- lines that can be written, and one more
-written_push : (ss : List Said) (s : Said) → AllByRecursion IsWritten ss → IsWritten s → AllByRecursion IsWritten (ss ++ s ∷ [])
+written_push : (ss : List LineMeaning) (s : LineMeaning) → AllByRecursion IsWritten ss → IsWritten s → AllByRecursion IsWritten (ss ++ s ∷ [])
 written_push [] s written last = (last, tt)
 written_push (first ∷ ss) s written last = (written.0, written_push ss s written.1 last)
 
 -- lines that can be written, and the crash behind them
-ending_written : (ending : Option (List ℕ)) (ss : List Said) → ArePicks ending → AllByRecursion IsWritten ss → AllByRecursion IsWritten (with_ending ending ss)
+ending_written : (ending : Option (List ℕ)) (ss : List LineMeaning) → ArePicks ending → AllByRecursion IsWritten ss → AllByRecursion IsWritten (with_ending ending ss)
 ending_written None ss picks written = written
 ending_written (Some picks) ss low written = written_push ss (parsed_lines.Crash picks) written (crash_written picks low)
 
@@ -419,7 +421,7 @@ body_written bytes sectors names n done (command ∷ body) small ids counted num
     )
 
 -- each sentence of a script can be written
-pub plan_written : (plan : Plan) → IsPlan plan → AllByRecursion IsWritten (lines_of_script plan)
+pub plan_written : (plan : ScriptValue) → IsPlan plan → AllByRecursion IsWritten (lines_of_script plan)
 plan_written plan is =
     let d = plan.data_disk in
     let l = plan.log_disk in
@@ -487,7 +489,7 @@ written_text text is_said kept ss written =
     })
 
 -- the spelling of a script is a text of it
-pub spelling_spells : (plan : Plan) → IsPlan plan → IsTextOf (canonical_text plan) plan
+pub spelling_spells : (plan : ScriptValue) → IsPlan plan → IsTextOf (canonical_text plan) plan
 spelling_spells plan is =
     let written = written_text line_text ParsesAs said_kept (lines_of_script plan) (plan_written plan is) in
     record { plain = written.plain; says = written.said; script = is }

@@ -1,3 +1,5 @@
+-- What one more command, request or end makes of a script's body that is read.
+-- Serves the proofs of `BodyReader`'s `end`, `say` and `name_next`, and `BodyLaws`.
 use Rattle.std.proofs.Common.{◌≡◌, ℕ, zero, suc, ◌+◌, ◌<◌, Bool, true, false, ◌||◌, cond, List, [], ◌∷◌, ◌++◌, length, Some, None, Ok, Err, refl, ap, ◌∙◌, sym, ⊎_elim, arith, set, get_or, get_or-set_same, get_or-set_other}
 use Rattle.std.specs.Prelude.{nat_lt, not, ◌==◌}
 use Rattle.std.specs.List.{list_any, position_or_len}

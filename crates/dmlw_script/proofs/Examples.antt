@@ -8,7 +8,7 @@ use Rattle.table_line.specs.declared.table_error.TableError.TheVariants as table
 use Rattle.bio.specs.Sizes.{bytes_of}
 use Rattle.bio.specs.declared.request.BadBio.TheVariants.{PastEnd, Unaligned}
 use Rattle.refusals.specs.declared.refusal.Refusal.TheVariants.{BadLine, BadNumber, OutOfRange}
-use Rattle.dmlw_script.specs.Said as parsed_lines
+use Rattle.dmlw_script.specs.LineMeaning as parsed_lines
 use Rattle.dmlw_script.specs.declared.line.HeadLine.TheVariants as head_lines
 use Rattle.bio.specs.declared.sector_size.SectorSize.TheVariants as sizes
 use Rattle.dmlw_script.specs.declared.disk_name.DiskName.TheVariants as disks
@@ -17,7 +17,7 @@ use Rattle.dmlw_script.specs.declared.command.Submission.TheVariants as submits
 use Rattle.dmlw_script.specs.declared.command.Step.TheVariants as steps
 use Rattle.dmlw_script.specs.declared.command.WriteOptions.{WriteOptions}
 use Rattle.dmlw_script.specs.CanonicalText.{line_text, step_text}
-use Rattle.dmlw_script.specs.Plans.{head_count, is_log_disk_size, is_within, layer_line, lines_of_script, moment_after, range_test, top_of, Disk, IsInTime, IsPlan, Plan}
+use Rattle.dmlw_script.specs.Plans.{head_count, is_log_disk_size, is_within, layer_line, lines_of_script, moment_after, range_test, top_of, Disk, IsInTime, IsPlan, ScriptValue}
 use Rattle.table_line.specs.Standing.{CanStand}
 use Rattle.dmlw_script.specs.Reading.{bare, data_due, head_refusal, in_body, in_head, prefix_after, StandsAfter}
 use Rattle.dmlw_script.specs.Grammar.{spaced}
@@ -157,7 +157,7 @@ abbrev under : List LayerSpec → Disk
 under layers = record { sectors = 16; layers = layers }
 
 -- a script of two layers over the data disk
-abbrev layered : Plan
+abbrev layered : ScriptValue
 layered = record { data_disk = under (linear 8 8 ∷ linear 7 1 ∷ []); log_disk = bare 32; log_size = sizes.B512; names = []; commands = []; ending = None }
 
 -- the sectors of the top: the disk's own, or the uppermost layer's
@@ -303,7 +303,7 @@ any_small_sectors : range_test 512 16 8 7 ≡ Ok tt
 any_small_sectors = refl
 
 -- a script with log sectors of 4,096 bytes, whose log disk has 16 sectors under these layers
-abbrev large : List LayerSpec → Plan
+abbrev large : List LayerSpec → ScriptValue
 large layers = record { data_disk = bare 16; log_disk = under layers; log_size = sizes.B4096; names = []; commands = []; ending = None }
 
 -- a layer of the log disk that is shorter than one of them is refused, unless something else is wrong with it; one of the data disk isn't

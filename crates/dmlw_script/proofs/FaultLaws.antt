@@ -1,3 +1,5 @@
+-- Why a line of a script is refused: lines are those of a script, or have a first fault.
+-- Serves the law `texts_have_one_first_fault`; `TextLaws` and `RunFaults` cite it too.
 use Rattle.std.proofs.Common.{◌≡◌, ℕ, suc, ◌+◌, ◌<◌, ◌≤◌, Bool, true, false, not, cond, List, [], ◌∷◌, ◌++◌, length, Option, Some, None, Ok, Err, ◌⊎◌, inl, inr, ⊎_elim, refl, ap, ◌∙◌, sym, subst, arith, append_assoc}
 use Rattle.std.specs.Prelude.{nat_le, nat_lt, Result, codes}
 use Rattle.std.specs.List.{list_any, AllZip}
@@ -20,8 +22,8 @@ use Rattle.dmlw_script.specs.declared.disk_name.DiskName.{DiskName}
 use Rattle.dmlw_script.specs.declared.disk_name.DiskName.TheVariants as disks
 use Rattle.refusals.specs.declared.fault.Fault.{Fault}
 use Rattle.dmlw_script.specs.declared.script_id.ScriptId.{ScriptId}
-use Rattle.dmlw_script.specs.Said.{Said}
-use Rattle.dmlw_script.specs.Said as parsed_lines
+use Rattle.dmlw_script.specs.LineMeaning.{LineMeaning}
+use Rattle.dmlw_script.specs.LineMeaning as parsed_lines
 use Rattle.dmlw_script.specs.declared.line.HeadLine.{HeadLine}
 use Rattle.dmlw_script.specs.declared.line.HeadLine.TheVariants as head_lines
 use Rattle.dmlw_script.specs.declared.line.BodyLine.{BodyLine}
@@ -34,7 +36,7 @@ use Rattle.dmlw_script.specs.inside.Drafts.{◌>>=◌, body_step, ended_next, na
 use Rattle.dmlw_script.specs.Grammar.{ParsesAs, AreLinesOf}
 use Rattle.dmlw_script.specs.Lines.{is_ascii_line, is_skipped, unskipped}
 use Rattle.dmlw_script.specs.Ids.{same_name}
-use Rattle.dmlw_script.specs.Plans.{disk_of, is_disk_size, is_ended, is_log_disk_size, is_within, least_sectors, moment_after, moment_at, request_of, step_answer, submission_answer, top_of, Disk, Plan}
+use Rattle.dmlw_script.specs.Plans.{disk_of, is_disk_size, is_ended, is_log_disk_size, is_within, least_sectors, moment_after, moment_at, request_of, step_answer, submission_answer, top_of, Disk, ScriptValue}
 use Rattle.dmlw_script.specs.inside.Readers.{and_then, at_line, body_line, crash_line, finish_step, finished, has_begun, line_step, nothing, parsed_step, read_lines, step_if, with_body, with_head, Progress}
 use Rattle.dmlw_script.specs.Reading.{at_end, bad_line, bare, body_refusal, data_due, head_refusal, in_body, in_head, is_open, log_due, moment_at_line, next, prefix_after, refused, test_refusal, with_layer, BeginsScript, ComesInTime, FaultAfter, IsFirstFault, IsLineAfter, IsLineFault, Prefix, StandsAfter}
 use Rattle.dmlw_script.specs.inside.Parsing.{parse_line}
@@ -49,7 +51,7 @@ use Rattle.dmlw_script.proofs.ParsingLaws.{one_parsed, parsed_again, parsed_read
 -- some lines lead from what was read to a plan
 pub record Completes (p : Progress) (number : ℕ) : Type 0 where
   pub more : List (List ℕ)
-  pub plan : Plan
+  pub plan : ScriptValue
   pub read : read_lines p number more ≡ Ok plan
 
 -- the lines of the head that are missing complete a script
@@ -74,7 +76,7 @@ refused_ends before q line refusal gone step b =
     cc
 
 -- lines after which the text can't end are no script
-pub unfinished : (before : List (List ℕ)) (q : Progress) (refusal : Refusal) → fold line_step nothing before ≡ Ok q → finish_step q ≡ Err refusal → (plan : Plan) → AreLinesOf before plan → ⊥
+pub unfinished : (before : List (List ℕ)) (q : Progress) (refusal : Refusal) → fold line_step nothing before ≡ Ok q → finish_step q ≡ Err refusal → (plan : ScriptValue) → AreLinesOf before plan → ⊥
 unfinished before q refusal gone finish plan spells =
     let read = sym (spelled_lines before 1 plan spells) ∙ ap (λ x. read_lines nothing 1 x) (sym (append-nil before)) ∙ reads_on line_step finish_step nothing q 1 before [] gone
     ∙ ap (at_line (1 + length before)) finish in
@@ -113,7 +115,7 @@ IsEarly (heads.Whole d l size) body = Unit {0}
 IsEarly (heads.Ended d l size picks) body = Unit {0}
 
 -- this follows on that by what a line says
-abbrev pub Moves : Prefix → Said → Stage → List Command → Type 0
+abbrev pub Moves : Prefix → LineMeaning → Stage → List Command → Type 0
 Moves prefix s h body = (prefix_of h body ≡ next prefix s) × IsEarly h body
 
 -- after one more layer of the data disk
@@ -225,7 +227,7 @@ crash_moves (heads.Whole d l size) p q picks e =
     (ap (λ (x : Stage). prefix_of x q.body.body) (sym ended) ∙ sym (next_crash d l p.body.body picks), subst (λ (x : Stage). IsEarly x q.body.body) ended tt)
 
 -- after one more line
-line_moves : (p q : Progress) (s : Said) → parsed_step p s ≡ Ok q → IsEarly p.head p.body.body → Moves (prefix_at p) s q.head q.body.body
+line_moves : (p q : Progress) (s : LineMeaning) → parsed_step p s ≡ Ok q → IsEarly p.head p.body.body → Moves (prefix_at p) s q.head q.body.body
 line_moves p q (parsed_lines.Head line) e early =
     let r = with_head_ok p q (head_step p.head (has_begun p.body.body) line) e in
     subst (λ (x : Progress). Moves (prefix_at p) (parsed_lines.Head line) x.head x.body.body) r.2 (head_moves p.head r.0 p.body.body line r.1 early)
@@ -233,7 +235,7 @@ line_moves p q (parsed_lines.Body line) e early = body_moves p.head p q line ref
 line_moves p q (parsed_lines.Crash picks) e early = crash_moves p.head p q picks e
 
 -- after the lines that say this
-run_moves : (p q : Progress) (ss : List Said) → run p ss ≡ Ok q → IsEarly p.head p.body.body → prefix_at q ≡ prefix_after (prefix_at p) ss
+run_moves : (p q : Progress) (ss : List LineMeaning) → run p ss ≡ Ok q → IsEarly p.head p.body.body → prefix_at q ≡ prefix_after (prefix_at p) ss
 run_moves p q [] e early = let same : p ≡ q = cc in ap prefix_at (sym same)
 run_moves p q (s ∷ ss) e early =
     let r = bind_ok (parsed_step p s) _ q e in
@@ -243,23 +245,23 @@ run_moves p q (s ∷ ss) e early =
 -- ---- why a line is refused
 
 -- as many lines as what they say
-pub as_many : (lines : List (List ℕ)) (ss : List Said) → AllZip ParsesAs lines ss → length lines ≡ length ss
+pub as_many : (lines : List (List ℕ)) (ss : List LineMeaning) → AllZip ParsesAs lines ss → length lines ≡ length ss
 as_many [] [] says = refl
 as_many [] (s ∷ ss) says = absurd says
 as_many (line ∷ lines) [] says = absurd says
 as_many (line ∷ lines) (s ∷ ss) says = ap suc (as_many lines ss says.1)
 
 -- a line that says this, after lines that lead to q
-record Comes (before : List (List ℕ)) (q : Progress) (line : List ℕ) (s : Said) : Type 0 where
+record Comes (before : List (List ℕ)) (q : Progress) (line : List ℕ) (s : LineMeaning) : Type 0 where
   plain : is_ascii_line line ≡ true
   says : ParsesAs line s
   gone : fold line_step nothing before ≡ Ok q
-  said : List Said
+  said : List LineMeaning
   before_says : AllZip ParsesAs (unskipped before) said
   leads : run nothing said ≡ Ok q
 
 -- what may come after them stands there
-comes_after : (before : List (List ℕ)) (q : Progress) (line : List ℕ) (s : Said) → Comes before q line s → StandsAfter (prefix_at q) s → IsLineAfter before line s
+comes_after : (before : List (List ℕ)) (q : Progress) (line : List ℕ) (s : LineMeaning) → Comes before q line s → StandsAfter (prefix_at q) s → IsLineAfter before line s
 comes_after before q line s c stands = record {
   plain = c.plain;
   says = c.says;
@@ -269,15 +271,15 @@ comes_after before q line s c stands = record {
 }
 
 -- what may not come after them doesn't
-never_after : (before : List (List ℕ)) (q : Progress) (line : List ℕ) (s : Said) → Comes before q line s → (StandsAfter (prefix_at q) s → ⊥) → (t : Said) → IsLineAfter before line t → ⊥
+never_after : (before : List (List ℕ)) (q : Progress) (line : List ℕ) (s : LineMeaning) → Comes before q line s → (StandsAfter (prefix_at q) s → ⊥) → (t : LineMeaning) → IsLineAfter before line t → ⊥
 never_after before q line s c never t at =
     let same : t ≡ s = one_parsed line t s at.says c.says in
     let said : at.said ≡ c.said = one_told parse_line ParsesAs parsed_step parsed_read parsed_again (unskipped before) at.said c.said at.before_says c.before_says in
     let there : prefix_after data_due at.said ≡ prefix_at q = ap (prefix_after data_due) said ∙ sym (run_moves nothing q c.said c.leads refl) in
-    never (subst (λ (x : Said). StandsAfter (prefix_at q) x) same (subst (λ (prefix : Prefix). StandsAfter prefix t) there at.stands))
+    never (subst (λ (x : LineMeaning). StandsAfter (prefix_at q) x) same (subst (λ (prefix : Prefix). StandsAfter prefix t) there at.stands))
 
 -- a line that may not come is a bad one
-never_fault : (before : List (List ℕ)) (q : Progress) (line : List ℕ) (s : Said) (refusal : Refusal) → Comes before q line s → (StandsAfter (prefix_at q) s → ⊥) → BadLine ≡ refusal → IsLineFault before line refusal
+never_fault : (before : List (List ℕ)) (q : Progress) (line : List ℕ) (s : LineMeaning) (refusal : Refusal) → Comes before q line s → (StandsAfter (prefix_at q) s → ⊥) → BadLine ≡ refusal → IsLineFault before line refusal
 never_fault before q line s refusal c never same = subst (λ (x : Refusal). IsLineFault before line x) same (bad_line (never_after before q line s c never))
 
 -- a line of the head is refused for its own reason
@@ -416,7 +418,7 @@ asked_refusal least disk (Err error) = Some (table_refusal error)
 asked_refusal least disk (Ok spec) = cond (is_within spec (top_of disk)) (cond (nat_le least spec.length) None (Some BadLine)) (Some OutOfRange)
 
 -- it is why a line of the head is refused
-head_refusal_is : (plan : Plan) (over : DiskName) (asked : Result LayerSpec TableError)
+head_refusal_is : (plan : ScriptValue) (over : DiskName) (asked : Result LayerSpec TableError)
     → head_refusal plan (head_lines.Layer over asked) ≡ asked_refusal (least_sectors over plan.log_size) (disk_of over plan) asked
 head_refusal_is plan over (Err error) = refl
 head_refusal_is plan over (Ok spec) = refl
@@ -529,14 +531,14 @@ head_fault before (heads.Ended d l size picks) b line s refusal c e =
     never_fault before (record { head = heads.Ended d l size picks; body = b }) line (parsed_lines.Head s) refusal c (λ stands. stands) (cc)
 
 -- why a line that says this is refused
-parsed_fault : (before : List (List ℕ)) (q : Progress) (line : List ℕ) (s : Said) (refusal : Refusal) → Comes before q line s → parsed_step q s ≡ Err refusal → IsLineFault before line refusal
+parsed_fault : (before : List (List ℕ)) (q : Progress) (line : List ℕ) (s : LineMeaning) (refusal : Refusal) → Comes before q line s → parsed_step q s ≡ Err refusal → IsLineFault before line refusal
 parsed_fault before q line (parsed_lines.Head s) refusal c e =
     head_fault before q.head q.body line s refusal c (with_head_err q (head_step q.head (has_begun q.body.body) s) refusal e)
 parsed_fault before q line (parsed_lines.Body s) refusal c e = body_fault before q.head q.body line s refusal c e
 parsed_fault before q line (parsed_lines.Crash picks) refusal c e = crash_fault before q.head q.body line picks refusal c e
 
 -- why a line that isn't skipped is refused
-heard_fault : (before : List (List ℕ)) (q : Progress) (line : List ℕ) (refusal : Refusal) (g : Led ParsesAs parsed_step nothing q before) (o : Option Said) → fold line_step nothing before ≡ Ok q → is_ascii_line line ≡ true →
+heard_fault : (before : List (List ℕ)) (q : Progress) (line : List ℕ) (refusal : Refusal) (g : Led ParsesAs parsed_step nothing q before) (o : Option LineMeaning) → fold line_step nothing before ≡ Ok q → is_ascii_line line ≡ true →
     parse_line line ≡ o → step_if parsed_step q o ≡ Err refusal → IsLineFault before line refusal
 heard_fault before q line refusal g None gone plain is e =
     let same : BadLine ≡ refusal = cc in
@@ -580,11 +582,11 @@ first_fault lines fault number is e =
     }
 
 -- lines are those of a script, or have a first fault
-pub spells_or_faults : (lines : List (List ℕ)) → ((plan : Plan) × AreLinesOf lines plan) ⊎ ((line : ℕ) × (refusal : Refusal) × IsFirstFault lines line refusal)
+pub spells_or_faults : (lines : List (List ℕ)) → ((plan : ScriptValue) × AreLinesOf lines plan) ⊎ ((line : ℕ) × (refusal : Refusal) × IsFirstFault lines line refusal)
 spells_or_faults lines = by_reading (read_lines nothing 1 lines) refl
   where
-    by_reading : (read : Result Plan Fault) → read_lines nothing 1 lines ≡ read
-        → ((plan : Plan) × AreLinesOf lines plan) ⊎ ((line : ℕ) × (refusal : Refusal) × IsFirstFault lines line refusal)
+    by_reading : (read : Result ScriptValue Fault) → read_lines nothing 1 lines ≡ read
+        → ((plan : ScriptValue) × AreLinesOf lines plan) ⊎ ((line : ℕ) × (refusal : Refusal) × IsFirstFault lines line refusal)
     by_reading (Ok plan) e = inl (plan, lines_spell lines 1 plan e)
     by_reading (Err fault) e =
         let f = stopped line_step finish_step nothing 1 lines fault e in

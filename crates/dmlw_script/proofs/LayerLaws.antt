@@ -8,7 +8,7 @@ use Rattle.table_line.specs.Refusals.{refusal_of}
 use Rattle.table_line.specs.TableLines.{IsTableLine}
 use Rattle.dmlw_script.specs.Grammar.{AsksFor}
 use Rattle.dmlw_script.specs.inside.Parsing.{asked_from, asked_of}
-use Rattle.words.specs.Words.{words_of}
+use Rattle.text_words.specs.Words.{words_of}
 
 -- what a table line asks for is what its words ask for
 pub asked_is : (text : List ℕ) → AsksFor (words_of text) (asked_of text)

@@ -1,3 +1,4 @@
+-- The lemmas of `dmlw_script`; the proof of a function stands in the folder of its source file.
 pub mod DiskLaws
 pub mod DraftLemmas
 pub mod PickLaws

@@ -1,7 +1,9 @@
+-- The first line of a text, and the shorter text after it.
+-- Serves the proof of the reader's `next_line`.
 use Rattle.std.proofs.Common.{◌≡◌, ℕ, ◌+◌, ◌<◌, ◌≤◌, Bool, true, false, cond, List, [], ◌∷◌, length, Option, Some, None, refl, ap, arith}
 use Rattle.std.specs.Prelude.{◌==◌, unwrap_or}
 use Rattle.std.specs.List.{onto_first}
-use Rattle.words.specs.Words.{before_byte, after_byte}
+use Rattle.text_words.specs.Words.{before_byte, after_byte}
 use Rattle.dmlw_script.specs.Lines.{is_skipped, unskipped_numbers, lines_of}
 
 -- the text after the first line

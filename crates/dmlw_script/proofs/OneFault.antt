@@ -1,9 +1,11 @@
+-- A text has one first fault at most, and a script's text has none.
+-- Serves the law `texts_have_one_first_fault`; `OneRunFault` and `ScriptLaws` cite it too.
 use Rattle.std.proofs.Common.{◌≡◌, ℕ, ◌+◌, ◌<◌, ◌≤◌, List, [], ◌∷◌, ◌++◌, length, Some, ⊎_elim, refl, ap, ◌∙◌, sym, subst, arith, append_assoc}
 use Rattle.std.proofs.lemmas.Bool.{cases_lt}
 use Rattle.std.proofs.lemmas.List.{append-nil}
 use Rattle.refusals.specs.declared.refusal.Refusal.{Refusal}
 use Rattle.dmlw_script.specs.Grammar.{AreLinesOf}
-use Rattle.dmlw_script.specs.Plans.{Plan}
+use Rattle.dmlw_script.specs.Plans.{ScriptValue}
 use Rattle.dmlw_script.specs.Reading.{bad_line, line_refusal, refused, BeginsScript, FaultAfter, IsFirstFault, IsLineFault}
 use Rattle.dmlw_script.proofs.ReadingLaws.{spelled_lines}
 use Rattle.dmlw_script.proofs.ParsingLaws.{one_parsed}
@@ -84,7 +86,7 @@ module _ (Begins : List (List ℕ) → Type 0) (Faults : List (List ℕ) → Lis
 -- ---- a recorder's texts
 
 -- lines are those of one script
-one_plan : (lines : List (List ℕ)) (p q : Plan) → AreLinesOf lines p → AreLinesOf lines q → p ≡ q
+one_plan : (lines : List (List ℕ)) (p q : ScriptValue) → AreLinesOf lines p → AreLinesOf lines q → p ≡ q
 one_plan lines p q spells again = let both = sym (spelled_lines lines 1 p spells) ∙ spelled_lines lines 1 q again in cc
 
 -- a line has one first reason why it can't stand there
@@ -94,7 +96,7 @@ one_reason before line r s (bad_line f) (refused t p x there spells e) = absurd 
 one_reason before line r s (refused t p x there spells e) (bad_line g) = absurd (g t there)
 one_reason before line r s (refused t p x there spells e) (refused u q y here again f) =
     let both : Some r ≡ Some s =
-    sym e ∙ ap (line_refusal p) (one_parsed line t u there.says here.says) ∙ ap (λ (plan : Plan). line_refusal plan u) (one_plan before p q spells again) ∙ f in
+    sym e ∙ ap (line_refusal p) (one_parsed line t u there.says here.says) ∙ ap (λ (plan : ScriptValue). line_refusal plan u) (one_plan before p q spells again) ∙ f in
     cc
 
 -- lines that begin a script begin by lines that do
@@ -124,7 +126,7 @@ one_first_fault lines m n r s f g =
     (f.place ∙ ap (λ (n : ℕ). n + 1) one.0 ∙ sym g.place, one.1)
 
 -- lines of a script have none after lines that begin one
-whole_behind : (before more : List (List ℕ)) (plan : Plan) (r : Refusal) → AreLinesOf (before ++ more) plan → FaultAfter before more r → ⊥
+whole_behind : (before more : List (List ℕ)) (plan : ScriptValue) (r : Refusal) → AreLinesOf (before ++ more) plan → FaultAfter before more r → ⊥
 whole_behind before [] plan r spells fault =
     fault.1 plan (subst (λ (lines : List (List ℕ)). AreLinesOf lines plan) (append-nil before) spells)
 whole_behind before (line ∷ more) plan r spells fault =
@@ -135,6 +137,6 @@ whole_behind before (line ∷ more) plan r spells fault =
     })
 
 -- a script has no fault
-pub no_fault : (lines : List (List ℕ)) (plan : Plan) (m : ℕ) (r : Refusal) → AreLinesOf lines plan → IsFirstFault lines m r → ⊥
+pub no_fault : (lines : List (List ℕ)) (plan : ScriptValue) (m : ℕ) (r : Refusal) → AreLinesOf lines plan → IsFirstFault lines m r → ⊥
 no_fault lines plan m r spells f =
     whole_behind f.before f.more plan r (subst (λ (ls : List (List ℕ)). AreLinesOf ls plan) f.split spells) f.fault

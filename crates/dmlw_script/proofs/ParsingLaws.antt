@@ -1,3 +1,5 @@
+-- What is heard of a line is what it says by the grammar, and the other way round.
+-- `ReadingLaws`, `OneFault` and `RunLines` cite it, among others.
 use Rattle.std.proofs.Common.{◌≡◌, ℕ, ◌+◌, ◌-◌, ◌*◌, ◌/◌, ◌%◌, ◌<◌, ◌≤◌, Bool, true, false, ◌&&◌, cond, List, [], ◌∷◌, ◌++◌, Option, Some, None, ◌⊎◌, inl, inr, ⊎_elim, refl, ap, subst, ◌∙◌, sym, arith}
 use Rattle.std.specs.Prelude.{◌==◌, codes, nat_lt, nat_le, not, Result}
 use Rattle.std.specs.Char.{is_ascii_digit}
@@ -14,8 +16,8 @@ use Rattle.bio.specs.declared.sector_size.SectorSize.TheVariants as sizes
 use Rattle.dmlw_script.specs.declared.disk_name.DiskName.{DiskName}
 use Rattle.dmlw_script.specs.declared.disk_name.DiskName.TheVariants as disks
 use Rattle.dmlw_script.specs.declared.script_id.ScriptId.{ScriptId}
-use Rattle.dmlw_script.specs.Said.{Said}
-use Rattle.dmlw_script.specs.Said as parsed_lines
+use Rattle.dmlw_script.specs.LineMeaning.{LineMeaning}
+use Rattle.dmlw_script.specs.LineMeaning as parsed_lines
 use Rattle.dmlw_script.specs.declared.line.HeadLine.{HeadLine}
 use Rattle.dmlw_script.specs.declared.line.HeadLine.TheVariants as head_lines
 use Rattle.dmlw_script.specs.declared.line.BodyLine.TheVariants as body_lines
@@ -24,7 +26,7 @@ use Rattle.dmlw_script.specs.declared.command.Submission.TheVariants as submits
 use Rattle.dmlw_script.specs.declared.command.Step.TheVariants as steps
 use Rattle.dmlw_script.specs.declared.command.WriteOptions.{WriteOptions}
 use Rattle.dmlw_script.specs.Grammar.{layer_verb, message_verb, size_words, spaced, AsksFor, IsId, ParsesAs, ParsesAsCrash, ParsesAsId, ParsesAsNumber}
-use Rattle.words.specs.WordLaws.{number_again, number_read}
+use Rattle.text_words.specs.WordLaws.{number_again, number_read}
 use Rattle.dmlw_script.specs.Lines.{is_line_text, is_skipped}
 use Rattle.dmlw_script.specs.Ids.{is_id, is_name_byte, id_of_word}
 use Rattle.dmlw_script.specs.inside.Parsing.{◌>>=◌, asked_of, body_words, discard_of, discard_words, disk_of_word, found_options, head_words, layer_of, log_of, lone_word, mark_of, message_of, message_to, numbers_of, options_of, take_word, parse_parts, parse_words, parse_line, picks_of, plain_parts, read_of, sectors_of, size_of, split_words, step, submit, with_number, write_of, write_words}
@@ -33,7 +35,7 @@ use Rattle.dmlw_script.specs.Words.{byte_from, byte_of, byte_text, half_of, hex_
 use Rattle.dmlw_script.proofs.LayerLaws.{asked_is, one_asked}
 use Rattle.table_line.specs.declared.layer_spec.LayerSpec.{LayerSpec}
 use Rattle.table_line.specs.declared.table_error.TableError.{TableError}
-use Rattle.words.specs.Words.{after_byte, before_byte, is_number, number_of, words_of, IsNumber}
+use Rattle.text_words.specs.Words.{after_byte, before_byte, is_number, number_of, words_of, IsNumber}
 
 -- ---- choices
 
@@ -366,7 +368,7 @@ discard_words_read words s e =
     (a.0, sectors_read words a.0 a.1, same_some _ s a.2)
 
 -- the parts that a submission was read by: an id, and the words behind it
-record NamedParts (words : List ℕ) (read : List ℕ → Option Submission) (s : Said) : Type 0 where
+record NamedParts (words : List ℕ) (read : List ℕ → Option Submission) (s : LineMeaning) : Type 0 where
   others : List ℕ
   name : ScriptId
   submission : Submission
@@ -376,7 +378,7 @@ record NamedParts (words : List ℕ) (read : List ℕ → Option Submission) (s 
   is : submit name submission ≡ s
 
 -- what is heard of an id and the words behind it was read by its parts
-named_parts : (words : List ℕ) (read : List ℕ → Option Submission) (s : Said)
+named_parts : (words : List ℕ) (read : List ℕ → Option Submission) (s : LineMeaning)
     → (after_byte 32 words >>= λ others. id_of_word (before_byte 32 words) >>= λ name. read others >>= λ submission. Some (submit name submission)) ≡ Some s
     → NamedParts words read s
 named_parts words read s e =
@@ -394,11 +396,11 @@ named_parts words read s e =
     }
 
 -- what is heard as a write is said
-write_read : (words : List ℕ) (s : Said) → write_of words ≡ Some s → ParsesAs (first_word (codes "w") words) s
+write_read : (words : List ℕ) (s : LineMeaning) → write_of words ≡ Some s → ParsesAs (first_word (codes "w") words) s
 write_read words s e =
     let p = named_parts words write_words s e in
     let w = write_words_read p.others p.submission p.read_as in
-    subst (λ (x : Said). ParsesAs (first_word (codes "w") words) x) (ap (submit p.name) w.is ∙ p.is) (record {
+    subst (λ (x : LineMeaning). ParsesAs (first_word (codes "w") words) x) (ap (submit p.name) w.is ∙ p.is) (record {
       id_word = before_byte 32 words;
       first_word = w.first_word;
       count_word = w.count_word;
@@ -410,11 +412,11 @@ write_read words s e =
     })
 
 -- what is heard as a discard is said
-discard_read : (words : List ℕ) (s : Said) → discard_of words ≡ Some s → ParsesAs (first_word (codes "d") words) s
+discard_read : (words : List ℕ) (s : LineMeaning) → discard_of words ≡ Some s → ParsesAs (first_word (codes "d") words) s
 discard_read words s e =
     let p = named_parts words discard_words s e in
     let d = discard_words_read p.others p.submission p.read_as in
-    subst (λ (x : Said). ParsesAs (first_word (codes "d") words) x) (ap (submit p.name) d.2 ∙ p.is) (record {
+    subst (λ (x : LineMeaning). ParsesAs (first_word (codes "d") words) x) (ap (submit p.name) d.2 ∙ p.is) (record {
       id_word = before_byte 32 words;
       first_word = d.1.first_word;
       count_word = d.1.count_word;
@@ -425,11 +427,11 @@ discard_read words s e =
     })
 
 -- what is heard as a read is said
-read_read : (words : List ℕ) (s : Said) → read_of words ≡ Some s → ParsesAs (first_word (codes "r") words) s
+read_read : (words : List ℕ) (s : LineMeaning) → read_of words ≡ Some s → ParsesAs (first_word (codes "r") words) s
 read_read words s e =
     let a = bind_some (sectors_of words) _ s e in
     let p = sectors_read words a.0 a.1 in
-    subst (λ (x : Said). ParsesAs (first_word (codes "r") words) x) (same_some _ s a.2) (record {
+    subst (λ (x : LineMeaning). ParsesAs (first_word (codes "r") words) x) (same_some _ s a.2) (record {
       first_word = p.first_word;
       count_word = p.count_word;
       first_number = p.first_number;
@@ -463,14 +465,14 @@ number_line {A = A} is_said verb words f s says e =
     subst (λ (x : A). is_said (first_word verb words) x) p.2 (says p.0 (said_number verb words p.0 p.1))
 
 -- a line of a first word and an id
-id_line : (verb words : List ℕ) (f : ScriptId → Said) (s : Said) → ((name : ScriptId) → ParsesAsId verb (first_word verb words) name → ParsesAs (first_word verb words) (f name))
+id_line : (verb words : List ℕ) (f : ScriptId → LineMeaning) (s : LineMeaning) → ((name : ScriptId) → ParsesAsId verb (first_word verb words) name → ParsesAs (first_word verb words) (f name))
     → option_map f (id_of_word words) ≡ Some s → ParsesAs (first_word verb words) s
 id_line verb words f s says e =
     let p = map_some f (id_of_word words) s e in
-    subst (λ (x : Said). ParsesAs (first_word verb words) x) p.2 (says p.0 (said_id verb words p.0 p.1))
+    subst (λ (x : LineMeaning). ParsesAs (first_word verb words) x) p.2 (says p.0 (said_id verb words p.0 p.1))
 
 -- what is heard of the words of a line of the body is said
-body_read : (verb words : List ℕ) (s : Said) → body_words verb words ≡ Some s → ParsesAs (first_word verb words) s
+body_read : (verb words : List ℕ) (s : LineMeaning) → body_words verb words ≡ Some s → ParsesAs (first_word verb words) s
 body_read verb words s =
     verb_read ParsesAs verb (codes "w") words _ _ s (write_read words s)
     (verb_read ParsesAs verb (codes "f") words _ _ s (id_line (codes "f") words (λ name. submit name submits.Flush) s (λ name says. says))
@@ -525,27 +527,27 @@ first_some None y s e = inr e
 first_some (Some x) y s e = inl e
 
 -- what is heard of the words is said
-said_read : (verb words : List ℕ) (s : Said) → parse_words verb words ≡ Some s → ParsesAs (first_word verb words) s
+said_read : (verb words : List ℕ) (s : LineMeaning) → parse_words verb words ≡ Some s → ParsesAs (first_word verb words) s
 said_read verb words s e =
     ⊎_elim
     (λ (head : option_map parsed_lines.Head (head_words verb words) ≡ Some s).
     let p = map_some parsed_lines.Head (head_words verb words) s head in
-    subst (λ (x : Said). ParsesAs (first_word verb words) x) p.2 (head_read verb words p.0 p.1))
+    subst (λ (x : LineMeaning). ParsesAs (first_word verb words) x) p.2 (head_read verb words p.0 p.1))
     (body_read verb words s)
     (first_some _ (body_words verb words) s e)
 
 -- what is heard of one word is said
-word_read : (verb word : List ℕ) (x s : Said) (y : Option Said) → ParsesAs word x → (y ≡ Some s → ParsesAs verb s) → cond (bytes_eq verb word) (Some x) y ≡ Some s → ParsesAs verb s
+word_read : (verb word : List ℕ) (x s : LineMeaning) (y : Option LineMeaning) → ParsesAs word x → (y ≡ Some s → ParsesAs verb s) → cond (bytes_eq verb word) (Some x) y ≡ Some s → ParsesAs verb s
 word_read verb word x s y here other e =
     ⊎_elim
     (λ (h : (bytes_eq verb word ≡ true) × (Some x ≡ Some s)).
     let same : x ≡ s = (let k = h.1 in cc) in
-    subst (λ (v : List ℕ). ParsesAs v s) (sym (same_bytes verb word h.0)) (subst (λ (t : Said). ParsesAs word t) same here))
+    subst (λ (v : List ℕ). ParsesAs v s) (sym (same_bytes verb word h.0)) (subst (λ (t : LineMeaning). ParsesAs word t) same here))
     (λ (h : (bytes_eq verb word ≡ false) × (y ≡ Some s)). other h.1)
     (chosen (bytes_eq verb word) (Some x) y (Some s) e)
 
 -- what is heard of a line of one word is said
-lone_read : (verb : List ℕ) (s : Said) → lone_word verb ≡ Some s → ParsesAs verb s
+lone_read : (verb : List ℕ) (s : LineMeaning) → lone_word verb ≡ Some s → ParsesAs verb s
 lone_read verb s =
     word_read verb (codes "close") (step steps.Close) s _ refl
     (word_read verb (codes "turn") (step steps.Turn) s _ refl (λ e. absurd (cc e)))
@@ -561,7 +563,7 @@ before_all mark [] none = refl
 before_all mark (b ∷ bytes) none = all_step (b == mark) b bytes _ _ none (before_all mark bytes)
 
 -- what is heard of the parts of a line that is no crash, no mark and no message is said
-plain_read : (line : List ℕ) (rest : Option (List ℕ)) (s : Said) → after_byte 32 line ≡ rest → plain_parts (before_byte 32 line) rest ≡ Some s → ParsesAs line s
+plain_read : (line : List ℕ) (rest : Option (List ℕ)) (s : LineMeaning) → after_byte 32 line ≡ rest → plain_parts (before_byte 32 line) rest ≡ Some s → ParsesAs line s
 plain_read line (Some words) s cut e = subst (λ (x : List ℕ). ParsesAs x s) (sym (cut_joined 32 line words cut)) (said_read (before_byte 32 line) words s e)
 plain_read line None s cut e = subst (λ (x : List ℕ). ParsesAs x s) (before_all 32 line cut) (lone_read (before_byte 32 line) s e)
 
@@ -677,11 +679,11 @@ crash_read line (Some words) picks cut verb e =
     }
 
 -- what is heard as a mark is said
-mark_read : (line : List ℕ) (rest : Option (List ℕ)) (s : Said) → after_byte 32 line ≡ rest → before_byte 32 line ≡ codes "mark" → mark_of rest ≡ Some s → ParsesAs line s
+mark_read : (line : List ℕ) (rest : Option (List ℕ)) (s : LineMeaning) → after_byte 32 line ≡ rest → before_byte 32 line ≡ codes "mark" → mark_of rest ≡ Some s → ParsesAs line s
 mark_read line None s cut verb e = absurd (cc)
 mark_read line (Some text) s cut verb e =
     let p = cond_some (is_line_text text) (step (steps.Mark text)) s e in
-    subst (λ (x : Said). ParsesAs line x) p.1
+    subst (λ (x : LineMeaning). ParsesAs line x) p.1
     (record { plain = p.0; spelled = cut_joined 32 line text cut ∙ ap (λ (v : List ℕ). v ++ 32 ∷ text) verb })
 
 -- a word that names a disk is the second of its messages
@@ -700,7 +702,7 @@ disk_read word rest over e =
         ap (λ (w : List ℕ). first_word (codes "message") (w ++ rest)) is ∙ ap (λ (v : List ℕ). v ++ rest) spelled ∙ ap (λ (d : DiskName). message_verb d ++ rest) one
 
 -- what is heard as a message is said
-message_read : (line : List ℕ) (rest : Option (List ℕ)) (s : Said) → after_byte 32 line ≡ rest → before_byte 32 line ≡ codes "message" → message_of rest ≡ Some s → ParsesAs line s
+message_read : (line : List ℕ) (rest : Option (List ℕ)) (s : LineMeaning) → after_byte 32 line ≡ rest → before_byte 32 line ≡ codes "message" → message_of rest ≡ Some s → ParsesAs line s
 message_read line None s cut verb e = absurd (cc)
 message_read line (Some words) s cut verb e =
     let d = bind_some (disk_of_word (before_byte 32 words)) _ s e in
@@ -708,7 +710,7 @@ message_read line (Some words) s cut verb e =
     let n = bind_some (number_of (before_byte 32 a.0)) _ s a.2 in
     let t = bind_some (after_byte 32 a.0) _ s n.2 in
     let p = cond_some (is_line_text t.0) (step (steps.Message d.0 n.0 t.0)) s t.2 in
-    subst (λ (x : Said). ParsesAs line x) p.1 (record {
+    subst (λ (x : LineMeaning). ParsesAs line x) p.1 (record {
       layer_word = before_byte 32 a.0;
       number = number_read (before_byte 32 a.0) n.0 n.1;
       plain = p.0;
@@ -719,11 +721,11 @@ message_read line (Some words) s cut verb e =
     })
 
 -- what is heard of the parts of a line that is neither a crash nor a mark
-abbrev unmarked : List ℕ → Option (List ℕ) → Option Said
+abbrev unmarked : List ℕ → Option (List ℕ) → Option LineMeaning
 unmarked verb rest = cond (bytes_eq verb (codes "message")) (message_of rest) (plain_parts verb rest)
 
 -- what is heard so is said
-unmarked_read : (line : List ℕ) (rest : Option (List ℕ)) (s : Said) → after_byte 32 line ≡ rest → unmarked (before_byte 32 line) rest ≡ Some s → ParsesAs line s
+unmarked_read : (line : List ℕ) (rest : Option (List ℕ)) (s : LineMeaning) → after_byte 32 line ≡ rest → unmarked (before_byte 32 line) rest ≡ Some s → ParsesAs line s
 unmarked_read line rest s cut e =
     ⊎_elim
     (λ (h : (bytes_eq (before_byte 32 line) (codes "message") ≡ true) × (message_of rest ≡ Some s)). message_read line rest s cut (same_bytes _ _ h.0) h.1)
@@ -731,7 +733,7 @@ unmarked_read line rest s cut e =
     (chosen (bytes_eq (before_byte 32 line) (codes "message")) _ _ (Some s) e)
 
 -- what is heard of the parts of a line that is no crash is said
-uncrashed_read : (line : List ℕ) (rest : Option (List ℕ)) (s : Said) → after_byte 32 line ≡ rest
+uncrashed_read : (line : List ℕ) (rest : Option (List ℕ)) (s : LineMeaning) → after_byte 32 line ≡ rest
     → cond (bytes_eq (before_byte 32 line) (codes "mark")) (mark_of rest) (unmarked (before_byte 32 line) rest) ≡ Some s → ParsesAs line s
 uncrashed_read line rest s cut e =
     ⊎_elim
@@ -740,18 +742,18 @@ uncrashed_read line rest s cut e =
     (chosen (bytes_eq (before_byte 32 line) (codes "mark")) _ _ (Some s) e)
 
 -- what is heard of the parts of a line is said
-parts_read : (line : List ℕ) (rest : Option (List ℕ)) (s : Said) → after_byte 32 line ≡ rest → parse_parts (before_byte 32 line) rest ≡ Some s → ParsesAs line s
+parts_read : (line : List ℕ) (rest : Option (List ℕ)) (s : LineMeaning) → after_byte 32 line ≡ rest → parse_parts (before_byte 32 line) rest ≡ Some s → ParsesAs line s
 parts_read line rest s cut e =
     ⊎_elim
     (λ (h : (bytes_eq (before_byte 32 line) (codes "crash") ≡ true) × (option_map (λ (ps : List ℕ). parsed_lines.Crash ps) (picks_of rest) ≡ Some s)).
     let p = map_some (λ (ps : List ℕ). parsed_lines.Crash ps) (picks_of rest) s h.1 in
-    subst (λ (x : Said). ParsesAs line x) p.2 (crash_read line rest p.0 cut (same_bytes _ _ h.0) p.1))
+    subst (λ (x : LineMeaning). ParsesAs line x) p.2 (crash_read line rest p.0 cut (same_bytes _ _ h.0) p.1))
     (λ (h : (bytes_eq (before_byte 32 line) (codes "crash") ≡ false)
     × (cond (bytes_eq (before_byte 32 line) (codes "mark")) (mark_of rest) (unmarked (before_byte 32 line) rest) ≡ Some s)). uncrashed_read line rest s cut h.1)
     (chosen (bytes_eq (before_byte 32 line) (codes "crash")) _ _ (Some s) e)
 
 -- what is heard is said
-pub parsed_read : (line : List ℕ) (s : Said) → parse_line line ≡ Some s → ParsesAs line s
+pub parsed_read : (line : List ℕ) (s : LineMeaning) → parse_line line ≡ Some s → ParsesAs line s
 parsed_read line s e = parts_read line (after_byte 32 line) s refl e
 
 -- what has this value goes on from it
@@ -843,11 +845,11 @@ pub layer_again : (over : DiskName) (text : List ℕ) (asked : Result LayerSpec 
 layer_again over text asked asks = ap (head_lines.Layer over) (one_asked (words_of text) (asked_of text) asked (asked_is text) asks)
 
 -- what is heard as a line of the head
-abbrev heard_head : Option HeadLine → Option Said
+abbrev heard_head : Option HeadLine → Option LineMeaning
 heard_head s = option_map parsed_lines.Head s
 
 -- what is said is heard
-pub parsed_again : (line : List ℕ) (s : Said) → ParsesAs line s → parse_line line ≡ Some s
+pub parsed_again : (line : List ℕ) (s : LineMeaning) → ParsesAs line s → parse_line line ≡ Some s
 parsed_again line (parsed_lines.Head (head_lines.Data n)) says =
     rw says.spelled (ap (λ (k : Option ℕ). option_or (heard_head (option_map head_lines.Data k)) None) (number_again says.word n says.number))
 parsed_again line (parsed_lines.Head (head_lines.Log n size)) says =
@@ -878,7 +880,7 @@ parsed_again line (parsed_lines.Body (body_lines.Step (steps.Message disks.Log l
 parsed_again line (parsed_lines.Crash picks) says = rw says.spelled (crash_again says.words picks says.numbers)
 
 -- a line says one thing
-pub one_parsed : (line : List ℕ) (s t : Said) → ParsesAs line s → ParsesAs line t → s ≡ t
+pub one_parsed : (line : List ℕ) (s t : LineMeaning) → ParsesAs line s → ParsesAs line t → s ≡ t
 one_parsed line s t says_s says_t = let both = sym (parsed_again line s says_s) ∙ parsed_again line t says_t in cc
 
 -- nothing is heard of a comment
@@ -893,7 +895,7 @@ skipped_unheard (b ∷ line) skipped =
     subst (λ (x : ℕ). parse_line (x ∷ line) ≡ None) (sym (eqb-true b 35 skipped)) (comment_parts (before_byte 32 line) (after_byte 32 line))
 
 -- a line that says something isn't skipped
-pub said_kept : (line : List ℕ) (s : Said) → ParsesAs line s → is_skipped line ≡ false
+pub said_kept : (line : List ℕ) (s : LineMeaning) → ParsesAs line s → is_skipped line ≡ false
 said_kept line s says =
     ⊎_elim
     (λ (skipped : is_skipped line ≡ true). absurd (let both = sym (parsed_again line s says) ∙ skipped_unheard line skipped in cc))

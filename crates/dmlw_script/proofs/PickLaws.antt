@@ -4,7 +4,7 @@ use Rattle.std.specs.Prelude.{◌==◌, option_map}
 use Rattle.std.specs.List.{onto_first}
 use Rattle.std.proofs.lemmas.List.{append-nil}
 use Rattle.dmlw_script.specs.inside.Parsing.{numbers_of, picks_of, split_words, with_number}
-use Rattle.words.specs.Words.{after_byte, before_byte, number_of}
+use Rattle.text_words.specs.Words.{after_byte, before_byte, number_of}
 
 -- the words of what stands behind a word
 abbrev pub words_behind : Option (List ℕ) → List (List ℕ)

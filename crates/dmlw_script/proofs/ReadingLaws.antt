@@ -1,3 +1,5 @@
+-- Lines that are read as a script spell it, and lines that spell a script are read as it.
+-- Serves the proof of the reader's `read`; `FaultLaws` and `RunReading` cite it too.
 use Rattle.std.proofs.Common.{◌≡◌, ℕ, ◌+◌, ◌<◌, ◌≤◌, ◌^◌, Bool, true, false, cond, List, [], ◌∷◌, ◌++◌, length, append_assoc, Option, Some, None, Ok, Err, refl, ap, ◌∙◌, sym, subst, arith}
 use Rattle.std.specs.Prelude.{◌/◌, map, nat_le, nat_lt, Result, IfOk}
 use Rattle.std.specs.List.{AllByRecursion, AllZip, IsDistinct}
@@ -15,8 +17,8 @@ use Rattle.dmlw_script.specs.declared.command.Command.{Command}
 use Rattle.dmlw_script.specs.declared.disk_name.DiskName.{DiskName}
 use Rattle.dmlw_script.specs.declared.disk_name.DiskName.TheVariants as disks
 use Rattle.dmlw_script.specs.declared.script_id.ScriptId.{ScriptId}
-use Rattle.dmlw_script.specs.Said.{Said}
-use Rattle.dmlw_script.specs.Said as parsed_lines
+use Rattle.dmlw_script.specs.LineMeaning.{LineMeaning}
+use Rattle.dmlw_script.specs.LineMeaning as parsed_lines
 use Rattle.dmlw_script.specs.declared.line.HeadLine.{HeadLine}
 use Rattle.dmlw_script.specs.declared.line.HeadLine.TheVariants as head_lines
 use Rattle.dmlw_script.specs.declared.line.BodyLine.{BodyLine}
@@ -29,11 +31,11 @@ use Rattle.dmlw_script.specs.inside.Heads.{asked_layer, data_layer, head_step, l
 use Rattle.dmlw_script.specs.inside.Drafts.{◌>>=◌, body_step, Body}
 use Rattle.dmlw_script.specs.Grammar.{ParsesAs, AreLinesOf}
 use Rattle.dmlw_script.specs.Lines.{unskipped, lines_of}
-use Rattle.dmlw_script.specs.Plans.{head_of, lines_of_body, is_disk_size, is_log_disk_size, is_within, layer_line, least_sectors, lines_of_script, top_of, with_ending, ArePicks, Disk, IsDisk, IsPlan, Plan}
+use Rattle.dmlw_script.specs.Plans.{head_of, lines_of_body, is_disk_size, is_log_disk_size, is_within, layer_line, least_sectors, lines_of_script, top_of, with_ending, ArePicks, Disk, IsDisk, IsPlan, ScriptValue}
 use Rattle.table_line.specs.Standing.{top_sectors, CanStand}
 use Rattle.dmlw_script.specs.Reading.{bare, with_layer}
-use Rattle.words.specs.WordLaws.{number_low}
-use Rattle.words.specs.Words.{number_value, words_of, IsNumber}
+use Rattle.text_words.specs.WordLaws.{number_low}
+use Rattle.text_words.specs.Words.{number_value, words_of, IsNumber}
 use Rattle.dmlw_script.specs.inside.Readers.{at_line, body_line, crash_line, finish_step, finished, has_begun, line_step, nothing, parsed_step, read_lines, read_text, with_body, with_head, Progress}
 use Rattle.dmlw_script.specs.inside.Parsing.{parse_line}
 use Rattle.dmlw_script.proofs.BodyLaws.{in_draft, lines_grow, lines_of_draft, run, run_again, step_grows, IsFine, IsSound}
@@ -44,7 +46,7 @@ use Rattle.dmlw_script.proofs.ParsingLaws.{parsed_again, parsed_read}
 -- ---- what is heard of single lines
 
 -- what is known of a line from its words alone
-abbrev pub IsFineLine : Said → Type 0
+abbrev pub IsFineLine : LineMeaning → Type 0
 IsFineLine (parsed_lines.Head (head_lines.Data sectors)) = Unit {0}
 IsFineLine (parsed_lines.Head (head_lines.Log sectors size)) = Unit {0}
 IsFineLine (parsed_lines.Head (head_lines.Layer over asked)) = IfOk asked IsLayerSpec
@@ -61,7 +63,7 @@ numbers_low (word ∷ words) (pick ∷ picks) says =
     (subst (λ (n : ℕ). n < 2 ^ 64) says.0.1 low, numbers_low words picks says.1)
 
 -- what a line says is fine
-pub fine_said : (line : List ℕ) (s : Said) → ParsesAs line s → IsFineLine s
+pub fine_said : (line : List ℕ) (s : LineMeaning) → ParsesAs line s → IsFineLine s
 fine_said line (parsed_lines.Head (head_lines.Data sectors)) says = tt
 fine_said line (parsed_lines.Head (head_lines.Log sectors size)) says = tt
 fine_said line (parsed_lines.Head (head_lines.Layer over (Ok spec))) says = asks_in_range (words_of says.text) spec says.asks
@@ -79,7 +81,7 @@ fine_said line (parsed_lines.Body (body_lines.Step (steps.Message over layer tex
 fine_said line (parsed_lines.Crash picks) says = numbers_low says.words picks says.numbers
 
 -- what lines say is fine
-pub all_fine : (lines : List (List ℕ)) (ss : List Said) → AllZip ParsesAs lines ss → AllByRecursion IsFineLine ss
+pub all_fine : (lines : List (List ℕ)) (ss : List LineMeaning) → AllZip ParsesAs lines ss → AllByRecursion IsFineLine ss
 all_fine [] [] says = tt
 all_fine [] (s ∷ ss) says = absurd says
 all_fine (line ∷ lines) [] says = absurd says
@@ -97,11 +99,11 @@ unfolding IsDistinct
 no_body_sound bytes sectors = record { ids = tt; distinct = tt; numbered = refl; well_formed = tt }
 
 -- a body's plan, with the crash that ends it
-abbrev pub ended_plan : Disk → Disk → SectorSize → Option (List ℕ) → Body → Plan
+abbrev pub ended_plan : Disk → Disk → SectorSize → Option (List ℕ) → Body → ScriptValue
 ended_plan d l size ending b = record { data_disk = d; log_disk = l; log_size = size; names = b.names; commands = b.body; ending = ending }
 
 -- a body's plan, with no crash
-abbrev pub plan_of : Disk → Disk → SectorSize → Body → Plan
+abbrev pub plan_of : Disk → Disk → SectorSize → Body → ScriptValue
 plan_of d l size b = ended_plan d l size None b
 
 -- a sector of the log fits on the top of its disk
@@ -116,7 +118,7 @@ IsBegun (heads.Whole d l size) b = IsDisk d × IsDisk l × HasRoom size l × IsS
 IsBegun (heads.Ended d l size picks) b = IsDisk d × IsDisk l × HasRoom size l × IsSound (bytes_of size) (top_of d) b × AllByRecursion (λ pick. pick < 2 ^ 64) picks
 
 -- the lines of the head, as far as it was read
-abbrev pub lines_of_head : Stage → List Said
+abbrev pub lines_of_head : Stage → List LineMeaning
 lines_of_head heads.Empty = []
 lines_of_head (heads.Data d) = parsed_lines.Head (head_lines.Data d.sectors) ∷ []
 lines_of_head (heads.Whole d l size) = head_of d l size
@@ -130,11 +132,11 @@ ending_of (heads.Whole d l size) = None
 ending_of (heads.Ended d l size picks) = Some picks
 
 -- the lines that were read
-abbrev pub lines_of_progress : Progress → List Said
+abbrev pub lines_of_progress : Progress → List LineMeaning
 lines_of_progress p = lines_of_head p.head ++ with_ending (ending_of p.head) (lines_of_draft p.body)
 
 -- what was read is the beginning of a script, and its lines are these and one more
-abbrev pub GrowsBy : Progress → Progress → List Said → Type 0
+abbrev pub GrowsBy : Progress → Progress → List LineMeaning → Type 0
 GrowsBy p q ss = IsBegun q.head q.body × (lines_of_progress q ≡ lines_of_progress p ++ ss)
 
 -- a test that is passed leaves what it guards
@@ -178,18 +180,18 @@ with_log_ok d (Ok l) size k e = (l, refl, cc)
 with_log_ok d (Err refusal) size k e = absurd (cc)
 
 -- a line more of the last layers of a head
-layer_lines : (ss : List Said) (over : DiskName) (layers : List LayerSpec) (layer : LayerSpec) →
+layer_lines : (ss : List LineMeaning) (over : DiskName) (layers : List LayerSpec) (layer : LayerSpec) →
     (ss ++ map (layer_line over) (layers ++ layer ∷ [])) ++ [] ≡ ((ss ++ map (layer_line over) layers) ++ []) ++ layer_line over layer ∷ []
 layer_lines [] over [] layer = refl
-layer_lines [] over (first ∷ layers) layer = ap (λ (ls : List Said). layer_line over first ∷ ls) (layer_lines [] over layers layer)
-layer_lines (s ∷ ss) over layers layer = ap (λ (ls : List Said). s ∷ ls) (layer_lines ss over layers layer)
+layer_lines [] over (first ∷ layers) layer = ap (λ (ls : List LineMeaning). layer_line over first ∷ ls) (layer_lines [] over layers layer)
+layer_lines (s ∷ ss) over layers layer = ap (λ (ls : List LineMeaning). s ∷ ls) (layer_lines ss over layers layer)
 
 -- the same of the data disk, behind which there are none of the log disk
 data_lines : (layers others : List LayerSpec) (layer : LayerSpec) → others ≡ [] →
     (map (layer_line disks.Data) (layers ++ layer ∷ []) ++ map (layer_line disks.Log) others) ++ []
     ≡ ((map (layer_line disks.Data) layers ++ map (layer_line disks.Log) others) ++ []) ++ layer_line disks.Data layer ∷ []
 data_lines [] others layer none = rw none refl
-data_lines (first ∷ layers) others layer none = ap (λ (ls : List Said). layer_line disks.Data first ∷ ls) (data_lines layers others layer none)
+data_lines (first ∷ layers) others layer none = ap (λ (ls : List LineMeaning). layer_line disks.Data first ∷ ls) (data_lines layers others layer none)
 
 -- a body with no commands is sound over any sectors
 sound_anew : (bytes sectors other : ℕ) (names : List ScriptId) → IsSound bytes sectors (record { names = names; body = [] }) → IsSound bytes other (record { names = names; body = [] })
@@ -212,7 +214,7 @@ data_grows d l size k names asked [] none e fine begun =
     subst (λ (h : Stage). GrowsBy p (q h) (parsed_lines.Head (head_lines.Layer disks.Data asked) ∷ [])) top
     (subst (λ (a : Result LayerSpec TableError). GrowsBy p (q (heads.Whole (with_layer d y.spec) l size)) (parsed_lines.Head (head_lines.Layer disks.Data a) ∷ [])) (sym y.is) (
       (disk_push d y.spec begun.0 y.few spec y.within, begun.1, begun.2, sound_anew (bytes_of size) (top_of d) (top_of (with_layer d y.spec)) names begun.3),
-      ap (λ (ls : List Said). parsed_lines.Head (head_lines.Data d.sectors) ∷ parsed_lines.Head (head_lines.Log l.sectors size) ∷ ls) (data_lines d.layers l.layers y.spec none),
+      ap (λ (ls : List LineMeaning). parsed_lines.Head (head_lines.Data d.sectors) ∷ parsed_lines.Head (head_lines.Log l.sectors size) ∷ ls) (data_lines d.layers l.layers y.spec none),
     ))
 
 -- one more layer of the log disk
@@ -232,7 +234,7 @@ log_grows d l size k names asked e fine begun =
     subst (λ (h : Stage). GrowsBy p (q h) (parsed_lines.Head (head_lines.Layer disks.Log asked) ∷ [])) top
     (subst (λ (a : Result LayerSpec TableError). GrowsBy p (q (heads.Whole d (with_layer l y.spec) size)) (parsed_lines.Head (head_lines.Layer disks.Log a) ∷ [])) (sym y.is) (
       (begun.0, disk_push l y.spec begun.1 y.few spec y.within, room, begun.3),
-      ap (λ (ls : List Said). parsed_lines.Head (head_lines.Data d.sectors) ∷ parsed_lines.Head (head_lines.Log l.sectors size) ∷ ls)
+      ap (λ (ls : List LineMeaning). parsed_lines.Head (head_lines.Data d.sectors) ∷ parsed_lines.Head (head_lines.Log l.sectors size) ∷ ls)
           (layer_lines (map (layer_line disks.Data) d.layers) disks.Log l.layers y.spec),
     ))
 
@@ -294,7 +296,7 @@ body_grows (heads.Whole d l size) b q line e fine begun =
     let g = step_grows (bytes_of size) (top_of d) b r.0 line r.1 fine begun.3 in
     subst (λ (x : Progress). GrowsBy p x (parsed_lines.Body line ∷ [])) r.2 (
       (begun.0, begun.1, begun.2, g.0),
-      ap (λ (ls : List Said). lines_of_head (heads.Whole d l size) ++ ls) (lines_grow (bytes_of size) (top_of d) b r.0 line begun.3 g.1)
+      ap (λ (ls : List LineMeaning). lines_of_head (heads.Whole d l size) ++ ls) (lines_grow (bytes_of size) (top_of d) b r.0 line begun.3 g.1)
           ∙ sym (append_assoc (head_of d l size) (lines_of_draft b) (parsed_lines.Body line ∷ [])),
     )
 body_grows (heads.Ended d l size picks) b q line e fine begun = absurd (cc e)
@@ -313,7 +315,7 @@ crash_grows (heads.Whole d l size) b q picks e low begun =
     ((begun.0, begun.1, begun.2, begun.3, low), sym (append_assoc (head_of d l size) (lines_of_draft b) (parsed_lines.Crash picks ∷ [])))
 
 -- one more line
-step_more : (p q : Progress) (s : Said) → parsed_step p s ≡ Ok q → IsFineLine s → IsBegun p.head p.body → GrowsBy p q (s ∷ [])
+step_more : (p q : Progress) (s : LineMeaning) → parsed_step p s ≡ Ok q → IsFineLine s → IsBegun p.head p.body → GrowsBy p q (s ∷ [])
 step_more p q (parsed_lines.Head line) e fine begun =
     let r = with_head_ok p q (head_step p.head (has_begun p.body.body) line) e in
     subst (λ (x : Progress). GrowsBy p x (parsed_lines.Head line ∷ [])) r.2 (head_grows p.head r.0 p.body line r.1 fine begun)
@@ -321,7 +323,7 @@ step_more p q (parsed_lines.Body line) e fine begun = body_grows p.head p.body q
 step_more p q (parsed_lines.Crash picks) e fine begun = crash_grows p.head p.body q picks e fine begun
 
 -- the lines that are read are those of what was read
-pub run_more : (p q : Progress) (ss : List Said) → run p ss ≡ Ok q → AllByRecursion IsFineLine ss → IsBegun p.head p.body → GrowsBy p q ss
+pub run_more : (p q : Progress) (ss : List LineMeaning) → run p ss ≡ Ok q → AllByRecursion IsFineLine ss → IsBegun p.head p.body → GrowsBy p q ss
 run_more p q [] e fine begun =
     let same : p ≡ q = cc in
     subst (λ (x : Progress). GrowsBy p x []) same (begun, sym (append-nil (lines_of_progress p)))
@@ -329,10 +331,10 @@ run_more p q (s ∷ ss) e fine begun =
     let r = bind_ok (parsed_step p s) _ q e in
     let first = step_more p r.0 s r.1 fine.0 begun in
     let others = run_more r.0 q ss r.2 fine.1 first.0 in
-    (others.0, others.1 ∙ ap (λ (ls : List Said). ls ++ ss) first.1 ∙ append_assoc (lines_of_progress p) (s ∷ []) ss)
+    (others.0, others.1 ∙ ap (λ (ls : List LineMeaning). ls ++ ss) first.1 ∙ append_assoc (lines_of_progress p) (s ∷ []) ss)
 
 -- the lines that were read from the start
-pub run_lines : (q : Progress) (ss : List Said) → run nothing ss ≡ Ok q → AllByRecursion IsFineLine ss → GrowsBy nothing q ss
+pub run_lines : (q : Progress) (ss : List LineMeaning) → run nothing ss ≡ Ok q → AllByRecursion IsFineLine ss → GrowsBy nothing q ss
 run_lines q ss e fine = run_more nothing q ss e fine refl
 
 -- a sound body makes a script
@@ -349,20 +351,20 @@ sound_plan d l size ending b is_data is_log room sound picks = record {
 }
 
 -- what was read, at the end of a text
-finished_read : (h : Stage) (b : Body) (plan : Plan) → finished h b ≡ Ok plan → IsBegun h b
+finished_read : (h : Stage) (b : Body) (plan : ScriptValue) → finished h b ≡ Ok plan → IsBegun h b
     → (lines_of_head h ++ with_ending (ending_of h) (lines_of_draft b) ≡ lines_of_script plan) × IsPlan plan
 finished_read heads.Empty b plan e begun = absurd (cc e)
 finished_read (heads.Data d) b plan e begun = absurd (cc e)
 finished_read (heads.Whole d l size) b plan e begun =
     let same : plan_of d l size b ≡ plan = cc in
-    subst (λ (x : Plan). (lines_of_script (plan_of d l size b) ≡ lines_of_script x) × IsPlan x) same (refl, sound_plan d l size None b begun.0 begun.1 begun.2 begun.3 tt)
+    subst (λ (x : ScriptValue). (lines_of_script (plan_of d l size b) ≡ lines_of_script x) × IsPlan x) same (refl, sound_plan d l size None b begun.0 begun.1 begun.2 begun.3 tt)
 finished_read (heads.Ended d l size picks) b plan e begun =
     let same : ended_plan d l size (Some picks) b ≡ plan = cc in
-    subst (λ (x : Plan). (lines_of_script (ended_plan d l size (Some picks) b) ≡ lines_of_script x) × IsPlan x) same
+    subst (λ (x : ScriptValue). (lines_of_script (ended_plan d l size (Some picks) b) ≡ lines_of_script x) × IsPlan x) same
     (refl, sound_plan d l size (Some picks) b begun.0 begun.1 begun.2 begun.3 begun.4)
 
 -- the lines that are read as a plan are those of the plan
-pub plan_read : (ss : List Said) (plan : Plan) → AllByRecursion IsFineLine ss → (run nothing ss >>= finish_step) ≡ Ok plan → (ss ≡ lines_of_script plan) × IsPlan plan
+pub plan_read : (ss : List LineMeaning) (plan : ScriptValue) → AllByRecursion IsFineLine ss → (run nothing ss >>= finish_step) ≡ Ok plan → (ss ≡ lines_of_script plan) × IsPlan plan
 plan_read ss plan fine e =
     let r = bind_ok (run nothing ss) finish_step plan e in
     let g = run_lines r.0 ss r.1 fine in
@@ -370,7 +372,7 @@ plan_read ss plan fine e =
     (sym g.1 ∙ f.0, f.1)
 
 -- a body's lines and the crash behind them are read as the script that it ends
-ending_again : (d l : Disk) (size : SectorSize) (b : Body) (ss : List Said) (ending : Option (List ℕ)) → run (in_draft d l size no_body) ss ≡ Ok (in_draft d l size b)
+ending_again : (d l : Disk) (size : SectorSize) (b : Body) (ss : List LineMeaning) (ending : Option (List ℕ)) → run (in_draft d l size no_body) ss ≡ Ok (in_draft d l size b)
     → (run (in_draft d l size no_body) (with_ending ending ss) >>= finish_step) ≡ Ok (ended_plan d l size ending b)
 ending_again d l size b ss None read = bind_at _ _ _ _ read refl
 ending_again d l size b ss (Some picks) read =
@@ -428,7 +430,7 @@ layers_again d l size is_data is_log room =
     (long_below (bytes_of size / 512) l.sectors l.layers is_log.stand room)
 
 -- the lines of a plan are read as it
-pub plan_again : (plan : Plan) → IsPlan plan → (run nothing (lines_of_script plan) >>= finish_step) ≡ Ok plan
+pub plan_again : (plan : ScriptValue) → IsPlan plan → (run nothing (lines_of_script plan) >>= finish_step) ≡ Ok plan
 plan_again plan is =
     let d = plan.data_disk in
     let l = plan.log_disk in
@@ -459,19 +461,19 @@ go_heard p q lines e = lines_tell parse_line ParsesAs parsed_step parsed_read pa
 -- ---- texts
 
 -- lines that are read as a plan spell it
-pub lines_spell : (lines : List (List ℕ)) (number : ℕ) (plan : Plan) → read_lines nothing number lines ≡ Ok plan → AreLinesOf lines plan
+pub lines_spell : (lines : List (List ℕ)) (number : ℕ) (plan : ScriptValue) → read_lines nothing number lines ≡ Ok plan → AreLinesOf lines plan
 lines_spell lines number plan e =
     let s = bind_ok (fold line_step nothing lines) finish_step plan (read_leads line_step finish_step nothing number lines plan e) in
     let h = go_heard nothing s.0 lines s.1 in
     let p = plan_read h.said plan (all_fine (unskipped lines) h.said h.tells.says) (bind_at _ _ _ _ h.leads s.2) in
     record {
       plain = h.tells.plain;
-      says = subst (λ (x : List Said). AllZip ParsesAs (unskipped lines) x) p.0 h.tells.says;
+      says = subst (λ (x : List LineMeaning). AllZip ParsesAs (unskipped lines) x) p.0 h.tells.says;
       script = p.1;
     }
 
 -- lines that spell a plan are read as it
-pub spelled_lines : (lines : List (List ℕ)) (number : ℕ) (plan : Plan) → AreLinesOf lines plan → read_lines nothing number lines ≡ Ok plan
+pub spelled_lines : (lines : List (List ℕ)) (number : ℕ) (plan : ScriptValue) → AreLinesOf lines plan → read_lines nothing number lines ≡ Ok plan
 spelled_lines lines number plan spells =
     let s = bind_ok (run nothing (lines_of_script plan)) finish_step plan (plan_again plan spells.script) in
     leads_read line_step finish_step nothing number lines plan
@@ -481,6 +483,6 @@ spelled_lines lines number plan spells =
 pub finish_is_plan : (p : Progress) (text : List ℕ) (number : ℕ) → read_lines p number [] ≡ read_text text → IfOk (finish_step p) IsPlan
 finish_is_plan p text number e = by_end (finish_step p) e
   where
-    by_end : (r : Result Plan Refusal) → at_line number r ≡ read_text text → IfOk r IsPlan
+    by_end : (r : Result ScriptValue Refusal) → at_line number r ≡ read_text text → IfOk r IsPlan
     by_end (Ok plan) same = (lines_spell (lines_of text) 1 plan (sym same)).script
     by_end (Err refusal) same = tt

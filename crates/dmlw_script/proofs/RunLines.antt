@@ -19,8 +19,8 @@ use Rattle.dmlw_script.specs.RunGrammar.{SaysCall, SaysLine}
 use Rattle.dmlw_script.specs.inside.Parsing.{discard_words, head_words, write_words}
 use Rattle.dmlw_script.specs.inside.RunParsing.{call_of, mark_call, parse_run_line, run_head_line, run_line_parts, seat_line, seat_of, submission_of}
 use Rattle.dmlw_script.proofs.ParsingLaws.{before_all, bind_at, bind_some, chosen, cut_at, cut_joined, discard_words_again, discard_words_read, first_some, first_word, head_read, layer_again, log_again, map_some, number_lacks_space, number_line, same_bytes, same_some, verb_read, write_words_again, write_words_read}
-use Rattle.words.specs.WordLaws.{number_again, number_read}
-use Rattle.words.specs.Words.{after_byte, before_byte, number_of, IsNumber}
+use Rattle.text_words.specs.WordLaws.{number_again, number_read}
+use Rattle.text_words.specs.Words.{after_byte, before_byte, number_of, IsNumber}
 
 -- ---- what is heard is said
 

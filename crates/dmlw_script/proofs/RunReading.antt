@@ -24,7 +24,7 @@ use Rattle.dmlw_script.specs.declared.run_line.RunLine.TheVariants as run_lines
 use Rattle.dmlw_script.specs.declared.seat_call.Call.{Call}
 use Rattle.dmlw_script.specs.declared.seat_call.Call.TheVariants as calls
 use Rattle.dmlw_script.specs.declared.seat_call.SeatCall.{SeatCall}
-use Rattle.dmlw_script.specs.Said as parsed_lines
+use Rattle.dmlw_script.specs.LineMeaning as parsed_lines
 use Rattle.dmlw_script.specs.Lines.{lines_of, unskipped}
 use Rattle.dmlw_script.specs.Plans.{is_disk_size, is_log_disk_size, least_sectors, top_of, Disk, IsDisk}
 use Rattle.dmlw_script.specs.Reading.{bare, is_memory, with_layer}

@@ -21,13 +21,13 @@ use Rattle.dmlw_script.specs.Plans.{top_of, Disk, IsDisk}
 use Rattle.dmlw_script.specs.RunGrammar.{IsRunText, SaysCall, SaysLine}
 use Rattle.dmlw_script.specs.RunPlans.{call_answer, data_layer, lines_of_run, log_layer, run_head, CanStand as SeatCanStand, FitsLine, IsRunPlan, RunPlan}
 use Rattle.dmlw_script.specs.RunText.{call_text, run_line_text, run_text}
-use Rattle.dmlw_script.specs.Said as parsed_lines
+use Rattle.dmlw_script.specs.LineMeaning as parsed_lines
 use Rattle.dmlw_script.proofs.CanonicalTextLaws.{data_written, layer_written, line_number, line_sectors, line_text_append, line_write, log_written, range_ok, written_append, written_number, written_text, IsLineText, IsWritten, IsWrittenAs}
 use Rattle.dmlw_script.proofs.DiskLaws.{top_small}
 use Rattle.dmlw_script.proofs.RunLines.{one_run_said, run_said_kept}
 use Rattle.table_line.specs.Standing.{CanStand}
 use Rattle.table_line.specs.declared.layer_spec.LayerSpec.{LayerSpec}
-use Rattle.words.specs.WordLaws.{decimal_number}
+use Rattle.text_words.specs.WordLaws.{decimal_number}
 
 -- ---- each script has a text
 

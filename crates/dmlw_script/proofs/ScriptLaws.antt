@@ -1,3 +1,5 @@
+-- Laws of whole scripts: their texts, skipped lines, the lines of commands, and ends of requests.
+-- Serves `scripts_have_own_texts` and `requests_end_once`, among other laws of `laws.rt`.
 use Rattle.std.proofs.Common.{◌≡◌, ℕ, zero, suc, ◌+◌, ◌<◌, ◌≤◌, Bool, true, false, not, ◌||◌, cond, List, [], ◌∷◌, ◌++◌, length, Option, Some, None, ⊎_elim, get_or, refl, ap, ◌∙◌, sym, subst, arith, append_assoc}
 use Rattle.std.specs.Prelude.{is_some, map, slice_get}
 use Rattle.std.specs.List.{AllByRecursion, AllZip}
@@ -10,11 +12,11 @@ use Rattle.dmlw_script.specs.declared.command.Command.{Command}
 use Rattle.dmlw_script.specs.declared.command.Command.TheVariants as commands
 use Rattle.dmlw_script.specs.declared.script_id.ScriptId.{ScriptId}
 use Rattle.dmlw_script.specs.declared.disk_name.DiskName.TheVariants as disks
-use Rattle.dmlw_script.specs.Said.{Said}
-use Rattle.dmlw_script.specs.Said as parsed_lines
+use Rattle.dmlw_script.specs.LineMeaning.{LineMeaning}
+use Rattle.dmlw_script.specs.LineMeaning as parsed_lines
 use Rattle.dmlw_script.specs.Grammar.{IsLineOf, ParsesAs, IsTextOf, AreLinesOf}
 use Rattle.dmlw_script.specs.Lines.{command_line, is_ascii_line, is_skipped, unskipped, unskipped_numbers, lines_of}
-use Rattle.dmlw_script.specs.Plans.{count_after_command, count_behind_head, head_count, head_of, layer_line, lines_behind_head, lines_of_body, is_end_of, is_ended, lines_of_script, top_of, with_ending, IsWellFormed, IsPlan, CanFollow, Plan}
+use Rattle.dmlw_script.specs.Plans.{count_after_command, count_behind_head, head_count, head_of, layer_line, lines_behind_head, lines_of_body, is_end_of, is_ended, lines_of_script, top_of, with_ending, IsWellFormed, IsPlan, CanFollow, ScriptValue}
 use Rattle.dmlw_script.specs.CanonicalText.{canonical_text}
 use Rattle.dmlw_script.proofs.CanonicalTextLaws.{spelling_spells}
 use Rattle.dmlw_script.proofs.TextLaws.{one_script_of}
@@ -25,7 +27,7 @@ use Rattle.dmlw_script.proofs.ParsingLaws.{said_kept}
 -- ---- spellings
 
 -- scripts of one text are one
-pub same_from_spelling : (plan other : Plan) → IsPlan plan → IsPlan other → canonical_text plan ≡ canonical_text other → plan ≡ other
+pub same_from_spelling : (plan other : ScriptValue) → IsPlan plan → IsPlan other → canonical_text plan ≡ canonical_text other → plan ≡ other
 same_from_spelling plan other is_plan is_other same =
     one_script_of (canonical_text plan) plan other (spelling_spells plan is_plan)
     (subst (λ (text : List ℕ). IsTextOf text other) (sym same) (spelling_spells other is_other))
@@ -51,7 +53,7 @@ plain_without [] after line all = all.1
 plain_without (first ∷ before) after line all = (all.0, plain_without before after line all.1)
 
 -- a skipped line may be put between the lines of a script
-pub spells_with : (before after : List (List ℕ)) (line : List ℕ) (plan : Plan) → is_ascii_line line ≡ true → is_skipped line ≡ true
+pub spells_with : (before after : List (List ℕ)) (line : List ℕ) (plan : ScriptValue) → is_ascii_line line ≡ true → is_skipped line ≡ true
     → AreLinesOf (before ++ after) plan → AreLinesOf (before ++ line ∷ after) plan
 spells_with before after line plan plain skipped spells = record {
   plain = plain_with before after line plain spells.plain;
@@ -60,7 +62,7 @@ spells_with before after line plan plain skipped spells = record {
 }
 
 -- and may be left out
-pub spells_without : (before after : List (List ℕ)) (line : List ℕ) (plan : Plan) → is_skipped line ≡ true
+pub spells_without : (before after : List (List ℕ)) (line : List ℕ) (plan : ScriptValue) → is_skipped line ≡ true
     → AreLinesOf (before ++ line ∷ after) plan → AreLinesOf (before ++ after) plan
 spells_without before after line plan skipped spells = record {
   plain = plain_without before after line spells.plain;
@@ -140,8 +142,8 @@ kept_at number (first ∷ lines) i n e =
     kept_step number first lines i n (is_skipped first) refl e (λ j found. kept_at (number + 1) lines j n found)
 
 -- what a line says, which has this place among those that say something
-said_at : (lines : List (List ℕ)) (ss : List Said) (i : ℕ) (line : List ℕ) → AllZip ParsesAs lines ss → slice_get lines i ≡ Some line
-    → (s : Said) × (slice_get ss i ≡ Some s) × ParsesAs line s
+said_at : (lines : List (List ℕ)) (ss : List LineMeaning) (i : ℕ) (line : List ℕ) → AllZip ParsesAs lines ss → slice_get lines i ≡ Some line
+    → (s : LineMeaning) × (slice_get ss i ≡ Some s) × ParsesAs line s
 said_at [] [] i line says e = absurd (cc)
 said_at [] (s ∷ ss) i line says e = absurd (says)
 said_at (first ∷ lines) [] i line says e = absurd (says)
@@ -151,14 +153,14 @@ said_at (first ∷ lines) (s ∷ ss) zero line says e =
 said_at (first ∷ lines) (s ∷ ss) (suc i) line says e = said_at lines ss i line says.1 e
 
 -- what stands behind others, counted from there
-get_behind : (front rest : List Said) (place : ℕ) → slice_get (front ++ rest) (place + length front) ≡ slice_get rest place
+get_behind : (front rest : List LineMeaning) (place : ℕ) → slice_get (front ++ rest) (place + length front) ≡ slice_get rest place
 get_behind [] rest place = ap (slice_get rest) (omega arith)
 get_behind (s ∷ front) rest place =
     let next : place + length (s ∷ front) ≡ suc (place + length front) = omega arith in
     ap (slice_get (s ∷ (front ++ rest))) next ∙ get_behind front rest place
 
 -- as many lines are in a head as its disks and layers
-length-head : (plan : Plan) → length (head_of plan.data_disk plan.log_disk plan.log_size) ≡ head_count plan
+length-head : (plan : ScriptValue) → length (head_of plan.data_disk plan.log_disk plan.log_size) ≡ head_count plan
 length-head plan =
     let d = plan.data_disk.layers in
     let l = plan.log_disk.layers in
@@ -168,7 +170,7 @@ length-head plan =
     omega arith
 
 -- the line of a command is the one that says it
-pub line_says : (text : List ℕ) (plan : Plan) (place number : ℕ) → IsTextOf text plan → command_line text (place + head_count plan) ≡ Some number → IsLineOf (lines_of text) plan place number
+pub line_says : (text : List ℕ) (plan : ScriptValue) (place number : ℕ) → IsTextOf text plan → command_line text (place + head_count plan) ≡ Some number → IsLineOf (lines_of text) plan place number
 line_says text plan place number spells e =
     let found = kept_at 1 (lines_of text) (place + head_count plan) number e in
     let head = head_of plan.data_disk plan.log_disk plan.log_size in
@@ -202,12 +204,12 @@ length-lines_of_body names before [] = refl
 length-lines_of_body names before (command ∷ body) = ap suc (length-lines_of_body names (count_after_command before command) body)
 
 -- lines and the crash behind them
-length-with_ending : (ending : Option (List ℕ)) (ss : List Said) → length (with_ending ending ss) ≡ length ss + cond (is_some ending) 1 0
+length-with_ending : (ending : Option (List ℕ)) (ss : List LineMeaning) → length (with_ending ending ss) ≡ length ss + cond (is_some ending) 1 0
 length-with_ending None ss = omega arith
 length-with_ending (Some picks) ss = length-append ss (parsed_lines.Crash picks ∷ [])
 
 -- as many lines are kept as the head, the commands and the crash have
-length-unskipped : (text : List ℕ) (plan : Plan) → IsTextOf text plan → length (unskipped_numbers 1 (lines_of text)) ≡ count_behind_head plan + head_count plan
+length-unskipped : (text : List ℕ) (plan : ScriptValue) → IsTextOf text plan → length (unskipped_numbers 1 (lines_of text)) ≡ count_behind_head plan + head_count plan
 length-unskipped text plan spells =
     let numbers = length-unskipped_numbers 1 (lines_of text) in
     let says = as_many (unskipped (lines_of text)) (lines_of_script plan) spells.says in
@@ -218,13 +220,13 @@ length-unskipped text plan spells =
     omega arith
 
 -- each command of a script has a line
-pub line_found : (text : List ℕ) (plan : Plan) (place : ℕ) → IsTextOf text plan → place < count_behind_head plan → (number : ℕ) × (command_line text (place + head_count plan) ≡ Some number)
+pub line_found : (text : List ℕ) (plan : ScriptValue) (place : ℕ) → IsTextOf text plan → place < count_behind_head plan → (number : ℕ) × (command_line text (place + head_count plan) ≡ Some number)
 line_found text plan place spells within =
     let all = length-unskipped text plan spells in
     (get_or (unskipped_numbers 1 (lines_of text)) (place + head_count plan) 0, slice_get-get_or (unskipped_numbers 1 (lines_of text)) (place + head_count plan) 0 (omega arith))
 
 -- just the commands of a script have a line
-pub lined : (text : List ℕ) (plan : Plan) (place : ℕ) → IsTextOf text plan → count_behind_head plan ≤ place → command_line text (place + head_count plan) ≡ None
+pub lined : (text : List ℕ) (plan : ScriptValue) (place : ℕ) → IsTextOf text plan → count_behind_head plan ≤ place → command_line text (place + head_count plan) ≡ None
 lined text plan place spells past =
     let all = length-unskipped text plan spells in
     slice_get_past (unskipped_numbers 1 (lines_of text)) (place + head_count plan) (omega arith)
@@ -241,7 +243,7 @@ kept_more (first ∷ before) between line parse_words = more_step (is_skipped fi
     more_step false few many less = omega arith
 
 -- no line of a command is after another
-not_later : (lines : List (List ℕ)) (plan : Plan) (place m n : ℕ) → IsLineOf lines plan place m → IsLineOf lines plan place n → n ≤ m
+not_later : (lines : List (List ℕ)) (plan : ScriptValue) (place m n : ℕ) → IsLineOf lines plan place m → IsLineOf lines plan place n → n ≤ m
 not_later lines plan place m n a b =
     let here : m ≡ length a.before + 1 = a.number_is in
     let there : n ≡ length b.before + 1 = b.number_is in
@@ -260,7 +262,7 @@ not_later lines plan place m n a b =
     (cases_lt m n)
 
 -- a command has one line
-pub one_line : (lines : List (List ℕ)) (plan : Plan) (place m n : ℕ) → IsLineOf lines plan place m → IsLineOf lines plan place n → m ≡ n
+pub one_line : (lines : List (List ℕ)) (plan : ScriptValue) (place m n : ℕ) → IsLineOf lines plan place m → IsLineOf lines plan place n → m ≡ n
 one_line lines plan place m n a b =
     let up = not_later lines plan place m n a b in
     let down = not_later lines plan place n m b a in
@@ -278,7 +280,7 @@ well_formed_at bytes sectors done (first ∷ before) command rest well_formed =
     (well_formed_at bytes sectors (done ++ first ∷ []) before command rest well_formed.1)
 
 -- each command of a script may come after those before it
-pub can_follow : (plan : Plan) (before : List Command) (command : Command) (rest : List Command) → IsPlan plan → plan.commands ≡ before ++ command ∷ rest
+pub can_follow : (plan : ScriptValue) (before : List Command) (command : Command) (rest : List Command) → IsPlan plan → plan.commands ≡ before ++ command ∷ rest
     → CanFollow (bytes_of plan.log_size) (top_of plan.data_disk) before command
 can_follow plan before command rest is split =
     well_formed_at (bytes_of plan.log_size) (top_of plan.data_disk) [] before command rest (subst (λ (x : List Command). IsWellFormed (bytes_of plan.log_size) (top_of plan.data_disk) [] x) split is.well_formed)
@@ -290,7 +292,7 @@ ended_behind request (first ∷ before) between =
     ap (λ (t : Bool). is_end_of request first || t) (ended_behind request before between) ∙ or-true (is_end_of request first)
 
 -- no request ends twice
-pub ends_once : (plan : Plan) (before between rest : List Command) (request : ℕ) → IsPlan plan
+pub ends_once : (plan : ScriptValue) (before between rest : List Command) (request : ℕ) → IsPlan plan
     → plan.commands ≡ before ++ commands.Complete request ∷ (between ++ commands.Complete request ∷ rest) → ⊥
 ends_once plan before between rest request is split =
     let regrouped : plan.commands ≡ (before ++ commands.Complete request ∷ between) ++ commands.Complete request ∷ rest =

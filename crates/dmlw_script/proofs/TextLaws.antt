@@ -4,7 +4,7 @@ use Rattle.std.specs.Prelude.{Result, IfErr, IfOk}
 use Rattle.refusals.specs.declared.fault.Fault.{Fault}
 use Rattle.dmlw_script.specs.Grammar.{IsTextOf}
 use Rattle.dmlw_script.specs.Lines.{lines_of}
-use Rattle.dmlw_script.specs.Plans.{Plan}
+use Rattle.dmlw_script.specs.Plans.{ScriptValue}
 use Rattle.dmlw_script.specs.Reading.{is_memory, IsFaultOf, IsReadAs}
 use Rattle.dmlw_script.specs.inside.Readers.{read_text, IsFault, Reads}
 use Rattle.dmlw_script.proofs.FaultLaws.{first_fault}
@@ -12,18 +12,18 @@ use Rattle.dmlw_script.proofs.FoldLaws.{memory_is}
 use Rattle.dmlw_script.proofs.ReadingLaws.{lines_spell, spelled_lines}
 
 -- what is read is so spelled
-pub reads_found : (text : List ℕ) (r : Result Plan Fault) → Reads r (read_text text) → IfOk r (λ script. IsTextOf text script)
+pub reads_found : (text : List ℕ) (r : Result ScriptValue Fault) → Reads r (read_text text) → IfOk r (λ script. IsTextOf text script)
 reads_found text (Ok plan) reads = lines_spell (lines_of text) 1 plan reads
 reads_found text (Err fault) reads = tt
 
 -- a text that has one text has no fault
-fault_only : (text : List ℕ) (plan : Plan) (fault : Fault) (line : Option ℕ) → fault.line ≡ line → IsFault line fault (read_text text) → IsTextOf text plan →
+fault_only : (text : List ℕ) (plan : ScriptValue) (fault : Fault) (line : Option ℕ) → fault.line ≡ line → IsFault line fault (read_text text) → IsTextOf text plan →
     fault ≡ is_memory
 fault_only text plan fault None is reads spells = memory_is fault None is refl reads
 fault_only text plan fault (Some number) is reads spells = absurd (let both = sym (spelled_lines (lines_of text) 1 plan spells) ∙ reads in cc)
 
 -- what is so spelled is read
-pub reads_only : (text : List ℕ) (r : Result Plan Fault) → Reads r (read_text text) → (plan : Plan) → IsTextOf text plan → IsReadAs plan r
+pub reads_only : (text : List ℕ) (r : Result ScriptValue Fault) → Reads r (read_text text) → (plan : ScriptValue) → IsTextOf text plan → IsReadAs plan r
 reads_only text (Ok script) reads plan spells = let both = sym reads ∙ spelled_lines (lines_of text) 1 plan spells in cc
 reads_only text (Err fault) reads plan spells = fault_only text plan fault fault.line refl reads spells
 
@@ -33,10 +33,10 @@ fault_line text fault None is reads = memory_is fault None is refl reads
 fault_line text fault (Some number) is reads = first_fault (lines_of text) fault number is reads
 
 -- a fault is the first one
-pub reads_fault : (text : List ℕ) (r : Result Plan Fault) → Reads r (read_text text) → IfErr r (λ fault. IsFaultOf text fault fault.line)
+pub reads_fault : (text : List ℕ) (r : Result ScriptValue Fault) → Reads r (read_text text) → IfErr r (λ fault. IsFaultOf text fault fault.line)
 reads_fault text (Ok plan) reads = tt
 reads_fault text (Err fault) reads = fault_line text fault fault.line refl reads
 
 -- a text is one script's at most
-pub one_script_of : (text : List ℕ) (plan other : Plan) → IsTextOf text plan → IsTextOf text other → plan ≡ other
+pub one_script_of : (text : List ℕ) (plan other : ScriptValue) → IsTextOf text plan → IsTextOf text other → plan ≡ other
 one_script_of text plan other spells again = let both = sym (spelled_lines (lines_of text) 1 plan spells) ∙ spelled_lines (lines_of text) 1 other again in cc

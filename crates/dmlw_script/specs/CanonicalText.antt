@@ -1,7 +1,7 @@
 -- The one text of a script.
 use Rattle.std.specs.Prelude.{ℕ, List, [], ◌∷◌, ◌++◌, Option, Some, None, Result, Ok, Err, codes, decimal, flat_map, map}
-use Rattle.dmlw_script.specs.Said.{Said}
-use Rattle.dmlw_script.specs.Said as parsed_lines
+use Rattle.dmlw_script.specs.LineMeaning.{LineMeaning}
+use Rattle.dmlw_script.specs.LineMeaning as parsed_lines
 use Rattle.dmlw_script.specs.declared.line.HeadLine.TheVariants as head_lines
 use Rattle.dmlw_script.specs.declared.line.BodyLine.TheVariants as body_lines
 use Rattle.dmlw_script.specs.declared.command.Submission.{Submission}
@@ -13,7 +13,7 @@ use Rattle.dmlw_script.specs.declared.script_id.ScriptId.{ScriptId}
 use Rattle.dmlw_script.specs.Grammar.{layer_verb, message_verb, size_words, spaced}
 use Rattle.dmlw_script.specs.Ids.{letters_of}
 use Rattle.dmlw_script.specs.Options.{option_words}
-use Rattle.dmlw_script.specs.Plans.{lines_of_script, Plan}
+use Rattle.dmlw_script.specs.Plans.{lines_of_script, ScriptValue}
 use Rattle.dmlw_script.specs.Words.{byte_text}
 use Rattle.table_line.specs.Texts as table_texts
 use Rattle.table_line.specs.declared.layer_spec.LayerSpec.{LayerSpec}
@@ -41,7 +41,7 @@ layer_text over (Ok spec) = layer_verb over ++ 32 ∷ table_texts.line_text spec
 layer_text over (Err error) = []
 
 -- the line that says this
-abbrev pub line_text : Said → List ℕ
+abbrev pub line_text : LineMeaning → List ℕ
 line_text (parsed_lines.Head (head_lines.Data sectors)) = spaced (codes "data" ∷ decimal sectors ∷ [])
 line_text (parsed_lines.Head (head_lines.Log sectors size)) = spaced (codes "log" ∷ decimal sectors ∷ size_words size)
 line_text (parsed_lines.Head (head_lines.Layer over asked)) = layer_text over asked
@@ -51,7 +51,7 @@ line_text (parsed_lines.Body (body_lines.Step step)) = step_text step
 line_text (parsed_lines.Crash picks) = spaced (codes "crash" ∷ map decimal picks)
 
 -- the same, ended by a line feed
-abbrev pub ended_line : Said → List ℕ
+abbrev pub ended_line : LineMeaning → List ℕ
 ended_line s = line_text s ++ 10 ∷ []
 
 -- the line of the crash that ends a script, if one does
@@ -60,5 +60,5 @@ ending_text None = []
 ending_text (Some picks) = ended_line (parsed_lines.Crash picks)
 
 -- the one text of a script
-abbrev pub canonical_text : Plan → List ℕ
+abbrev pub canonical_text : ScriptValue → List ℕ
 canonical_text plan = flat_map ended_line (lines_of_script plan)

@@ -6,8 +6,8 @@ use Rattle.bio.specs.declared.sector_size.SectorSize.TheVariants as sizes
 use Rattle.dmlw_script.specs.declared.disk_name.DiskName.{DiskName}
 use Rattle.dmlw_script.specs.declared.disk_name.DiskName.TheVariants as disks
 use Rattle.dmlw_script.specs.declared.script_id.ScriptId.{ScriptId}
-use Rattle.dmlw_script.specs.Said.{Said}
-use Rattle.dmlw_script.specs.Said as parsed_lines
+use Rattle.dmlw_script.specs.LineMeaning.{LineMeaning}
+use Rattle.dmlw_script.specs.LineMeaning as parsed_lines
 use Rattle.dmlw_script.specs.declared.line.HeadLine.TheVariants as head_lines
 use Rattle.dmlw_script.specs.declared.line.BodyLine.TheVariants as body_lines
 use Rattle.dmlw_script.specs.declared.command.Submission.TheVariants as submits
@@ -16,13 +16,13 @@ use Rattle.dmlw_script.specs.declared.command.WriteOptions.{WriteOptions}
 use Rattle.dmlw_script.specs.Lines.{is_ascii_line, is_line_text, unskipped, lines_of}
 use Rattle.dmlw_script.specs.Ids.{is_id, script_id}
 use Rattle.dmlw_script.specs.Options.{option_words}
-use Rattle.dmlw_script.specs.Plans.{head_count, lines_behind_head, lines_of_script, IsPlan, Plan}
+use Rattle.dmlw_script.specs.Plans.{head_count, lines_behind_head, lines_of_script, IsPlan, ScriptValue}
 use Rattle.dmlw_script.specs.Words.{byte_text}
 use Rattle.table_line.specs.declared.layer_spec.LayerSpec.{LayerSpec}
 use Rattle.table_line.specs.declared.table_error.TableError.{TableError}
 use Rattle.table_line.specs.Refusals.{refusal_of}
 use Rattle.table_line.specs.TableLines.{IsTableLine}
-use Rattle.words.specs.Words.{words_of, IsNumber}
+use Rattle.text_words.specs.Words.{words_of, IsNumber}
 
 -- the word is the id of this name
 abbrev pub IsId : List ℕ → ScriptId → Type 0
@@ -125,7 +125,7 @@ pub record ParsesAsLayer (over : DiskName) (line : List ℕ) (asked : Result Lay
   pub spelled : line ≡ layer_verb over ++ 32 ∷ text
 
 -- what a line says by its words
-abbrev pub ParsesAs : List ℕ → Said → Type 0
+abbrev pub ParsesAs : List ℕ → LineMeaning → Type 0
 ParsesAs line (parsed_lines.Head (head_lines.Data sectors)) = ParsesAsNumber (codes "data") line sectors
 ParsesAs line (parsed_lines.Head (head_lines.Log sectors size)) = ParsesAsLog line sectors size
 ParsesAs line (parsed_lines.Head (head_lines.Layer over asked)) = ParsesAsLayer over line asked
@@ -144,24 +144,24 @@ ParsesAs line (parsed_lines.Crash picks) = ParsesAsCrash line picks
 
 -- the lines are those of a script of a recorder: plain ones, of which those that aren't skipped say what the script's
 -- lines say, one after the other
-pub record AreLinesOf (lines : List (List ℕ)) (plan : Plan) : Type 0 where
+pub record AreLinesOf (lines : List (List ℕ)) (plan : ScriptValue) : Type 0 where
   pub plain : AllByRecursion (λ line. is_ascii_line line ≡ true) lines
   pub says : AllZip ParsesAs (unskipped lines) (lines_of_script plan)
   pub script : IsPlan plan
 
 -- the text is one of this script
-abbrev pub IsTextOf : List ℕ → Plan → Type 0
+abbrev pub IsTextOf : List ℕ → ScriptValue → Type 0
 IsTextOf text plan = AreLinesOf (lines_of text) plan
 
 -- the line of this number, counted from 1, says what the script's command at this place says, or its crash behind the last
 -- command, and stands there among the lines that aren't skipped: after those of the head and those of the commands before it
-pub record IsLineOf (lines : List (List ℕ)) (plan : Plan) (place number : ℕ) : Type 0 where
+pub record IsLineOf (lines : List (List ℕ)) (plan : ScriptValue) (place number : ℕ) : Type 0 where
   pub before : List (List ℕ)
   pub line : List ℕ
   pub more : List (List ℕ)
   pub split : lines ≡ before ++ line ∷ more
   pub number_is : number ≡ length before + 1
   pub after_byte : length (unskipped before) ≡ place + head_count plan
-  pub parsed : Said
+  pub parsed : LineMeaning
   pub command : slice_get (lines_behind_head plan) place ≡ Some parsed
   pub says : ParsesAs line parsed

@@ -4,7 +4,7 @@ use Rattle.std.specs.Char.{is_ascii_digit}
 use Rattle.std.specs.Cmp.Lexicographic.{pointwise}
 use Rattle.std.specs.List.{list_all}
 use Rattle.dmlw_script.specs.declared.script_id.ScriptId.{ScriptId}
-use Rattle.words.specs.Words.{before_byte}
+use Rattle.text_words.specs.Words.{before_byte}
 
 -- `a` to `z` and `0` to `9`
 abbrev pub is_name_byte : ℕ → Bool

@@ -1,3 +1,4 @@
+-- The definitions that the contracts of `dmlw_script` are written in.
 pub use Rattle.bio.specs.Refusals
 pub use Rattle.bio.specs.Sizes
 pub use Rattle.table_line.specs.Ranges
@@ -8,7 +9,7 @@ pub use Rattle.table_line.specs.Texts as TableTexts
 pub mod Words
 pub mod Ids
 pub mod Lines
-pub mod Said
+pub mod LineMeaning
 pub mod Options
 pub mod Plans
 pub mod Grammar

@@ -15,8 +15,8 @@ use Rattle.dmlw_script.specs.declared.command.Step.TheVariants as steps
 use Rattle.dmlw_script.specs.declared.disk_name.DiskName.{DiskName}
 use Rattle.dmlw_script.specs.declared.disk_name.DiskName.TheVariants as disks
 use Rattle.dmlw_script.specs.declared.script_id.ScriptId.{ScriptId}
-use Rattle.dmlw_script.specs.Said.{Said}
-use Rattle.dmlw_script.specs.Said as parsed_lines
+use Rattle.dmlw_script.specs.LineMeaning.{LineMeaning}
+use Rattle.dmlw_script.specs.LineMeaning as parsed_lines
 use Rattle.dmlw_script.specs.declared.line.HeadLine.TheVariants as head_lines
 use Rattle.dmlw_script.specs.declared.line.BodyLine.{BodyLine}
 use Rattle.dmlw_script.specs.declared.line.BodyLine.TheVariants as body_lines
@@ -32,7 +32,7 @@ pub record Disk : Type 0 where
 
 -- what a script holds: its disks, the size of its log's sectors, the ids of its requests in the order of their submissions, and
 -- the lines of its body, and the picks of the crash of the log disk that ends it, if one does
-pub record Plan : Type 0 where
+pub record ScriptValue : Type 0 where
   pub data_disk : Disk
   pub log_disk : Disk
   pub log_size : SectorSize
@@ -68,7 +68,7 @@ pub record IsDisk (disk : Disk) : Type 0 where
   pub stand : CanStand disk.sectors disk.layers
 
 -- the disk of this name
-abbrev pub disk_of : DiskName → Plan → Disk
+abbrev pub disk_of : DiskName → ScriptValue → Disk
 disk_of disks.Data plan = plan.data_disk
 disk_of disks.Log plan = plan.log_disk
 
@@ -193,7 +193,7 @@ ArePicks (Some picks) = AllByRecursion (λ pick. pick < 2 ^ 64) picks
 -- a script of the grammar: its disks are those of one, a sector of the log fits on the top of the log disk, its ids are ids and
 -- differ, each submission has one, its commands come as they may over the top of the data disk, and the picks of its crash are
 -- numbers
-pub record IsPlan (plan : Plan) : Type 0 where
+pub record IsPlan (plan : ScriptValue) : Type 0 where
   pub data_disk : IsDisk plan.data_disk
   pub log_disk : IsDisk plan.log_disk
   pub room : bytes_of plan.log_size / 512 ≤ top_of plan.log_disk
@@ -226,47 +226,47 @@ count_after_command before (commands.Complete request) = before
 count_after_command before (commands.Step step) = before
 
 -- what the lines of a body say
-abbrev pub lines_of_body : List ScriptId → ℕ → List Command → List Said
+abbrev pub lines_of_body : List ScriptId → ℕ → List Command → List LineMeaning
 lines_of_body names before [] = []
 lines_of_body names before (command ∷ body) =
     parsed_lines.Body (line_at names before command) ∷ lines_of_body names (count_after_command before command) body
 
 -- lines, and behind them the crash that ends the script, if one does
-abbrev pub with_ending : Option (List ℕ) → List Said → List Said
+abbrev pub with_ending : Option (List ℕ) → List LineMeaning → List LineMeaning
 with_ending None lines = lines
 with_ending (Some picks) lines = lines ++ parsed_lines.Crash picks ∷ []
 
 -- what the lines of a script behind its head say, in their order
-abbrev pub lines_behind_head : Plan → List Said
+abbrev pub lines_behind_head : ScriptValue → List LineMeaning
 lines_behind_head plan = with_ending plan.ending (lines_of_body plan.names 0 plan.commands)
 
 -- how many lines stand behind the head: one for each command, and one for the crash
-abbrev pub count_behind_head : Plan → ℕ
+abbrev pub count_behind_head : ScriptValue → ℕ
 count_behind_head plan = length plan.commands + (if is_some plan.ending then 1 else 0)
 
 -- the line of a layer over this disk
-abbrev pub layer_line : DiskName → LayerSpec → Said
+abbrev pub layer_line : DiskName → LayerSpec → LineMeaning
 layer_line over spec = parsed_lines.Head (head_lines.Layer over (Ok spec))
 
 -- the line of the data disk: its sectors
-abbrev pub data_line : ℕ → Said
+abbrev pub data_line : ℕ → LineMeaning
 data_line sectors = parsed_lines.Head (head_lines.Data sectors)
 
 -- the line of the log disk: its sectors, and the size of the log's sectors
-abbrev pub log_line : ℕ → SectorSize → Said
+abbrev pub log_line : ℕ → SectorSize → LineMeaning
 log_line sectors size = parsed_lines.Head (head_lines.Log sectors size)
 
 -- what the lines of a head say: the sectors of the data disk, those of the log disk and the size of the log's sectors, then the
 -- layers of the data disk, and then those of the log disk
-abbrev pub head_of : Disk → Disk → SectorSize → List Said
+abbrev pub head_of : Disk → Disk → SectorSize → List LineMeaning
 head_of data_disk log_disk log_size =
     data_line data_disk.sectors ∷ log_line log_disk.sectors log_size
     ∷ (map (layer_line disks.Data) data_disk.layers ++ map (layer_line disks.Log) log_disk.layers)
 
 -- how many lines a script's head has: two, and one for each layer
-abbrev pub head_count : Plan → ℕ
+abbrev pub head_count : ScriptValue → ℕ
 head_count plan = 2 + length plan.data_disk.layers + length plan.log_disk.layers
 
 -- what the lines of a script say, in their order
-abbrev pub lines_of_script : Plan → List Said
+abbrev pub lines_of_script : ScriptValue → List LineMeaning
 lines_of_script plan = head_of plan.data_disk plan.log_disk plan.log_size ++ lines_behind_head plan

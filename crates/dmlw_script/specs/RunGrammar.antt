@@ -6,7 +6,7 @@ use Rattle.dmlw_script.specs.declared.command.WriteOptions.{WriteOptions}
 use Rattle.dmlw_script.specs.declared.seat_call.Call.{Call}
 use Rattle.dmlw_script.specs.declared.seat_call.Call.TheVariants.{Submit, Mark}
 use Rattle.dmlw_script.specs.declared.seat_call.SeatCall.{SeatCall}
-use Rattle.dmlw_script.specs.Said as parsed_lines
+use Rattle.dmlw_script.specs.LineMeaning as parsed_lines
 use Rattle.dmlw_script.specs.Grammar.{spaced, ParsesAs, ParsesAsNumber}
 use Rattle.dmlw_script.specs.Lines.{is_ascii_line, is_line_text, lines_of, unskipped}
 use Rattle.dmlw_script.specs.Options.{option_words}
@@ -14,7 +14,7 @@ use Rattle.dmlw_script.specs.RunPlans.{lines_of_run, IsRunPlan, RunPlan}
 use Rattle.dmlw_script.specs.declared.run_line.RunLine.{RunLine}
 use Rattle.dmlw_script.specs.declared.run_line.RunLine.TheVariants as run_lines
 use Rattle.dmlw_script.specs.Words.{byte_text}
-use Rattle.words.specs.Words.{IsNumber}
+use Rattle.text_words.specs.Words.{IsNumber}
 
 -- the words are a write's: its first sector, its number of sectors, its byte, and behind these its options in their order
 pub record SaysWrite (words : List ℕ) (first count byte : ℕ) (options : WriteOptions) : Type 0 where

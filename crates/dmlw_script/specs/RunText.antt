@@ -10,7 +10,7 @@ use Rattle.dmlw_script.specs.CanonicalText.{line_text}
 use Rattle.dmlw_script.specs.Grammar.{spaced}
 use Rattle.dmlw_script.specs.Options.{option_words}
 use Rattle.dmlw_script.specs.RunPlans.{lines_of_run, RunPlan}
-use Rattle.dmlw_script.specs.Said as parsed_lines
+use Rattle.dmlw_script.specs.LineMeaning as parsed_lines
 use Rattle.dmlw_script.specs.Words.{byte_text}
 
 -- what stands behind a seat: the words of what it does, with no leading zeroes

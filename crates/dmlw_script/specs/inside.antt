@@ -1,3 +1,4 @@
+-- The definitions of `dmlw_script` that its proofs alone use: no other crate cites them.
 pub mod Parsing
 pub mod Stages
 pub mod Heads

@@ -17,7 +17,7 @@ use std::alloc::Global;
 
 /// The body of a script, as far as it was read.
 #[derive(Drop)]
-pub(crate) struct Draft {
+pub(crate) struct BodyReader {
     /// The ids that were submitted, in order.
     pub(crate) names: IndexSet<ScriptId>,
     // For each of them, whether its request has ended.
@@ -27,15 +27,15 @@ pub(crate) struct Draft {
     moment: Ms,
 }
 
-impl Draft {
+impl BodyReader {
     ghost use Rattle.dmlw_script.specs.inside.Drafts.{body_of, body_step, with_command, with_name, IsDraft};
     ghost use Rattle.dmlw_script.specs.Plans.{is_end_of, IsPlan};
 
-    pub(crate) fn new(alloc: Global) -> Draft
+    pub(crate) fn new(alloc: Global) -> BodyReader
         ensures draft { IsDraft result }
         ensures empty { body_of result ≡ record { names = []; body = [] } }
     {
-        Draft {
+        BodyReader {
             names: IndexSet::new(alloc),
             has_ended: Vec::new(alloc),
             commands: Vec::new(alloc),
@@ -114,7 +114,7 @@ impl Draft {
         requires { IsPlan (record { data_disk = data_disk; log_disk = log_disk; log_size = log_size; names = (body_of self).names; commands = (body_of self).body; ending = option_map (λ picks. picks.items) ending }) }
         ensures { result ≡ record { data_disk = data_disk; log_disk = log_disk; log_size = log_size; names = (body_of self).names; commands = (body_of self).body; ending = option_map (λ picks. picks.items) ending } }
     {
-        let Draft {
+        let BodyReader {
             names,
             has_ended: _,
             commands,

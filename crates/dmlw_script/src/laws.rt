@@ -6,9 +6,9 @@ ghost use Rattle.refusals.specs.declared.refusal.Refusal.{Refusal};
 ghost use Rattle.dmlw_script.specs.declared.command.Command.{Command};
 ghost use Rattle.dmlw_script.specs.declared.command.Command.TheVariants.{Complete};
 ghost use Rattle.dmlw_script.specs.Grammar.{IsLineOf, IsTextOf, AreLinesOf};
-ghost use Rattle.words.specs.Words.{IsNumber};
+ghost use Rattle.text_words.specs.Words.{IsNumber};
 ghost use Rattle.dmlw_script.specs.Lines.{command_line, with_line_feeds, is_ascii_line, is_skipped, IsUnbroken, lines_of};
-ghost use Rattle.dmlw_script.specs.Plans.{IsPlan, CanFollow, Plan, count_behind_head, head_count, top_of};
+ghost use Rattle.dmlw_script.specs.Plans.{IsPlan, CanFollow, ScriptValue, count_behind_head, head_count, top_of};
 ghost use Rattle.dmlw_script.specs.Reading.{IsFirstFault};
 ghost use Rattle.dmlw_script.specs.CanonicalText.{canonical_text};
 ghost use Rattle.dmlw_script.specs.RunGrammar.{AreRunLines, IsRunText};
@@ -25,27 +25,27 @@ pub fn lines_make_a_text()
 
 /// A text is one script's at most.
 pub fn one_script()
-    ensures { (text : List ℕ) (plan other : Plan) → IsTextOf text plan → IsTextOf text other → plan ≡ other }
+    ensures { (text : List ℕ) (plan other : ScriptValue) → IsTextOf text plan → IsTextOf text other → plan ≡ other }
 {}
 
 /// Each script has a text: its spelling.
 pub fn each_script_has_a_text()
-    ensures { (plan : Plan) → IsPlan plan → IsTextOf (canonical_text plan) plan }
+    ensures { (plan : ScriptValue) → IsPlan plan → IsTextOf (canonical_text plan) plan }
 {}
 
 /// Scripts that are printed alike are one.
 #[tactic(auto, using(crate::proofs::ScriptLaws::same_from_spelling))]
 pub fn scripts_have_own_texts()
-    ensures { (plan other : Plan) → IsPlan plan → IsPlan other → canonical_text plan ≡ canonical_text other → plan ≡ other }
+    ensures { (plan other : ScriptValue) → IsPlan plan → IsPlan other → canonical_text plan ≡ canonical_text other → plan ≡ other }
 {}
 
 /// An empty line or a comment may be put between any two lines of a script's text, or be left out: the
 /// script stays the same.
 pub fn skipped_lines_say_nothing()
-    ensures put_in { (before after : List (List ℕ)) (line : List ℕ) (plan : Plan) →
+    ensures put_in { (before after : List (List ℕ)) (line : List ℕ) (plan : ScriptValue) →
         is_ascii_line line ≡ true → is_skipped line ≡ true →
         AreLinesOf (before ++ after) plan → AreLinesOf (before ++ line ∷ after) plan }
-    ensures left_out { (before after : List (List ℕ)) (line : List ℕ) (plan : Plan) →
+    ensures left_out { (before after : List (List ℕ)) (line : List ℕ) (plan : ScriptValue) →
         is_skipped line ≡ true →
         AreLinesOf (before ++ line ∷ after) plan → AreLinesOf (before ++ after) plan }
 {}
@@ -54,34 +54,34 @@ pub fn skipped_lines_say_nothing()
 /// commands before it. Each command has one such line, and so has the crash that ends a script, behind
 /// the last command; after that there is none. Places of commands are counted from 0, those of lines with the head.
 pub fn lines_are_those_of_commands()
-    ensures says { (text : List ℕ) (plan : Plan) (place number : ℕ) → IsTextOf text plan →
+    ensures says { (text : List ℕ) (plan : ScriptValue) (place number : ℕ) → IsTextOf text plan →
         command_line text (place + head_count plan) ≡ Some number → IsLineOf (lines_of text) plan place number }
-    ensures found { (text : List ℕ) (plan : Plan) (place : ℕ) → IsTextOf text plan →
+    ensures found { (text : List ℕ) (plan : ScriptValue) (place : ℕ) → IsTextOf text plan →
         place < count_behind_head plan → (number : ℕ) × (command_line text (place + head_count plan) ≡ Some number) }
-    ensures one { (lines : List (List ℕ)) (plan : Plan) (place m n : ℕ) →
+    ensures one { (lines : List (List ℕ)) (plan : ScriptValue) (place m n : ℕ) →
         IsLineOf lines plan place m → IsLineOf lines plan place n → m ≡ n }
-    ensures none { (text : List ℕ) (plan : Plan) (place : ℕ) → IsTextOf text plan →
+    ensures none { (text : List ℕ) (plan : ScriptValue) (place : ℕ) → IsTextOf text plan →
         count_behind_head plan ≤ place → command_line text (place + head_count plan) ≡ None }
 {}
 
 /// Each command of a script may come after those before it, and no request ends twice.
 #[tactic(auto, using(crate::proofs::ScriptLaws::can_follow, crate::proofs::ScriptLaws::ends_once))]
 pub fn requests_end_once()
-    ensures can_follow { (plan : Plan) (before : List Command) (command : Command) (rest : List Command) →
+    ensures can_follow { (plan : ScriptValue) (before : List Command) (command : Command) (rest : List Command) →
         IsPlan plan → plan.commands ≡ before ++ command ∷ rest →
         CanFollow (bytes_of plan.log_size) (top_of plan.data_disk) before command }
-    ensures once { (plan : Plan) (before between rest : List Command) (request : ℕ) → IsPlan plan →
+    ensures once { (plan : ScriptValue) (before between rest : List Command) (request : ℕ) → IsPlan plan →
         plan.commands ≡ before ++ Complete request ∷ (between ++ Complete request ∷ rest) → ⊥ }
 {}
 
 /// A text is a script's or has a first fault: one, its line and its reason. The text of a script has
 /// none.
 pub fn texts_have_one_first_fault()
-    ensures each { (lines : List (List ℕ)) → ((plan : Plan) × AreLinesOf lines plan)
+    ensures each { (lines : List (List ℕ)) → ((plan : ScriptValue) × AreLinesOf lines plan)
         ⊎ ((line : ℕ) × (refusal : Refusal) × IsFirstFault lines line refusal) }
     ensures one { (lines : List (List ℕ)) (m n : ℕ) (r s : Refusal) →
         IsFirstFault lines m r → IsFirstFault lines n s → (m ≡ n) × (r ≡ s) }
-    ensures none { (lines : List (List ℕ)) (plan : Plan) (m : ℕ) (r : Refusal) →
+    ensures none { (lines : List (List ℕ)) (plan : ScriptValue) (m : ℕ) (r : Refusal) →
         AreLinesOf lines plan → IsFirstFault lines m r → ⊥ }
 {}
 

@@ -1,6 +1,6 @@
 //! What a line of a script says by its words alone, whatever stands before it.
 ghost use Rattle.std.specs.Prelude.{◌≡◌, option_copied, option_map};
-ghost use Rattle.dmlw_script.specs.Said.{as_said};
+ghost use Rattle.dmlw_script.specs.LineMeaning.{as_said};
 ghost use Rattle.dmlw_script.specs.Lines.{is_line_byte as is_a_line_byte, is_line_text as is_a_line_text};
 ghost use Rattle.dmlw_script.specs.inside.Parsing.{body_words, discard_of as the_discard, discard_words as the_discard_words, disk_of_word, head_words as the_head, layer_of as the_layer, log_of as the_log, lone_word, message_of as the_message, parse_words, plain_parts, read_of as the_read, sectors_of as the_sectors, size_of as the_size, step, write_of as the_write, write_words as the_write_words};
 
@@ -11,7 +11,7 @@ use crate::script_id::ScriptId;
 use crate::values::byte_of;
 use bio::{Ms, SectorSize};
 use table_line::{LayerSpec, TableError, parse_line};
-use words::{cut, number_of};
+use text_words::{cut, number_of};
 
 /// What a line that is no crash says by its words alone.
 #[derive(Drop)]

@@ -3,7 +3,7 @@ ghost use Rattle.std.specs.Prelude.{◌≡◌, option_copied};
 ghost use Rattle.dmlw_script.specs.inside.Parsing.{options_of as the_options, take_word as the_taking};
 
 use crate::command::WriteOptions;
-use words::cut;
+use text_words::cut;
 
 /// The options that a write's last words are, if they are options in their order: flush, fua, meta.
 pub(crate) fn options_of(words: Option<&[u8]>) -> Option<WriteOptions>

@@ -1,16 +1,16 @@
 //! Reads the text of a recorder's script: `read_script` gives the script, or the first line at fault.
 ghost use Rattle.std.specs.Prelude.{◌≡◌, ◌<◌, ◌≤◌, ◌∷◌, [], None, IfErr, IfOk, MatchOption, OnOk, length, option_copied, option_map};
-ghost use Rattle.dmlw_script.specs.Said.{as_said};
-ghost use Rattle.dmlw_script.specs.Said as parsed_lines;
+ghost use Rattle.dmlw_script.specs.LineMeaning.{as_said};
+ghost use Rattle.dmlw_script.specs.LineMeaning as parsed_lines;
 ghost use Rattle.dmlw_script.specs.inside.Parsing.{mark_of, message_of as the_message, parse_parts, picks_of as the_picks, plain_parts};
 ghost use Rattle.dmlw_script.specs.Lines.{command_line, lines_of, is_ascii_line as is_plain_line, is_skipped as is_a_skipped_line};
 ghost use Rattle.dmlw_script.specs.Grammar.{IsTextOf};
-ghost use Rattle.dmlw_script.specs.Plans.{Plan};
+ghost use Rattle.dmlw_script.specs.Plans.{ScriptValue};
 ghost use Rattle.dmlw_script.specs.Reading.{IsFaultOf, IsReadAs};
 ghost use Rattle.dmlw_script.specs.inside.Readers.{fault_of, read_text, Reads};
 
 use crate::command::Step;
-use crate::draft::Draft;
+use crate::draft::BodyReader;
 use crate::head::{Head, Part};
 use crate::line::{BodyLine, HeadLine, Line, is_line_text, message_of, parse_parts};
 use crate::line_error::LineError;
@@ -19,14 +19,14 @@ use crate::values::picks_of;
 use bio::Bytes;
 use refusals::{Fault, Refusal};
 use std::alloc::{AllocError, Global};
-use words::cut;
+use text_words::cut;
 
 // A script, as far as it was read.
 #[derive(Drop)]
 struct Reader {
     alloc: Global,
     head: Head,
-    draft: Draft,
+    draft: BodyReader,
     // The picks of the crash that ended the script, if one did.
     picks: Vec<u64>,
 }
@@ -44,7 +44,7 @@ impl Reader {
         Reader {
             alloc,
             head: Head::new(alloc),
-            draft: Draft::new(alloc),
+            draft: BodyReader::new(alloc),
             picks: Vec::new(alloc),
         }
     }
@@ -223,7 +223,7 @@ pub fn read_script(alloc: Global, text: &[u8]) -> Result<Script, Fault>
     // What is read is a recorder's script, and this is a text of it.
     ensures found { IfOk result (λ script. IsTextOf text.now script) }
     // A text of a script is read, unless memory runs out.
-    ensures only { (plan : Plan) → IsTextOf text.now plan → IsReadAs plan result }
+    ensures only { (plan : ScriptValue) → IsTextOf text.now plan → IsReadAs plan result }
     // A fault is reported with the first line at which no continuation is a script.
     ensures fault { IfErr result (λ fault. IsFaultOf text.now fault fault.line) }
 {

@@ -9,7 +9,7 @@ use crate::reader::shared_text;
 use crate::seat_call::{Call, SeatCall};
 use refusals::Refusal;
 use std::alloc::Global;
-use words::{cut, number_of};
+use text_words::{cut, number_of};
 
 /// What a line of a run's script says.
 #[derive(Drop)]

@@ -8,7 +8,7 @@ use bio::SectorSize;
 use indexmap::IndexSet;
 use std::marker::Model;
 
-/// A script of the grammar. Contracts see it as a `Plan`
+/// A script of the grammar. Contracts see it as a `ScriptValue`
 /// (`specs/Plans`), and each value is one that `IsPlan` holds of.
 #[derive(Debug, Drop)]
 pub struct Script {
@@ -22,9 +22,9 @@ pub struct Script {
 
 impl Model for Script {
     ghost use Rattle.std.specs.Prelude.{option_map};
-    ghost use Rattle.dmlw_script.specs.Plans.{Plan, IsPlan};
+    ghost use Rattle.dmlw_script.specs.Plans.{ScriptValue, IsPlan};
 
-    ghost Value = { Plan };
+    ghost Value = { ScriptValue };
 
     ghost view = { λ s. record { data_disk = s.data_disk; log_disk = s.log_disk; log_size = s.log_size; names = s.names.keys; commands = s.commands.items; ending = option_map (λ picks. picks.items) s.ending } };
 

@@ -5,7 +5,7 @@ ghost use Rattle.dmlw_script.specs.Ids.{is_name_byte as is_id_byte, is_id as is_
 ghost use Rattle.dmlw_script.specs.Texts.{id_text};
 
 use std::fmt;
-use words::cut;
+use text_words::cut;
 
 /// The most characters of an id.
 pub(crate) const NAME_BYTES: usize = 16;

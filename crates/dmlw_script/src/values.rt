@@ -7,7 +7,7 @@ ghost use Rattle.dmlw_script.specs.Words.{half_of, byte_of as the_byte};
 use crate::line_error::LineError;
 use refusals::Refusal;
 use std::alloc::Global;
-use words::{cut, number_of};
+use text_words::{cut, number_of};
 
 /// The picks that these words say, if there are any: each a number.
 pub(crate) fn picks_of(alloc: Global, words: Option<&[u8]>) -> Result<Vec<u64>, LineError>

@@ -4,7 +4,7 @@ use Rattle.std.proofs.lemmas.Bool.{cases_lt}
 use Rattle.std.specs.Prelude.{Result}
 use Rattle.bio.specs.declared.outcome.DevError.{DevError}
 use Rattle.blockdev.specs.Counted.{cause_counted, counted, goes_counted, one_more, sum_of}
-use Rattle.blockdev.specs.Law.{Goes, HasCause}
+use Rattle.blockdev.specs.Law.{DeviceFrame, HasCause}
 use Rattle.blockdev.specs.View.{View, last_count}
 use Rattle.sectors.specs.Content.{Patch}
 use Rattle.dust_layer.specs.declared.parts.Stop.{Stop}
@@ -19,8 +19,8 @@ faults-grow (Err Struck) faults h = omega arith
 faults-grow (Err (Below error)) faults h = omega arith
 
 -- where the device beneath goes by a call, so does this one
-pub goes_dusted : (patch : Patch) (v w : View) (stop : Result ℕ Stop) (faults : ℕ) → faults ≤ last_count → Goes patch v w
-    → Goes patch (counted v faults 0 false) (counted w (faults_after stop faults) 0 false)
+pub goes_dusted : (patch : Patch) (v w : View) (stop : Result ℕ Stop) (faults : ℕ) → faults ≤ last_count → DeviceFrame patch v w
+    → DeviceFrame patch (counted v faults 0 false) (counted w (faults_after stop faults) 0 false)
 goes_dusted patch v w stop faults h goes =
     goes_counted patch v w faults (faults_after stop faults) 0 0 false false (faults-grow stop faults h) (omega arith) refl (λ none. refl) goes
 
@@ -36,7 +36,7 @@ own_cause_after now v w faults error grew = record {
 }
 
 -- so each answer has its cause
-pub cause_dusted : (now : ℕ) (patch : Patch) (v w : View) (stop : Result ℕ Stop) (faults : ℕ) → faults ≤ last_count → Goes patch v w
+pub cause_dusted : (now : ℕ) (patch : Patch) (v w : View) (stop : Result ℕ Stop) (faults : ℕ) → faults ≤ last_count → DeviceFrame patch v w
     → HasCauseBelow now v w stop → HasCause now (counted v faults 0 false) (counted w (faults_after stop faults) 0 false) (answer_of stop)
 cause_dusted now patch v w (Ok end) faults h goes cause = cause_counted now v w (Ok end) faults faults 0 0 false false (omega arith) cause
 cause_dusted now patch v w (Err Struck) faults h goes cause = own_cause_after now v w faults _ goes.faults

@@ -1,7 +1,8 @@
+-- The lemmas of `dust_layer`; the proof of a function stands in the folder of its source file.
 mod Passing
 mod OrderLaws
 mod Dusting
 mod OnlyGood
 mod ListLaws
 mod Examples
-mod Refused
+mod Counterexamples

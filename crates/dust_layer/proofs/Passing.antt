@@ -11,7 +11,7 @@ use Rattle.std.specs.Prelude.{◌==◌, Result, is_some, nat_le, nat_lt, unwrap_
 use Rattle.bio.specs.declared.outcome.DevError.{DevError}
 use Rattle.blockdev.specs.Calls.{Call, Discards, Flushes, Reads, Writes}
 use Rattle.blockdev.specs.JoinLaws.{goes_both, goes_cut, goes_next, goes_none, lands_all, lands_first, lands_next, no_lie_parts, stays_both, stays_none}
-use Rattle.blockdev.specs.Law.{Goes, Lands, NoLie, Stays}
+use Rattle.blockdev.specs.Law.{DeviceFrame, WriteDone, NoLie, CrashSetKept}
 use Rattle.blockdev.specs.View.{View}
 use Rattle.sectors.specs.Content.{Content, HasNoneBelow, gather, nothing}
 use Rattle.sectors.specs.ContentLaws.{over-after, over-below}
@@ -271,8 +271,8 @@ list-stop first count changes.Discard begin done bad before after same falls =
 pub record Changes {D : Type 0} (does : D → Call → ℕ → Result ℕ DevError → D → Type 0) (shown : D → View) (block : ℕ) (call : Call) (fua : Bool)
     (bad now_bad : Bad) (count from : ℕ) (old : D) (now : ℕ) (new : D) (end : ℕ) : Type 0 where
   pub passed : HasPassed does block call bad now_bad count from old now new end
-  pub goes : Goes (below from (patch_of call)) (shown old) (shown new)
-  pub lands : NoLie (shown old) (shown new) → Lands (below from (patch_of call)) fua (shown old) (shown new)
+  pub goes : DeviceFrame (below from (patch_of call)) (shown old) (shown new)
+  pub lands : NoLie (shown old) (shown new) → WriteDone (below from (patch_of call)) fua (shown old) (shown new)
 
 pub changes_first : {D : Type 0} (does : D → Call → ℕ → Result ℕ DevError → D → Type 0) (shown : D → View) (block first count : ℕ) (change : Change)
     (bad : Bad) (old : D) (now : ℕ) → 0 < count → count_of (call_of first count change) ≡ count
@@ -289,8 +289,8 @@ pub changes_next : {D : Type 0} (does : D → Call → ℕ → Result ℕ DevErr
     → count_of (call_of first count change) ≡ count → first ≤ from → from ≤ to → to ≤ first + count
     → Changes does shown block (call_of first count change) (fua_of change) bad before done from old now mid at
     → HasPassed does block (call_of first count change) bad after (suc done) to old now new end
-    → Goes (patch_of (part_within from to (call_of first count change))) (shown mid) (shown new)
-    → (NoLie (shown mid) (shown new) → Lands (patch_of (part_within from to (call_of first count change))) (fua_of change) (shown mid) (shown new))
+    → DeviceFrame (patch_of (part_within from to (call_of first count change))) (shown mid) (shown new)
+    → (NoLie (shown mid) (shown new) → WriteDone (patch_of (part_within from to (call_of first count change))) (fua_of change) (shown mid) (shown new))
     → Changes does shown block (call_of first count change) (fua_of change) bad after (suc done) to old now new end
 changes_next does shown block first count change bad before after done from to old now mid at new end size low order high so_far passed goes lands =
     let call = call_of first count change in
@@ -306,7 +306,7 @@ changes_next does shown block first count change bad before after done from to o
 -- so far it went by the whole call
 pub changes_goes : {D : Type 0} (does : D → Call → ℕ → Result ℕ DevError → D → Type 0) (shown : D → View) (block : ℕ) (call : Call) (fua : Bool)
     (bad list : Bad) (done from : ℕ) (old : D) (now : ℕ) (new : D) (end : ℕ)
-    → Changes does shown block call fua bad list done from old now new end → Goes (patch_of call) (shown old) (shown new)
+    → Changes does shown block call fua bad list done from old now new end → DeviceFrame (patch_of call) (shown old) (shown new)
 changes_goes does shown block call fua bad list done from old now new end so_far =
     goes_cut from (patch_of call) (shown old) (shown new) so_far.goes
 
@@ -349,8 +349,8 @@ pub changes_step : {D : Type 0} (does : D → Call → ℕ → Result ℕ DevErr
     → Changes does shown block (call_of first count change) (fua_of change) bad before done from old now mid at
     → false ≡ nat_lt 0 (left_at before (first / block + done))
     → IsList struck before → IsList after (with_entry (first / block + done) None struck)
-    → Goes (patch_of (part_within from to (call_of first count change))) (shown mid) (shown new)
-    → (NoLie (shown mid) (shown new) → Lands (patch_of (part_within from to (call_of first count change))) (fua_of change) (shown mid) (shown new))
+    → DeviceFrame (patch_of (part_within from to (call_of first count change))) (shown mid) (shown new)
+    → (NoLie (shown mid) (shown new) → WriteDone (patch_of (part_within from to (call_of first count change))) (fua_of change) (shown mid) (shown new))
     → does mid (part_within from to (call_of first count change)) at (Ok end) new → at ≤ end
     → Changes does shown block (call_of first count change) (fua_of change) bad after (done + 1) to old now new end
 changes_step does shown block first count change bad before struck after done from to old now mid at new end positive some size within is_to so_far free stays forgets goes lands did later =
@@ -453,7 +453,7 @@ pub changes_land : {D : Type 0} (does : D → Call → ℕ → Result ℕ DevErr
     (bad list : Bad) (done from : ℕ) (old : D) (now : ℕ) (new : D) (end : ℕ)
     → 0 < block → 0 < count → count_of (call_of first count change) ≡ count → done ≡ (first + count - 1) / block + 1 - first / block
     → Changes does shown block (call_of first count change) (fua_of change) bad list done from old now new end
-    → NoLie (shown old) (shown new) → Lands (patch_of (call_of first count change)) (fua_of change) (shown old) (shown new)
+    → NoLie (shown old) (shown new) → WriteDone (patch_of (call_of first count change)) (fua_of change) (shown old) (shown new)
 changes_land does shown block first count change bad list done from old now new end positive some size is so_far told =
     let call = call_of first count change in
     let low : first / block * block ≤ first = div-mul-le_self first block in
@@ -474,8 +474,8 @@ pub changes_fails : {D : Type 0} (does : D → Call → ℕ → Result ℕ DevEr
     → 0 < block → 0 < count → count_of (call_of first count change) ≡ count → done < (first + count - 1) / block + 1 - first / block
     → to ≡ reach block first count (first / block + done + 1)
     → Changes does shown block (call_of first count change) (fua_of change) bad list done from old now mid at
-    → Goes (patch_of (part_within from to (call_of first count change))) (shown mid) (shown new)
-    → Goes (patch_of (call_of first count change)) (shown old) (shown new)
+    → DeviceFrame (patch_of (part_within from to (call_of first count change))) (shown mid) (shown new)
+    → DeviceFrame (patch_of (call_of first count change)) (shown old) (shown new)
 changes_fails does shown block first count change bad list done from to old now mid at new positive some size within is_to so_far goes =
     let call = call_of first count change in
     let part = next_part does block first count change bad list done from old now mid at positive some size within so_far.passed in
@@ -521,8 +521,8 @@ pub record Reading {D : Type 0} (does : D → Call → ℕ → Result ℕ DevErr
   pub bytes : take (512 * (from - first)) now_bytes ≡ gather (shown old).content first (from - first)
   -- the buffer's rest is as it was
   pub rest : drop (512 * (from - first)) now_bytes ≡ drop (512 * (from - first)) before
-  pub goes : Goes nothing (shown old) (shown new)
-  pub stays : Stays (shown old) (shown new)
+  pub goes : DeviceFrame nothing (shown old) (shown new)
+  pub stays : CrashSetKept (shown old) (shown new)
 
 -- what comes into a buffer behind what was read leaves what was read
 passed_read : {D : Type 0} (does : D → Call → ℕ → Result ℕ DevError → D → Type 0) (block first : ℕ) (before xs ys : List ℕ) (bad : Bad) (done from : ℕ)
@@ -601,7 +601,7 @@ pub reading_step : {D : Type 0} (does : D → Call → ℕ → Result ℕ DevErr
     → take (512 * (from - first)) ys ≡ take (512 * (from - first)) xs
     → drop (512 * (to - first)) ys ≡ drop (512 * (to - first)) xs
     → bytes_within first from to ys ≡ gather (shown mid).content from (to - from)
-    → Goes nothing (shown mid) (shown new) → Stays (shown mid) (shown new)
+    → DeviceFrame nothing (shown mid) (shown new) → CrashSetKept (shown mid) (shown new)
     → does mid (Reads from (bytes_within first from to xs) (bytes_within first from to ys)) at (Ok end) new → at ≤ end
     → Reading does shown block first before ys bad (done + 1) to old now new end
 reading_step does shown block first before xs ys bad done from to old now mid at new end positive some within is_to so_far free same behind read goes stays did later =

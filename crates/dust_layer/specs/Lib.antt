@@ -1,3 +1,4 @@
+-- The definitions that the contracts of `dust_layer` are written in.
 pub use Rattle.blockdev.specs.Calls
 pub use Rattle.blockdev.specs.Law
 pub use Rattle.blockdev.specs.Messages

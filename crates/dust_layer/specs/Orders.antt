@@ -1,7 +1,7 @@
 -- The orders that a device with bad blocks takes as messages: which words ask for each, and what each answers and leaves.
 use Rattle.std.specs.Prelude.{◌≡◌, ℕ, ◌*◌, ◌<◌, ◌≤◌, Bool, true, false, List, [], ◌∷◌, Some, None, Result, Ok, Err, codes, is_some}
 use Rattle.std.specs.List.{join_with_byte}
-use Rattle.words.specs.Words.{IsNumber}
+use Rattle.text_words.specs.Words.{IsNumber}
 use Rattle.blockdev.specs.declared.message.MessageError.{MessageError}
 use Rattle.blockdev.specs.declared.message.MessageError.TheVariants as errors
 use Rattle.dust_layer.specs.declared.order.Order.{Order}

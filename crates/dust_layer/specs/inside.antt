@@ -1,1 +1,2 @@
+-- The definitions of `dust_layer` that its proofs alone use: no other crate cites them.
 pub mod OrderReading

@@ -1,3 +1,5 @@
+//! The list of bad blocks of a device, each with the count of writes and discards that it fails.
+//! Calls change it block by block (`blocks`), and messages do (`apply`).
 ghost use Rattle.std.specs.Prelude.{◌≡◌, ◌≤◌, ◌-◌, IfErr, Err, Ok, OnErr, OnOk, Some, None, false, is_some, nat_lt, true, ℕ};
 ghost use Rattle.blockdev.specs.declared.message.MessageError.TheVariants.{AlreadyBad, Memory, NotBad};
 ghost use Rattle.dust_layer.specs.Bad.{IsList, IsNoList, left_at, listed, with_entry};

@@ -1,6 +1,8 @@
+//! Writes, discards and reads that go block by block, as far as the first block that fails them.
+//! `Dust` does its calls so where bad blocks fail calls.
 ghost use Rattle.std.specs.Prelude.{◌≡◌, ◌<◌, ◌≤◌, ◌/◌, OnOk, false, length, ℕ};
 ghost use Rattle.blockdev.specs.Calls.{IsByteRange, IsRange, Reads};
-ghost use Rattle.blockdev.specs.Law.{Goes, Lands, NoLie, Stays};
+ghost use Rattle.blockdev.specs.Law.{DeviceFrame, WriteDone, NoLie, CrashSetKept};
 ghost use Rattle.sectors.specs.Content.{gather, nothing};
 ghost use Rattle.dust_layer.specs.Bad.{listed};
 ghost use Rattle.dust_layer.specs.Change.{call_of, fua_of};
@@ -26,9 +28,9 @@ pub(crate) fn change_blocks<D: BlockDev>(
     requires few { block ≤ 2097152 }
     requires range { IsRange (D.shown lower.old).size first count }
     requires count { count_of (call_of first count change) ≡ count }
-    ensures goes { Goes (patch_of (call_of first count change.entry)) (D.shown lower.old) (D.shown lower.new) }
+    ensures goes { DeviceFrame (patch_of (call_of first count change.entry)) (D.shown lower.old) (D.shown lower.new) }
     ensures lands { OnOk result (NoLie (D.shown lower.old) (D.shown lower.new) →
-        Lands (patch_of (call_of first count change.entry)) (fua_of change.entry) (D.shown lower.old) (D.shown lower.new)) }
+        WriteDone (patch_of (call_of first count change.entry)) (fua_of change.entry) (D.shown lower.old) (D.shown lower.new)) }
     ensures cause { HasCauseBelow now (D.shown lower.old) (D.shown lower.new) result }
     ensures blocks { ByBlock D.does block (call_of first count change.entry) (listed bad.old) (listed bad.new) lower.old now lower.new result }
 {
@@ -65,8 +67,8 @@ pub(crate) fn read_blocks<D: BlockDev>(
     requires few { block ≤ 2097152 }
     requires range { IsByteRange (D.shown lower.old).size first (length buffer.old) }
     ensures bytes { OnOk result (buffer.new ≡ gather (D.shown lower.old).content first (length buffer.old / 512)) }
-    ensures goes { Goes nothing (D.shown lower.old) (D.shown lower.new) }
-    ensures stays { Stays (D.shown lower.old) (D.shown lower.new) }
+    ensures goes { DeviceFrame nothing (D.shown lower.old) (D.shown lower.new) }
+    ensures stays { CrashSetKept (D.shown lower.old) (D.shown lower.new) }
     ensures cause { HasCauseBelow now (D.shown lower.old) (D.shown lower.new) result }
     ensures blocks { ByBlock D.does block (Reads first buffer.old buffer.new) (listed bad.now) (listed bad.now) lower.old now lower.new result }
 {

@@ -1,11 +1,13 @@
+//! The layer with bad blocks, as Linux's dm-dust has them: `Dust`, a block device over another one.
+//! In bypass it passes every call; else reads, writes and discards go block by block.
 ghost use Rattle.std.proofs.Props.{props};
 ghost use Rattle.table_line.specs.Ranges.{IsBlockSize};
 ghost use Rattle.dust_layer.specs.Sizes.{IsBlock};
 
+use crate::apply::apply;
 use crate::bad_blocks::BadBlocks;
 use crate::blocks::{change_blocks, read_blocks};
 use crate::mode::Mode;
-use crate::obey::obey;
 use crate::order::order_of;
 use crate::parts::{Change, SECTOR, Stop};
 use bio::{DevError, Ms};
@@ -193,7 +195,7 @@ impl<D: BlockDev + Drop> Message for Dust<D> {
         };
         let sectors = self.lower.sectors();
         let mut enabled = self.mode.is_enabled();
-        let answer = obey(&mut self.bad, &mut enabled, self.block, sectors, order);
+        let answer = apply(&mut self.bad, &mut enabled, self.block, sectors, order);
         self.mode = Mode::of(enabled);
         answer
     }

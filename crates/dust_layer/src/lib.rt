@@ -4,11 +4,11 @@
 pub use dust::Dust;
 pub use mode::Mode;
 
+mod apply;
 mod bad_blocks;
 mod blocks;
 mod dust;
 pub mod laws;
 mod mode;
-mod obey;
 mod order;
 mod parts;

@@ -1,9 +1,11 @@
+//! Reads the order that a message to a device with bad blocks gives, in dm-dust's words.
+//! `Dust` hands the order to `apply`; a message that gives none is a bad one.
 ghost use Rattle.std.specs.Prelude.{◌≡◌, ◌↔◌, ◌<◌, Some, option_copied, true};
 ghost use Rattle.dust_layer.specs.declared.order.Order.{Order};
 ghost use Rattle.dust_layer.specs.Orders.{AsksFor};
 ghost use Rattle.dust_layer.specs.inside.OrderReading.{add_of as the_add, count_of as the_count, lone_order as the_lone_order, order_of as the_order, order_with as the_order_with};
 
-use words::{cut, number_of};
+use text_words::{cut, number_of};
 
 /// What a message to a device with bad blocks asks for.
 #[derive(Clone, Copy, Debug, PartialEq, Eq)]

@@ -1,6 +1,8 @@
+//! The part of a call that falls on some of its sectors, done on the device beneath.
+//! `blocks` calls it for each block that a write, a discard or a read touches.
 ghost use Rattle.std.specs.Prelude.{◌≡◌, ◌<◌, ◌≤◌, ◌+◌, ◌-◌, ◌*◌, ◌/◌, Err, OnOk, drop, length, take, ℕ};
 ghost use Rattle.blockdev.specs.Calls.{IsByteRange, IsRange, Reads};
-ghost use Rattle.blockdev.specs.Law.{Goes, HasCause, Lands, NoLie, Stays};
+ghost use Rattle.blockdev.specs.Law.{DeviceFrame, HasCause, WriteDone, NoLie, CrashSetKept};
 ghost use Rattle.sectors.specs.Content.{gather, nothing};
 ghost use Rattle.sectors.specs.Parts.{between};
 ghost use Rattle.dust_layer.specs.Change.{call_of, fua_of};
@@ -65,9 +67,9 @@ pub(crate) fn change_part<D: BlockDev>(
     requires from { first ≤ from }
     requires order { from < to }
     requires within { to ≤ first + count }
-    ensures goes { Goes (patch_of (part_within from to (call_of first count change.entry))) (D.shown lower.old) (D.shown lower.new) }
+    ensures goes { DeviceFrame (patch_of (part_within from to (call_of first count change.entry))) (D.shown lower.old) (D.shown lower.new) }
     ensures lands { OnOk result (NoLie (D.shown lower.old) (D.shown lower.new) →
-        Lands (patch_of (part_within from to (call_of first count change.entry))) (fua_of change.entry) (D.shown lower.old) (D.shown lower.new)) }
+        WriteDone (patch_of (part_within from to (call_of first count change.entry))) (fua_of change.entry) (D.shown lower.old) (D.shown lower.new)) }
     ensures cause { HasCause now (D.shown lower.old) (D.shown lower.new) result }
     ensures does { D.does lower.old (part_within from to (call_of first count change.entry)) now result lower.new }
 {
@@ -96,8 +98,8 @@ pub(crate) fn read_part<D: BlockDev>(
     ensures before { take (512 * (from - first)) buffer.new ≡ take (512 * (from - first)) buffer.old }
     ensures behind { drop (512 * (to - first)) buffer.new ≡ drop (512 * (to - first)) buffer.old }
     ensures bytes { OnOk result (bytes_within first from to buffer.new ≡ gather (D.shown lower.old).content from (to - from)) }
-    ensures goes { Goes nothing (D.shown lower.old) (D.shown lower.new) }
-    ensures stays { Stays (D.shown lower.old) (D.shown lower.new) }
+    ensures goes { DeviceFrame nothing (D.shown lower.old) (D.shown lower.new) }
+    ensures stays { CrashSetKept (D.shown lower.old) (D.shown lower.new) }
     ensures cause { HasCause now (D.shown lower.old) (D.shown lower.new) result }
     ensures does { D.does lower.old (Reads from (bytes_within first from to buffer.old) (bytes_within first from to buffer.new)) now result lower.new }
 {

@@ -3,7 +3,7 @@ use Rattle.std.proofs.Common.{◌≡◌, ℕ, ◌+◌, Bool, List, length, refl,
 use Rattle.std.specs.Prelude.{◌/◌, Option, replicate, unwrap_or}
 use Rattle.blockdev.specs.Calls.{IsRange}
 use Rattle.blockdev.specs.View.{IsLawful, Place, View}
-use Rattle.blockdev.specs.Law.{AfterPatch, Goes, Lands, NoLie}
+use Rattle.blockdev.specs.Law.{AfterPatch, DeviceFrame, WriteDone, NoLie}
 use Rattle.blockdev.specs.Messages.{Unchanged}
 use Rattle.sectors.specs.Content.{Content, Patch, Patched, discards, gather, moved, nothing, put, sector_of, writes}
 use Rattle.sectors.specs.ContentLaws.{over-shift}
@@ -79,8 +79,8 @@ lawful_cut v offset length fits lawful = record {
 }
 
 -- where the device beneath goes by the shifted call, the range goes by the call
-goes_cut : (offset length : ℕ) (below patch : Patch) (v w : View) → IsShifted offset below patch → Goes below v w
-    → Goes patch (cut v offset length) (cut w offset length)
+goes_cut : (offset length : ℕ) (below patch : Patch) (v w : View) → IsShifted offset below patch → DeviceFrame below v w
+    → DeviceFrame patch (cut v offset length) (cut w offset length)
 goes_cut offset length below patch v w shifted goes = record {
   size = refl;
   place = ap (λ (p : Place). record { origin = p.origin + offset; disk = p.disk }) goes.place;
@@ -100,7 +100,7 @@ goes_cut offset length below patch v w shifted goes = record {
 
 -- what lands beneath lands in the range
 lands_cut : (offset length : ℕ) (below patch : Patch) (fua : Bool) (v w : View) → IsShifted offset below patch
-    → (NoLie v w → Lands below fua v w) → NoLie (cut v offset length) (cut w offset length) → Lands patch fua (cut v offset length) (cut w offset length)
+    → (NoLie v w → WriteDone below fua v w) → NoLie (cut v offset length) (cut w offset length) → WriteDone patch fua (cut v offset length) (cut w offset length)
 lands_cut offset length below patch fua v w shifted lands told =
     let landed = lands (record { same = told.same; counted = told.counted }) in
     record {
@@ -114,28 +114,28 @@ lands_cut offset length below patch fua v w shifted lands told =
     }
 
 -- so it is for each kind of call
-pub goes_cut_nothing : (offset length : ℕ) (v w : View) → Goes nothing v w → Goes nothing (cut v offset length) (cut w offset length)
+pub goes_cut_nothing : (offset length : ℕ) (v w : View) → DeviceFrame nothing v w → DeviceFrame nothing (cut v offset length) (cut w offset length)
 goes_cut_nothing offset length v w = goes_cut offset length nothing nothing v w (λ sector. refl)
 
-pub goes_cut_writes : (offset length first : ℕ) (bytes : List ℕ) (v w : View) → Goes (writes (offset + first) bytes) v w
-    → Goes (writes first bytes) (cut v offset length) (cut w offset length)
+pub goes_cut_writes : (offset length first : ℕ) (bytes : List ℕ) (v w : View) → DeviceFrame (writes (offset + first) bytes) v w
+    → DeviceFrame (writes first bytes) (cut v offset length) (cut w offset length)
 goes_cut_writes offset length first bytes v w =
     goes_cut offset length (writes (offset + first) bytes) (writes first bytes) v w (writes-shifted offset first bytes)
 
-pub goes_cut_discards : (offset length first count : ℕ) (v w : View) → Goes (discards (offset + first) count) v w
-    → Goes (discards first count) (cut v offset length) (cut w offset length)
+pub goes_cut_discards : (offset length first count : ℕ) (v w : View) → DeviceFrame (discards (offset + first) count) v w
+    → DeviceFrame (discards first count) (cut v offset length) (cut w offset length)
 goes_cut_discards offset length first count v w =
     goes_cut offset length (discards (offset + first) count) (discards first count) v w (discards-shifted offset first count)
 
 pub lands_cut_writes : (offset length first : ℕ) (bytes : List ℕ) (fua : Bool) (v w : View)
-    → (NoLie v w → Lands (writes (offset + first) bytes) fua v w) → NoLie (cut v offset length) (cut w offset length)
-    → Lands (writes first bytes) fua (cut v offset length) (cut w offset length)
+    → (NoLie v w → WriteDone (writes (offset + first) bytes) fua v w) → NoLie (cut v offset length) (cut w offset length)
+    → WriteDone (writes first bytes) fua (cut v offset length) (cut w offset length)
 lands_cut_writes offset length first bytes fua v w =
     lands_cut offset length (writes (offset + first) bytes) (writes first bytes) fua v w (writes-shifted offset first bytes)
 
 pub lands_cut_discards : (offset length first count : ℕ) (fua : Bool) (v w : View)
-    → (NoLie v w → Lands (discards (offset + first) count) fua v w) → NoLie (cut v offset length) (cut w offset length)
-    → Lands (discards first count) fua (cut v offset length) (cut w offset length)
+    → (NoLie v w → WriteDone (discards (offset + first) count) fua v w) → NoLie (cut v offset length) (cut w offset length)
+    → WriteDone (discards first count) fua (cut v offset length) (cut w offset length)
 lands_cut_discards offset length first count fua v w =
     lands_cut offset length (discards (offset + first) count) (discards first count) fua v w (discards-shifted offset first count)
 

@@ -1,3 +1,4 @@
+-- The definitions that the contracts of `fault_layers` are written in.
 pub use Rattle.bio.specs.Moments
 pub use Rattle.blockdev.specs.Calls
 pub use Rattle.blockdev.specs.Counted

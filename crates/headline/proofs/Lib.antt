@@ -1,3 +1,4 @@
+-- The lemmas of `headline`; the proof of a function stands in the folder of its source file.
 mod Promised
 mod Reopened
 mod Examples

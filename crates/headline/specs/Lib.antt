@@ -1,3 +1,4 @@
+-- The definitions that the contracts of `headline` are written in.
 pub use Rattle.log_reader.specs.Devices
 pub use Rattle.log_reader.specs.Reads
 pub use Rattle.recorder.specs.Shown

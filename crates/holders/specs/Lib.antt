@@ -1,1 +1,2 @@
+-- The definitions that the contracts of `holders` are written in.
 pub mod Rules

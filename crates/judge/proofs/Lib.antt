@@ -1,3 +1,4 @@
+-- The lemmas of `judge`; the proof of a function stands in the folder of its source file.
 pub mod Last
 pub mod Values
 pub mod Holding

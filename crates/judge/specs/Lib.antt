@@ -1,3 +1,4 @@
+-- The definitions that the contracts of `judge` are written in.
 pub mod Verdicts
 pub mod Accounts
 pub mod Firsts

@@ -1,3 +1,5 @@
+//! For each sector of an image, the latest request whose value it has and could
+//! still hold. `Account::of` ends with it.
 ghost use Rattle.std.specs.Prelude.{◌≡◌, ◌&&◌, ◌<◌, ◌≤◌, ◌⊎◌, ◌+◌, ◌*◌, ◌/◌, ◌%◌, IfOk, List, MatchOption, Option, Some, if◌then◌else◌, length, nat_le, nat_lt, not, slice_get, ℕ};
 ghost use Rattle.std.specs.Str.{bytes_eq};
 ghost use Rattle.bio.specs.declared.event.CoreEvent.TheVariants.{Submit};

@@ -1,3 +1,4 @@
+//! Judges an image: `could_hold` says whether a device could have held it, had power failed then.
 ghost use Rattle.std.specs.Prelude.{◌≡◌, ◌/◌, ◌%◌, IfOk, length, take, true};
 ghost use Rattle.bio.specs.Lawful.{is_lawful};
 ghost use Rattle.sectors.specs.Content.{sector_of};

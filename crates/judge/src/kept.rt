@@ -1,3 +1,4 @@
+//! For each sector, the durable request over it that was submitted last: it rules out older values.
 ghost use Rattle.std.specs.Prelude.{◌≡◌, ◌&&◌, ◌<◌, ◌≤◌, ◌/◌, ◌%◌, IfOk, Some, false, true, length, nat_le, nat_lt, slice_get, ℕ};
 ghost use Rattle.bio.specs.declared.event.CoreEvent.TheVariants.{Submit};
 ghost use Rattle.bio.specs.Events.{is_flush_submit, submits};

@@ -1,3 +1,5 @@
+//! The answer of `could_hold`, and its text: `yes`, or the lowest sector that fails
+//! and what rules it out.
 ghost use Rattle.std.specs.Prelude.{Some};
 ghost use Rattle.judge.specs.Texts.{reason_text, verdict_text};
 

@@ -1,3 +1,4 @@
+-- The definitions that the contracts of `layer_table` are written in.
 pub use Rattle.bio.specs.Moments
 pub use Rattle.blockdev.specs.Calls
 pub use Rattle.blockdev.specs.Counted

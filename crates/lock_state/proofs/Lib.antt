@@ -1,3 +1,4 @@
+-- The lemmas of `lock_state`; the proof of a function stands in the folder of its source file.
 pub mod Lists
 pub mod Opening
 pub mod Placing

@@ -1,3 +1,4 @@
+-- The definitions that the contracts of `lock_state` are written in.
 pub mod Calls
 pub mod Closing
 pub mod Comparing

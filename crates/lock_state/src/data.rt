@@ -68,7 +68,7 @@ impl<D: BlockDev + Drop, R: Run> DataState<D, R> {
     {
         self.done.reserve(1)?;
         let bio_kept = bio.clone()?;
-        let result = hand_over(&mut self.device, now, bio);
+        let result = do_request(&mut self.device, now, bio);
         self.done.push_reserved(Done {
             id,
             bio: bio_kept,
@@ -115,7 +115,7 @@ impl<D: BlockDev + Drop, R: Run> DataState<D, R> {
 }
 
 // Hands a request over to a device: a write with flush as a flush, and then the write where the flush succeeded.
-fn hand_over<D: BlockDev>(device: &mut D, now: Ms, bio: &Bio) -> Result<(), DevError>
+fn do_request<D: BlockDev>(device: &mut D, now: Ms, bio: &Bio) -> Result<(), DevError>
     requires tracked { is_tracked bio.now ≡ true }
     requires checked { check_answer bio.now (D.shown device.old).size ≡ Ok tt }
     ensures size { (D.shown device.new).size ≡ (D.shown device.old).size }

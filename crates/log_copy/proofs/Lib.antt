@@ -1,3 +1,4 @@
+-- The lemmas of `log_copy`; the proof of a function stands in the folder of its source file.
 pub mod Entries
 pub mod Loops
-mod Refused
+mod Counterexamples

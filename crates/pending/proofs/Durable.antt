@@ -13,7 +13,7 @@ use Rattle.bio.specs.Events.{end_of, first_place, is_flush_submit, is_stop}
 use Rattle.bio.specs.Lawful.{is_well_formed}
 use Rattle.bio.specs.EventLaws.{length-beginning}
 use Rattle.log_format.specs.declared.entry.Entry.{Entry}
-use Rattle.pending.specs.QueueEvent.{first_need, is_at, is_needed_by, queue_event, queue_of, recorded, unless_stopped}
+use Rattle.pending.specs.QueueEvent.{first_need, is_at, is_needed_by, queue_event, queue_of, log_writes_order, unless_stopped}
 use Rattle.pending.specs.CompletionList.{IsListedAt, Item, completion_list, dm_log_writes, entry_at, own_end}
 use Rattle.pending.proofs.Ends.{ends-there, flush_submit-some, open-queue_event, own-queue_event, plain-queue_event, queued-within}
 use Rattle.pending.proofs.Linked.{linked-here, needed-flush, needed-linked, needing-recorded, recorded-earlier}
@@ -29,31 +29,31 @@ pub record IsMoment (events : List CoreEvent) (moment : ℕ) : Type 0 where
 
 -- the queue event of anything, in a longer list
 same-longer : (events more : List CoreEvent) (id p : ℕ) → p < length events
-    → is_at p (queue_event recorded (events ++ more) id) ≡ is_at p (queue_event recorded events id)
-same-longer events [] id p within = ap (λ es. is_at p (queue_event recorded es id)) (append-nil events)
+    → is_at p (queue_event log_writes_order (events ++ more) id) ≡ is_at p (queue_event log_writes_order events id)
+same-longer events [] id p within = ap (λ es. is_at p (queue_event log_writes_order es id)) (append-nil events)
 same-longer events (event ∷ more) id p within =
     let size = length-append events (event ∷ []) in
-    ap (λ es. is_at p (queue_event recorded es id)) (sym (append_assoc events (event ∷ []) more))
+    ap (λ es. is_at p (queue_event log_writes_order es id)) (sym (append_assoc events (event ∷ []) more))
     ∙ same-longer (events ++ event ∷ []) more id p (omega arith)
-    ∙ queue_event_same recorded recorded_stable events event id p within
+    ∙ queue_event_same log_writes_order recorded_stable events event id p within
 
 -- what a beginning of the events queues, they queue
-pub queued-longer : (events : List CoreEvent) (m id p : ℕ) → queue_event recorded (take m events) id ≡ Some p → queue_event recorded events id ≡ Some p
+pub queued-longer : (events : List CoreEvent) (m id p : ℕ) → queue_event log_writes_order (take m events) id ≡ Some p → queue_event log_writes_order events id ≡ Some p
 queued-longer events m id p queued =
-    is_at-some p (queue_event recorded events id) (
-    ap (λ es. is_at p (queue_event recorded es id)) (sym (take-append-drop m events))
+    is_at-some p (queue_event log_writes_order events id) (
+    ap (λ es. is_at p (queue_event log_writes_order es id)) (sym (take-append-drop m events))
     ∙ same-longer (take m events) (drop m events) id p (queued-within (take m events) id p queued)
     ∙ ap (is_at p) queued
     ∙ eq-eqb p p refl)
 
 -- what they queue before a moment, the beginning up to it queues
-pub queued-shorter : (events : List CoreEvent) (m id p : ℕ) → m ≤ length events → p < m → queue_event recorded events id ≡ Some p
-    → queue_event recorded (take m events) id ≡ Some p
+pub queued-shorter : (events : List CoreEvent) (m id p : ℕ) → m ≤ length events → p < m → queue_event log_writes_order events id ≡ Some p
+    → queue_event log_writes_order (take m events) id ≡ Some p
 queued-shorter events m id p within less queued =
     let long = length-beginning events m within in
-    is_at-some p (queue_event recorded (take m events) id) (
+    is_at-some p (queue_event log_writes_order (take m events) id) (
     sym (same-longer (take m events) (drop m events) id p (omega arith))
-    ∙ ap (λ es. is_at p (queue_event recorded es id)) (take-append-drop m events)
+    ∙ ap (λ es. is_at p (queue_event log_writes_order es id)) (take-append-drop m events)
     ∙ ap (is_at p) queued
     ∙ eq-eqb p p refl)
 
@@ -94,12 +94,12 @@ pub record IsDurableBefore (events : List CoreEvent) (moment sector id : ℕ) : 
 
 -- a need that holds at an event is first found no later
 pub need-found : (events : List CoreEvent) (id end event : ℕ) → event < length events → end < event
-    → recorded events end (slice_get events id) event (slice_get events event) ≡ true
-    → (first : ℕ) × (first_need recorded events id (Some end) ≡ Some first) × (first ≤ event)
+    → log_writes_order events end (slice_get events id) event (slice_get events event) ≡ true
+    → (first : ℕ) × (first_need log_writes_order events id (Some end) ≡ Some first) × (first ≤ event)
 need-found events id end event within less needed =
-    let test : ℕ → Bool = λ p. nat_lt end p && recorded events end (slice_get events id) p (slice_get events p) in
-    let here : test event ≡ true = ap (λ b. b && recorded events end (slice_get events id) event (slice_get events event)) (lt-ltb end event less) ∙ needed in
-    elim (option_cases (first_need recorded events id (Some end))) [
+    let test : ℕ → Bool = λ p. nat_lt end p && log_writes_order events end (slice_get events id) p (slice_get events p) in
+    let here : test event ≡ true = ap (λ b. b && log_writes_order events end (slice_get events id) event (slice_get events event)) (lt-ltb end event less) ∙ needed in
+    elim (option_cases (first_need log_writes_order events id (Some end))) [
       | inl none ↦ let not_here = first_below-none test (length events) none event within in cc
       | inr some ↦
           let first = first_below-found test (length events) some.0 some.1 in (
@@ -115,12 +115,12 @@ need-found events id end event within less needed =
 -- A request is queued by an event, or by an earlier one.
 pub record IsQueuedBy (events : List CoreEvent) (id event : ℕ) : Type 0 where
   pub first_event : ℕ
-  pub queued : queue_event recorded events id ≡ Some first_event
+  pub queued : queue_event log_writes_order events id ≡ Some first_event
   pub order : first_event ≤ event
 
 -- what an event needs is queued by then, where logging goes on up to that event
 pub queued-by : (events : List CoreEvent) (id end event : ℕ) (bio : Bio) → slice_get events id ≡ Some (Submit bio) → end_of events id ≡ Some end
-    → end < event → event < length events → recorded events end (Some (Submit bio)) event (slice_get events event) ≡ true
+    → end < event → event < length events → log_writes_order events end (Some (Submit bio)) event (slice_get events event) ≡ true
     → unless_stopped (first_place is_stop events) (Some event) ≡ Some event → IsQueuedBy events id event
 queued-by events id end event bio is ends after within needed logging =
     let stop = first_place is_stop events in
@@ -131,7 +131,7 @@ queued-by events id end event bio is ends after within needed logging =
         order = omega arith;
       }
       | inr plain ↦
-          let found = need-found events id end event within after (ap (λ there. recorded events end there event (slice_get events event)) is ∙ needed) in record {
+          let found = need-found events id end event within after (ap (λ there. log_writes_order events end there event (slice_get events event)) is ∙ needed) in record {
             first_event = found.0;
             queued = plain-queue_event events id end bio is plain ends ∙ ap (unless_stopped stop) found.1 ∙ in-time stop found.0 event logging found.2;
             order = found.2;
@@ -140,7 +140,7 @@ queued-by events id end event bio is ends after within needed logging =
 
 -- the end of a flush needs what ended before its submission
 flush-needs : (events : List CoreEvent) (flush flush_end end : ℕ) (bio last : Bio) → slice_get events flush ≡ Some (Submit last) → has_flush last ≡ true
-    → end_of events flush ≡ Some flush_end → end < flush → recorded events end (Some (Submit bio)) flush_end (slice_get events flush_end) ≡ true
+    → end_of events flush ≡ Some flush_end → end < flush → log_writes_order events end (Some (Submit bio)) flush_end (slice_get events flush_end) ≡ true
 flush-needs events flush flush_end end bio last is has ends less =
     let there = ends-there events flush flush_end ends in
     needing-recorded events end bio flush_end (slice_get events flush_end) (record {
@@ -155,7 +155,7 @@ flush-needs events flush flush_end end bio last is has ends less =
 
 -- a durable request is queued before the moment
 pub durable-queued : (events : List CoreEvent) (moment sector id : ℕ) → IsMoment events moment → IsDurableBefore events moment sector id
-    → (event : ℕ) × (queue_event recorded events id ≡ Some event) × (event < moment)
+    → (event : ℕ) × (queue_event log_writes_order events id ≡ Some event) × (event < moment)
 durable-queued events moment sector id safe durable =
     let there = durable.there in
     let bio = there.bio in
@@ -212,18 +212,18 @@ own-needs events earlier later event found own = elim found.why [
 
 -- what a request finds is needed by the event that queues it
 found-needed : (events : List CoreEvent) (earlier later end event : ℕ) → (found : IsFound events earlier later) → end_of events later ≡ Some end
-    → queue_of recorded events later (slice_get events later) ≡ Some event
-    → (recorded events found.end (Some (Submit found.first)) event (slice_get events event) ≡ true) × (found.end < event)
+    → queue_of log_writes_order events later (slice_get events later) ≡ Some event
+    → (log_writes_order events found.end (Some (Submit found.first)) event (slice_get events event) ≡ true) × (found.end < event)
 found-needed events earlier later end event found ends queued =
     let second = found.second in
     let there = ends-there events later end ends in
-    let of_second = ap (queue_of recorded events later) (sym found.second_is) ∙ queued in
+    let of_second = ap (queue_of log_writes_order events later) (sym found.second_is) ∙ queued in
     elim (bool_cases (has_flush second || has_fua second)) [
       | inl own ↦
           let by_own : Some end ≡ Some event =
-          sym ends ∙ sym (ap (λ b. if b then end_of events later else first_need recorded events later (end_of events later)) own) ∙ of_second in
+          sym ends ∙ sym (ap (λ b. if b then end_of events later else first_need log_writes_order events later (end_of events later)) own) ∙ of_second in
           let same : end ≡ event = cc in
-          let P : ℕ → Type 0 = λ e. (recorded events found.end (Some (Submit found.first)) e (slice_get events e) ≡ true) × (found.end < e) in
+          let P : ℕ → Type 0 = λ e. (log_writes_order events found.end (Some (Submit found.first)) e (slice_get events e) ≡ true) × (found.end < e) in
           subst P same (
             needing-recorded events found.end found.first end (slice_get events end) (record {
               id = later;
@@ -237,12 +237,12 @@ found-needed events earlier later end event found ends queued =
             (let a = found.before in let b = there.1 in omega arith),
           )
       | inr plain ↦
-          let need : first_need recorded events later (Some end) ≡ Some event =
-          sym (ap (first_need recorded events later) ends)
-          ∙ sym (ap (λ b. if b then end_of events later else first_need recorded events later (end_of events later)) plain)
+          let need : first_need log_writes_order events later (Some end) ≡ Some event =
+          sym (ap (first_need log_writes_order events later) ends)
+          ∙ sym (ap (λ b. if b then end_of events later else first_need log_writes_order events later (end_of events later)) plain)
           ∙ of_second in
-          let first = first_below-found (λ p. nat_lt end p && recorded events end (slice_get events later) p (slice_get events p)) (length events) event need in
-          let parts = and_parts (nat_lt end event) (recorded events end (slice_get events later) event (slice_get events event)) first.here in
+          let first = first_below-found (λ p. nat_lt end p && log_writes_order events end (slice_get events later) p (slice_get events p)) (length events) event need in
+          let parts = and_parts (nat_lt end event) (log_writes_order events end (slice_get events later) event (slice_get events event)) first.here in
           let after = ltb-true end event parts.0 in
           let rises : found.end < end = let a = found.before in let b = there.1 in omega arith in (
             recorded-earlier events found.end end later event found.first second (slice_get events event)
@@ -254,7 +254,7 @@ found-needed events earlier later end event found ends queued =
                   plain = ap (λ b. not b) plain;
                 })
                 rises after (meets plain found.why)
-                (ap (λ s. recorded events end s event (slice_get events event)) (sym found.second_is) ∙ parts.1),
+                (ap (λ s. log_writes_order events end s event (slice_get events event)) (sym found.second_is) ∙ parts.1),
             omega arith,
           )
     ]
@@ -265,13 +265,13 @@ found-needed events earlier later end event found ends queued =
     meets plain (inr flush) = absurd (let own = ap (λ b. b || has_fua found.second) flush in let contra : true ≡ false = sym own ∙ plain in cc)
 
 -- What a queued request finds is queued by the same event or before it.
-pub found-queued : (events : List CoreEvent) (earlier later event : ℕ) → (found : IsFound events earlier later) → queue_event recorded events later ≡ Some event
+pub found-queued : (events : List CoreEvent) (earlier later event : ℕ) → (found : IsFound events earlier later) → queue_event log_writes_order events later ≡ Some event
     → IsQueuedBy events earlier event
 found-queued events earlier later event found queued = elim (option_cases (end_of events later)) [
   | inl endless ↦ absurd (let none = open-queue_event events later found.second found.second_is endless in cc)
   | inr some ↦
       let stop = first_place is_stop events in
-      let at = unstopped stop (queue_of recorded events later (slice_get events later)) event queued in
+      let at = unstopped stop (queue_of log_writes_order events later (slice_get events later)) event queued in
       let needed = found-needed events earlier later some.0 event found some.1 at in
       queued-by events earlier found.end event found.first found.first_is found.ends needed.1 (queued-within events later event queued) needed.0
       (ap (unless_stopped stop) (sym at) ∙ queued)

@@ -1,3 +1,4 @@
+-- The lemmas of `pending`; the proof of a function stands in the folder of its source file.
 pub mod Passing
 pub mod Linked
 pub mod Rows
@@ -26,4 +27,4 @@ pub mod Durable
 pub mod Words
 pub mod Possibles
 pub mod OrderedRows
-pub mod Refused
+pub mod Counterexamples

@@ -8,7 +8,7 @@ use Rattle.bio.specs.declared.request.Bio.{Bio}
 use Rattle.bio.specs.declared.request.Bio.TheVariants.{Write, Flush}
 use Rattle.pending.specs.Chains.{AtFua, Chain, Direct, EndsPlain, IsFirstNeed, IsNeed, Through}
 use Rattle.pending.specs.Moments.{last_moment}
-use Rattle.pending.specs.QueueEvent.{ends_plain, is_linked, recorded}
+use Rattle.pending.specs.QueueEvent.{ends_plain, is_linked, log_writes_order}
 use Rattle.pending.specs.declared.row.PendingEntry.{PendingEntry}
 use Rattle.pending.specs.inside.Releasing.{is_beyond, is_taken, kept_from, lies_in, queues_itself, ranges_meet, taken_from}
 use Rattle.log_format.specs.Entries.{entry_of}
@@ -57,7 +57,7 @@ too-late told =
 need : IsNeed linked 3 (wide 5 1024) 7
 need = AtFua 6 true last refl (omega arith) refl refl chain
 
-no-need : (place : ℕ) → recorded linked 3 (Some (Submit (wide 5 1024))) place (slice_get linked place) ≡ false → IsNeed linked 3 (wide 5 1024) place → ⊥
+no-need : (place : ℕ) → log_writes_order linked 3 (Some (Submit (wide 5 1024))) place (slice_get linked place) ≡ false → IsNeed linked 3 (wide 5 1024) place → ⊥
 no-need place none told =
     let is = need-recorded linked 3 (wide 5 1024) place told in
     let contra : true ≡ false = sym is ∙ none in

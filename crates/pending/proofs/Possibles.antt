@@ -19,7 +19,7 @@ use Rattle.bio.specs.Possible.{PossibleAt, covers_at, ended_ok, has_kept, is_dur
 use Rattle.log_format.specs.declared.entry.Entry.{Entry}
 use Rattle.log_format.specs.Entries.{is_sector_size}
 use Rattle.log_format.specs.Replay.{replay}
-use Rattle.pending.specs.QueueEvent.{queue_event, recorded}
+use Rattle.pending.specs.QueueEvent.{queue_event, log_writes_order}
 use Rattle.pending.specs.CompletionList.{Item, completion_list, dm_log_writes, entry_at}
 use Rattle.pending.specs.Moments.{last_moment}
 use Rattle.pending.specs.Beginnings.{BelongsTo, entries_of}
@@ -116,7 +116,7 @@ durable-of events moment sector id within inside kept =
     }
 
 -- the entry of what is queued before a moment stands among those queued by then
-stands-before : (size : ℕ) (events : List CoreEvent) (moment id event : ℕ) → moment ≤ length events → queue_event recorded events id ≡ Some event → event < moment
+stands-before : (size : ℕ) (events : List CoreEvent) (moment id event : ℕ) → moment ≤ length events → queue_event log_writes_order events id ≡ Some event → event < moment
     → (k : ℕ) × (slice_get (completion_list (dm_log_writes size) events) k ≡ Some (id, entry_at size (slice_get (take moment events) id)))
     × (k < length (completion_list (dm_log_writes size) (take moment events)))
 stands-before size events moment id event within queued less =
@@ -135,7 +135,7 @@ stands-before size events moment id event within queued less =
 -- What an item of the first so many is: queued by a moment's next event at the latest, and submitted before the moment.
 record IsItemBy (size : ℕ) (events : List CoreEvent) (moment : ℕ) (item : Item) : Type 0 where
   event : ℕ
-  queued : queue_event recorded events item.0 ≡ Some event
+  queued : queue_event log_writes_order events item.0 ≡ Some event
   entry : item.1 ≡ entry_at size (slice_get events item.0)
   by_then : event ≤ moment
 
@@ -164,7 +164,7 @@ item-by size events moment k item well_formed is inside =
 
 -- what is queued by a moment's next event was submitted before the moment
 item-before : (events : List CoreEvent) (moment id : ℕ) (bio : Bio) (event : ℕ) → is_well_formed events ≡ true → slice_get events id ≡ Some (Submit bio)
-    → queue_event recorded events id ≡ Some event → event ≤ moment → id < moment
+    → queue_event log_writes_order events id ≡ Some event → event ≤ moment → id < moment
 item-before events moment id bio event well_formed is queued by_then = elim (option_cases (end_of events id)) [
   | inl endless ↦ absurd (let none = open-queue_event events id bio is endless in cc)
   | inr some ↦

@@ -8,7 +8,7 @@ use Rattle.bio.specs.declared.request.Bio.{Bio}
 use Rattle.bio.specs.declared.request.Bio.TheVariants.{Write, Flush, Discard}
 use Rattle.bio.specs.Lawful.{is_lawful}
 use Rattle.log_format.specs.Entries.{entry_of, mark_entry, end_mark, no_flags}
-use Rattle.pending.specs.QueueEvent.{is_linked, recorded, queue_event}
+use Rattle.pending.specs.QueueEvent.{is_linked, log_writes_order, queue_event}
 use Rattle.pending.specs.CompletionList.{dm_log_writes, completion_list}
 
 -- a write of one sector of a byte
@@ -65,7 +65,7 @@ pub flush_overtakes-list : completion_list (dm_log_writes 512) flush_overtakes
     ≡ (0, entry_of 512 (write 5 97)) ∷ (3, entry_of 512 Flush) ∷ (5, entry_of 512 (fua_write 9 99)) ∷ (2, entry_of 512 Flush) ∷ (8, end_mark) ∷ []
 flush_overtakes-list = refl
 
-pub flush_overtakes-event : queue_event recorded flush_overtakes 0 ≡ Some 4
+pub flush_overtakes-event : queue_event log_writes_order flush_overtakes 0 ≡ Some 4
 flush_overtakes-event = refl
 
 abbrev linked_writes : List CoreEvent

@@ -13,7 +13,7 @@ use Rattle.bio.specs.EventLaws.{well_formed-end}
 use Rattle.bio.specs.RequestLaws.{is_before-end}
 use Rattle.pending.specs.Chains.{AtClose, AtFlush, AtFua, Chain, Direct, IsFirstNeed, IsNeed, Through}
 use Rattle.pending.specs.CompletionList.{IsListedAt, completion_list, dm_log_writes}
-use Rattle.pending.specs.QueueEvent.{is_linked, queue_event, recorded, unless_stopped}
+use Rattle.pending.specs.QueueEvent.{is_linked, queue_event, log_writes_order, unless_stopped}
 use Rattle.pending.proofs.Durable.{found-stands}
 use Rattle.pending.proofs.Ends.{ends-there, flush_submit-some, plain-queue_event}
 use Rattle.pending.proofs.Linked.{linked-cases, linked-here, linked-step, needed-flush, needed-linked, needing-recorded, recorded-cases}
@@ -45,8 +45,8 @@ linked-chain events last place (suc n) end bio h = elim (linked-cases events las
 
 -- an event that needs a request, by the rule
 pub need-recorded : (events : List CoreEvent) (end : ℕ) (bio : Bio) (place : ℕ) → IsNeed events end bio place
-    → recorded events end (Some (Submit bio)) place (slice_get events place) ≡ true
-need-recorded events end bio place (AtClose is) = ap (recorded events end (Some (Submit bio)) place) is
+    → log_writes_order events end (Some (Submit bio)) place (slice_get events place) ≡ true
+need-recorded events end bio place (AtClose is) = ap (log_writes_order events end (Some (Submit bio)) place) is
 need-recorded events end bio place (AtFlush id ok last is earlier submitted has rises) =
     needing-recorded events end bio place (slice_get events place) (record {
       id = id;
@@ -69,7 +69,7 @@ need-recorded events end bio place (AtFua id ok last is earlier submitted has ch
     })
 
 -- and the other way round
-recorded-need : (events : List CoreEvent) (end : ℕ) (bio : Bio) (place : ℕ) → recorded events end (Some (Submit bio)) place (slice_get events place) ≡ true
+recorded-need : (events : List CoreEvent) (end : ℕ) (bio : Bio) (place : ℕ) → log_writes_order events end (Some (Submit bio)) place (slice_get events place) ≡ true
     → IsNeed events end bio place
 recorded-need events end bio place h = elim (recorded-cases events end bio place (slice_get events place) h) [
   | inl closes ↦ AtClose closes
@@ -85,25 +85,25 @@ recorded-need events end bio place h = elim (recorded-cases events end bio place
 
 -- the test of an event that doesn't need the request
 no-need : (events : List CoreEvent) (id end k : ℕ) (bio : Bio) → slice_get events id ≡ Some (Submit bio) → (end < k → IsNeed events end bio k → ⊥)
-    → (nat_lt end k && recorded events end (slice_get events id) k (slice_get events k)) ≡ false
-no-need events id end k bio is none = elim (bool_cases (nat_lt end k && recorded events end (slice_get events id) k (slice_get events k))) [
+    → (nat_lt end k && log_writes_order events end (slice_get events id) k (slice_get events k)) ≡ false
+no-need events id end k bio is none = elim (bool_cases (nat_lt end k && log_writes_order events end (slice_get events id) k (slice_get events k))) [
   | inl needed ↦
-      let parts = and_parts (nat_lt end k) (recorded events end (slice_get events id) k (slice_get events k)) needed in
-      absurd (none (ltb-true end k parts.0) (recorded-need events end bio k (ap (λ there. recorded events end there k (slice_get events k)) (sym is) ∙ parts.1)))
+      let parts = and_parts (nat_lt end k) (log_writes_order events end (slice_get events id) k (slice_get events k)) needed in
+      absurd (none (ltb-true end k parts.0) (recorded-need events end bio k (ap (λ there. log_writes_order events end there k (slice_get events k)) (sym is) ∙ parts.1)))
   | inr other ↦ other
 ]
 
 -- a plain request is queued by the first event that needs it
 pub first-need-queues : (events : List CoreEvent) (id end event : ℕ) (bio : Bio) → slice_get events id ≡ Some (Submit bio) → has_flush bio ≡ false
     → has_fua bio ≡ false → end_of events id ≡ Some end → IsFirstNeed events end bio event
-    → queue_event recorded events id ≡ unless_stopped (first_place is_stop events) (Some event)
+    → queue_event log_writes_order events id ≡ unless_stopped (first_place is_stop events) (Some event)
 first-need-queues events id end event bio is no_flush no_fua ends first =
     plain-queue_event events id end bio is (ap (λ b. b || has_fua bio) no_flush ∙ no_fua) ends
     ∙ ap (unless_stopped (first_place is_stop events)) (
-    is_first_below (λ k. nat_lt end k && recorded events end (slice_get events id) k (slice_get events k)) (length events) event (record {
+    is_first_below (λ k. nat_lt end k && log_writes_order events end (slice_get events id) k (slice_get events k)) (length events) event (record {
       within = first.within;
-      here = ap (λ b. b && recorded events end (slice_get events id) event (slice_get events event)) (lt-ltb end event first.after)
-          ∙ ap (λ there. recorded events end there event (slice_get events event)) is
+      here = ap (λ b. b && log_writes_order events end (slice_get events id) event (slice_get events event)) (lt-ltb end event first.after)
+          ∙ ap (λ there. log_writes_order events end there event (slice_get events event)) is
           ∙ need-recorded events end bio event first.needs;
       before = λ k less. no-need events id end k bio is (λ after need. first.first k after less need);
     }))
@@ -111,11 +111,11 @@ first-need-queues events id end event bio is no_flush no_fua ends first =
 -- and not at all where none does
 pub no-need-unqueued : (events : List CoreEvent) (id end : ℕ) (bio : Bio) → slice_get events id ≡ Some (Submit bio) → has_flush bio ≡ false
     → has_fua bio ≡ false → end_of events id ≡ Some end → ((event : ℕ) → end < event → event < length events → IsNeed events end bio event → ⊥)
-    → queue_event recorded events id ≡ None
+    → queue_event log_writes_order events id ≡ None
 no-need-unqueued events id end bio is no_flush no_fua ends none =
     plain-queue_event events id end bio is (ap (λ b. b || has_fua bio) no_flush ∙ no_fua) ends
     ∙ ap (unless_stopped (first_place is_stop events)) (
-    none_first_below (λ k. nat_lt end k && recorded events end (slice_get events id) k (slice_get events k)) (length events)
+    none_first_below (λ k. nat_lt end k && log_writes_order events end (slice_get events id) k (slice_get events k)) (length events)
     (λ k within. no-need events id end k bio is (λ after need. none k after within need)))
     ∙ unless_stopped-none (first_place is_stop events)
 

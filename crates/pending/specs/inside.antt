@@ -1,3 +1,4 @@
+-- The definitions of `pending` that its proofs alone use: no other crate cites them.
 pub mod Releasing
 pub mod Requests
 pub mod Waiting

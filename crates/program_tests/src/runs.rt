@@ -1,4 +1,4 @@
-//! What `record` and `rehearse` answer, beside what a transcript shows.
+//! What `record` and `events_of_run` answer, beside what a transcript shows.
 use crate::commands::with_semicolons;
 use blockdev::BlockDev;
 use dmlw_script::{Script, read_script};
@@ -39,7 +39,7 @@ fn ended_text(
     rt: &impl Abort,
     alloc: Global,
     sectors: u64,
-    done: Result<Recorded, RunError>,
+    done: Result<RunResult, RunError>,
 ) -> Result<String, AllocError> {
     match done {
         Ok(recorded) => {
@@ -84,7 +84,7 @@ fn rehearsed(alloc: Global, text: &str) -> Result<String, Fail> {
 // The same as a number and an error.
 fn count_events(alloc: Global, text: &str) -> Result<Result<usize, RunError>, Fail> {
     let script = read_script(alloc, text.as_bytes())?;
-    let rehearsed = rehearse(alloc, text.as_bytes(), &script);
+    let rehearsed = events_of_run(alloc, text.as_bytes(), &script);
     Ok(rehearsed.map(|rehearsed| rehearsed.events().len()))
 }
 

@@ -1,2 +1,3 @@
+-- The definitions that the contracts of `refusals` are written in.
 pub mod Table
 pub mod Texts

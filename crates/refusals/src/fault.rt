@@ -1,3 +1,4 @@
+//! What a user reads of a refusal: its number and name, and for a script the line that is at fault.
 ghost use Rattle.std.specs.Prelude.{◌≡◌, Some};
 ghost use Rattle.refusals.specs.Texts.{fault_text, without_line};
 

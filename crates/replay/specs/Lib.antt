@@ -1,3 +1,4 @@
+-- The definitions that the contracts of `replay` are written in.
 pub use Rattle.blockdev.specs.InTurn
 pub use Rattle.log_format.specs.Replay
 pub use Rattle.log_reader.specs.Reads

@@ -1,3 +1,4 @@
+//! Why a command ended before its time, whichever error it came from; the commands answer it.
 ghost use Rattle.std.specs.Prelude.{◌≡◌, Some};
 ghost use Rattle.std.specs.IoError.{error_kind};
 ghost use Rattle.refusals.specs.Texts.{without_line};

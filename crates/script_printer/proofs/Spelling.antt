@@ -1,3 +1,4 @@
+-- The text of a script is that of its parts, one after another: `print_script` writes it in three.
 use Rattle.std.proofs.Common.{◌≡◌, ℕ, List, [], ◌∷◌, ◌++◌, Option, Some, None, ap, ◌∙◌, sym, append_assoc}
 use Rattle.std.specs.Prelude.{decimal, flat_map, map}
 use Rattle.std.proofs.lemmas.List.{append-nil}
@@ -5,12 +6,12 @@ use Rattle.std.proofs.lemmas.List.Concat.{flat_map-append}
 use Rattle.bio.specs.declared.sector_size.SectorSize.{SectorSize}
 use Rattle.dmlw_script.specs.CanonicalText.{ended_line, ending_text, canonical_text}
 use Rattle.dmlw_script.specs.Grammar.{spaced}
-use Rattle.dmlw_script.specs.Plans.{head_of, lines_behind_head, lines_of_body, with_ending, Disk, Plan}
-use Rattle.dmlw_script.specs.Said.{Said}
-use Rattle.dmlw_script.specs.Said as parsed_lines
+use Rattle.dmlw_script.specs.Plans.{head_of, lines_behind_head, lines_of_body, with_ending, Disk, ScriptValue}
+use Rattle.dmlw_script.specs.LineMeaning.{LineMeaning}
+use Rattle.dmlw_script.specs.LineMeaning as parsed_lines
 
 -- the text of lines and of the crash behind them
-ending_spelled : (ending : Option (List ℕ)) (ss : List Said) → flat_map ended_line (with_ending ending ss) ≡ flat_map ended_line ss ++ ending_text ending
+ending_spelled : (ending : Option (List ℕ)) (ss : List LineMeaning) → flat_map ended_line (with_ending ending ss) ≡ flat_map ended_line ss ++ ending_text ending
 ending_spelled None ss = sym (append-nil (flat_map ended_line ss))
 ending_spelled (Some picks) ss =
     flat_map-append ended_line ss (parsed_lines.Crash picks ∷ [])
@@ -22,7 +23,7 @@ picks_spelled word [] = sym (append-nil word)
 picks_spelled word (pick ∷ picks) = ap (λ (x : List ℕ). word ++ 32 ∷ x) (picks_spelled (decimal pick) picks)
 
 -- a text that is written in three parts, from nothing, is the script's
-pub text_in_parts : (plan : Plan) (d l : Disk) (size : SectorSize) (start head body whole : List ℕ) → d ≡ plan.data_disk → l ≡ plan.log_disk → size ≡ plan.log_size → start ≡ [] → head ≡ start ++ flat_map ended_line (head_of d l size)
+pub text_in_parts : (plan : ScriptValue) (d l : Disk) (size : SectorSize) (start head body whole : List ℕ) → d ≡ plan.data_disk → l ≡ plan.log_disk → size ≡ plan.log_size → start ≡ [] → head ≡ start ++ flat_map ended_line (head_of d l size)
     → body ≡ head ++ flat_map ended_line (lines_of_body plan.names 0 plan.commands) → whole ≡ body ++ ending_text plan.ending → whole ≡ canonical_text plan
 text_in_parts plan d l size start head body whole is_data is_log is_size none is_head is_body is_whole =
     let lines = lines_of_body plan.names 0 plan.commands in

@@ -4,7 +4,7 @@ ghost use Rattle.dmlw_script.specs.Ids.{letters_of};
 
 use dmlw_script::ScriptId;
 use std::alloc::AllocError;
-use words::push_number;
+use text_words::push_number;
 
 // A line's first word and space, and a number.
 pub(crate) fn push_value(out: &mut Vec<u8>, verb: &[u8], number: u64) -> Result<(), AllocError>

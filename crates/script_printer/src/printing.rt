@@ -1,7 +1,7 @@
 //! Prints a recorder's script: `print_script` gives its one text.
 ghost use Rattle.std.specs.Prelude.{◌≡◌, ◌<◌, ◌+◌, ◌^◌, ◌++◌, flat_map, length, IfOk, OnOk};
 ghost use Rattle.dmlw_script.specs.Grammar.{IsTextOf};
-ghost use Rattle.dmlw_script.specs.Said as parsed_lines;
+ghost use Rattle.dmlw_script.specs.LineMeaning as parsed_lines;
 ghost use Rattle.dmlw_script.specs.Plans.{count_after_command, lines_of_body, line_at, HasName};
 ghost use Rattle.dmlw_script.specs.CanonicalText.{ended_line, ending_text, line_text, canonical_text};
 
@@ -11,7 +11,7 @@ use crate::steps::push_step;
 use crate::submissions::push_submission;
 use dmlw_script::{Command, Script, ScriptId};
 use std::alloc::{AllocError, Global};
-use words::push_number;
+use text_words::push_number;
 
 /// The one text of a script: no comments, no empty lines, no leading zeroes, and a line feed
 /// after each line. Reading it gives the same script.

@@ -23,7 +23,7 @@ use Rattle.recorder.specs.declared.reply.Reply.TheVariants as replies
 use Rattle.bio.specs.Lawful.{is_recording, is_text}
 use Rattle.recorder.specs.declared.reply.Reply.{Reply}
 use Rattle.recorder.specs.Calls.{Marks, Submits}
-use Rattle.recorder.specs.Recording.{EventsGrow}
+use Rattle.recorder.specs.RecorderView.{EventsGrow}
 use Rattle.script_runner.specs.declared.request.Request.{Request}
 use Rattle.script_runner.specs.declared.request.Request.TheVariants as requests
 use Rattle.script_runner.specs.declared.running.Running.{Running}

@@ -19,7 +19,7 @@ use Rattle.dmlw_script.specs.declared.command.Step.{Step}
 use Rattle.dmlw_script.specs.declared.command.Step.TheVariants as steps
 use Rattle.dmlw_script.specs.declared.disk_name.DiskName.TheVariants as disks
 use Rattle.dmlw_script.specs.declared.script_id.ScriptId.{ScriptId}
-use Rattle.dmlw_script.specs.Plans.{IsPlan, IsWellFormed, Plan, name_at, top_of}
+use Rattle.dmlw_script.specs.Plans.{IsPlan, IsWellFormed, ScriptValue, name_at, top_of}
 use Rattle.pending.specs.CoreState.{CoreState, added_to, records, stopped_by}
 use Rattle.recorder.specs.declared.recorder.Recorder.{Recorder}
 use Rattle.recorder.specs.declared.reply.Reply.{Reply}
@@ -209,7 +209,7 @@ lines_within {D} {L} {d} {l} m bytes sectors names before (commands.Step step �
     (step_within {d = d} {l = l} m sectors step ran.1 old ran.0 ran.4.does within)
 
 -- the events of a script's run are lawful
-pub run_lawful : (plan : Plan) (text : List ℕ) (start last : DiskRun) → IsPlan plan → Starts plan start → RunsLines stack_answering plan.names plan.commands text start last
+pub run_lawful : (plan : ScriptValue) (text : List ℕ) (start last : DiskRun) → IsPlan plan → Starts plan start → RunsLines stack_answering plan.names plan.commands text start last
     → is_well_formed (core_of last.recorder).events ≡ true → is_lawful (top_of plan.data_disk) (core_of last.recorder).events ≡ true
 run_lawful plan text start last is starts ran well_formed =
     let none : AreWithin (top_of plan.data_disk) (core_of start.recorder).events =

@@ -1,3 +1,4 @@
+-- The lemmas of `script_runner`; the proof of a function stands in the folder of its source file.
 mod Printing
 mod Stepping
 mod Submitting
@@ -12,4 +13,4 @@ mod Plays
 mod Following
 mod Bare
 mod LawfulRuns
-mod Refused
+mod Counterexamples

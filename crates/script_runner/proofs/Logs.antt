@@ -16,30 +16,30 @@ use Rattle.script_runner.specs.Written.{IsWritten}
 use Rattle.bio.specs.Lawful.{has_no_close}
 use Rattle.log_store.specs.Calls.{Same}
 use Rattle.pending.specs.CoreState.{CoreState}
-use Rattle.recorder.specs.Recording.{log_of}
+use Rattle.recorder.specs.RecorderView.{log_of}
 use Rattle.script_runner.proofs.Writing.{kept_close, kept_complete, kept_mark, kept_submit, kept_turn}
 use Rattle.blockdev.specs.declared.device.BlockDev.{Ghosts}
 use Rattle.dmlw_script.specs.declared.command.Command.{Command}
 use Rattle.dmlw_script.specs.declared.script_id.ScriptId.{ScriptId}
 use Rattle.recorder.specs.declared.recorder.Recorder.{Recorder}
-use Rattle.recorder.specs.Growth.{RecorderGoes}
-use Rattle.recorder.specs.Shown.{core_of, recording_of}
+use Rattle.recorder.specs.Growth.{RecorderFrame}
+use Rattle.recorder.specs.Shown.{core_of, recorder_view}
 use Rattle.script_runner.specs.declared.running.Running.{Running}
 use Rattle.script_runner.specs.Runs.{RunsLines}
 
 -- no call of a recorder goes, and two calls go as one
 abbrev pub GoesNone : {L : Type 0} → (l : Ghosts L) → Type 0
-GoesNone {L} l = (r : Recorder L l) → RecorderGoes (recording_of r) (recording_of r)
+GoesNone {L} l = (r : Recorder L l) → RecorderFrame (recorder_view r) (recorder_view r)
 
 abbrev pub GoesTwice : {L : Type 0} → (l : Ghosts L) → Type 0
-GoesTwice {L} l = (old mid new : Recorder L l) → RecorderGoes (recording_of old) (recording_of mid) → RecorderGoes (recording_of mid) (recording_of new)
-    → RecorderGoes (recording_of old) (recording_of new)
+GoesTwice {L} l = (old mid new : Recorder L l) → RecorderFrame (recorder_view old) (recorder_view mid) → RecorderFrame (recorder_view mid) (recorder_view new)
+    → RecorderFrame (recorder_view old) (recorder_view new)
 
 -- the lines of a script go as one call
 pub lines_go : {D L : Type 0} {d : Ghosts D} {l : Ghosts L} → GoesNone l → GoesTwice l → (m : Answering D L) (names : List ScriptId) (body : List Command) (text : List ℕ) (old new : Running D L d l)
-    → RunsLines m names body text old new → RecorderGoes (recording_of old.recorder) (recording_of new.recorder)
+    → RunsLines m names body text old new → RecorderFrame (recorder_view old.recorder) (recorder_view new.recorder)
 lines_go {D} {L} {d} {l} none twice m names [] text old new ran =
-    subst (λ (end : Running D L d l). RecorderGoes (recording_of old.recorder) (recording_of end.recorder)) (sym ran.1) (none old.recorder)
+    subst (λ (end : Running D L d l). RecorderFrame (recorder_view old.recorder) (recorder_view end.recorder)) (sym ran.1) (none old.recorder)
 lines_go none twice m names (command ∷ body) text old new ran =
     twice old.recorder ran.0.recorder new.recorder ran.4.goes (lines_go none twice m names body ran.2 ran.0 new ran.5)
 
@@ -65,7 +65,7 @@ found_written {D} {L} {d} {l} (Some (requests.Asked bio id)) name text old new d
 
 -- so does what leaves the core and the log as they are
 moment_written : {L : Type 0} {l : Ghosts L} (old new : Recorder L l) → core_of new ≡ core_of old → new.end ≡ old.end
-    → Same (recording_of old).store (recording_of new).store → IsWritten old → IsWritten new
+    → Same (recorder_view old).store (recorder_view new).store → IsWritten old → IsWritten new
 moment_written {L} {l} old new core end same written = λ closed on.
     let placed = written (sym (ap (λ (c : CoreState). has_no_close c.events) core) ∙ closed) (sym end ∙ on) in
     same.placed ∙ placed ∙ ap (λ (c : CoreState). length (log_of c)) (sym core)

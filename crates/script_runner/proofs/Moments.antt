@@ -3,14 +3,14 @@ use Rattle.std.proofs.Common.{◌≡◌, ◌∙◌, ℕ, List, [], ◌∷◌, ap
 use Rattle.blockdev.specs.declared.device.BlockDev.{Ghosts}
 use Rattle.dmlw_script.specs.declared.command.Command.{Command}
 use Rattle.dmlw_script.specs.declared.script_id.ScriptId.{ScriptId}
-use Rattle.dmlw_script.specs.Plans.{Plan, moment_at}
+use Rattle.dmlw_script.specs.Plans.{ScriptValue, moment_at}
 use Rattle.script_runner.specs.declared.running.Running.{Running}
 use Rattle.script_runner.specs.Lines.{Answering}
 use Rattle.script_runner.specs.OnDisks.{DiskRun, Starts}
 use Rattle.script_runner.specs.Runs.{RunsLines}
 
 -- before the first line both are 0
-pub started_together : (plan : Plan) (run : DiskRun) → Starts plan run → run.recorder.store.moment ≡ run.moment
+pub started_together : (plan : ScriptValue) (run : DiskRun) → Starts plan run → run.recorder.store.moment ≡ run.moment
 started_together plan run starts = starts.log_disk.begun.moment ∙ sym starts.moment
 
 -- each line sets both or keeps both

@@ -8,7 +8,7 @@ use Rattle.bio.specs.declared.sector_size.SectorSize.TheVariants as sizes
 use Rattle.sectors.specs.Content.{AgreeBelow, Content, gather, sector_of, writes}
 use Rattle.sectors.specs.SectorLaws.{length-gather, sector_of-gather}
 use Rattle.blockdev.specs.declared.device.BlockDev.{Ghosts}
-use Rattle.blockdev.specs.Law.{Goes}
+use Rattle.blockdev.specs.Law.{DeviceFrame}
 use Rattle.blockdev.specs.View.{Place}
 use Rattle.layer_table.specs.declared.stack.Stack.{Stack}
 use Rattle.layer_table.specs.Layers.{disk_of, layers_of, layers_under, stack_shown, AreOver, IsSeenAs, Layer}
@@ -31,13 +31,13 @@ use Rattle.log_store.specs.Shown.{store_of}
 use Rattle.log_store.specs.Store.{entries_of}
 use Rattle.pending.specs.CoreState.{CoreState, sized_state}
 use Rattle.recorder.specs.declared.recorder.Recorder.{Recorder}
-use Rattle.recorder.specs.Growth.{HasWholeLog, RecorderGoes}
-use Rattle.recorder.specs.Recording.{log_of}
+use Rattle.recorder.specs.Growth.{HasWholeLog, RecorderFrame}
+use Rattle.recorder.specs.RecorderView.{log_of}
 use Rattle.recorder.specs.Replayed.{ReplaysToWhatCouldBe}
-use Rattle.recorder.specs.Shown.{core_of, recording_of}
+use Rattle.recorder.specs.Shown.{core_of, recorder_view}
 use Rattle.script_runner.specs.Begun.{IsNewOn}
 use Rattle.script_runner.specs.OnDisks.{DiskRecorder, DiskRun, IsCounted, IsNew, IsRecorded, IsStackOf, Starts, left_on, seen_on, stack_answering, zeroes}
-use Rattle.dmlw_script.specs.Plans.{top_of, Disk, IsDisk, Plan}
+use Rattle.dmlw_script.specs.Plans.{top_of, Disk, IsDisk, ScriptValue}
 use Rattle.script_runner.specs.declared.recording.Lies.{Lies}
 use Rattle.script_runner.specs.Runs.{RunsLines}
 use Rattle.script_runner.specs.Written.{IsWritten}
@@ -89,7 +89,7 @@ stack_place disk stack is = is.over.place ∙ ap (λ (n : ℕ). record { origin 
 
 -- a recorder over a log that was made on a device is new
 pub new_log : {L : Type 0} {l : Ghosts L} (bytes : ℕ) (device : L) (store : LogStore L l) (recorder : Recorder L l)
-    → (store_of store).sector_bytes ≡ bytes → store.placed ≡ 0 → store.moment ≡ 0 → Goes (writes 0 (first_sector bytes 0)) (l.shown device) (l.shown store.device)
+    → (store_of store).sector_bytes ≡ bytes → store.placed ≡ 0 → store.moment ≡ 0 → DeviceFrame (writes 0 (first_sector bytes 0)) (l.shown device) (l.shown store.device)
     → ((l.shown store.device).lies ≡ 0 → (left : Content) → (l.shown store.device).crash left → IsLogOf (l.shown store.device).size left bytes [])
     → (core_of recorder ≡ sized_state (store_of store).sector_bytes) × (recorder.store ≡ store) × (recorder.end ≡ None) → IsNewOn bytes device recorder
 new_log {L} {l} bytes device store recorder size none start goes empty (core, same, end) = record {
@@ -97,7 +97,7 @@ new_log {L} {l} bytes device store recorder size none start goes empty (core, sa
   end = end;
   placed = ap (λ (s : LogStore L l). s.placed) same ∙ none;
   moment = ap (λ (s : LogStore L l). s.moment) same ∙ start;
-  made = subst (λ (s : LogStore L l). Goes (writes 0 (first_sector bytes 0)) (l.shown device) (l.shown s.device)) (sym same) goes;
+  made = subst (λ (s : LogStore L l). DeviceFrame (writes 0 (first_sector bytes 0)) (l.shown device) (l.shown s.device)) (sym same) goes;
   empty = subst (λ (s : LogStore L l). (l.shown s.device).lies ≡ 0 → (left : Content) → (l.shown s.device).crash left → IsLogOf (l.shown s.device).size left bytes [])
       (sym same) empty;
 }
@@ -113,7 +113,7 @@ may_leave None disk = (disk_lawful disk).current
 may_leave (Some picks) disk = picks_leave_one (cache_of disk) picks (is_current (start_of disk) (steps_of disk))
 
 -- a log that is seen of a disk's content is seen of its image too
-image_log : (plan : Plan) (device : Stack) (seen : Content) (image : List ℕ)
+image_log : (plan : ScriptValue) (device : Stack) (seen : Content) (image : List ℕ)
     → bytes_of plan.log_size / 512 ≤ top_of plan.log_disk
     → (stack_shown device).size ≡ top_of plan.log_disk
     → (stack_shown device).place ≡ record { origin = top_origin 0 plan.log_disk.layers; disk = plan.log_disk.sectors }
@@ -155,10 +155,10 @@ new_written : (bytes : ℕ) (disk : Disk) (recorder : DiskRecorder) → IsNew by
 new_written bytes disk recorder new = λ closed on. absurd (let recording = ap (λ (c : CoreState). has_no_close c.events) new.begun.core in cc)
 
 -- what a script's recording leaves
-pub is_recorded : (plan : Plan) (text : List ℕ) (start last : DiskRun) (log : Stack) (status : Status) (lies : Lies) (image : List ℕ) (picks : Option (List ℕ))
+pub is_recorded : (plan : ScriptValue) (text : List ℕ) (start last : DiskRun) (log : Stack) (status : Status) (lies : Lies) (image : List ℕ) (picks : Option (List ℕ))
     → bytes_of plan.log_size / 512 ≤ top_of plan.log_disk
     → Starts plan start → RunsLines stack_answering plan.names plan.commands text start last
-    → RecorderGoes (recording_of start.recorder) (recording_of last.recorder)
+    → RecorderFrame (recorder_view start.recorder) (recorder_view last.recorder)
     → IsCounted status last.recorder
     → ((stack_shown last.recorder.store.device).lies ≡ 0 → status ≡ status_of (core_of last.recorder).sector_bytes (entries_of (store_of last.recorder.store)) last.recorder.end)
     → log ≡ last.recorder.store.device
@@ -167,9 +167,9 @@ pub is_recorded : (plan : Plan) (text : List ℕ) (start last : DiskRun) (log : 
     → picks ≡ plan.ending
     → AgreeBelow (shown_of (disk_of log)).size (left_on picks (disk_of log)) (sector_of image)
     → ((stack_shown last.recorder.store.device).lies ≡ 0 → (left : Content) → (stack_shown last.recorder.store.device).crash left
-    → ReplaysToWhatCouldBe (recording_of last.recorder) (recording_of last.recorder) left)
+    → ReplaysToWhatCouldBe (recorder_view last.recorder) (recorder_view last.recorder) left)
     → (IsWritten start.recorder → last.recorder.end ≡ None → has_no_close (core_of last.recorder).events ≡ false → (stack_shown last.recorder.store.device).lies ≡ 0
-    → HasWholeLog (recording_of last.recorder))
+    → HasWholeLog (recorder_view last.recorder))
     → IsRecorded plan text status lies image
 is_recorded plan text start last log status lies image picks room starts ran goes counted tells same lied count ending agrees reopens whole =
     let device = last.recorder.store.device in

@@ -4,7 +4,7 @@ use Rattle.std.specs.Prelude.{Err, IfOk, Ok, Result}
 use Rattle.bio.specs.Sizes.{bytes_of}
 use Rattle.bio.specs.declared.sector_size.SectorSize.{SectorSize}
 use Rattle.blockdev.specs.declared.device.BlockDev.{Ghosts}
-use Rattle.dmlw_script.specs.Plans.{Disk, Plan}
+use Rattle.dmlw_script.specs.Plans.{Disk, ScriptValue}
 use Rattle.layer_table.specs.declared.stack.Stack.{Stack}
 use Rattle.pending.specs.CoreState.{CoreState}
 use Rattle.recorder.specs.declared.recorder.Recorder.{Recorder}
@@ -21,7 +21,7 @@ use Rattle.script_runner.specs.OnDisks.{stack_answering, DiskRun, FailsOnDisks, 
 use Rattle.script_runner.specs.inside.Played.{FailsPlaying, IsPlayed, StartsBeside, StartsOn, file, run, unmade}
 
 -- what was played from one kind of start was played from another, where each of the one kind is of the other
-pub played_from : {D L : Type 0} {d : Ghosts D} {l : Ghosts L} (m : Answering D L) (plan : Plan) (Start Other : Running D L d l → Type 0) (before after : Option (List ℕ)) (recorder : Recorder L l)
+pub played_from : {D L : Type 0} {d : Ghosts D} {l : Ghosts L} (m : Answering D L) (plan : ScriptValue) (Start Other : Running D L d l → Type 0) (before after : Option (List ℕ)) (recorder : Recorder L l)
     (lies : ℕ) → ((run : Running D L d l) → Start run → Other run) → IsPlayed m plan Start before after recorder lies → IsPlayed m plan Other before after recorder lies
 played_from m plan Start Other before after recorder lies follows played = record {
   start = played.start;
@@ -35,7 +35,7 @@ played_from m plan Start Other before after recorder lies follows played = recor
 }
 
 -- and so does a failure
-pub fails_from : {D L : Type 0} {d : Ghosts D} {l : Ghosts L} (m : Answering D L) (text : List ℕ) (plan : Plan) (Unmade : RunError → Type 0) (Start Other : Running D L d l → Type 0)
+pub fails_from : {D L : Type 0} {d : Ghosts D} {l : Ghosts L} (m : Answering D L) (text : List ℕ) (plan : ScriptValue) (Unmade : RunError → Type 0) (Start Other : Running D L d l → Type 0)
     (before after : Option (List ℕ)) (fault : RunError) → ((run : Running D L d l) → Start run → Other run) → FailsPlaying m text plan Unmade Start before after fault
     → FailsPlaying m text plan Unmade Other before after fault
 fails_from m text plan Unmade Start Other before after fault follows (file f is) = file f is
@@ -43,7 +43,7 @@ fails_from m text plan Unmade Start Other before after fault follows (unmade f i
 fails_from m text plan Unmade Start Other before after fault follows (run start f starts ends) = run start f (follows start starts) ends
 
 -- a run that can't be started fails, and has printed nothing
-pub fails_at_start : {D L : Type 0} {d : Ghosts D} {l : Ghosts L} (m : Answering D L) (text : List ℕ) (plan : Plan) (Unmade : RunError → Type 0) (Start : Running D L d l → Type 0)
+pub fails_at_start : {D L : Type 0} {d : Ghosts D} {l : Ghosts L} (m : Answering D L) (text : List ℕ) (plan : ScriptValue) (Unmade : RunError → Type 0) (Start : Running D L d l → Type 0)
     (known : Option (List ℕ)) (fault : RunError) → (fault ≡ memory_error) ⊎ Unmade fault → FailsPlaying m text plan Unmade Start known known fault
 fails_at_start m text plan Unmade Start known fault (inl memory) = file fault (inr memory)
 fails_at_start m text plan Unmade Start known fault (inr none) = unmade fault none (keeps_same known)
@@ -74,7 +74,7 @@ on_beside bytes disk stack log is now starts = record {
 }
 
 -- a start beside a log's stack is one on two disks
-pub beside_starts : (plan : Plan) (log : Stack) → IsStackOf plan.log_disk log → (run : DiskRun) → StartsBeside (bytes_of plan.log_size) plan.data_disk log run → Starts plan run
+pub beside_starts : (plan : ScriptValue) (log : Stack) → IsStackOf plan.log_disk log → (run : DiskRun) → StartsBeside (bytes_of plan.log_size) plan.data_disk log run → Starts plan run
 beside_starts plan log is now starts = record {
   data_disk = starts.stack;
   log_disk = record { stack = log; blank = is; begun = starts.begun };
@@ -83,14 +83,14 @@ beside_starts plan log is now starts = record {
 }
 
 -- and a failure on it is one on two disks
-pub fails_on_disks : (text : List ℕ) (plan : Plan) (log : Stack) (before after : Option (List ℕ)) (fault : RunError) → IsStackOf plan.log_disk log
+pub fails_on_disks : (text : List ℕ) (plan : ScriptValue) (log : Stack) (before after : Option (List ℕ)) (fault : RunError) → IsStackOf plan.log_disk log
     → FailsPlaying {d = on_stack} {l = on_stack} stack_answering text plan (IsUnmadeOn on_stack (bytes_of plan.log_size) log) (StartsBeside (bytes_of plan.log_size) plan.data_disk log) before after fault → FailsOnDisks text plan before after fault
 fails_on_disks text plan log before after fault is (file f fails) = no_file f fails
 fails_on_disks text plan log before after fault is (unmade f refused kept) = no_log f (record { stack = log; blank = is; refused = refused }) kept
 fails_on_disks text plan log before after fault is (run start f starts ends) = no_run start f (beside_starts plan log is start starts) ends
 
 -- the same of results
-pub all_played : {D L : Type 0} {d : Ghosts D} {l : Ghosts L} (m : Answering D L) (plan : Plan) (Start Other : Running D L d l → Type 0) (before after : Option (List ℕ))
+pub all_played : {D L : Type 0} {d : Ghosts D} {l : Ghosts L} (m : Answering D L) (plan : ScriptValue) (Start Other : Running D L d l → Type 0) (before after : Option (List ℕ))
     (result : Result (Played L l) RunError) → ((run : Running D L d l) → Start run → Other run)
     → IfOk result (λ played. IsPlayed m plan Start before after played.recorder played.data_lies) → IfOk result (λ played. IsPlayed m plan Other before after played.recorder played.data_lies)
 all_played m plan Start Other before after (Err fault) follows holds = tt

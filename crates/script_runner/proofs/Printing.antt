@@ -11,7 +11,7 @@ use Rattle.std.proofs.lemmas.Str.Ascii.{IsAscii-from_all}
 use Rattle.dmlw_script.specs.declared.script_id.ScriptId.{ScriptId}
 use Rattle.dmlw_script.specs.Ids.{is_name_byte, letters_of, script_id}
 use Rattle.dmlw_script.specs.Plans.{IsName}
-use Rattle.words.specs.Words.{before_byte as before_mark}
+use Rattle.text_words.specs.Words.{before_byte as before_mark}
 use Rattle.script_runner.specs.Texts.{outcome_line, outcome_word}
 
 -- a character of an id is ASCII

@@ -10,7 +10,7 @@ use Rattle.dmlw_script.specs.declared.command.Command.{Command}
 use Rattle.dmlw_script.specs.declared.command.Command.TheVariants as commands
 use Rattle.dmlw_script.specs.declared.script_id.ScriptId.{ScriptId}
 use Rattle.dmlw_script.specs.Lines.{command_line}
-use Rattle.dmlw_script.specs.Plans.{head_count, top_of, CanFollow, HasName, IsPlan, Plan, submissions}
+use Rattle.dmlw_script.specs.Plans.{head_count, top_of, CanFollow, HasName, IsPlan, ScriptValue, submissions}
 use Rattle.recorder.specs.Shown.{core_of}
 use Rattle.run_error.specs.declared.run_error.RunError.{RunError}
 use Rattle.run_error.specs.declared.run_error.RunError.TheVariants.{Refused}
@@ -23,18 +23,18 @@ use Rattle.blockdev.specs.Messages.{message_refusal}
 use Rattle.script_runner.proofs.Chaining.{chain_snoc}
 
 -- each command of a script may come after those before it
-abbrev pub IsOrderlyScript : Plan → Type 0
+abbrev pub IsOrderlyScript : ScriptValue → Type 0
 IsOrderlyScript plan = (before : List Command) (command : Command) (rest : List Command) → plan.commands ≡ before ++ command ∷ rest
     → CanFollow (bytes_of plan.log_size) (top_of plan.data_disk) before command
 
 -- The next command of a script, after as many as have run.
-pub record ComesNext (plan : Plan) (place : ℕ) (command : Command) : Type 0 where
+pub record ComesNext (plan : ScriptValue) (place : ℕ) (command : Command) : Type 0 where
   pub rest : List Command
   pub split : plan.commands ≡ take place plan.commands ++ command ∷ rest
   pub comes : CanFollow (bytes_of plan.log_size) (top_of plan.data_disk) (take place plan.commands) command
 
 -- the command at a place comes next
-pub command_next : (plan : Plan) (items : List Command) (place : ℕ) (other : Command) → items ≡ plan.commands → IsOrderlyScript plan → place < length items
+pub command_next : (plan : ScriptValue) (items : List Command) (place : ℕ) (other : Command) → items ≡ plan.commands → IsOrderlyScript plan → place < length items
     → ComesNext plan place (slice_index_or items place other)
 command_next plan items place other same orderly within =
     subst (λ (body : List Command). place < length body → ComesNext plan place (slice_index_or body place other)) (sym same) here within
@@ -78,7 +78,7 @@ submissions_push : (front : List Command) (command : Command) → submissions (f
 submissions_push front command = sum_by-append count_of front (command ∷ []) ∙ ap (λ (n : ℕ). submissions front + n) (omega arith)
 
 -- the request that it submits or ends has a name
-pub next_named : (plan : Plan) (place : ℕ) (command : Command) → IsPlan plan → ComesNext plan place command
+pub next_named : (plan : ScriptValue) (place : ℕ) (command : Command) → IsPlan plan → ComesNext plan place command
     → HasName (length plan.names) (submissions (take place plan.commands)) command
 next_named plan place (commands.Submit submission) is next =
     let all = sum_by-append count_of (take place plan.commands) (commands.Submit submission ∷ next.rest) in
@@ -111,7 +111,7 @@ lines_more m names front command before mid after start now new ran line = (
 )
 
 -- the same, of ids that are the script's
-pub lines_more_of : {D L : Type 0} {d : Ghosts D} {l : Ghosts L} (m : Answering D L) (plan : Plan) (items : List Command) (names : List ScriptId) (place : ℕ) (other : Command)
+pub lines_more_of : {D L : Type 0} {d : Ghosts D} {l : Ghosts L} (m : Answering D L) (plan : ScriptValue) (items : List Command) (names : List ScriptId) (place : ℕ) (other : Command)
     (before mid after : Option (List ℕ)) (start now new : Running D L d l) → items ≡ plan.commands → place < length items → names ≡ plan.names
     → PrintsLines m plan.names (take place plan.commands) before mid start now → PrintsLine m names (slice_index_or items place other) mid after now new
     → PrintsLines m plan.names (take (place + 1) plan.commands) before after start new
@@ -126,7 +126,7 @@ pub count_more : (front : List Command) (command : Command) (old new : ℕ) → 
 count_more front command old new counted more = more ∙ ap (λ (n : ℕ). n + count_of command) counted ∙ sym (submissions_push front command)
 
 -- how many requests were submitted after a line
-pub count_more_of : (plan : Plan) (items : List Command) (place old new : ℕ) (other : Command) → items ≡ plan.commands → place < length items
+pub count_more_of : (plan : ScriptValue) (items : List Command) (place old new : ℕ) (other : Command) → items ≡ plan.commands → place < length items
     → old ≡ submissions (take place plan.commands) → new ≡ old + count_of (slice_index_or items place other)
     → new ≡ submissions (take (place + 1) plan.commands)
 count_more_of plan items place old new other same within counted more =
@@ -139,7 +139,7 @@ pub bytes_more : {D L : Type 0} {d : Ghosts D} {l : Ghosts L} (m : Answering D L
 bytes_more m names command before after old new line had = let ran = line.1 in ran.goes.sector_bytes ∙ had
 
 -- what is asked of a line that comes next
-pub next_line_fits : (plan : Plan) (items : List Command) (place bytes sectors : ℕ) (other : Command) → items ≡ plan.commands → IsOrderlyScript plan → place < length items
+pub next_line_fits : (plan : ScriptValue) (items : List Command) (place bytes sectors : ℕ) (other : Command) → items ≡ plan.commands → IsOrderlyScript plan → place < length items
     → bytes ≡ bytes_of plan.log_size → sectors ≡ top_of plan.data_disk → FitsDevice bytes sectors (slice_index_or items place other)
 next_line_fits plan items place bytes sectors other same orderly within log_size size =
     let next = command_next plan items place other same orderly within in
@@ -147,20 +147,20 @@ next_line_fits plan items place bytes sectors other same orderly within log_size
     (subst (λ (n : ℕ). FitsDevice n (top_of plan.data_disk) (slice_index_or items place other)) (sym log_size)
     (next_fits (bytes_of plan.log_size) (top_of plan.data_disk) (take place plan.commands) (slice_index_or items place other) next.comes))
 
-pub next_line_text : (plan : Plan) (items : List Command) (place : ℕ) (other : Command) → items ≡ plan.commands → IsOrderlyScript plan → place < length items
+pub next_line_text : (plan : ScriptValue) (items : List Command) (place : ℕ) (other : Command) → items ≡ plan.commands → IsOrderlyScript plan → place < length items
     → HasScriptText (slice_index_or items place other)
 next_line_text plan items place other same orderly within =
     let next = command_next plan items place other same orderly within in
     next_text (bytes_of plan.log_size) (top_of plan.data_disk) (take place plan.commands) (slice_index_or items place other) next.comes
 
-pub next_line_submitted : (plan : Plan) (items : List Command) (place requests : ℕ) (other : Command) → items ≡ plan.commands → IsOrderlyScript plan → place < length items
+pub next_line_submitted : (plan : ScriptValue) (items : List Command) (place requests : ℕ) (other : Command) → items ≡ plan.commands → IsOrderlyScript plan → place < length items
     → requests ≡ submissions (take place plan.commands) → EndsSubmitted requests (slice_index_or items place other)
 next_line_submitted plan items place requests other same orderly within counted =
     let next = command_next plan items place other same orderly within in
     subst (λ (n : ℕ). EndsSubmitted n (slice_index_or items place other)) (sym counted)
     (next_submitted (bytes_of plan.log_size) (top_of plan.data_disk) (take place plan.commands) (slice_index_or items place other) next.comes)
 
-pub next_line_named : (plan : Plan) (items : List Command) (names : List ScriptId) (place requests : ℕ) (other : Command) → items ≡ plan.commands → IsPlan plan
+pub next_line_named : (plan : ScriptValue) (items : List Command) (names : List ScriptId) (place requests : ℕ) (other : Command) → items ≡ plan.commands → IsPlan plan
     → IsOrderlyScript plan → place < length items → names ≡ plan.names → requests ≡ submissions (take place plan.commands)
     → HasName (length names) requests (slice_index_or items place other)
 next_line_named plan items names place requests other same is orderly within named counted =
@@ -170,7 +170,7 @@ next_line_named plan items names place requests other same is orderly within nam
     (next_named plan place (slice_index_or items place other) is next))
 
 -- a fault that names no line ends the run
-pub stops_whole : {D L : Type 0} {d : Ghosts D} {l : Ghosts L} (m : Answering D L) (text : List ℕ) (plan : Plan) (command : Command) (before mid after : Option (List ℕ)) (fault : RunError)
+pub stops_whole : {D L : Type 0} {d : Ghosts D} {l : Ghosts L} (m : Answering D L) (text : List ℕ) (plan : ScriptValue) (command : Command) (before mid after : Option (List ℕ)) (fault : RunError)
     (start now : Running D L d l) → StopsLine m command mid after now (Whole fault)
     → EndsRun m text plan before after start fault
 stops_whole m text plan command before mid after fault start now (inl is) = file fault is
@@ -178,7 +178,7 @@ stops_whole m text plan command before mid after fault start now (inr (inl stops
 stops_whole m text plan command before mid after fault start now (inr (inr stops)) = absurd (let never = stops.stops in cc)
 
 -- a close or a message that is refused ends the run at its line
-pub stops_at_line : {D L : Type 0} {d : Ghosts D} {l : Ghosts L} (m : Answering D L) (text : List ℕ) (plan : Plan) (place : ℕ) (line : Option ℕ) (command : Command) (before mid after : Option (List ℕ))
+pub stops_at_line : {D L : Type 0} {d : Ghosts D} {l : Ghosts L} (m : Answering D L) (text : List ℕ) (plan : ScriptValue) (place : ℕ) (line : Option ℕ) (command : Command) (before mid after : Option (List ℕ))
     (refusal : Refusal) (start now : Running D L d l) → ComesNext plan place command → place ≡ length (take place plan.commands) → line ≡ command_line text (head_count plan + place)
     → PrintsLines m plan.names (take place plan.commands) before mid start now
     → StopsLine m command mid after now (AtLine refusal)

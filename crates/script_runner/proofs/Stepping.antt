@@ -16,8 +16,8 @@ use Rattle.recorder.specs.declared.recorder.Recorder.{Recorder}
 use Rattle.recorder.specs.declared.reply.Reply.{Reply}
 use Rattle.recorder.specs.declared.reply.Reply.TheVariants as replies
 use Rattle.recorder.specs.Calls.{Closes, Marks, Submits}
-use Rattle.recorder.specs.Growth.{RecorderGoes}
-use Rattle.recorder.specs.Shown.{core_of, recording_of}
+use Rattle.recorder.specs.Growth.{RecorderFrame}
+use Rattle.recorder.specs.Shown.{core_of, recorder_view}
 use Rattle.dmlw_script.specs.declared.script_id.ScriptId.{ScriptId}
 use Rattle.dmlw_script.specs.Plans.{moment_at_step}
 use Rattle.script_runner.specs.declared.running.Running.{Running}
@@ -132,7 +132,7 @@ both_ok (Err error) one two follows = tt
 -- a line whose step is this one was run
 pub step_runs : {D L : Type 0} {d : Ghosts D} {l : Ghosts L} (m : Answering D L) (names : List ScriptId) (command : Command) (step : Step) (before after : Option (List ℕ)) (text : List ℕ)
     (old new : Running D L d l) → command ≡ commands.Step step → TakesStep m step text old new → new.moment ≡ moment_at_step old.moment step
-    → new.recorder.store.moment ≡ moment_at_step old.recorder.store.moment step → RecorderGoes (recording_of old.recorder) (recording_of new.recorder) → Appends before after text → PrintsLine m names command before after old new
+    → new.recorder.store.moment ≡ moment_at_step old.recorder.store.moment step → RecorderFrame (recorder_view old.recorder) (recorder_view new.recorder) → Appends before after text → PrintsLine m names command before after old new
 step_runs m names command step before after text old new is takes moment log_moment goes printed =
     subst (λ (c : Command). PrintsLine m names c before after old new) (sym is) (text, record { does = takes; moment = moment; log_moment = log_moment; goes = goes }, printed)
 

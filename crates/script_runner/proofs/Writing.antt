@@ -22,7 +22,7 @@ use Rattle.recorder.specs.declared.reply.Reply.{Reply}
 use Rattle.recorder.specs.declared.reply.Turn.{Turn}
 use Rattle.recorder.specs.declared.reply.Turn.TheVariants as turns
 use Rattle.recorder.specs.Calls.{Completes, Drains, IsUnchanged, Marks, Submits, Turns}
-use Rattle.recorder.specs.Recording.{log_of}
+use Rattle.recorder.specs.RecorderView.{log_of}
 use Rattle.script_runner.specs.Written.{IsWritten}
 use Rattle.recorder.specs.Shown.{core_of}
 

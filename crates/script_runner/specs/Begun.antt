@@ -6,7 +6,7 @@ use Rattle.bio.specs.declared.outcome.DevError.TheVariants.{Io}
 use Rattle.sectors.specs.Content.{Content, writes}
 use Rattle.blockdev.specs.declared.device.BlockDev.{Ghosts}
 use Rattle.blockdev.specs.Calls.{Writes}
-use Rattle.blockdev.specs.Law.{Goes}
+use Rattle.blockdev.specs.Law.{DeviceFrame}
 use Rattle.log_format.specs.LogOf.{IsLogOf}
 use Rattle.log_format.specs.Placing.{first_sector}
 use Rattle.log_store.specs.Calls.{HasFaulted}
@@ -23,7 +23,7 @@ pub record IsNewOn {L : Type 0} {l : Ghosts L} (bytes : ℕ) (device : L) (recor
   pub end : recorder.end ≡ None
   pub placed : recorder.store.placed ≡ 0
   pub moment : recorder.store.moment ≡ 0
-  pub made : Goes (writes 0 (first_sector bytes 0)) (l.shown device) (l.shown recorder.store.device)
+  pub made : DeviceFrame (writes 0 (first_sector bytes 0)) (l.shown device) (l.shown recorder.store.device)
   pub empty : (l.shown recorder.store.device).lies ≡ 0 → (left : Content) → (l.shown recorder.store.device).crash left →
       IsLogOf (l.shown recorder.store.device).size left bytes []
 

@@ -1,3 +1,4 @@
+-- The definitions that the contracts of `script_runner` are written in.
 pub use Rattle.bio.specs.Check
 pub use Rattle.bio.specs.Lawful
 pub use Rattle.bio.specs.Sizes as LogSizes
@@ -13,7 +14,7 @@ pub use Rattle.blockdev.specs.Messages
 pub use Rattle.table_line.specs.Standing
 pub use Rattle.pending.specs.Moments
 pub use Rattle.recorder.specs.Acknowledged
-pub use Rattle.recorder.specs.Recording
+pub use Rattle.recorder.specs.RecorderView
 pub use Rattle.recorder.specs.Replayed
 pub use Rattle.sector_disk.specs.Candidates
 pub use Rattle.sector_disk.specs.Shown as DiskShown

@@ -22,8 +22,8 @@ use Rattle.recorder.specs.declared.recorder.Recorder.{Recorder}
 use Rattle.recorder.specs.declared.reply.Reply.{Reply}
 use Rattle.recorder.specs.declared.reply.Reply.TheVariants as replies
 use Rattle.recorder.specs.Calls.{Turns, Closes, Completes, Drains, Marks, Submits}
-use Rattle.recorder.specs.Growth.{RecorderGoes}
-use Rattle.recorder.specs.Shown.{core_of, recording_of}
+use Rattle.recorder.specs.Growth.{RecorderFrame}
+use Rattle.recorder.specs.Shown.{core_of, recorder_view}
 use Rattle.log_store.specs.Calls.{Same}
 use Rattle.dmlw_script.specs.Plans.{moment_at}
 use Rattle.script_runner.specs.declared.request.Request.{Request}
@@ -120,7 +120,7 @@ pub record SetsMoment {D L : Type 0} {d : Ghosts D} {l : Ghosts L} (moment : ℕ
   pub keeps : KeepsData text old new
   pub core : core_of new.recorder ≡ core_of old.recorder
   pub end : new.recorder.end ≡ old.recorder.end
-  pub store : Same (recording_of old.recorder).store (recording_of new.recorder).store
+  pub store : Same (recorder_view old.recorder).store (recorder_view new.recorder).store
   pub device : new.recorder.store.device ≡ old.recorder.store.device
   pub log_moment : new.recorder.store.moment ≡ moment
 
@@ -157,7 +157,7 @@ pub record TellsLog {D L : Type 0} {d : Ghosts D} {l : Ghosts L} (m : Answering 
   pub unchanged : Unchanged (l.shown old.recorder.store.device) (l.shown new.recorder.store.device)
   pub core : core_of new.recorder ≡ core_of old.recorder
   pub end : new.recorder.end ≡ old.recorder.end
-  pub store : Same (recording_of old.recorder).store (recording_of new.recorder).store
+  pub store : Same (recorder_view old.recorder).store (recorder_view new.recorder).store
   pub log_moment : new.recorder.store.moment ≡ old.recorder.store.moment
 
 -- A line hands a message to a layer of this disk.
@@ -191,7 +191,7 @@ pub record RunsLine {D L : Type 0} {d : Ghosts D} {l : Ghosts L} (m : Answering 
   pub does : Does m names command text old new
   pub moment : new.moment ≡ moment_at old.moment command
   pub log_moment : new.recorder.store.moment ≡ moment_at old.recorder.store.moment command
-  pub goes : RecorderGoes (recording_of old.recorder) (recording_of new.recorder)
+  pub goes : RecorderFrame (recorder_view old.recorder) (recorder_view new.recorder)
 
 -- A line is run, and what it prints is added to what a writer holds.
 abbrev pub PrintsLine : {D L : Type 0} {d : Ghosts D} {l : Ghosts L} → Answering D L → List ScriptId → Command → Option (List ℕ) → Option (List ℕ) → Running D L d l → Running D L d l → Type 0

@@ -16,11 +16,11 @@ use Rattle.layer_table.specs.Layers.{disk_of, layers_of, layers_under, on_stack,
 use Rattle.table_line.specs.Standing.{some_drops, top_origin}
 use Rattle.log_store.specs.Shown.{store_of}
 use Rattle.log_store.specs.Store.{entries_of}
-use Rattle.dmlw_script.specs.Plans.{Plan}
+use Rattle.dmlw_script.specs.Plans.{ScriptValue}
 use Rattle.recorder.specs.declared.recorder.Recorder.{Recorder}
-use Rattle.recorder.specs.Recording.{log_of}
+use Rattle.recorder.specs.RecorderView.{log_of}
 use Rattle.recorder.specs.Replayed.{ReplaysToWhatCouldBe}
-use Rattle.recorder.specs.Shown.{core_of, recording_of}
+use Rattle.recorder.specs.Shown.{core_of, recorder_view}
 use Rattle.run_error.specs.declared.run_error.RunError.{RunError}
 use Rattle.script_runner.specs.Begun.{IsNewOn, IsUnmadeOn}
 use Rattle.script_runner.specs.declared.recording.Lies.{Lies}
@@ -67,7 +67,7 @@ pub record IsUnmade (bytes : ℕ) (disk : Disk) (fault : RunError) : Type 0 wher
 
 -- A script's run before its first line, at moment 0: on a data disk of zeroes and a new log, both of the sizes and under the layers that the script names,
 -- the log with sectors of the size that it names.
-pub record Starts (plan : Plan) (run : DiskRun) : Type 0 where
+pub record Starts (plan : ScriptValue) (run : DiskRun) : Type 0 where
   pub data_disk : IsStackOf plan.data_disk run.disk
   pub log_disk : IsNew (bytes_of plan.log_size) plan.log_disk run.recorder
   pub none : run.requests.items ≡ []
@@ -92,7 +92,7 @@ seen_on disk image = moved (top_origin 0 disk.layers) (sector_of image)
 
 -- A script was recorded: its lines ran and printed this, the log has come so far, so many calls were dropped
 -- and told as done, and the bytes are those of the log's disk; where the script ends by a crash, those that its picks leave.
-pub record IsRecorded (plan : Plan) (text : List ℕ) (status : Status) (lies : Lies) (image : List ℕ) : Type 0 where
+pub record IsRecorded (plan : ScriptValue) (text : List ℕ) (status : Status) (lies : Lies) (image : List ℕ) : Type 0 where
   pub start : DiskRun
   pub starts : Starts plan start
   pub last : DiskRun
@@ -110,14 +110,14 @@ pub record IsRecorded (plan : Plan) (text : List ℕ) (status : Status) (lies : 
   -- unless it lied, the bytes have a log, as seen through its layers, which is a beginning of the completion list of the recorder's
   -- events with all that is settled and all that is acknowledged; each beginning of it replays to what the recorded device could hold
   pub beginning : lies.log_disk ≡ 0 →
-      ReplaysToWhatCouldBe (recording_of last.recorder) (recording_of last.recorder) (seen_on plan.log_disk image)
+      ReplaysToWhatCouldBe (recorder_view last.recorder) (recorder_view last.recorder) (seen_on plan.log_disk image)
   -- where the script closed and logging goes on, it is the whole list
   pub whole : lies.log_disk ≡ 0 → has_no_close (core_of last.recorder).events ≡ false → last.recorder.end ≡ None →
       IsLogOf (top_of plan.log_disk) (seen_on plan.log_disk image) (bytes_of plan.log_size) (log_of (core_of last.recorder))
 
 -- Why recording a script, which was read from a text, fails: there is no memory, or the output can't be written; no log could be made, and nothing
 -- was printed; or its run ends before its last line.
-pub data FailsOnDisks (text : List ℕ) (plan : Plan) (before after : Option (List ℕ)) : RunError → Type 0 where
+pub data FailsOnDisks (text : List ℕ) (plan : ScriptValue) (before after : Option (List ℕ)) : RunError → Type 0 where
   file : (fault : RunError) → IsFileError fault → FailsOnDisks text plan before after fault
   unmade : (fault : RunError) → IsUnmade (bytes_of plan.log_size) plan.log_disk fault → Keeps before after → FailsOnDisks text plan before after fault
   run : (start : DiskRun) (fault : RunError) → Starts plan start → EndsRun stack_answering text plan before after start fault → FailsOnDisks text plan before after fault

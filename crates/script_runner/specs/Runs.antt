@@ -11,7 +11,7 @@ use Rattle.dmlw_script.specs.declared.command.Command.TheVariants as commands
 use Rattle.dmlw_script.specs.declared.command.Step.TheVariants as steps
 use Rattle.dmlw_script.specs.declared.script_id.ScriptId.{ScriptId}
 use Rattle.dmlw_script.specs.Lines.{command_line}
-use Rattle.dmlw_script.specs.Plans.{head_count, Plan}
+use Rattle.dmlw_script.specs.Plans.{head_count, ScriptValue}
 use Rattle.recorder.specs.declared.recorder.Recorder.{Recorder}
 use Rattle.recorder.specs.declared.reply.Reply.TheVariants as replies
 use Rattle.recorder.specs.Calls.{Closes}
@@ -36,7 +36,7 @@ abbrev pub PrintsLines : {D L : Type 0} {d : Ghosts D} {l : Ghosts L} → Answer
 PrintsLines m names body before after old new = (text : List ℕ) × RunsLines m names body text old new × Appends before after text
 
 -- A close is refused: after the lines before it, at its own line.
-pub record RefusesClose {D L : Type 0} {d : Ghosts D} {l : Ghosts L} (m : Answering D L) (plan : Plan) (place : ℕ) (refusal : Refusal) (text : List ℕ) (old : Running D L d l) : Type 0 where
+pub record RefusesClose {D L : Type 0} {d : Ghosts D} {l : Ghosts L} (m : Answering D L) (plan : ScriptValue) (place : ℕ) (refusal : Refusal) (text : List ℕ) (old : Running D L d l) : Type 0 where
   pub before : List Command
   pub rest : List Command
   pub split : plan.commands ≡ before ++ commands.Step steps.Close ∷ rest
@@ -47,7 +47,7 @@ pub record RefusesClose {D L : Type 0} {d : Ghosts D} {l : Ghosts L} (m : Answer
   pub refused : Closes (replies.Refused refusal) mid.recorder last
 
 -- A message is refused: after the lines before it, at its own line.
-pub record RefusesLine {D L : Type 0} {d : Ghosts D} {l : Ghosts L} (m : Answering D L) (plan : Plan) (place : ℕ) (error : MessageError) (text : List ℕ)
+pub record RefusesLine {D L : Type 0} {d : Ghosts D} {l : Ghosts L} (m : Answering D L) (plan : ScriptValue) (place : ℕ) (error : MessageError) (text : List ℕ)
     (old : Running D L d l) : Type 0 where
   pub before : List Command
   pub rest : List Command
@@ -62,7 +62,7 @@ pub record RefusesLine {D L : Type 0} {d : Ghosts D} {l : Ghosts L} (m : Answeri
 
 -- Why the run of a script, which was read from a text, ends before its last line: a close or a message is refused, and what was printed is what
 -- the lines before it print; or the output can't be written, or there is no memory.
-pub data EndsRun {D L : Type 0} {d : Ghosts D} {l : Ghosts L} (m : Answering D L) (text : List ℕ) (plan : Plan) (before after : Option (List ℕ)) (old : Running D L d l) : RunError → Type 0 where
+pub data EndsRun {D L : Type 0} {d : Ghosts D} {l : Ghosts L} (m : Answering D L) (text : List ℕ) (plan : ScriptValue) (before after : Option (List ℕ)) (old : Running D L d l) : RunError → Type 0 where
   close : (place : ℕ) (refusal : Refusal) (printed : List ℕ) → RefusesClose m plan place refusal printed old → Appends before after printed
       → EndsRun m text plan before after old (Refused (record { line = command_line text (head_count plan + place); refusal = refusal }))
   message : (place : ℕ) (error : MessageError) (printed : List ℕ) → RefusesLine m plan place error printed old → Appends before after printed

@@ -3,7 +3,7 @@ use Rattle.std.specs.Prelude.{◌≡◌, false, None, length}
 use Rattle.blockdev.specs.declared.device.BlockDev.{Ghosts}
 use Rattle.bio.specs.Lawful.{has_no_close}
 use Rattle.recorder.specs.declared.recorder.Recorder.{Recorder}
-use Rattle.recorder.specs.Recording.{log_of}
+use Rattle.recorder.specs.RecorderView.{log_of}
 use Rattle.recorder.specs.Shown.{core_of}
 
 -- where recording is closed and logging goes on, all of the completion list is placed

@@ -1,8 +1,8 @@
 //! What a line asks of the recorder: that a request is submitted, or that one has ended.
 ghost use Rattle.std.specs.Prelude.{◌≡◌, ◌≤◌, Ok, ℕ};
 ghost use Rattle.dmlw_script.specs.Plans.{submission_answer};
-ghost use Rattle.recorder.specs.Growth.{RecorderGoes};
-ghost use Rattle.recorder.specs.Shown.{core_of, recording_of};
+ghost use Rattle.recorder.specs.Growth.{RecorderFrame};
+ghost use Rattle.recorder.specs.Shown.{core_of, recorder_view};
 ghost use Rattle.script_runner.specs.Lines.{Asks, HearsEnd};
 ghost use Rattle.script_runner.specs.Submitted.{bio_of};
 
@@ -21,7 +21,7 @@ pub(crate) fn ask<L: BlockDev + Drop>(
 ) -> Request
     requires { submission_answer (core_of recorder.old).sector_bytes 1048576 submission ≡ Ok tt }
     ensures asks { Asks (bio_of submission) result recorder.old recorder.new }
-    ensures goes { RecorderGoes (recording_of recorder.old) (recording_of recorder.new) }
+    ensures goes { RecorderFrame (recorder_view recorder.old) (recorder_view recorder.new) }
     ensures log_moment { recorder.new.store.moment ≡ recorder.old.store.moment }
 {
     let Ok(bio) = bio_of(last, submission) else {
@@ -38,9 +38,13 @@ pub(crate) fn ask<L: BlockDev + Drop>(
 }
 
 // Tells the recorder of the end of a request that it follows.
-pub(crate) fn tell_end<L: BlockDev + Drop>(recorder: &mut Recorder<L>, id: Option<Id>, ok: bool)
+pub(crate) fn complete_request<L: BlockDev + Drop>(
+    recorder: &mut Recorder<L>,
+    id: Option<Id>,
+    ok: bool,
+)
     ensures hears { HearsEnd id ok recorder.old recorder.new }
-    ensures goes { RecorderGoes (recording_of recorder.old) (recording_of recorder.new) }
+    ensures goes { RecorderFrame (recorder_view recorder.old) (recorder_view recorder.new) }
     ensures log_moment { recorder.new.store.moment ≡ recorder.old.store.moment }
 {
     if let Some(id) = id {

@@ -13,7 +13,7 @@ use std::alloc::Global;
 const SECTOR: usize = SECTOR_BYTES as usize;
 
 // Hands a request over to a device: a write with flush as a flush, and then the write where the flush succeeded. Answers whether it succeeded.
-pub(crate) fn hand_over<D: BlockDev>(device: &mut D, now: Ms, bio: &Bio) -> bool
+pub(crate) fn do_request<D: BlockDev>(device: &mut D, now: Ms, bio: &Bio) -> bool
     requires { IsTrue (is_ok (check_answer bio.now (D.shown device.old).size)) }
     ensures does { HandsOver D.does now bio.now result device.old device.new }
     ensures size { (D.shown device.new).size ≡ (D.shown device.old).size }

@@ -7,16 +7,16 @@ ghost use Rattle.dmlw_script.specs.declared.script_id.ScriptId.{ScriptId};
 ghost use Rattle.log_format.specs.LogOf.{IsLogOf};
 ghost use Rattle.bio.specs.Lawful.{has_no_close};
 ghost use Rattle.pending.specs.CoreState.{IsSound};
-ghost use Rattle.recorder.specs.Growth.{HasWholeLog, RecorderGoes};
-ghost use Rattle.recorder.specs.Recording.{log_of};
+ghost use Rattle.recorder.specs.Growth.{HasWholeLog, RecorderFrame};
+ghost use Rattle.recorder.specs.RecorderView.{log_of};
 ghost use Rattle.recorder.specs.Replayed.{ReplaysToWhatCouldBe};
 ghost use Rattle.layer_table.specs.Layers.{stack_shown};
 ghost use Rattle.script_runner.specs.OnDisks.{DiskRecorder, DiskRun, IsUnmade, Starts};
 ghost use Rattle.run_error.specs.declared.run_error.RunError.{RunError};
 ghost use Rattle.run_error.specs.declared.run_error.RunError.TheVariants.{LoggingEnded};
-ghost use Rattle.dmlw_script.specs.Plans.{Disk, Plan};
+ghost use Rattle.dmlw_script.specs.Plans.{Disk, ScriptValue};
 ghost use Rattle.bio.specs.declared.outcome.End.TheVariants as ends;
-ghost use Rattle.recorder.specs.Shown.{core_of, recording_of};
+ghost use Rattle.recorder.specs.Shown.{core_of, recorder_view};
 ghost use Rattle.sectors.specs.Content.{Content};
 ghost use Rattle.std.specs.List.{AllZip};
 ghost use Rattle.script_runner.specs.declared.request.Request.{Request};
@@ -33,16 +33,16 @@ use layer_table::Stack;
 /// inside a log write too, the reopened log is a beginning of the completion list and holds every mark and FUA write acknowledged as
 /// logged; replaying any beginning of it gives a content that the recorded device could hold had power failed there.
 ///
-/// `old` is the recorder over a stack of layers before some of its calls, and `new` after them: `RecorderGoes` holds of each call and of
+/// `old` is the recorder over a stack of layers before some of its calls, and `new` after them: `RecorderFrame` holds of each call and of
 /// several (`recorder::laws::several_calls_go_as_one`). `left` is what a crash at any moment since `old` may have left of the log's
 /// device. Of five premises one is asked for, that no layer of the log told a lie. That the log was created with success is of the type: a
 /// recorder is made over no other. That the log's device keeps the law of a device is proved of each stack. The first content may be any.
 /// And no device need answer when the log is reopened and replayed: both are definitions here, to which `log_reader::LogReader` and
 /// `replay::replay` come where the devices answer Ok, without a new lie, and memory isn't refused.
 pub fn headline()
-    ensures { (old new : DiskRecorder) (left : Content) → RecorderGoes (recording_of old) (recording_of new) →
+    ensures { (old new : DiskRecorder) (left : Content) → RecorderFrame (recorder_view old) (recorder_view new) →
         (stack_shown new.store.device).lies ≡ 0 → (stack_shown new.store.device).since (stack_shown old.store.device).moment left →
-        ReplaysToWhatCouldBe (recording_of old) (recording_of new) left }
+        ReplaysToWhatCouldBe (recorder_view old) (recorder_view new) left }
 {
     recorder::laws::crashed_logs_replay_to_what_could_be::<Stack>();
 }
@@ -57,7 +57,7 @@ pub fn bare_logs_fail_by_memory_alone()
 /// To the recorder the lines of a script are as one call: its events only grow, and what is placed and settled stays so.
 pub fn lines_go_as_one_call<D: Message + Drop, L: Message + Drop>()
     ensures { (names : List ScriptId) (body : List Command) (text : List ℕ) (old new : Running D L D.BlockDev L.BlockDev) →
-        RunsLines (answering D.answers L.answers) names body text old new → RecorderGoes (recording_of old.recorder) (recording_of new.recorder) }
+        RunsLines (answering D.answers L.answers) names body text old new → RecorderFrame (recorder_view old.recorder) (recorder_view new.recorder) }
 {
     recorder::laws::several_calls_go_as_one::<L>();
 }
@@ -65,7 +65,7 @@ pub fn lines_go_as_one_call<D: Message + Drop, L: Message + Drop>()
 /// The calls of both devices begin at one moment: at 0 before the first line of a script, and after some lines where they did before them. So
 /// each line calls its device at the moment that the last `at` said.
 pub fn both_devices_are_called_at_one_moment<D: Message + Drop, L: Message + Drop>()
-    ensures start { (plan : Plan) (run : DiskRun) → Starts plan run → run.recorder.store.moment ≡ run.moment }
+    ensures start { (plan : ScriptValue) (run : DiskRun) → Starts plan run → run.recorder.store.moment ≡ run.moment }
     ensures lines { (names : List ScriptId) (body : List Command) (text : List ℕ) (old new : Running D L D.BlockDev L.BlockDev) →
         RunsLines (answering D.answers L.answers) names body text old new → old.recorder.store.moment ≡ old.moment →
         new.recorder.store.moment ≡ new.moment }
@@ -94,10 +94,10 @@ pub fn marks_stand_in_the_events<D: Message + Drop, L: Message + Drop>()
 /// the completion list of the recorder's events, with all that was settled when the run began.
 pub fn crashes_of_a_run_leave_beginnings<D: Message + Drop, L: Message + Drop>()
     ensures { (names : List ScriptId) (body : List Command) (text : List ℕ) (old new : Running D L D.BlockDev L.BlockDev) (left : Content) →
-        RunsLines (answering D.answers L.answers) names body text old new → (recording_of new.recorder).store.device.lies ≡ 0 →
-        (recording_of new.recorder).store.device.since (recording_of old.recorder).store.device.moment left →
+        RunsLines (answering D.answers L.answers) names body text old new → (recorder_view new.recorder).store.device.lies ≡ 0 →
+        (recorder_view new.recorder).store.device.since (recorder_view old.recorder).store.device.moment left →
         (count : ℕ) × (old.recorder.store.settled ≤ count) × (count ≤ length (log_of (core_of new.recorder)))
-        × IsLogOf (recording_of new.recorder).store.device.size left (core_of new.recorder).sector_bytes (take count (log_of (core_of new.recorder))) }
+        × IsLogOf (recorder_view new.recorder).store.device.size left (core_of new.recorder).sector_bytes (take count (log_of (core_of new.recorder))) }
 {
     lines_go_as_one_call::<D, L>();
     recorder::laws::crashes_leave_beginnings::<L>();
@@ -110,8 +110,8 @@ pub fn closed_runs_leave_whole_logs<D: Message + Drop, L: Message + Drop>()
         RunsLines (answering D.answers L.answers) names body text old new → IsWritten old.recorder → IsWritten new.recorder }
     ensures whole { (names : List ScriptId) (body : List Command) (text : List ℕ) (old new : Running D L D.BlockDev L.BlockDev) →
         RunsLines (answering D.answers L.answers) names body text old new → IsWritten old.recorder → IsSound (core_of new.recorder) → new.recorder.end ≡ None →
-        has_no_close (core_of new.recorder).events ≡ false → (recording_of new.recorder).store.device.lies ≡ 0 →
-        HasWholeLog (recording_of new.recorder) }
+        has_no_close (core_of new.recorder).events ≡ false → (recorder_view new.recorder).store.device.lies ≡ 0 →
+        HasWholeLog (recorder_view new.recorder) }
 {
     recorder::laws::closed_logs_are_whole::<L>();
 }

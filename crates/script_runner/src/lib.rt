@@ -7,8 +7,8 @@
 
 pub use last_data::LastData;
 pub use playing::new_stack;
-pub use recording::{Lies, Recorded, record};
-pub use rehearsing::{Rehearsed, rehearse};
+pub use recording::{Lies, RunResult, record};
+pub use rehearsing::{Rehearsed, events_of_run};
 pub use request::{Request, bio_of};
 pub use run_script::run;
 pub use running::Running;

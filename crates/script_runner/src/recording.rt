@@ -29,7 +29,7 @@ pub struct Lies {
 
 /// What recording a script left.
 #[derive(Debug, Drop)]
-pub struct Recorded {
+pub struct RunResult {
     /// The log's disk, beneath its layers.
     pub disk: SectorDisk,
     /// How far the log has come.
@@ -47,7 +47,7 @@ pub fn record<O: Write>(
     text: &[u8],
     script: &Script,
     out: &mut O,
-) -> Result<Recorded, RunError>
+) -> Result<RunResult, RunError>
     ensures recorded { IfOk result (λ recorded. (printed : List ℕ)
         × (let image = gather (shown_of recorded.disk).content 0 (shown_of recorded.disk).size in
         IsRecorded script.now printed recorded.status recorded.lies image)
@@ -67,7 +67,7 @@ pub fn record<O: Write>(
         log_disk: log.lies(),
     };
     let disk = left_disk(log, script.crash());
-    Ok(Recorded { disk, status, lies })
+    Ok(RunResult { disk, status, lies })
 }
 
 // The log's disk; where its power fails, after that.

@@ -1,4 +1,4 @@
-//! Runs a script for its events alone: `rehearse` is what a judge asks for.
+//! Runs a script for its events alone: `events_of_run` is what a judge asks for.
 ghost use Rattle.std.specs.Prelude.{◌≡◌, IfErr, IfOk, true};
 ghost use Rattle.bio.specs.Lawful.{all_aligned, is_lawful};
 ghost use Rattle.bio.specs.Sizes.{bytes_of};
@@ -44,7 +44,7 @@ impl Rehearsed {
 
 /// Runs a script, which was read from `text`, as `record` does, on two disks in memory, and keeps the recorder's events alone: what its
 /// lines print is dropped, and so is the log. Where logging ends before the script does, the run goes on. It fails as `record` does.
-pub fn rehearse(alloc: Global, text: &[u8], script: &Script) -> Result<Rehearsed, RunError>
+pub fn events_of_run(alloc: Global, text: &[u8], script: &Script) -> Result<Rehearsed, RunError>
     ensures rehearsed { IfOk result (IsRehearsed script.now) }
     // They are events of a device of the size of the data disk's top.
     ensures lawful { IfOk result (λ events. is_lawful (top_of script.now.data_disk) events ≡ true) }

@@ -3,8 +3,8 @@ ghost use Rattle.std.specs.Prelude.{IsTrue};
 ghost use Rattle.std.specs.List.{list_all};
 ghost use Rattle.script_runner.specs.Submitted.{fits_device};
 
-use crate::asking::{ask, tell_end};
-use crate::handing::{hand_over, read_sectors};
+use crate::asking::{ask, complete_request};
+use crate::handing::{do_request, read_sectors};
 use crate::last_data::LastData;
 use crate::print::{name_of, print_mark, print_outcome, print_read, print_submission};
 use crate::request::Request;
@@ -16,7 +16,7 @@ use recorder::{Recorder, Reply, laws};
 use refusals::Refusal;
 use std::alloc::{AllocError, Global};
 use std::io::Write;
-use words::ascii_text;
+use text_words::ascii_text;
 
 /// A script's run so far: a recorder over the log's device, the data device, and the requests that were submitted, by their numbers.
 #[derive(Drop)]
@@ -81,8 +81,8 @@ impl<D: Message + Drop, L: Message + Drop> Running<D, L> {
     ghost use Rattle.dmlw_script.specs.Plans.{HasName, IsName, submission_answer};
     ghost use Rattle.recorder.specs.declared.reply.Reply.TheVariants as replies;
     ghost use Rattle.recorder.specs.Calls.{Closes};
-    ghost use Rattle.recorder.specs.Growth.{RecorderGoes};
-    ghost use Rattle.recorder.specs.Shown.{core_of, recording_of};
+    ghost use Rattle.recorder.specs.Growth.{RecorderFrame};
+    ghost use Rattle.recorder.specs.Shown.{core_of, recorder_view};
     ghost use Rattle.script_runner.specs.declared.step_error.StepError.TheVariants.{AtLine};
     ghost use Rattle.script_runner.specs.Lines.{EndsRecording, EndsSubmitted, FitsDevice, GivesTurn, HasScriptText, PrintsLine, ReadsData, RefusesMessage, SetsMoment, StopsForFile, StopsLine, TellsLayer, TellsMark, answering, count_of};
 
@@ -127,8 +127,8 @@ impl<D: Message + Drop, L: Message + Drop> Running<D, L> {
         match &self.requests[request] {
             Request::Failed => Ok(()),
             Request::Asked { bio, id } => {
-                let ok = hand_over(&mut self.disk, self.moment, bio);
-                tell_end(&mut self.recorder, *id, ok);
+                let ok = do_request(&mut self.disk, self.moment, bio);
+                complete_request(&mut self.recorder, *id, ok);
                 print_outcome(name_of(names, request), ok, out)
             }
         }
@@ -142,7 +142,7 @@ impl<D: Message + Drop, L: Message + Drop> Running<D, L> {
         ensures runs { OnOk result ((text : List ℕ) × ReadsData first count text self.old self.new
             × Appends (O.contents out.old) (O.contents out.new) text) }
         ensures faults { IfErr result StopsForFile }
-        ensures goes { RecorderGoes (recording_of self.old.recorder) (recording_of self.new.recorder) }
+        ensures goes { RecorderFrame (recorder_view self.old.recorder) (recorder_view self.new.recorder) }
         ensures size { (D.shown self.new.disk).size ≡ (D.shown self.old.disk).size }
         ensures count { length self.new.requests.items ≡ length self.old.requests.items }
     {
@@ -156,7 +156,7 @@ impl<D: Message + Drop, L: Message + Drop> Running<D, L> {
         ensures moment { self.new.moment ≡ self.old.moment }
         ensures log_moment { self.new.recorder.store.moment ≡ self.old.recorder.store.moment }
         ensures turns { GivesTurn [] self.old self.new }
-        ensures goes { RecorderGoes (recording_of self.old.recorder) (recording_of self.new.recorder) }
+        ensures goes { RecorderFrame (recorder_view self.old.recorder) (recorder_view self.new.recorder) }
         ensures size { (D.shown self.new.disk).size ≡ (D.shown self.old.disk).size }
         ensures count { length self.new.requests.items ≡ length self.old.requests.items }
     {
@@ -171,7 +171,7 @@ impl<D: Message + Drop, L: Message + Drop> Running<D, L> {
         ensures runs { OnOk result ((printed : List ℕ) × TellsMark text.now printed self.old self.new
             × Appends (O.contents out.old) (O.contents out.new) printed) }
         ensures faults { IfErr result StopsForFile }
-        ensures goes { OnOk result (RecorderGoes (recording_of self.old.recorder) (recording_of self.new.recorder)) }
+        ensures goes { OnOk result (RecorderFrame (recorder_view self.old.recorder) (recorder_view self.new.recorder)) }
         ensures size { (D.shown self.new.disk).size ≡ (D.shown self.old.disk).size }
         ensures count { length self.new.requests.items ≡ length self.old.requests.items }
     {
@@ -184,7 +184,7 @@ impl<D: Message + Drop, L: Message + Drop> Running<D, L> {
         ensures sets { SetsMoment moment [] self.old self.new }
         ensures moment { self.new.moment ≡ moment }
         ensures log_moment { self.new.recorder.store.moment ≡ moment }
-        ensures goes { RecorderGoes (recording_of self.old.recorder) (recording_of self.new.recorder) }
+        ensures goes { RecorderFrame (recorder_view self.old.recorder) (recorder_view self.new.recorder) }
         ensures size { (D.shown self.new.disk).size ≡ (D.shown self.old.disk).size }
         ensures count { length self.new.requests.items ≡ length self.old.requests.items }
     {
@@ -197,7 +197,7 @@ impl<D: Message + Drop, L: Message + Drop> Running<D, L> {
         ensures moment { self.new.moment ≡ self.old.moment }
         ensures log_moment { self.new.recorder.store.moment ≡ self.old.recorder.store.moment }
         ensures ends { OnOk result (EndsRecording [] self.old self.new) }
-        ensures goes { OnOk result (RecorderGoes (recording_of self.old.recorder) (recording_of self.new.recorder)) }
+        ensures goes { OnOk result (RecorderFrame (recorder_view self.old.recorder) (recorder_view self.new.recorder)) }
         ensures refused { IfErr result (λ stop. (refusal : Refusal) × (stop ≡ AtLine refusal)
             × Closes (replies.Refused refusal) self.old.recorder self.new.recorder) }
         ensures size { (D.shown self.new.disk).size ≡ (D.shown self.old.disk).size }
@@ -220,7 +220,7 @@ impl<D: Message + Drop, L: Message + Drop> Running<D, L> {
         ensures tells { OnOk result (TellsLayer (answering D.answers L.answers) over layer text.now [] self.old self.new) }
         ensures refused { IfErr result (λ stop. (error : MessageError) × (stop ≡ AtLine (message_refusal error))
             × RefusesMessage (answering D.answers L.answers) over layer text.now error self.old) }
-        ensures goes { RecorderGoes (recording_of self.old.recorder) (recording_of self.new.recorder) }
+        ensures goes { RecorderFrame (recorder_view self.old.recorder) (recorder_view self.new.recorder) }
         ensures size { (D.shown self.new.disk).size ≡ (D.shown self.old.disk).size }
         ensures count { length self.new.requests.items ≡ length self.old.requests.items }
     {

@@ -1,1 +1,2 @@
+-- The definitions of `seat_runner` that its proofs alone use: no other crate cites them.
 pub mod Playing

@@ -1,3 +1,4 @@
+-- The lemmas of `sector_disk`; the proof of a function stands in the folder of its source file.
 pub mod Chains
 pub mod Reading
 pub mod Choosing
@@ -7,4 +8,4 @@ pub mod Beginning
 pub mod Lawful
 pub mod Examples
 mod Giving
-mod Refused
+mod Counterexamples

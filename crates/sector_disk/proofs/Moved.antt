@@ -4,7 +4,7 @@ use Rattle.std.specs.Prelude.{Option, slice_get}
 use Rattle.sectors.specs.Content.{AgreeBelow, Content, Patch, gather, nothing, sector_of, writes}
 use Rattle.sectors.specs.SectorLaws.{gather-ext, length-gather, sector_of-gather}
 use Rattle.blockdev.specs.JoinLaws.{goes_none}
-use Rattle.blockdev.specs.Law.{Goes, Lands}
+use Rattle.blockdev.specs.Law.{DeviceFrame, WriteDone}
 use Rattle.blockdev.specs.View.{View}
 use Rattle.sector_disk.specs.declared.call.Call.{Call}
 use Rattle.sector_disk.specs.declared.disk.SectorDisk.{SectorDisk}
@@ -26,20 +26,20 @@ moved P old new past has holds =
 
 -- a disk that put values went and landed as the law has it
 pub goes_past : (old new : SectorDisk) (patch : Patch) (fua : Bool) → HasPast old new (Puts patch fua ∷ shown.steps_of old)
-    → Goes patch (shown_of old) (shown_of new)
+    → DeviceFrame patch (shown_of old) (shown_of new)
 goes_past old new patch fua has =
-    moved (λ w. Goes patch (shown_of old) w) old new (Puts patch fua ∷ shown.steps_of old) has
+    moved (λ w. DeviceFrame patch (shown_of old) w) old new (Puts patch fua ∷ shown.steps_of old) has
     (goes_puts old.sectors (start_of old) (shown.steps_of old) patch fua)
 
 pub lands_past : (old new : SectorDisk) (patch : Patch) (fua : Bool) → HasPast old new (Puts patch fua ∷ shown.steps_of old)
-    → Lands patch fua (shown_of old) (shown_of new)
+    → WriteDone patch fua (shown_of old) (shown_of new)
 lands_past old new patch fua has =
-    moved (λ w. Lands patch fua (shown_of old) w) old new (Puts patch fua ∷ shown.steps_of old) has
+    moved (λ w. WriteDone patch fua (shown_of old) w) old new (Puts patch fua ∷ shown.steps_of old) has
     (lands_puts old.sectors (start_of old) (shown.steps_of old) patch fua)
 
 -- a disk that is unchanged went by any call
-pub goes_unchanged : (old new : SectorDisk) (patch : Patch) → HasPast old new (shown.steps_of old) → Goes patch (shown_of old) (shown_of new)
-goes_unchanged old new patch has = moved (λ w. Goes patch (shown_of old) w) old new (shown.steps_of old) has (goes_none patch (shown_of old))
+pub goes_unchanged : (old new : SectorDisk) (patch : Patch) → HasPast old new (shown.steps_of old) → DeviceFrame patch (shown_of old) (shown_of new)
+goes_unchanged old new patch has = moved (λ w. DeviceFrame patch (shown_of old) w) old new (shown.steps_of old) has (goes_none patch (shown_of old))
 
 -- the bytes that a write keeps are those that were given
 pub written_past : (old new : SectorDisk) (first : ℕ) (kept bytes : List ℕ) (fua : Bool) → kept ≡ bytes
@@ -65,7 +65,7 @@ past_flushed calls begun false = sym (no_flush_last calls begun (length calls - 
 
 -- a flush goes and syncs as the law has it
 pub goes_flushed : (size : ℕ) (calls : List Call) (base : List ℕ) (begun : ℕ) (flushed : Bool)
-    → Goes nothing (view_of size (content_at calls base) (past_of calls begun flushed)) (view_of size (content_at calls base) (past_of calls begun true))
+    → DeviceFrame nothing (view_of size (content_at calls base) (past_of calls begun flushed)) (view_of size (content_at calls base) (past_of calls begun true))
 goes_flushed size calls base begun true = goes_none nothing (view_of size (content_at calls base) (past_of calls begun true))
 goes_flushed size calls base begun false = goes_flush size (content_at calls base) (past_of calls begun false)
 

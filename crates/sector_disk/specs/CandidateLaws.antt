@@ -5,7 +5,7 @@ use Rattle.std.proofs.lemmas.List.Elements.{Contains-append_cases, Contains-appe
 use Rattle.std.specs.Prelude.{◌⊎◌, nat_lt, slice_index_or, unwrap_or, Contains, MatchBool}
 use Rattle.sectors.specs.Content.{Content, HasWholeSectors, HasWholeValues, Patch, nothing}
 use Rattle.sectors.specs.ContentLaws.{patched-same, patched-whole, whole-patched}
-use Rattle.blockdev.specs.Law.{AfterPatch, AfterWhole, Goes, Lands, Syncs}
+use Rattle.blockdev.specs.Law.{AfterPatch, AfterWhole, DeviceFrame, WriteDone, FlushDone}
 use Rattle.blockdev.specs.View.{IsLawful}
 use Rattle.sector_disk.specs.Candidates.{Cache, Flushes, LeftDuring, LeftSince, MayLeave, Puts, Step, after_step, cache_after, candidates_after, settled, view_of}
 
@@ -157,7 +157,7 @@ since-during start step past left during_it =
 
 -- a write or a discard goes as the law has it
 pub goes_puts : (size : ℕ) (start : Content) (past : List Step) (patch : Patch) (fua : Bool)
-    → Goes patch (view_of size start past) (view_of size start (Puts patch fua ∷ past))
+    → DeviceFrame patch (view_of size start past) (view_of size start (Puts patch fua ∷ past))
 goes_puts size start past patch fua = record {
   size = refl;
   place = refl;
@@ -174,7 +174,7 @@ goes_puts size start past patch fua = record {
 
 -- and lands
 pub lands_puts : (size : ℕ) (start : Content) (past : List Step) (patch : Patch) (fua : Bool)
-    → Lands patch fua (view_of size start past) (view_of size start (Puts patch fua ∷ past))
+    → WriteDone patch fua (view_of size start past) (view_of size start (Puts patch fua ∷ past))
 lands_puts size start past patch fua = record {
   content = λ sector. refl;
   durable = λ is left may. left-durable patch fua (cache_after start past) left is (is_current start past) may;
@@ -182,7 +182,7 @@ lands_puts size start past patch fua = record {
 
 -- a flush goes as the law has it
 pub goes_flush : (size : ℕ) (start : Content) (past : List Step)
-    → Goes nothing (view_of size start past) (view_of size start (Flushes ∷ past))
+    → DeviceFrame nothing (view_of size start past) (view_of size start (Flushes ∷ past))
 goes_flush size start past = record {
   size = refl;
   place = refl;
@@ -201,11 +201,11 @@ goes_flush size start past = record {
 }
 
 -- and syncs
-pub syncs_flush : (size : ℕ) (start : Content) (past : List Step) → Syncs (view_of size start (Flushes ∷ past))
+pub syncs_flush : (size : ℕ) (start : Content) (past : List Step) → FlushDone (view_of size start (Flushes ∷ past))
 syncs_flush size start past = record { only = λ left may. left-settled (cache_after start past).now left may }
 
 -- a disk of which nothing happened is synced
-pub syncs_start : (size : ℕ) (start : Content) → Syncs (view_of size start [])
+pub syncs_start : (size : ℕ) (start : Content) → FlushDone (view_of size start [])
 syncs_start size start = record { only = λ left may. left-settled start left may }
 
 -- each value that was put is a whole sector

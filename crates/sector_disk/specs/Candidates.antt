@@ -1,3 +1,5 @@
+-- Which values a crash may leave in each sector of a disk, after its calls or during one, and
+-- which of them the picks of `crash` leave.
 use Rattle.std.specs.Prelude.{ℕ, suc, zero, ◌+◌, ◌%◌, ◌⊎◌, nat_lt, Bool, true, false, Option, None, Some, unwrap_or, List, [], ◌∷◌, ◌++◌, length, slice_get, Contains, MatchBool, if◌then◌else◌}
 use Rattle.sectors.specs.Content.{Content, Patch, put}
 use Rattle.blockdev.specs.Law.{AfterPatch}

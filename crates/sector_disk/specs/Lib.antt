@@ -1,3 +1,4 @@
+-- The definitions that the contracts of `sector_disk` are written in.
 pub mod Candidates
 pub mod CandidateLaws
 pub mod PickLaws

@@ -1,6 +1,8 @@
+-- How large a disk and its image may be, and with what a disk's past begins: when
+-- made, and at a crash.
 use Rattle.std.specs.Prelude.{◌≡◌, ℕ, ◌/◌, ◌%◌, ◌<◌, ◌≤◌}
 use Rattle.sectors.specs.Content.{Content}
-use Rattle.blockdev.specs.Law.{Syncs}
+use Rattle.blockdev.specs.Law.{FlushDone}
 use Rattle.blockdev.specs.View.{View}
 
 -- a disk may have so many sectors
@@ -18,5 +20,5 @@ pub record IsImageSize (length : ℕ) : Type 0 where
 pub record Begins (sectors : ℕ) (start : Content) (v : View) : Type 0 where
   pub size : v.size ≡ sectors
   pub content : (sector : ℕ) → sector < sectors → v.content sector ≡ start sector
-  pub only : Syncs v
+  pub only : FlushDone v
   pub moment : v.moment ≡ 0

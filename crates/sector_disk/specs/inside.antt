@@ -1,3 +1,4 @@
+-- The definitions of `sector_disk` that its proofs alone use: no other crate cites them.
 pub mod Storage
 pub mod Chosen
 pub mod Added

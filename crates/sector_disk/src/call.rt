@@ -1,3 +1,4 @@
+//! The writes and discards that a disk keeps, and how its sectors are read back from them.
 ghost use Rattle.std.specs.Prelude.{true, ◌∷◌, ◌++◌, ◌≡◌, ◌%◌, ◌*◌, ◌+◌, ◌/◌, ◌≤◌, IfOk, MatchOption, None, OnErr, OnOk, Some, [], drop, length, slice_get, take, ℕ};
 ghost use Rattle.sector_disk.specs.inside.Added.{IsFilled, count_of};
 ghost use Rattle.sector_disk.specs.inside.Given.{is_image_in, is_write_of, put_over};

@@ -1,3 +1,4 @@
+//! A disk in memory that keeps its past, so that what a crash may leave is known exactly.
 ghost use Rattle.std.proofs.Props.{props};
 ghost use Rattle.sector_disk.specs.inside.Storage.{IsKept};
 

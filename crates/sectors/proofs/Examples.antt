@@ -1,3 +1,5 @@
+-- The definitions of `Content` on examples: what a write and a discard put, and what they leave.
+-- Each is proved by evaluation alone; nothing cites them.
 use Rattle.std.proofs.Common.{◌≡◌, ℕ, Some, None, List, [], ◌∷◌, ◌++◌, replicate, refl}
 use Rattle.sectors.specs.Content.{Content, discards, gather, moved, over, put, sector_of, writes}
 

@@ -1,3 +1,4 @@
+-- The definitions that the contracts of `sectors` are written in.
 pub mod Places
 pub mod Content
 pub mod PlaceLaws

@@ -1,3 +1,5 @@
+-- Tests and lists over the places below a number: the first that passes, all, any, and a join.
+-- `Content` gathers sectors with `collect`; the laws of these words are in `PlaceLaws`.
 use Rattle.std.specs.Prelude.{ℕ, zero, suc, Bool, true, false, ◌&&◌, ◌||◌, Option, Some, None, List, [], ◌++◌}
 
 -- the lists that f gives for the places below n, one after another

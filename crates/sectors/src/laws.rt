@@ -1,3 +1,5 @@
+//! Laws of sectors, apart from the code: each function does nothing, and its clause is the law.
+//! They say what a write and a discard leave in each sector.
 ghost use Rattle.std.specs.Prelude.{◌≡◌, ◌⊎◌, ◌+◌, ◌-◌, ◌/◌, ◌<◌, ◌≤◌, List, None, Some, length, replicate, ℕ};
 ghost use Rattle.sectors.specs.Content.{Content, HasBytes, HasWholeSectors, HasWholeValues, Patch, Patched, discards, put, sector_of, writes};
 

@@ -1,5 +1,5 @@
 // A command line over files in memory, and what it tells.
-use dmlw_dispatch::execute;
+use dmlw_cli::execute;
 use std::alloc::{AllocError, Global};
 use std::sync::Wait;
 use std::thread::Threads;

@@ -1,3 +1,4 @@
+-- The definitions that the contracts of `shared` are written in.
 pub mod Answers
 pub mod Closing
 pub mod Entering

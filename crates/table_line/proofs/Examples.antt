@@ -1,7 +1,7 @@
 -- The definitions on lines: those that ask for a layer, and each first test that fails.
 use Rattle.std.proofs.Common.{◌≡◌, ◌||◌, List, ℕ, true, false, [], ◌∷◌, ◌++◌, Some, None, Option, refl, sym, true≢false, arith}
 use Rattle.std.specs.Prelude.{codes, decimal}
-use Rattle.words.specs.Words.{words_of}
+use Rattle.text_words.specs.Words.{words_of}
 use Rattle.table_line.specs.declared.feature.Feature.TheVariants as features
 use Rattle.table_line.specs.declared.layer_spec.Target.TheVariants as targets
 use Rattle.table_line.specs.declared.table_error.TableError.{TableError}

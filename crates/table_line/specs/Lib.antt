@@ -1,4 +1,5 @@
-pub use Rattle.words.specs.Words
+-- The definitions that the contracts of `table_line` are written in.
+pub use Rattle.text_words.specs.Words
 pub mod Ranges
 pub mod Standing
 pub mod TableLines

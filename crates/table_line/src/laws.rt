@@ -1,6 +1,6 @@
 //! Laws of the lines of a table, apart from the code: each function does nothing, and its clause is the law.
 ghost use Rattle.std.specs.Prelude.{◌≡◌, ◌⊎◌, Some, None, ℕ, List};
-ghost use Rattle.words.specs.Words.{words_of};
+ghost use Rattle.text_words.specs.Words.{words_of};
 ghost use Rattle.table_line.specs.declared.layer_spec.LayerSpec.{LayerSpec};
 ghost use Rattle.table_line.specs.declared.table_error.TableError.{TableError};
 ghost use Rattle.table_line.specs.Ranges.{IsLayerSpec};

@@ -1,10 +1,12 @@
+//! Prints a layer as the one line that asks for it: `push_line`.
+//! The printer of scripts calls it.
 ghost use Rattle.std.specs.Prelude.{◌≡◌, ◌++◌, ◌∷◌, [], decimal, OnOk};
 ghost use Rattle.table_line.specs.Texts.{behind_spaces, feature_words, later_sets, line_text, set_words, target_words};
 
 use crate::feature::Feature;
 use crate::layer_spec::{LayerSpec, Target};
 use std::alloc::AllocError;
-use words::push_number;
+use text_words::push_number;
 
 /// Puts the one spelling of a layer behind a text, as `0 16 flakey disk 0 10 5 1 drop_writes`: no leading zeroes, one
 /// space between two words, `disk` for the device's word, and no count of features where there is none. `parse_line`

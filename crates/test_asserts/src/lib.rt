@@ -16,12 +16,12 @@ pub fn is_same<T: PartialEq + Debug>(rt: &impl Print, found: &T, wanted: &T, row
 }
 
 /// Whether what was told is what was wanted. Where it isn't, it prints the row with both.
-pub fn is_told(rt: &impl Print, told: &str, wanted: &str, row: &str) -> bool {
-    let is_told = told == wanted;
-    if !is_told {
+pub fn err_taken(rt: &impl Print, told: &str, wanted: &str, row: &str) -> bool {
+    let err_taken = told == wanted;
+    if !err_taken {
         let _ = println!(rt; "{row}: {told}, wanted {wanted}");
     }
-    is_told
+    err_taken
 }
 
 /// The test itself. Where it doesn't hold, this prints the row.
@@ -47,7 +47,7 @@ pub fn rows_are_told<E, F: FnMut(&str) -> Result<String, E>>(
     for row in rows.split('\n') {
         let (asked, wanted) = row.split_once('=').unwrap_or_default();
         let told = tell(asked)?;
-        are_told &= is_told(rt, told.as_str(), wanted, row);
+        are_told &= err_taken(rt, told.as_str(), wanted, row);
     }
     Ok(are_told)
 }

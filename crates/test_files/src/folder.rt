@@ -1,7 +1,7 @@
 //! Files in memory, by their names.
 ghost use Rattle.std.specs.Prelude.{None, false};
 
-use dmlw_files::{FileError, Files, Trouble};
+use dmlw_files::{FileError, FileFailure, Files};
 use sector_disk::SectorDisk;
 use std::alloc::{AllocError, Global};
 
@@ -51,7 +51,7 @@ impl Files for Folder {
 
     ghost writes = { λ _. None };
 
-    ghost has_trouble = { λ _. false };
+    ghost has_failure = { λ _. false };
 
     fn read(&mut self, alloc: Global, name: &str, limit: u64) -> Result<Vec<u8>, FileError> {
         let Some(bytes) = self.bytes(name) else {
@@ -71,7 +71,7 @@ impl Files for Folder {
         self.put(alloc, name, bytes).map_err(|_| FileError::Memory)
     }
 
-    fn trouble(&self) -> Option<&Trouble> {
+    fn failure(&self) -> Option<&FileFailure> {
         None
     }
 

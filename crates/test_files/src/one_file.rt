@@ -1,7 +1,7 @@
 //! Files in memory: the two that are read hold the same, and one is written.
 ghost use Rattle.std.specs.Prelude.{None, false};
 
-use dmlw_files::{FileError, Files, Trouble};
+use dmlw_files::{FileError, FileFailure, Files};
 use sector_disk::SectorDisk;
 use std::alloc::Global;
 
@@ -31,7 +31,7 @@ impl Files for OneFile<'_> {
 
     ghost writes = { λ _. None };
 
-    ghost has_trouble = { λ _. false };
+    ghost has_failure = { λ _. false };
 
     fn read(&mut self, alloc: Global, name: &str, limit: u64) -> Result<Vec<u8>, FileError> {
         let is_known = name == "script" || name == "image";
@@ -50,7 +50,7 @@ impl Files for OneFile<'_> {
         Ok(())
     }
 
-    fn trouble(&self) -> Option<&Trouble> {
+    fn failure(&self) -> Option<&FileFailure> {
         None
     }
 

@@ -2,7 +2,7 @@
 use crate::bytes::{push_sectors, unescaped};
 use crate::calls::{ask_disk, ask_stack};
 use crate::images::change;
-use dmlw_dispatch::execute;
+use dmlw_cli::execute;
 use dmlw_files::Output;
 use dmlw_script::{read_run_script, read_script};
 use refusals::Refusal;
@@ -229,7 +229,12 @@ impl<'a, H: Threads + Wait + Sync> Session<'a, H> {
         );
         let is_held = out.is_held() || err.is_held();
         push_told(&mut self.shown, out.taken(), err.taken())?;
-        push_ending(&mut self.shown, ended.exit.status(), is_held, ended.is_told)
+        push_ending(
+            &mut self.shown,
+            ended.exit.status(),
+            is_held,
+            ended.err_taken,
+        )
     }
 
     // `narrow dmlw ..`: executes a command line, whose whole output is given, over outputs with room for no byte of it, for one and so on, up to one byte too few. It shows
@@ -320,12 +325,12 @@ fn push_ending(
     shown: &mut String,
     status: u8,
     is_held: bool,
-    is_told: bool,
+    err_taken: bool,
 ) -> Result<(), AllocError> {
     if is_held {
         shown.push_str("(held back)\n")?;
     }
-    if !is_told {
+    if !err_taken {
         shown.push_str("(not all told)\n")?;
     }
     if status != 0 {

@@ -1,3 +1,4 @@
+-- The definitions that the contracts of `world` are written in.
 pub mod Machine
 pub mod Runs
 pub mod Findings

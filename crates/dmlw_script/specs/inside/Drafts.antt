@@ -8,7 +8,7 @@ use Rattle.dmlw_script.specs.declared.command.Command.{Command}
 use Rattle.dmlw_script.specs.declared.command.Command.TheVariants as commands
 use Rattle.dmlw_script.specs.declared.command.Step.{Step}
 use Rattle.dmlw_script.specs.declared.command.Step.TheVariants as steps
-use Rattle.dmlw_script.specs.declared.draft.Draft.{Draft}
+use Rattle.dmlw_script.specs.declared.draft.BodyReader.{BodyReader}
 use Rattle.dmlw_script.specs.declared.script_id.ScriptId.{ScriptId}
 use Rattle.dmlw_script.specs.declared.line.BodyLine.{BodyLine}
 use Rattle.dmlw_script.specs.declared.line.BodyLine.TheVariants as body_lines
@@ -22,7 +22,7 @@ pub record Body : Type 0 where
   pub body : List Command
 
 -- what was read into a draft
-abbrev pub body_of : Draft → Body
+abbrev pub body_of : BodyReader → Body
 body_of d = record { names = d.names.keys; body = d.commands.items }
 
 -- each of n requests has its flag, which says whether it has ended, and no other request has
@@ -31,7 +31,7 @@ pub record IsFlags (n : ℕ) (flags : List Bool) (body : List Command) : Type 0 
   pub each : (request : ℕ) → slice_index_or flags request false ≡ is_ended request body
 
 -- a draft's flags are those of its requests, and its moment is the one after its commands
-pub record IsDraft (d : Draft) : Type 0 where
+pub record IsDraft (d : BodyReader) : Type 0 where
   pub flags : IsFlags (length d.names.keys) d.has_ended.items d.commands.items
   pub in_time : d.moment ≡ moment_after d.commands.items
 

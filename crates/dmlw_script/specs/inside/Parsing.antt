@@ -8,8 +8,8 @@ use Rattle.bio.specs.declared.sector_size.SectorSize.{SectorSize}
 use Rattle.bio.specs.declared.sector_size.SectorSize.TheVariants as sizes
 use Rattle.dmlw_script.specs.declared.disk_name.DiskName.{DiskName}
 use Rattle.dmlw_script.specs.declared.disk_name.DiskName.TheVariants as disks
-use Rattle.dmlw_script.specs.Said.{Said}
-use Rattle.dmlw_script.specs.Said as parsed_lines
+use Rattle.dmlw_script.specs.LineMeaning.{LineMeaning}
+use Rattle.dmlw_script.specs.LineMeaning as parsed_lines
 use Rattle.dmlw_script.specs.declared.line.HeadLine.{HeadLine}
 use Rattle.dmlw_script.specs.declared.line.HeadLine.TheVariants as head_lines
 use Rattle.dmlw_script.specs.declared.line.BodyLine.TheVariants as body_lines
@@ -19,7 +19,7 @@ use Rattle.dmlw_script.specs.declared.command.Step.{Step}
 use Rattle.dmlw_script.specs.declared.command.Step.TheVariants as steps
 use Rattle.dmlw_script.specs.declared.script_id.ScriptId.{ScriptId}
 use Rattle.dmlw_script.specs.Words.{byte_of}
-use Rattle.words.specs.Words.{before_byte, after_byte, number_of, words_of}
+use Rattle.text_words.specs.Words.{before_byte, after_byte, number_of, words_of}
 use Rattle.table_line.specs.declared.layer_spec.LayerSpec.{LayerSpec}
 use Rattle.table_line.specs.declared.table_error.TableError.{TableError}
 use Rattle.table_line.specs.LineLaws.{asks_or_fails}
@@ -36,11 +36,11 @@ abbrev pub ◌>>=◌ : {A B : Type 0} → Option A → (A → Option B) → Opti
 None >>= f = None
 
 -- a line that submits a request
-abbrev pub submit : ScriptId → Submission → Said
+abbrev pub submit : ScriptId → Submission → LineMeaning
 submit name submission = parsed_lines.Body (body_lines.Submit name submission)
 
 -- a line that names no request
-abbrev pub step : Step → Said
+abbrev pub step : Step → LineMeaning
 step it = parsed_lines.Body (body_lines.Step it)
 
 -- whether this word stands first among others, and what is left behind it
@@ -87,7 +87,7 @@ discard_words words = do
   Some (submits.Discard sectors.0 sectors.1)
 
 -- the write that these words say: an id, and the other words
-abbrev pub write_of : List ℕ → Option Said
+abbrev pub write_of : List ℕ → Option LineMeaning
 write_of words = do
   from_first ← after_byte 32 words
   name ← id_of_word (before_byte 32 words)
@@ -95,7 +95,7 @@ write_of words = do
   Some (submit name submission)
 
 -- the discard that these words say: an id, and the other words
-abbrev pub discard_of : List ℕ → Option Said
+abbrev pub discard_of : List ℕ → Option LineMeaning
 discard_of words = do
   from_first ← after_byte 32 words
   name ← id_of_word (before_byte 32 words)
@@ -103,20 +103,20 @@ discard_of words = do
   Some (submit name submission)
 
 -- the read that these words say: the first sector and the number of sectors
-abbrev pub read_of : List ℕ → Option Said
+abbrev pub read_of : List ℕ → Option LineMeaning
 read_of words = do
   sectors ← sectors_of words
   Some (step (steps.Read sectors.0 sectors.1))
 
 -- what a line of this one word says
-abbrev pub lone_word : List ℕ → Option Said
+abbrev pub lone_word : List ℕ → Option LineMeaning
 lone_word verb =
     if bytes_eq verb (codes "close") then Some (step steps.Close)
     else if bytes_eq verb (codes "turn") then Some (step steps.Turn)
     else None
 
 -- what a line of the body says, of this first word, whose other words are these
-abbrev pub body_words : List ℕ → List ℕ → Option Said
+abbrev pub body_words : List ℕ → List ℕ → Option LineMeaning
 body_words verb words =
     if bytes_eq verb (codes "w") then write_of words
     else if bytes_eq verb (codes "f") then option_map (λ name. submit name submits.Flush) (id_of_word words)
@@ -161,7 +161,7 @@ head_words verb words =
     else None
 
 -- what a line of this first word says, whose other words are these
-abbrev pub parse_words : List ℕ → List ℕ → Option Said
+abbrev pub parse_words : List ℕ → List ℕ → Option LineMeaning
 parse_words verb words = option_or (option_map parsed_lines.Head (head_words verb words)) (body_words verb words)
 
 -- the words of a text, which stand behind one space each but for the first
@@ -185,7 +185,7 @@ picks_of None = Some []
 picks_of (Some words) = numbers_of (split_words words)
 
 -- the mark of this text, where a space stands behind the first word
-abbrev pub mark_of : Option (List ℕ) → Option Said
+abbrev pub mark_of : Option (List ℕ) → Option LineMeaning
 mark_of None = None
 mark_of (Some text) = if is_line_text text then Some (step (steps.Mark text)) else None
 
@@ -197,14 +197,14 @@ disk_of_word word =
     else None
 
 -- the message to a layer of this disk that these words say: the layer's number, and behind one space the text
-abbrev pub message_to : DiskName → List ℕ → Option Said
+abbrev pub message_to : DiskName → List ℕ → Option LineMeaning
 message_to over words = do
   layer ← number_of (before_byte 32 words)
   text ← after_byte 32 words
   if is_line_text text then Some (step (steps.Message over layer text)) else None
 
 -- the message that these words say, if there are any: its disk, and the others
-abbrev pub message_of : Option (List ℕ) → Option Said
+abbrev pub message_of : Option (List ℕ) → Option LineMeaning
 message_of None = None
 message_of (Some words) = do
   over ← disk_of_word (before_byte 32 words)
@@ -212,12 +212,12 @@ message_of (Some words) = do
   message_to over from_layer
 
 -- what a line of this first word says that is no crash, no mark and no message, whose other words are these, if it has any
-abbrev pub plain_parts : List ℕ → Option (List ℕ) → Option Said
+abbrev pub plain_parts : List ℕ → Option (List ℕ) → Option LineMeaning
 plain_parts verb (Some words) = parse_words verb words
 plain_parts verb None = lone_word verb
 
 -- what a line of this first word says, whose other words are these, if it has any
-abbrev pub parse_parts : List ℕ → Option (List ℕ) → Option Said
+abbrev pub parse_parts : List ℕ → Option (List ℕ) → Option LineMeaning
 parse_parts verb words =
     if bytes_eq verb (codes "crash") then option_map (λ picks. parsed_lines.Crash picks) (picks_of words)
     else if bytes_eq verb (codes "mark") then mark_of words
@@ -225,5 +225,5 @@ parse_parts verb words =
     else plain_parts verb words
 
 -- what a line says, if it is of the grammar
-abbrev pub parse_line : List ℕ → Option Said
+abbrev pub parse_line : List ℕ → Option LineMeaning
 parse_line line = parse_parts (before_byte 32 line) (after_byte 32 line)

@@ -5,8 +5,8 @@ use Rattle.refusals.specs.declared.refusal.Refusal.{Refusal}
 use Rattle.refusals.specs.declared.refusal.Refusal.TheVariants.{BadLine, Memory}
 use Rattle.dmlw_script.specs.declared.command.Command.{Command}
 use Rattle.dmlw_script.specs.declared.reader.Reader.{Reader}
-use Rattle.dmlw_script.specs.Said.{Said}
-use Rattle.dmlw_script.specs.Said as parsed_lines
+use Rattle.dmlw_script.specs.LineMeaning.{LineMeaning}
+use Rattle.dmlw_script.specs.LineMeaning as parsed_lines
 use Rattle.dmlw_script.specs.declared.line.BodyLine.{BodyLine}
 use Rattle.dmlw_script.specs.inside.Stages.{Stage}
 use Rattle.dmlw_script.specs.inside.Stages as heads
@@ -15,7 +15,7 @@ use Rattle.refusals.specs.declared.fault.Fault.{Fault}
 use Rattle.dmlw_script.specs.declared.line_error.LineError.{LineError}
 use Rattle.dmlw_script.specs.declared.line_error.LineError.TheVariants as line_errors
 use Rattle.dmlw_script.specs.Lines.{is_ascii_line, is_skipped, lines_of}
-use Rattle.dmlw_script.specs.Plans.{top_of, Plan}
+use Rattle.dmlw_script.specs.Plans.{top_of, ScriptValue}
 use Rattle.dmlw_script.specs.inside.Heads.{head_step, stage_of}
 use Rattle.dmlw_script.specs.inside.Parsing.{parse_line}
 
@@ -63,7 +63,7 @@ crash_line heads.Empty p picks = Err BadLine
 crash_line (heads.Ended data_disk log_disk log_size ended) p picks = Err BadLine
 
 -- one more line that is none to skip
-abbrev pub parsed_step : Progress → Said → Result Progress Refusal
+abbrev pub parsed_step : Progress → LineMeaning → Result Progress Refusal
 parsed_step p (parsed_lines.Head line) = with_head p (head_step p.head (has_begun p.body.body) line)
 parsed_step p (parsed_lines.Body line) = body_line p.head p line
 parsed_step p (parsed_lines.Crash picks) = crash_line p.head p picks
@@ -81,7 +81,7 @@ line_by parse step s line =
     else step_if step s (parse line)
 
 -- one more line of a recorder's script that isn't skipped
-abbrev pub step_if_parsed : Progress → Option Said → Result Progress Refusal
+abbrev pub step_if_parsed : Progress → Option LineMeaning → Result Progress Refusal
 step_if_parsed p said = step_if parsed_step p said
 
 -- one more line of it
@@ -89,7 +89,7 @@ abbrev pub line_step : Progress → List ℕ → Result Progress Refusal
 line_step p line = line_by parse_line parsed_step p line
 
 -- the text ends here: a whole head stands before it
-abbrev pub finished : Stage → Body → Result Plan Refusal
+abbrev pub finished : Stage → Body → Result ScriptValue Refusal
 finished (heads.Whole data_disk log_disk log_size) body =
     Ok (record { data_disk = data_disk; log_disk = log_disk; log_size = log_size; names = body.names; commands = body.body; ending = None })
 finished (heads.Ended data_disk log_disk log_size picks) body =
@@ -98,7 +98,7 @@ finished (heads.Data data_disk) body = Err BadLine
 finished heads.Empty body = Err BadLine
 
 -- the end of the text, after what was read
-abbrev pub finish_step : Progress → Result Plan Refusal
+abbrev pub finish_step : Progress → Result ScriptValue Refusal
 finish_step p = finished p.head p.body
 
 -- the answer to the line of this number
@@ -117,7 +117,7 @@ read_by step finish s number [] = at_line number (finish s)
 read_by step finish s number (line ∷ lines) = and_then (at_line number (step s line)) (λ t. read_by step finish t (number + 1) lines)
 
 -- what is read of these lines, the first of which has this number
-abbrev pub read_lines : Progress → ℕ → List (List ℕ) → Result Plan Fault
+abbrev pub read_lines : Progress → ℕ → List (List ℕ) → Result ScriptValue Fault
 read_lines p number lines = read_by line_step finish_step p number lines
 
 -- nothing was read
@@ -125,7 +125,7 @@ abbrev pub nothing : Progress
 nothing = record { head = heads.Empty; body = record { names = []; body = [] } }
 
 -- what is read of a text
-abbrev pub read_text : List ℕ → Result Plan Fault
+abbrev pub read_text : List ℕ → Result ScriptValue Fault
 read_text text = read_lines nothing 1 (lines_of text)
 
 -- a fault with a line is what is read, and one with none is that memory ran out

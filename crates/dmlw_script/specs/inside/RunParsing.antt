@@ -13,7 +13,7 @@ use Rattle.dmlw_script.specs.declared.seat_call.Call.{Call}
 use Rattle.dmlw_script.specs.declared.seat_call.Call.TheVariants as calls
 use Rattle.dmlw_script.specs.Lines.{is_line_text}
 use Rattle.dmlw_script.specs.inside.Parsing.{◌>>=◌, discard_words, head_words, write_words}
-use Rattle.words.specs.Words.{after_byte, before_byte, number_of}
+use Rattle.text_words.specs.Words.{after_byte, before_byte, number_of}
 
 -- the request that a seat submits by this first word, with other words behind it
 abbrev pub submission_with : List ℕ → List ℕ → Option Submission

@@ -1,3 +1,5 @@
+//! Hands a message to the layer of a stack that its number names, the lowest being 1.
+//! Scripts reach the bad blocks of a layer by it.
 ghost use Rattle.layer_table.specs.StackMessages.{StackAnswers};
 
 use crate::stack::Stack;

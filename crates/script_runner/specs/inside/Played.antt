@@ -2,7 +2,7 @@
 use Rattle.std.specs.Prelude.{◌≡◌, ℕ, List, [], Option}
 use Rattle.std.specs.Io.KnownBytes.{Appends, Keeps}
 use Rattle.blockdev.specs.declared.device.BlockDev.{Ghosts}
-use Rattle.dmlw_script.specs.Plans.{Disk, Plan}
+use Rattle.dmlw_script.specs.Plans.{Disk, ScriptValue}
 use Rattle.layer_table.specs.declared.stack.Stack.{Stack}
 use Rattle.recorder.specs.declared.recorder.Recorder.{Recorder}
 use Rattle.run_error.specs.declared.run_error.RunError.{RunError}
@@ -31,7 +31,7 @@ pub record StartsBeside {L : Type 0} {l : Ghosts L} (bytes : ℕ) (data_disk : D
 
 -- A script was played from such a start: its lines ran, what they print was added to what a writer holds, and it left this recorder and so many
 -- calls of the data device that were dropped and told as done.
-pub record IsPlayed {D L : Type 0} {d : Ghosts D} {l : Ghosts L} (m : Answering D L) (plan : Plan) (Start : Running D L d l → Type 0) (before after : Option (List ℕ))
+pub record IsPlayed {D L : Type 0} {d : Ghosts D} {l : Ghosts L} (m : Answering D L) (plan : ScriptValue) (Start : Running D L d l → Type 0) (before after : Option (List ℕ))
     (recorder : Recorder L l) (lies : ℕ) : Type 0 where
   pub start : Running D L d l
   pub starts : Start start
@@ -44,7 +44,7 @@ pub record IsPlayed {D L : Type 0} {d : Ghosts D} {l : Ghosts L} (m : Answering 
 
 -- Why playing a script, which was read from a text, fails: there is no memory, or the output can't be written; no log could be made, and nothing was
 -- printed; or its run from such a start ends before its last line.
-pub data FailsPlaying {D L : Type 0} {d : Ghosts D} {l : Ghosts L} (m : Answering D L) (text : List ℕ) (plan : Plan) (Unmade : RunError → Type 0)
+pub data FailsPlaying {D L : Type 0} {d : Ghosts D} {l : Ghosts L} (m : Answering D L) (text : List ℕ) (plan : ScriptValue) (Unmade : RunError → Type 0)
     (Start : Running D L d l → Type 0) (before after : Option (List ℕ)) : RunError → Type 0 where
   file : (fault : RunError) → IsFileError fault → FailsPlaying m text plan Unmade Start before after fault
   unmade : (fault : RunError) → Unmade fault → Keeps before after → FailsPlaying m text plan Unmade Start before after fault

@@ -1,3 +1,4 @@
+//! The disk as a block device: it reads, writes, discards and flushes, and never lies.
 ghost use Rattle.std.specs.Prelude.{◌≡◌, ◌∷◌, ◌+◌, ◌≤◌, OnErr, OnOk, length};
 ghost use Rattle.sector_disk.specs.Candidates.{Puts};
 ghost use Rattle.sector_disk.specs.Shown.{Does, HasPast, shown_of, steps_of};

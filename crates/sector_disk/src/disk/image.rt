@@ -1,3 +1,4 @@
+//! Makes a disk, of zeroes or of an image, and gives its image back.
 ghost use Rattle.std.specs.Prelude.{◌≡◌, ◌*◌, ◌/◌, ◌%◌, ◌≤◌, IfOk, length, replicate};
 ghost use Rattle.sector_disk.specs.Shown.{shown_of};
 ghost use Rattle.sector_disk.specs.Sizes.{Begins, IsDiskSize, IsImageSize};

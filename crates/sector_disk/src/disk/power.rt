@@ -1,3 +1,4 @@
+//! The disk loses power: `crash` leaves in each unsynced sector the candidate that its pick names.
 ghost use Rattle.std.specs.Prelude.{◌≡◌, length};
 ghost use Rattle.sector_disk.specs.Candidates.{left_by};
 ghost use Rattle.sector_disk.specs.Shown.{cache_of, shown_of};

@@ -1,3 +1,4 @@
+-- Answers to goals of `calls_tear_their_own_sectors_at_any_moment`.
 use Rattle.blockdev.specs.DurableLaws.{gained-torn}
 use Rattle.blockdev.proofs.laws.calls_tear_their_own_sectors_at_any_moment.Goals as goal
 

@@ -1,3 +1,4 @@
+-- Answers to the goals of `join` (src/rings.rt) that the search leaves.
 use Rattle.std.proofs.Common.{sym, ◌∙◌}
 use Rattle.chains.proofs.HoldsLaws.{holds-joined, holds-same}
 use Rattle.chains.proofs.rings.join.Goals as goal

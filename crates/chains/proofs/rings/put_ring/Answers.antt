@@ -1,3 +1,4 @@
+-- Answers to the goals of `put_ring` (src/rings.rt) that the search leaves.
 use Rattle.std.proofs.Common.{length, set, Some, ap, sym, ◌∙◌, arith, length-set}
 use Rattle.chains.proofs.RingLaws.{times-append, last-counts}
 use Rattle.chains.specs.inside.Rings.{after}

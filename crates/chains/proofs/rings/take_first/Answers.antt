@@ -1,3 +1,4 @@
+-- Answers to the goals of `take_first` (src/rings.rt) that the search leaves.
 use Rattle.std.proofs.Common.{ℕ, List, ◌∷◌, length, set, Some, None, refl, ap, sym, ◌∙◌, subst, arith, length-set}
 use Rattle.chains.specs.declared.links.Links.{Links}
 use Rattle.chains.proofs.RingLaws.{none-of, some-of}

@@ -1,3 +1,4 @@
+-- Answers to the goals of `next_of_image` (src/opened.rt) that the search leaves.
 use Rattle.std.proofs.Common.{◌≡◌, ◌∙◌, Err, true, false, refl, sym, ap}
 use Rattle.log_reader.specs.Shown.{reader_of}
 use Rattle.run_error.specs.Errors.{refused_by}

@@ -1,3 +1,4 @@
+-- Answers to the goals of `record` (src/record.rt) that the search leaves.
 use Rattle.std.proofs.Common.{◌∙◌}
 use Rattle.dmlw_commands.specs.EndingLaws.{ends_told}
 use Rattle.dmlw_commands.proofs.Endings.{done_holds, ended_holds, keeps_or_asks, recording_ends, records_all, refused_keeps}

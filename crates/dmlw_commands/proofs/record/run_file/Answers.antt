@@ -1,3 +1,4 @@
+-- Answers to the goals of `run_file` (src/record.rt) that the search leaves.
 use Rattle.script_runner.specs.CallLaws.{on_error}
 use Rattle.dmlw_commands.proofs.Failing.{fails_for_file, fails_of_text, not_too_long, printed_of_text}
 use Rattle.dmlw_commands.proofs.record.run_file.Goals as goal

@@ -1,3 +1,4 @@
+-- Answers to the goals of `run_text` (src/record.rt) that the search leaves.
 use Rattle.std.proofs.Common.{refl}
 use Rattle.script_runner.specs.CallLaws.{on_error}
 use Rattle.dmlw_commands.proofs.Failing.{fails_unread}

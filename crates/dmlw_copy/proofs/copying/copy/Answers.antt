@@ -1,3 +1,4 @@
+-- Answers to the goals of `copy` (src/copying.rt) that the search leaves.
 use Rattle.std.proofs.Common.{◌∙◌}
 use Rattle.dmlw_commands.specs.EndingLaws.{ends_told}
 use Rattle.dmlw_copy.proofs.Ends.{copying_ends}

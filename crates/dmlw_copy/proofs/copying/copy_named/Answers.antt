@@ -1,3 +1,4 @@
+-- Answers to the goals of `copy_named` (src/copying.rt) that the search leaves.
 use Rattle.script_runner.specs.CallLaws.{on_error}
 use Rattle.dmlw_copy.proofs.Copied.{copied_from, failed_from}
 use Rattle.dmlw_copy.proofs.Ends.{fails_by_file}

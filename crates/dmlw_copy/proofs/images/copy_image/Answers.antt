@@ -1,3 +1,4 @@
+-- Answers to the goals of `copy_image` (src/images.rt) that the search leaves.
 use Rattle.std.proofs.Common.{inl, refl, subst, sym}
 use Rattle.script_runner.specs.CallLaws.{on_error}
 use Rattle.sector_disk.specs.declared.disk.SectorDisk.{SectorDisk}

@@ -1,3 +1,4 @@
+-- Answers to the goals of `copies_replay_alike` (src/laws.rt) that the search leaves.
 use Rattle.dmlw_copy.proofs.Alike.{copy_alike, copy_whole}
 use Rattle.dmlw_copy.proofs.laws.copies_replay_alike.Goals as goal
 

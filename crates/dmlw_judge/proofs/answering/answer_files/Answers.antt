@@ -1,3 +1,4 @@
+-- Answers to the goals of `answer_files` (src/answering.rt) that the search leaves.
 use Rattle.std.proofs.Common.{List, Option, subst, sym, ℕ}
 use Rattle.run_error.specs.Errors.{IsFileError}
 use Rattle.dmlw_files.specs.Files.{MatchesContents}

@@ -1,3 +1,4 @@
+-- Answers to the goals of `answer_script` (src/answering.rt) that the search leaves.
 use Rattle.std.proofs.Common.{◌≡◌, ◌∙◌, true, IfErr, IfOk, List, Result, ap, subst, sym}
 use Rattle.bio.specs.declared.event.CoreEvent.{CoreEvent}
 use Rattle.bio.specs.Lawful.{all_aligned, is_lawful}

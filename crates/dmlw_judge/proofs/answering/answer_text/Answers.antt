@@ -1,3 +1,4 @@
+-- Answers to the goals of `answer_text` (src/answering.rt) that the search leaves.
 use Rattle.script_runner.specs.CallLaws.{on_error}
 use Rattle.dmlw_judge.proofs.Answered.{failed_text}
 use Rattle.dmlw_judge.proofs.answering.answer_text.Goals as goal

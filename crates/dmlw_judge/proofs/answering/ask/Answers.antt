@@ -1,3 +1,4 @@
+-- Answers to the goals of `ask` (src/answering.rt) that the search leaves.
 use Rattle.std.proofs.Common.{◌∙◌}
 use Rattle.dmlw_commands.specs.EndingLaws.{ends_told}
 use Rattle.dmlw_judge.proofs.Answered.{answering_ends}

@@ -1,3 +1,4 @@
+-- Answers to the goals of `findings_are_verdicts` (src/laws.rt) that the search leaves.
 use Rattle.dmlw_judge.proofs.Agreeing.{same_judged, same_verdict}
 use Rattle.dmlw_judge.proofs.laws.findings_are_verdicts.Goals as goal
 

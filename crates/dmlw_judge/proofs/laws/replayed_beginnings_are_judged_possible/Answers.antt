@@ -1,3 +1,4 @@
+-- Answers to goals of `replayed_beginnings_are_judged_possible`.
 use Rattle.dmlw_judge.proofs.Replaying.{asked_yes, begun_yes, judged_yes}
 use Rattle.dmlw_judge.proofs.laws.replayed_beginnings_are_judged_possible.Goals as goal
 

@@ -1,3 +1,4 @@
+-- Answers to the goals of `last_moment` (src/moments.rt) that the search leaves.
 use Rattle.std.proofs.Common.{◌∙◌, ◌+◌, arith, sym}
 use Rattle.dmlw_judge.proofs.Stopping.{none_next, stands_there, stop_is_last}
 use Rattle.dmlw_judge.proofs.moments.last_moment.Goals as goal

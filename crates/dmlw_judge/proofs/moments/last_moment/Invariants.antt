@@ -1,3 +1,4 @@
+-- What holds at the calls and the turns of the loops of `last_moment` (src/moments.rt).
 use Rattle.std.proofs.Common.{◌≡◌, None}
 use Rattle.sectors.specs.Places.{first_below}
 use Rattle.dmlw_judge.proofs.Stopping.{stops_at}

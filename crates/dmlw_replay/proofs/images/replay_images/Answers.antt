@@ -1,3 +1,4 @@
+-- Answers to the goals of `replay_images` (src/images.rt) that the search leaves.
 use Rattle.std.proofs.Common.{IfErr, IfOk, Result, inl, refl, subst, ℕ}
 use Rattle.headline.specs.declared.reopening.ReopenError.{ReopenError}
 use Rattle.headline.specs.Reopened.{IsRefused, IsReplayed as IsReopened}

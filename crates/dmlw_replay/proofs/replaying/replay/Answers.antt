@@ -1,3 +1,4 @@
+-- Answers to the goals of `replay` (src/replaying.rt) that the search leaves.
 use Rattle.std.proofs.Common.{◌∙◌}
 use Rattle.dmlw_commands.specs.EndingLaws.{ends_told}
 use Rattle.dmlw_replay.proofs.Ends.{replaying_ends}

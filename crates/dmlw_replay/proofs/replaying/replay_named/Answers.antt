@@ -1,3 +1,4 @@
+-- Answers to the goals of `replay_named` (src/replaying.rt) that the search leaves.
 use Rattle.script_runner.specs.CallLaws.{on_error}
 use Rattle.dmlw_replay.proofs.Ends.{fails_by_file}
 use Rattle.dmlw_replay.proofs.Replayed.{both_images, failed_from, replayed_from}

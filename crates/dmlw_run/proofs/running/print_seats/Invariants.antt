@@ -1,3 +1,4 @@
+-- What holds at the calls and the turns of the loops of `print_seats` (src/running.rt).
 use Rattle.std.proofs.Common.{take}
 use Rattle.std.specs.Io.KnownBytes.{Appends}
 use Rattle.dmlw_run.specs.RunsLog.{seat_lines}

@@ -1,3 +1,4 @@
+-- Answers to the goals of `run` (src/running.rt) that the search leaves.
 use Rattle.std.proofs.Common.{◌∙◌}
 use Rattle.dmlw_commands.specs.EndingLaws.{ends_told}
 use Rattle.dmlw_run.proofs.Endings.{done_holds, ended_holds, keeps_or_asks, running_ends, runs_all, refused_keeps}

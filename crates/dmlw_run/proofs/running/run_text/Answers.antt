@@ -1,3 +1,4 @@
+-- Answers to the goals of `run_text` (src/running.rt) that the search leaves.
 use Rattle.std.proofs.Common.{refl}
 use Rattle.script_runner.specs.CallLaws.{on_error}
 use Rattle.dmlw_run.proofs.Failing.{fails_unread}

@@ -1,3 +1,4 @@
+-- Answers to the goals of `run_texts_have_one_first_fault` (src/laws.rt) that the search leaves.
 use Rattle.dmlw_script.proofs.OneRunFault.{no_run_fault, one_run_fault, run_or_fault}
 use Rattle.dmlw_script.proofs.laws.run_texts_have_one_first_fault.Goals as goal
 

@@ -1,3 +1,4 @@
+-- Answers to the goals of `texts_have_one_first_fault` (src/laws.rt) that the search leaves.
 use Rattle.dmlw_script.proofs.FaultLaws.{spells_or_faults}
 use Rattle.dmlw_script.proofs.OneFault.{no_fault, one_first_fault}
 use Rattle.dmlw_script.proofs.laws.texts_have_one_first_fault.Goals as goal

@@ -1,5 +1,6 @@
+-- Answers to the goals of `layer_of` (src/line.rt) that the search leaves.
 use Rattle.std.proofs.Common.{ap}
-use Rattle.words.specs.Words.{words_of}
+use Rattle.text_words.specs.Words.{words_of}
 use Rattle.dmlw_script.specs.declared.line.HeadLine.TheVariants as head_lines
 use Rattle.dmlw_script.specs.inside.Parsing.{asked_of}
 use Rattle.dmlw_script.proofs.LayerLaws.{asked_is, asked_read, one_asked}

@@ -1,3 +1,4 @@
+-- Answers to the goals of `read_script` (src/reader.rt) that the search leaves.
 use Rattle.dmlw_script.proofs.TextLaws.{reads_found, reads_only, reads_fault}
 use Rattle.dmlw_script.proofs.reader.read_script.Goals as goal
 

@@ -1,3 +1,4 @@
+-- Answers to the goals of `read_run_script` (src/run_reader.rt) that the search leaves.
 use Rattle.dmlw_script.proofs.RunReading.{run_found, run_only}
 use Rattle.dmlw_script.proofs.RunFaults.{run_fault}
 use Rattle.dmlw_script.proofs.run_reader.read_run_script.Goals as goal

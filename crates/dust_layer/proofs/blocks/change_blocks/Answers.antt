@@ -1,3 +1,4 @@
+-- Answers to the goals of `change_blocks` (src/blocks.rt) that the search leaves.
 use Rattle.std.proofs.Common.{refl, sym, ◌∙◌, arith}
 use Rattle.dust_layer.specs.Bad.{listed}
 use Rattle.dust_layer.proofs.Passing.{changes_failed, changes_fails, changes_first, changes_goes, changes_land, changes_step}

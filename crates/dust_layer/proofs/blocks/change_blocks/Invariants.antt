@@ -1,3 +1,4 @@
+-- What holds at the calls and the turns of the loops of `change_blocks` (src/blocks.rt).
 use Rattle.dust_layer.specs.Bad.{listed}
 use Rattle.dust_layer.specs.Change.{call_of, fua_of}
 use Rattle.dust_layer.proofs.Passing.{Changes}

@@ -1,3 +1,4 @@
+-- What holds at the calls and the turns of the loops of `read_blocks` (src/blocks.rt).
 use Rattle.std.proofs.Common.{◌≡◌, length}
 use Rattle.dust_layer.specs.Bad.{listed}
 use Rattle.dust_layer.proofs.Passing.{Reading}

@@ -1,3 +1,4 @@
+-- Answers to the goals of `Fresh::new` (src/lib.rt) that the search leaves.
 use Rattle.holders.proofs.Moves.{begins}
 use Rattle.holders.proofs.Fresh.new.Goals as goal
 

@@ -1,3 +1,4 @@
+-- Answers to the goals of `Keeper::agree` (src/lib.rt) that the search leaves.
 use Rattle.std.proofs.Common.{sym, ap, ◌∙◌, arith}
 use Rattle.holders.proofs.Moves.{agrees, splits, joins, joined, lent_is, same_is}
 use Rattle.holders.proofs.Keeper.agree.Goals as goal

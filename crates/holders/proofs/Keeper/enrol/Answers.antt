@@ -1,3 +1,4 @@
+-- Answers to the goals of `Keeper::enrol` (src/lib.rt) that the search leaves.
 use Rattle.std.proofs.Common.{sym, ap, ◌∙◌, arith}
 use Rattle.holders.proofs.Moves.{enrols, splits, enrolled_is}
 use Rattle.holders.proofs.Keeper.enrol.Goals as goal

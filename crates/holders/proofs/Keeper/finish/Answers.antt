@@ -1,3 +1,4 @@
+-- Answers to the goals of `Keeper::finish` (src/lib.rt) that the search leaves.
 use Rattle.std.proofs.Common.{sym, ap, ◌∙◌, arith}
 use Rattle.holders.proofs.Moves.{sets, splits, joins, joined, lent_is, set_is}
 use Rattle.holders.proofs.Keeper.finish.Goals as goal

@@ -1,3 +1,4 @@
+-- Answers to the goals of `lowest_failing` (src/accounts.rt) that the search leaves.
 use Rattle.std.proofs.Common.{length, ap, sym, ◌∙◌, inl, inr, arith}
 use Rattle.sectors.specs.Content.{sector_of}
 use Rattle.sectors.specs.PlaceLaws.{last_or_below}

@@ -1,3 +1,4 @@
+-- Answers to the goals of `held_values` (src/held.rt) that the search leaves.
 use Rattle.std.proofs.Common.{◌≡◌, ℕ, suc, ◌+◌, ◌/◌, length, ◌∙◌, subst, arith}
 use Rattle.sectors.specs.Content.{sector_of}
 use Rattle.sectors.specs.PlaceLaws.{stands_there}

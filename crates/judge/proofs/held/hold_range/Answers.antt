@@ -1,3 +1,4 @@
+-- Answers to the goals of `hold_range` (src/held.rt) that the search leaves.
 use Rattle.std.proofs.Common.{◌≡◌, ℕ, suc, ◌+◌, Some, sym, ◌∙◌, subst, arith}
 use Rattle.sectors.specs.Content.{sector_of}
 use Rattle.judge.specs.inside.Accounts.{AreFit}

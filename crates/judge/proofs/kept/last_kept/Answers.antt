@@ -1,3 +1,4 @@
+-- Answers to the goals of `last_kept` (src/kept.rt) that the search leaves.
 use Rattle.std.proofs.Common.{◌≡◌, ℕ, suc, ◌+◌, sym, ◌∙◌, subst, arith}
 use Rattle.judge.specs.inside.Last.{AreLastKept}
 use Rattle.sectors.specs.PlaceLaws.{stands_there}

@@ -1,3 +1,4 @@
+-- What holds at the calls and the turns of the loops of `last_kept` (src/kept.rt).
 use Rattle.judge.specs.inside.Last.{AreLastKept}
 use Rattle.judge.proofs.kept.last_kept.Given as goal
 

@@ -1,3 +1,4 @@
+-- What holds at the calls and the turns of the loops of `put_place` (src/kept.rt).
 use Rattle.judge.specs.inside.Last.{ArePut}
 use Rattle.judge.proofs.kept.put_place.Given as goal
 

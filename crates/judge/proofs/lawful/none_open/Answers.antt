@@ -1,3 +1,4 @@
+-- Answers to the goals of `none_open` (src/lawful.rt) that the search leaves.
 use Rattle.std.proofs.Common.{ℕ, not, length, ap, sym, ◌∙◌}
 use Rattle.bio.specs.Events.{is_open_at}
 use Rattle.sectors.specs.PlaceLaws.{not_all}

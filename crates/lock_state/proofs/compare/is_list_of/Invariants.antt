@@ -1,3 +1,4 @@
+-- What holds at the calls and the turns of the loops of `is_list_of` (src/compare.rt).
 use Rattle.lock_state.proofs.Matching.{Matched}
 use Rattle.lock_state.proofs.compare.is_list_of.Given as goal
 

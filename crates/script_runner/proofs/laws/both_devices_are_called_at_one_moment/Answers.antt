@@ -1,3 +1,4 @@
+-- Answers to goals of `both_devices_are_called_at_one_moment`.
 use Rattle.script_runner.specs.Lines.{answering}
 use Rattle.script_runner.proofs.Moments.{lines_together, started_together}
 use Rattle.script_runner.proofs.laws.both_devices_are_called_at_one_moment.Goals as goal

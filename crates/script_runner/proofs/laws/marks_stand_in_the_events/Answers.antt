@@ -1,3 +1,4 @@
+-- Answers to the goals of `marks_stand_in_the_events` (src/laws.rt) that the search leaves.
 use Rattle.script_runner.proofs.Following.{queued_stands, stays}
 use Rattle.script_runner.proofs.laws.marks_stand_in_the_events.Goals as goal
 use Rattle.recorder.specs.Shown.{core_of}

@@ -1,3 +1,4 @@
+-- Answers to the goals of `print_first_bytes` (src/print.rt) that the search leaves.
 use Rattle.std.proofs.Common.{◌*◌, rules}
 use Rattle.std.specs.Prelude.{slice_index_or}
 use Rattle.script_runner.proofs.Reading.{byte_printed}

@@ -1,3 +1,4 @@
+-- Answers to the goals of `record` (src/recording.rt) that the search leaves.
 use Rattle.std.proofs.Common.{◌≡◌, ◌∙◌, ap, subst, sym}
 use Rattle.script_runner.specs.CallLaws.{on_error}
 use Rattle.script_runner.specs.OnDisks.{DiskRecorder, FailsOnDisks, IsCounted}
@@ -6,7 +7,7 @@ use Rattle.log_store.specs.Shown.{store_of}
 use Rattle.log_store.specs.Store.{entries_of}
 use Rattle.pending.specs.CoreState.{IsSound}
 use Rattle.recorder.specs.Replayed.{ReplaysToWhatCouldBe}
-use Rattle.recorder.specs.Shown.{core_of, recording_of}
+use Rattle.recorder.specs.Shown.{core_of, recorder_view}
 use Rattle.layer_table.specs.Layers.{stack_shown}
 use Rattle.sectors.specs.Content.{Content}
 use Rattle.script_runner.proofs.OnDisks.{image_agrees, image_long, image_of, is_recorded, same_lies}
@@ -31,7 +32,7 @@ returns-clause-recorded g c =
     let says = c.status-status.ensures in
     let counted = subst (λ (r : DiskRecorder). IsCounted c.status-status.result r) played.left
     (record { entries = says.counts; end = says.end; none = says.none; last = says.last }) in
-    let replays : (stack_shown last.recorder.store.device).lies ≡ 0 → (left : Content) → (stack_shown last.recorder.store.device).crash left → ReplaysToWhatCouldBe (recording_of last.recorder) (recording_of last.recorder) left =
+    let replays : (stack_shown last.recorder.store.device).lies ≡ 0 → (left : Content) → (stack_shown last.recorder.store.device).crash left → ReplaysToWhatCouldBe (recorder_view last.recorder) (recorder_view last.recorder) left =
     λ honest left may. c.crashed_logs_replay_to_what_could_be.ensures.between last.recorder left honest may in
     let sound = subst (λ (r : DiskRecorder). IsSound (core_of r)) played.left c.events-events.ensures.core in
     let same = c.into_device-log.ensures ∙ ap (λ (r : DiskRecorder). r.store.device) played.left in

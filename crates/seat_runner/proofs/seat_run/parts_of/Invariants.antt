@@ -1,3 +1,4 @@
+-- What holds at the calls and the turns of the loops of `parts_of` (src/seat_run.rt).
 use Rattle.std.proofs.Common.{◌≡◌, map}
 use Rattle.seat_runner.specs.inside.Playing.{Player}
 use Rattle.seat_runner.specs.Tallies.{joined}

@@ -1,3 +1,4 @@
+-- Answers to the goals of `start` (src/seat_run.rt) that the search leaves.
 use Rattle.std.proofs.Common.{subst, sym}
 use Rattle.bio.specs.declared.outcome.End.{End}
 use Rattle.run_error.specs.declared.run_error.RunError.TheVariants.{LoggingEnded}

@@ -1,3 +1,4 @@
+-- What holds at the calls and the turns of the loops of `put_later` (src/call.rt).
 use Rattle.std.proofs.Common.{◌≡◌, ◌*◌, drop, take}
 use Rattle.sectors.specs.Content.{gather}
 use Rattle.sector_disk.specs.inside.Given.{put_over}

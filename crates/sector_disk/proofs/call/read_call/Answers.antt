@@ -1,3 +1,4 @@
+-- Answers to the goals of `read_call` (src/call.rt) that the search leaves.
 use Rattle.std.proofs.Common.{ap, replicate, sym, ◌∙◌}
 use Rattle.std.specs.Prelude.{unwrap_or}
 use Rattle.sectors.specs.ContentLaws.{writes-whole}

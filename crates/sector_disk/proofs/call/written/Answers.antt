@@ -1,3 +1,4 @@
+-- Answers to the goals of `written` (src/call.rt) that the search leaves.
 use Rattle.std.proofs.Common.{inl, inr}
 use Rattle.sector_disk.proofs.Reading.{written-none, written-some}
 use Rattle.sector_disk.proofs.call.written.Goals as goal

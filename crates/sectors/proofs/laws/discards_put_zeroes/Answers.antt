@@ -1,3 +1,4 @@
+-- Answers to the goals of `discards_put_zeroes` (src/laws.rt) that the search leaves.
 use Rattle.std.proofs.Common.{replicate}
 use Rattle.sectors.specs.ContentLaws.{put-discards, put-outside}
 use Rattle.sectors.proofs.laws.discards_put_zeroes.Goals as goal

@@ -1,3 +1,4 @@
+-- Answers to the goals of `sectors_stay_whole` (src/laws.rt) that the search leaves.
 use Rattle.sectors.specs.ContentLaws.{discards-whole, whole-patched, writes-whole}
 use Rattle.sectors.proofs.laws.sectors_stay_whole.Goals as goal
 

@@ -1,3 +1,4 @@
+-- Answers to the goals of `values_are_put` (src/laws.rt) that the search leaves.
 use Rattle.sectors.specs.ContentLaws.{put-none, put-some}
 use Rattle.sectors.proofs.laws.values_are_put.Goals as goal
 

@@ -1,3 +1,4 @@
+-- Answers to the goals of `writes_put_their_bytes` (src/laws.rt) that the search leaves.
 use Rattle.std.proofs.Common.{◌/◌, length}
 use Rattle.sectors.specs.Content.{sector_of}
 use Rattle.sectors.specs.ContentLaws.{HasBytes-put, put-outside, put-writes}

@@ -1,3 +1,4 @@
+-- Answers to the goals of `agree` (src/closing.rt) that the search leaves.
 use Rattle.std.proofs.Common.{rules}
 use Rattle.shared.proofs.Finishing.{agree_by}
 use Rattle.shared.proofs.closing.agree.Goals as goal

@@ -1,3 +1,4 @@
+-- Answers to the goals of `finish` (src/closing.rt) that the search leaves.
 use Rattle.shared.proofs.Finishing.{agrees_finally, leaves_finally}
 use Rattle.shared.proofs.closing.finish.Goals as goal
 

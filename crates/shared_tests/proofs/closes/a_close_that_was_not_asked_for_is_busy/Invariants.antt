@@ -1,3 +1,4 @@
+-- What holds at the turns of `a_close_that_was_not_asked_for_is_busy`.
 use Rattle.shared_tests.specs.Disks.{disk_ground}
 use Rattle.shared_tests.proofs.closes.a_close_that_was_not_asked_for_is_busy.Given as goal
 

@@ -1,3 +1,4 @@
+-- What holds at the turns of `a_seat_writes_flushes_and_reads`.
 use Rattle.shared_tests.specs.Disks.{disk_ground}
 use Rattle.shared_tests.proofs.closes.a_seat_writes_flushes_and_reads.Given as goal
 

@@ -1,3 +1,4 @@
+-- What holds at the turns of `two_recorders_find_each_others_calls`.
 use Rattle.shared_tests.specs.Disks.{disk_ground}
 use Rattle.shared_tests.proofs.closes.two_recorders_find_each_others_calls.Given as goal
 

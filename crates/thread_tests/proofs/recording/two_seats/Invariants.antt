@@ -1,3 +1,4 @@
+-- What holds at the calls and the turns of the loops of `two_seats` (src/recording.rt).
 use Rattle.bio.specs.Sizes.{bytes_of}
 use Rattle.lock_state.specs.Placed.{ground_of}
 use Rattle.log_store.specs.Shown.{store_of}

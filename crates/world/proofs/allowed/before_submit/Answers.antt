@@ -1,3 +1,4 @@
+-- Answers to the goals of `before_submit` (src/allowed.rt) that the search leaves.
 use Rattle.std.proofs.Common.{◌+◌, sym, ◌∙◌, arith}
 use Rattle.sectors.specs.PlaceLaws.{stands_there}
 use Rattle.world.proofs.Lists.{before_here, before_other}

@@ -1,3 +1,4 @@
+-- What holds at the calls and the turns of the loops of `has_landed` (src/allowed.rt).
 use Rattle.std.proofs.Common.{◌≡◌, ◌+◌, true}
 use Rattle.std.specs.Prelude.{slice_get}
 use Rattle.sectors.specs.Places.{all_below}

@@ -1,3 +1,4 @@
+-- What holds at the calls and the turns of the loops of `land_late` (src/plan.rt).
 use Rattle.std.proofs.Common.{◌≡◌, ◌++◌, ◌+◌}
 use Rattle.sectors.specs.Places.{collect}
 use Rattle.bio.specs.Requests.{first_sector}

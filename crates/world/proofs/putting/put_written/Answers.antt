@@ -1,3 +1,4 @@
+-- Answers to the goals of `put_written` (src/putting.rt) that the search leaves.
 use Rattle.std.proofs.Common.{◌/◌, ◌*◌, length, drop, ap, ◌∙◌, arith, length-drop}
 use Rattle.std.proofs.lemmas.List.{length-take-le}
 use Rattle.sectors.specs.Content.{sector_of, writes}

@@ -1,3 +1,4 @@
+-- What holds at the calls and the turns of the loops of `finish` (src/reaching.rt).
 use Rattle.std.proofs.Common.{◌≡◌, ◌++◌}
 use Rattle.sectors.specs.Places.{collect}
 use Rattle.judge.specs.Accounts.{place_at}

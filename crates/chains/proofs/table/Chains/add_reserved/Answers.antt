@@ -1,3 +1,4 @@
+-- Answers to the goals of `Chains::add_reserved` (src/table.rt) that the search leaves.
 use Rattle.std.proofs.Common.{◌≡◌, ◌<◌, max, [], ◌∷◌, ◌++◌, length, map, drop, Some, None, ap, sym, ◌∙◌, arith}
 use Rattle.std.proofs.lemmas.List.{length-map, length-set}
 use Rattle.chains.specs.Edits.{chain_in, lengthened, shortened}

@@ -1,3 +1,4 @@
+-- Answers to the goals of `Chains::reserve_rows` (src/table.rt) that the search leaves.
 use Rattle.std.proofs.Common.{refl, ap}
 use Rattle.chains.proofs.CallLaws.{sound-same}
 use Rattle.chains.proofs.table.Chains.reserve_rows.Goals as goal

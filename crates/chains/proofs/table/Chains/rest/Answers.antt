@@ -1,3 +1,4 @@
+-- Answers to the goals of `Chains::rest` (src/table.rt) that the search leaves.
 use Rattle.chains.proofs.WalkLaws.{rest-made}
 use Rattle.chains.proofs.table.Chains.rest.Goals as goal
 

@@ -1,3 +1,4 @@
+-- Answers to the goals of `Chains::take_first` (src/table.rt) that the search leaves.
 use Rattle.std.proofs.Common.{◌≡◌, ℕ, ◌<◌, List, [], ◌∷◌, length, map, drop, None, refl, ap, sym, ◌∙◌, arith}
 use Rattle.std.proofs.lemmas.List.{length-set}
 use Rattle.chains.specs.declared.links.Links.{Links}

@@ -1,3 +1,4 @@
+-- Answers to the goals of `LinearBlockDev::discard` (src/linear.rt) that the search leaves.
 use Rattle.fault_layers.specs.CutLaws.{goes_cut_discards}
 use Rattle.fault_layers.proofs.linear.LinearBlockDev.discard.Goals as goal
 

@@ -1,3 +1,4 @@
+-- Answers to the goals of `LinearBlockDev::flush` (src/linear.rt) that the search leaves.
 use Rattle.fault_layers.specs.CutLaws.{goes_cut_nothing}
 use Rattle.fault_layers.proofs.linear.LinearBlockDev.flush.Goals as goal
 

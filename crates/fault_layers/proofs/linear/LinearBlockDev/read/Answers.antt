@@ -1,3 +1,4 @@
+-- Answers to the goals of `LinearBlockDev::read` (src/linear.rt) that the search leaves.
 use Rattle.fault_layers.specs.CutLaws.{goes_cut_nothing}
 use Rattle.fault_layers.proofs.linear.LinearBlockDev.read.Goals as goal
 

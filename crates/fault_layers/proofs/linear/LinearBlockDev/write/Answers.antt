@@ -1,3 +1,4 @@
+-- Answers to the goals of `LinearBlockDev::write` (src/linear.rt) that the search leaves.
 use Rattle.fault_layers.specs.CutLaws.{goes_cut_writes}
 use Rattle.fault_layers.proofs.linear.LinearBlockDev.write.Goals as goal
 

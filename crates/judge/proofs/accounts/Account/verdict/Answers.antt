@@ -1,3 +1,4 @@
+-- Answers to the goals of `Account::verdict` (src/accounts.rt) that the search leaves.
 use Rattle.std.proofs.Common.{ℕ, List, Option, length, ◌/◌, subst}
 use Rattle.sectors.specs.Content.{sector_of}
 use Rattle.judge.specs.Firsts.{first_bytes, first_on}

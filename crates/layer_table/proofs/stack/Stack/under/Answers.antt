@@ -1,3 +1,4 @@
+-- Answers to the goals of `Stack::under` (src/stack.rt) that the search leaves.
 use Rattle.std.proofs.Common.{ap, ◌∙◌}
 use Rattle.layer_table.proofs.Under.{all_under, first_asked, none_refused, none_under, of_error, one_under, partly_under}
 use Rattle.layer_table.proofs.stack.Stack.under.Goals as goal

@@ -1,3 +1,4 @@
+-- Answers to the goals of `QueueState::is_taken_as` (src/queue.rt) that the search leaves.
 use Rattle.std.proofs.Common.{◌≡◌, ◌≢◌, ◌<◌, ◌≤◌, ℕ, List, length, Some, slice_get, sym, ap, ◌∙◌, subst, arith}
 use Rattle.std.specs.Prelude.{MatchBool}
 use Rattle.pending.specs.CoreState.{items_of}

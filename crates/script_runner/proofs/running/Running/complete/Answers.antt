@@ -1,3 +1,4 @@
+-- Answers to the goals of `Running::complete` (src/running.rt) that the search leaves.
 use Rattle.std.proofs.Common.{◌≡◌, Some, refl, rules, subst, []}
 use Rattle.std.specs.Prelude.{slice_get}
 use Rattle.std.specs.Io.KnownBytes.{Appends}
@@ -27,19 +28,19 @@ returns-in-Asked-clause-runs g c = on_ok c.print_outcome.result c.print_outcome.
     let here : slice_get c.args.self.now.requests.items c.args.request ≡ Some (requests.Asked c.in-Asked.bio c.in-Asked.id) =
     stands_at c.args.self.now.requests.items c.args.request c.index.result.now _ c.requires.submitted c.index.ensures c.in-Asked.is in
     let name = name_at c.args.names.now c.args.request in (
-      outcome_line name c.hand_over-ok.result,
+      outcome_line name c.do_request-ok.result,
       record {
         does = rw here (record {
-          ok = c.hand_over-ok.result;
-          hands_over = c.hand_over-ok.ensures.does;
-          hears = c.tell_end.ensures.hears;
+          ok = c.do_request-ok.result;
+          hands_over = c.do_request-ok.ensures.does;
+          hears = c.complete_request.ensures.hears;
           kept = refl;
           prints = refl;
         });
         moment = refl;
-        log_moment = c.tell_end.ensures.log_moment;
-        goes = c.tell_end.ensures.goes;
+        log_moment = c.complete_request.ensures.log_moment;
+        goes = c.complete_request.ensures.goes;
       },
-      subst (λ (n : ScriptId). Appends (g.O.Write.contents c.args.out.now) (g.O.Write.contents c.print_outcome.new.out) (outcome_line n c.hand_over-ok.result))
+      subst (λ (n : ScriptId). Appends (g.O.Write.contents c.args.out.now) (g.O.Write.contents c.print_outcome.new.out) (outcome_line n c.do_request-ok.result))
           c.name_of.ensures.name printed,
     ))

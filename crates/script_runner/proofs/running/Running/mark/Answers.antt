@@ -1,3 +1,4 @@
+-- Answers to the goals of `Running::mark` (src/running.rt) that the search leaves.
 use Rattle.std.proofs.Common.{List, refl, subst, ℕ}
 use Rattle.recorder.specs.Calls.{Marks}
 use Rattle.script_runner.specs.inside.Replies.{mark_outcome}

@@ -1,11 +1,12 @@
+-- Answers to the goals of `Running::message` (src/running.rt) that the search leaves.
 use Rattle.std.proofs.Common.{◌≡◌, ◌∙◌, List, [], Result, Ok, Err, ap, refl, subst, sym, ℕ}
 use Rattle.std.specs.Prelude.{IsTrue, length}
 use Rattle.std.specs.List.{list_all}
 use Rattle.blockdev.specs.declared.message.MessageError.{MessageError}
 use Rattle.dmlw_script.specs.declared.disk_name.DiskName.{DiskName}
 use Rattle.pending.specs.CoreState.{CoreShown}
-use Rattle.recorder.specs.Growth.{RecorderGoes}
-use Rattle.recorder.specs.Shown.{recording_of}
+use Rattle.recorder.specs.Growth.{RecorderFrame}
+use Rattle.recorder.specs.Shown.{recorder_view}
 use Rattle.script_runner.specs.declared.running.Running.{Running}
 use Rattle.script_runner.specs.declared.step_error.StepError.TheVariants.{AtLine}
 use Rattle.script_runner.specs.Submitted.{fits_device}
@@ -63,17 +64,17 @@ returns-in-Ok-clause-moment g c = elim c.match-over.branch [
 
 pub returns-in-Ok-clause-goes : goal.returns-in-Ok-clause-goes
 returns-in-Ok-clause-goes g c = elim c.match-over.branch [
-  | in-Data w ↦ subst (λ (run : Running g.row.D.Denot g.row.L.Denot g.D.BlockDev g.L.BlockDev). RecorderGoes (recording_of c.args.self.now.recorder) (recording_of run.recorder)) (sym w.self-is)
+  | in-Data w ↦ subst (λ (run : Running g.row.D.Denot g.row.L.Denot g.D.BlockDev g.L.BlockDev). RecorderFrame (recorder_view c.args.self.now.recorder) (recorder_view run.recorder)) (sym w.self-is)
       (c.several_calls_go_as_one.ensures.none c.args.self.now.recorder)
-  | in-Log w ↦ subst (λ (run : Running g.row.D.Denot g.row.L.Denot g.D.BlockDev g.L.BlockDev). RecorderGoes (recording_of c.args.self.now.recorder) (recording_of run.recorder)) (sym w.self-is)
+  | in-Log w ↦ subst (λ (run : Running g.row.D.Denot g.row.L.Denot g.D.BlockDev g.L.BlockDev). RecorderFrame (recorder_view c.args.self.now.recorder) (recorder_view run.recorder)) (sym w.self-is)
       w.message-answer-in-Log.ensures.goes
 ]
 
 pub returns-in-Err-clause-goes : goal.returns-in-Err-clause-goes
 returns-in-Err-clause-goes g c = elim c.match-over.branch [
-  | in-Data w ↦ subst (λ (run : Running g.row.D.Denot g.row.L.Denot g.D.BlockDev g.L.BlockDev). RecorderGoes (recording_of c.args.self.now.recorder) (recording_of run.recorder)) (sym w.self-is)
+  | in-Data w ↦ subst (λ (run : Running g.row.D.Denot g.row.L.Denot g.D.BlockDev g.L.BlockDev). RecorderFrame (recorder_view c.args.self.now.recorder) (recorder_view run.recorder)) (sym w.self-is)
       (c.several_calls_go_as_one.ensures.none c.args.self.now.recorder)
-  | in-Log w ↦ subst (λ (run : Running g.row.D.Denot g.row.L.Denot g.D.BlockDev g.L.BlockDev). RecorderGoes (recording_of c.args.self.now.recorder) (recording_of run.recorder)) (sym w.self-is)
+  | in-Log w ↦ subst (λ (run : Running g.row.D.Denot g.row.L.Denot g.D.BlockDev g.L.BlockDev). RecorderFrame (recorder_view c.args.self.now.recorder) (recorder_view run.recorder)) (sym w.self-is)
       w.message-answer-in-Log.ensures.goes
 ]
 

@@ -1,3 +1,4 @@
+-- Answers to the goals of `SectorDisk::from_bytes` (src/disk.rt) that the search leaves.
 use Rattle.std.proofs.lemmas.Result.{IfOk-weaker}
 use Rattle.sector_disk.specs.Shown.{shown_of}
 use Rattle.sector_disk.proofs.Beginning.{image_made}

@@ -1,3 +1,4 @@
+-- Answers to the goals of `SectorDisk::open_tables` (src/disk.rt) that the search leaves.
 use Rattle.std.proofs.Common.{refl, sym, ◌∙◌, arith}
 use Rattle.std.proofs.lemmas.Bool.{eqb-true}
 use Rattle.sector_disk.proofs.Keeping.{kept_opened, start_opened}

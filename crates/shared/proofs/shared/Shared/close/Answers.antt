@@ -1,3 +1,4 @@
+-- Answers to the goals of `Shared::close` (src/shared.rt) that the search leaves.
 use Rattle.std.proofs.Common.{◌∙◌}
 use Rattle.shared.proofs.Finishing.{agrees_of, differs_apart, differs_of, receipts_there}
 use Rattle.shared.proofs.shared.Shared.close.Goals as goal

@@ -1,3 +1,4 @@
+-- Answers to goals of `SectorDiskBlockDev::discard`.
 use Rattle.std.proofs.Common.{false}
 use Rattle.sectors.specs.Content.{discards}
 use Rattle.sector_disk.proofs.Moved.{goes_past, goes_unchanged}

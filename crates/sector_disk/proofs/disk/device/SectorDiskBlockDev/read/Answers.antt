@@ -1,3 +1,4 @@
+-- Answers to the goals of `SectorDiskBlockDev::read` (src/disk/device.rt) that the search leaves.
 use Rattle.std.proofs.Common.{◌/◌, length, refl}
 use Rattle.sectors.specs.Content.{nothing}
 use Rattle.blockdev.specs.JoinLaws.{goes_none}

@@ -1,3 +1,4 @@
+-- Answers to the goals of `SectorDiskBlockDev::write` (src/disk/device.rt) that the search leaves.
 use Rattle.sectors.specs.Content.{writes}
 use Rattle.blockdev.specs.JoinLaws.{goes_none}
 use Rattle.sector_disk.specs.Shown.{shown_of}

@@ -1,0 +1,6 @@
+-- Answers to the goals of `plain_words_list` (src/laws.rt) that the search leaves.
+use Rattle.dmlw_cli.proofs.Plain.{list_done}
+use Rattle.dmlw_cli.proofs.laws.plain_words_list.Goals as goal
+
+pub returns : goal.returns
+returns c = list_done

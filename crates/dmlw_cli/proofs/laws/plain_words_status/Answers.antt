@@ -1,0 +1,6 @@
+-- Answers to the goals of `plain_words_status` (src/laws.rt) that the search leaves.
+use Rattle.dmlw_cli.proofs.Plain.{status_done}
+use Rattle.dmlw_cli.proofs.laws.plain_words_status.Goals as goal
+
+pub returns : goal.returns
+returns c = status_done

@@ -1,0 +1,51 @@
+-- The names of the commands, and the words that each takes.
+use Rattle.std.specs.Prelude.{◌≡◌, ℕ, Bool, true, List, [], ◌∷◌, Option, Some, None, codes, if◌then◌else◌, is_some, nat_eq}
+use Rattle.std.specs.Cmp.Lexicographic.{pointwise}
+use Rattle.std.specs.List.{AllByRecursion}
+use Rattle.clap.specs.Words.{Row, Text, first_of}
+use Rattle.dmlw_cli.specs.declared.name.Name.{Name}
+use Rattle.dmlw_cli.specs.declared.name.Name.TheVariants as names
+
+-- both words are one
+abbrev pub is_same : List ℕ → List ℕ → Bool
+is_same = pointwise nat_eq
+
+-- the word by which a command is entered
+abbrev pub name_text : Name → List ℕ
+name_text names.Record = codes "record"
+name_text names.Run = codes "run"
+name_text names.List = codes "list"
+name_text names.Status = codes "status"
+name_text names.Replay = codes "replay"
+name_text names.Copy = codes "copy"
+name_text names.Judge = codes "judge"
+name_text names.Path = codes "path"
+
+-- the command, where the word is its name; else what the word is otherwise
+abbrev pub named_or : Name → List ℕ → Option Name → Option Name
+named_or name word other = if is_same word (name_text name) then Some name else other
+
+-- the command that a word names
+abbrev pub name_of : List ℕ → Option Name
+name_of word =
+    named_or names.Record word (named_or names.Run word (named_or names.List word (named_or names.Status word (named_or names.Replay word
+    (named_or names.Copy word (named_or names.Judge word (named_or names.Path word None)))))))
+
+-- the commands, in the order of the help
+abbrev pub all_names : List Name
+all_names = names.Record ∷ names.Run ∷ names.List ∷ names.Status ∷ names.Replay ∷ names.Copy ∷ names.Judge ∷ names.Path ∷ []
+
+-- the arguments of a command, in their order
+abbrev pub arguments : Name → List Text
+arguments names.Record = codes "SCRIPT" ∷ codes "LOG" ∷ []
+arguments names.Run = codes "SCRIPT" ∷ codes "LOG" ∷ []
+arguments names.List = codes "LOG" ∷ []
+arguments names.Status = codes "LOG" ∷ []
+arguments names.Replay = codes "LOG" ∷ codes "FIRST" ∷ codes "OUT" ∷ codes "WHAT" ∷ []
+arguments names.Copy = codes "LOG" ∷ codes "OUT" ∷ codes "SECTORS" ∷ []
+arguments names.Judge = codes "SCRIPT" ∷ codes "M" ∷ codes "IMAGE" ∷ []
+arguments names.Path = codes "SCRIPT" ∷ codes "M" ∷ codes "IMAGE" ∷ []
+
+-- each argument of a command has a word among these rows
+abbrev pub HasWords : Name → List Row → Type 0
+HasWords name rows = AllByRecursion (λ argument. is_some (first_of argument rows) ≡ true) (arguments name)

@@ -1,0 +1,129 @@
+//! The task of each command, by the words that were entered for it.
+ghost use Rattle.std.specs.Prelude.{◌≡◌, IfSome, is_some, option_map, true};
+ghost use Rattle.clap.specs.Words.{first_of, found_of, rows_of};
+ghost use Rattle.dmlw_cli.specs.Names.{HasWords};
+ghost use Rattle.dmlw_cli.specs.Tasks.{AsksBy};
+ghost use Rattle.dmlw_cli.specs.declared.name.Name.TheVariants as names;
+
+use crate::sector_count::SectorCount;
+use crate::task::{Flaw, Task};
+use clap::ArgMatches;
+use dmlw_explain::{CopyNames, ReplayNames};
+use dmlw_replay::upto_of;
+use text_words::number_of;
+
+/// The task that `record` asks for with the words that were entered.
+pub fn record_task<'a>(found: &ArgMatches<'a>) -> Option<Task<'a>>
+    ensures asks { IfSome result (AsksBy names.Record (rows_of (found_of found.now))) }
+    ensures complete { HasWords names.Record (rows_of (found_of found.now)) → is_some result ≡ true }
+{
+    let script = word_of(found, "SCRIPT")?;
+    let log = word_of(found, "LOG")?;
+    Some(Task::Record { script, log })
+}
+
+/// The task that `run` asks for.
+pub fn run_task<'a>(found: &ArgMatches<'a>) -> Option<Task<'a>>
+    ensures asks { IfSome result (AsksBy names.Run (rows_of (found_of found.now))) }
+    ensures complete { HasWords names.Run (rows_of (found_of found.now)) → is_some result ≡ true }
+{
+    let script = word_of(found, "SCRIPT")?;
+    let log = word_of(found, "LOG")?;
+    Some(Task::Run { script, log })
+}
+
+/// The task that `list` asks for.
+pub fn list_task<'a>(found: &ArgMatches<'a>) -> Option<Task<'a>>
+    ensures asks { IfSome result (AsksBy names.List (rows_of (found_of found.now))) }
+    ensures complete { HasWords names.List (rows_of (found_of found.now)) → is_some result ≡ true }
+{
+    let log = word_of(found, "LOG")?;
+    Some(Task::List { log })
+}
+
+/// The task that `status` asks for.
+pub fn status_task<'a>(found: &ArgMatches<'a>) -> Option<Task<'a>>
+    ensures asks { IfSome result (AsksBy names.Status (rows_of (found_of found.now))) }
+    ensures complete { HasWords names.Status (rows_of (found_of found.now)) → is_some result ≡ true }
+{
+    let log = word_of(found, "LOG")?;
+    Some(Task::Status { log })
+}
+
+/// The task that `replay` asks for: by a WHAT that names no end of a replay, to tell so.
+pub fn replay_task<'a>(found: &ArgMatches<'a>) -> Option<Task<'a>>
+    ensures asks { IfSome result (AsksBy names.Replay (rows_of (found_of found.now))) }
+    ensures complete { HasWords names.Replay (rows_of (found_of found.now)) → is_some result ≡ true }
+{
+    let log = word_of(found, "LOG")?;
+    let first = word_of(found, "FIRST")?;
+    let out = word_of(found, "OUT")?;
+    let what = word_of(found, "WHAT")?;
+    match upto_of(what.as_bytes()) {
+        Some(upto) => {
+            let names = ReplayNames { log, first, out };
+            Some(Task::Replay { names, upto })
+        }
+        None => Some(Task::Flawed(Flaw::What, what)),
+    }
+}
+
+/// The task that `copy` asks for: by a SECTORS that is no number of them, to tell so.
+pub fn copy_task<'a>(found: &ArgMatches<'a>) -> Option<Task<'a>>
+    ensures asks { IfSome result (AsksBy names.Copy (rows_of (found_of found.now))) }
+    ensures complete { HasWords names.Copy (rows_of (found_of found.now)) → is_some result ≡ true }
+{
+    let log = word_of(found, "LOG")?;
+    let out = word_of(found, "OUT")?;
+    let sectors = word_of(found, "SECTORS")?;
+    match SectorCount::of(sectors.as_bytes()) {
+        Some(sectors) => {
+            let names = CopyNames { log, out };
+            Some(Task::Copy { names, sectors })
+        }
+        None => Some(Task::Flawed(Flaw::Sectors, sectors)),
+    }
+}
+
+/// The task that `judge` asks for: by an M that is no number, to tell so.
+pub fn judge_task<'a>(found: &ArgMatches<'a>) -> Option<Task<'a>>
+    ensures asks { IfSome result (AsksBy names.Judge (rows_of (found_of found.now))) }
+    ensures complete { HasWords names.Judge (rows_of (found_of found.now)) → is_some result ≡ true }
+{
+    let script = word_of(found, "SCRIPT")?;
+    let moment = word_of(found, "M")?;
+    let image = word_of(found, "IMAGE")?;
+    match number_of(moment.as_bytes()) {
+        Some(moment) => Some(Task::Judge {
+            script,
+            moment,
+            image,
+        }),
+        None => Some(Task::Flawed(Flaw::Moment, moment)),
+    }
+}
+
+/// The task that `path` asks for: by an M that is no number, to tell so.
+pub fn path_task<'a>(found: &ArgMatches<'a>) -> Option<Task<'a>>
+    ensures asks { IfSome result (AsksBy names.Path (rows_of (found_of found.now))) }
+    ensures complete { HasWords names.Path (rows_of (found_of found.now)) → is_some result ≡ true }
+{
+    let script = word_of(found, "SCRIPT")?;
+    let moment = word_of(found, "M")?;
+    let image = word_of(found, "IMAGE")?;
+    match number_of(moment.as_bytes()) {
+        Some(moment) => Some(Task::Path {
+            script,
+            moment,
+            image,
+        }),
+        None => Some(Task::Flawed(Flaw::Moment, moment)),
+    }
+}
+
+// The word that was entered for an argument.
+fn word_of<'a>(found: &ArgMatches<'a>, argument: &str) -> Option<&'a str>
+    ensures { option_map (λ word. word.now) result ≡ first_of argument.now (rows_of (found_of found.now)) }
+{
+    found.get_str(argument)
+}

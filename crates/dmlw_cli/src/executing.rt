@@ -1,0 +1,197 @@
+//! Does what a command line asks for: `execute` is all that the program calls.
+ghost use Rattle.std.specs.Prelude.{◌≡◌, ◌⊎◌, Bool, IfErr, MatchResult, OnOk, false, map, true};
+ghost use Rattle.std.specs.Io.KnownBytes.{Appends, Keeps};
+ghost use Rattle.std.specs.IoError.{error_kind};
+ghost use Rattle.clap.specs.Words.{kind_of};
+ghost use Rattle.dmlw_cli.specs.CommandLine.{has_explain};
+ghost use Rattle.dmlw_cli.specs.Commands.{AsksForOne, DoesWords, EndsCommand, EndsTask, EndsUntasked, TaskLeaves, TellsBy, TellsPage, TellsUntasked, flaw_text, is_asked_for, unread_exit};
+ghost use Rattle.dmlw_commands.specs.Endings.{err_stream};
+ghost use Rattle.run_error.specs.Errors.{IsFileError};
+ghost use Rattle.dmlw_files.specs.Files.{KeepsFiles};
+ghost use Rattle.dmlw_commands.specs.declared.exit.Exit.TheVariants.{LoggingEnded, Usage};
+ghost use Rattle.dmlw_commands.specs.Exits.{IsRefusal, status_of};
+
+use crate::command_line::{has_explain, read_words, unread, without_explain};
+use crate::task::{Flaw, Task};
+use clap::Error;
+use clap::error::ErrorKind;
+use dmlw_commands::list::list;
+use dmlw_commands::record::record;
+use dmlw_commands::status::status;
+use dmlw_commands::{Ended, Exit, end, report};
+use dmlw_copy::copy;
+use dmlw_files::Files;
+use dmlw_judge::{judge, path};
+use dmlw_replay::replay;
+use dmlw_run::run;
+use refusals::Refusal;
+use run_error::RunError;
+use std::alloc::Global;
+use std::convert::AsStr;
+use std::io;
+use std::io::Write;
+use std::sync::Wait;
+use std::thread::Threads;
+
+/// Does what a command line asks for, and answers how it ended: its exit status is 0 done, 1 refused or an
+/// image that is ruled out, 2 a command line that isn't one of the program's, 3 logging ended before its time. `words` begin with the
+/// program's name. What the user is to read goes to `out`; faults go to `err`, and with `--explain` among
+/// the words what helps against them. Where `out` can't be written the command is refused, as by a file
+/// that can't be.
+///
+/// Threads are started and waited for by `rt`: of the commands `run` alone does so.
+///
+/// Whatever the words are, it does what they are read as, and no more. `crate::laws` says which words are
+/// read as which command.
+pub fn execute<'a, S: AsStr, F: Files, O: Write, E: Write, H: Threads + Wait + Sync>(
+    rt: &H,
+    alloc: Global,
+    words: &'a [S],
+    files: &mut F,
+    out: &mut O,
+    err: &mut E,
+) -> Ended
+    ensures does { DoesWords (map S.text words.entry.now) (F.contents files.old) (F.contents files.new) (F.writes files.old) (F.writes files.new)
+        (O.contents out.old) (O.contents out.new) (E.contents err.old) (E.contents err.new) result }
+    ensures command { EndsCommand (F.writes files.old) (F.writes files.new) (status_of result.exit) }
+
+    // Where it is refused each file holds what it held; so it does where logging ended, unless a log was asked to be written.
+    ensures kept { IsRefusal result.exit → KeepsFiles (F.contents files.old) (F.contents files.new) }
+    ensures unmade { result.exit ≡ LoggingEnded → KeepsFiles (F.contents files.old) (F.contents files.new) ⊎ AsksForOne (F.writes files.old) (F.writes files.new) }
+
+    // Without `--explain` nothing goes to `err` where it is done, and of a refusal its one line, as far as `err` takes it.
+    ensures told { has_explain (map S.text words.entry.now) ≡ false → TellsBy result.exit result (E.contents err.old) (E.contents err.new) }
+{
+    let explains = has_explain(words);
+    match without_explain(alloc, words) {
+        Ok(plain) => {
+            let task = read_words(alloc, &plain);
+            perform(rt, alloc, explains, task, files, out, err)
+        }
+        Err(error) => {
+            let task = unread(error);
+            perform(rt, alloc, explains, task, files, out, err)
+        }
+    }
+}
+
+// Does a task, and answers how it ended.
+#[tactic(auto, using(crate::proofs::Ends::leaves_by))]
+fn perform<F: Files, O: Write, E: Write, H: Threads + Wait + Sync>(
+    rt: &H,
+    alloc: Global,
+    explains: bool,
+    task: Task<'_>,
+    files: &mut F,
+    out: &mut O,
+    err: &mut E,
+) -> Ended
+    ensures ends { EndsTask task.entry (F.contents files.old) (F.writes files.old) (F.writes files.new)
+        (O.contents out.old) (O.contents out.new) (err_stream explains (E.contents err.old) (E.contents err.new)) result }
+    ensures leaves { TaskLeaves task.entry (F.contents files.old) (F.contents files.new) (O.contents out.old) (O.contents out.new) result.exit }
+    ensures kept { IsRefusal result.exit → KeepsFiles (F.contents files.old) (F.contents files.new) }
+    ensures unmade { result.exit ≡ LoggingEnded → KeepsFiles (F.contents files.old) (F.contents files.new) ⊎ AsksForOne (F.writes files.old) (F.writes files.new) }
+{
+    match task {
+        Task::Record { script, log } => record(alloc, explains, script, log, files, out, err),
+        Task::Run { script, log } => run(rt, alloc, explains, script, log, files, out, err),
+        Task::List { log } => list(alloc, explains, log, files, out, err),
+        Task::Status { log } => status(alloc, explains, log, files, out, err),
+        Task::Replay { names, upto } => replay(alloc, explains, names, &upto, files, out, err),
+        Task::Copy { names, sectors } => {
+            copy(alloc, explains, names, sectors.sectors(), files, out, err)
+        }
+        Task::Judge {
+            script,
+            moment,
+            image,
+        } => judge(alloc, explains, script, moment, image, files, out, err),
+        Task::Path {
+            script,
+            moment,
+            image,
+        } => path(alloc, explains, script, moment, image, files, out, err),
+        Task::Formats(page) => print_page(alloc, page, out, err),
+        Task::Show(text) => show(alloc, text, out, err),
+        Task::Flawed(flaw, word) => tell_flaw(flaw, word, err),
+    }
+}
+
+/// Says why a command line can't be read, and answers the exit status: 2 where a word isn't UTF-8
+/// text, else 1.
+pub fn refuse<E: Write>(alloc: Global, error: io::Error, err: &mut E) -> u8
+    ensures { result ≡ status_of (unread_exit (error_kind error)) }
+{
+    let exit = match error.kind() {
+        io::ErrorKind::InvalidData => {
+            let _ = writeln!(err, "error: a word of the command line isn't UTF-8 text");
+            Exit::Usage
+        }
+        _ => report(alloc, RunError::from(error), "", err).exit,
+    };
+    exit.status()
+}
+
+// Prints a page.
+fn print_page<O: Write, E: Write>(alloc: Global, page: &str, out: &mut O, err: &mut E) -> Ended
+    ensures { (explains : Bool) → TellsPage page.now (O.contents out.old) (O.contents out.new)
+        (err_stream explains (E.contents err.old) (E.contents err.new)) result }
+{
+    let printed = write_page(page, out);
+    end(alloc, printed, "", out, err)
+}
+
+fn write_page<O: Write>(page: &str, out: &mut O) -> Result<(), RunError>
+    ensures { MatchResult result (λ _. Appends (O.contents out.old) (O.contents out.new) page.now) IsFileError }
+{
+    out.write_all(page.as_bytes())?;
+    out.flush()?;
+    Ok(())
+}
+
+// Tells that a word is none of those that stand in its place.
+fn tell_flaw<E: Write>(flaw: Flaw, word: &str, err: &mut E) -> Ended
+    ensures usage { result.exit ≡ Usage }
+    ensures told { result.err_taken ≡ true → Appends (E.contents err.old) (E.contents err.new) (flaw_text flaw word.now) }
+{
+    Ended {
+        exit: Exit::Usage,
+        err_taken: write_flaw(flaw, word, err).is_ok(),
+    }
+}
+
+fn write_flaw<E: Write>(flaw: Flaw, word: &str, err: &mut E) -> io::Result<()>
+    ensures { OnOk result (Appends (E.contents err.old) (E.contents err.new) (flaw_text flaw word.now)) }
+{
+    let forms = flaw.forms();
+    writeln!(err, "error: invalid value '{word}' for {forms}")?;
+    err.flush()?;
+    Ok(())
+}
+
+// Shows the text of a command line that has no other task.
+fn show<O: Write, E: Write>(alloc: Global, text: Error, out: &mut O, err: &mut E) -> Ended
+    ensures ends { EndsUntasked (kind_of text) result.exit }
+    ensures silent { is_asked_for (kind_of text) ≡ false → Keeps (O.contents out.old) (O.contents out.new) }
+    ensures tells { (explains : Bool) → TellsUntasked (kind_of text)
+        (err_stream explains (E.contents err.old) (E.contents err.new)) result }
+{
+    match text.kind() {
+        ErrorKind::OutOfMemory => report(alloc, RunError::from(Refusal::Memory), "", err),
+        ErrorKind::DisplayHelp | ErrorKind::DisplayVersion => {
+            end(alloc, print(&text, out), "", out, err)
+        }
+        _ => Ended {
+            exit: Exit::Usage,
+            err_taken: print(&text, err).is_ok(),
+        },
+    }
+}
+
+fn print<W: Write>(text: &Error, to: &mut W) -> Result<(), RunError>
+    ensures { IfErr result IsFileError }
+{
+    write!(to, "{text}")?;
+    to.flush()?;
+    Ok(())
+}

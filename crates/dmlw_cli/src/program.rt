@@ -1,0 +1,170 @@
+//! The program's command line, as `clap` reads it: its commands, their words and their help.
+ghost use Rattle.std.specs.Prelude.{◌≡◌, IfOk, codes, false};
+ghost use Rattle.clap.specs.Words.{App, app_of, new_app, rule_of, with_rule, with_subcommand};
+ghost use Rattle.dmlw_cli.specs.CommandLine.{IsCommandOf, bare_app, command_app, needed, program_app};
+ghost use Rattle.dmlw_cli.specs.declared.name.Name.TheVariants as names;
+
+use clap::{Arg, Command};
+use std::alloc::{AllocError, Global};
+
+// What `help` prints. It has the commands that `program_command` has, and `help formats`, which is none of them.
+const HELP: &str = "\
+Records block requests in a log, and reads logs back
+
+Usage: dmlw [--explain] <COMMAND>
+
+Commands:
+  record        Records the requests of a script in a new log
+  run           Runs the seats of a script in threads, and records them in a new log
+  list          Lists the entries of a log
+  status        Prints how many entries a log has, and how far they reach
+  replay        Replays a prefix of a log on an image
+  copy          Copies a log to one with sectors of 4096 bytes
+  judge         Judges whether an image could have been on the device
+  path          Tells how an image could have come to the device
+  help          Prints this page; behind it a command: the words of that command
+  help formats  Prints the grammar of scripts, the faults and the limits
+
+Options:
+      --explain  In any place: behind a fault's line stands what helps
+  -h, --help     Print help
+  -V, --version  Print version
+
+Exit status: 0 done, 1 refused or ruled out, 2 usage, 3 logging ended before its time.
+A status such as 3 4 says: 3 entries, of which the last uses sector 4.";
+
+// What an event is, by which `judge` and `path` count.
+const EVENTS: &str = "\
+An event is a line of the script that submits a request (w, f, d) or ends one (c), a mark, or the
+close; so is the end of logging, where that comes first. Events count from 0. Other lines are none.
+
+  data 16
+  log 32
+  w a 5 1 41    event 0
+  c a           event 1
+  f b           event 2
+  c b           event 3
+  close         event 4
+
+M is 0 to 5 here. At 3 the flush hasn't ended: sector 5 may hold zeroes, or the bytes of a. At 4 it
+has, and made a sure: event 0 rules zeroes out. With --explain its line of the script is printed.";
+
+/// The program's command line, as `clap` is to read it.
+pub fn program_command<'a>(alloc: Global) -> Result<Command<'a>, AllocError>
+    ensures { IfOk result (λ command. app_of command ≡ program_app) }
+{
+    let program = with_command(bare_command(alloc), record_command(alloc))?;
+    let program = with_command(program, run_command(alloc))?;
+    let list = log_command(alloc, "list", "Lists the entries of a log");
+    let program = with_command(program, list)?;
+    let status = log_command(
+        alloc,
+        "status",
+        "Prints how many entries a log has, and how far they reach",
+    );
+    let program = with_command(program, status)?;
+    let program = with_command(program, replay_command(alloc))?;
+    let program = with_command(program, copy_command(alloc))?;
+    let program = with_command(program, judge_command(alloc))?;
+    with_command(program, path_command(alloc))
+}
+
+// The program's command without those that it is asked by.
+fn bare_command<'a>(alloc: Global) -> Command<'a>
+    ensures { app_of result ≡ bare_app }
+{
+    Command::new(alloc, "dmlw")
+        .version("0.1 (log format version 1)")
+        .override_help(HELP)
+        .subcommand_required(true)
+        .arg_required_else_help(true)
+}
+
+// The program's command with one more that it is asked by.
+fn with_command<'a>(
+    program: Command<'a>,
+    made: Result<Command<'a>, AllocError>,
+) -> Result<Command<'a>, AllocError>
+    ensures { (lower : App) → IfOk made.entry (IsCommandOf lower) →
+        IfOk result (λ command. app_of command ≡ with_subcommand (app_of program.entry) lower.top) }
+{
+    program.subcommand(made?)
+}
+
+// A word that a command has to have.
+fn argument<'a>(alloc: Global, name: &'a str, help: &'a str) -> Arg<'a>
+    ensures rule { rule_of result ≡ needed name.entry.now }
+    ensures own { result.global ≡ false }
+{
+    Arg::new(alloc, name).required(true).help(help)
+}
+
+fn record_command<'a>(alloc: Global) -> Result<Command<'a>, AllocError>
+    ensures { IfOk result (IsCommandOf (command_app names.Record)) }
+{
+    Command::new(alloc, "record")
+        .about("Records the requests of a script in a new log")
+        .arg(argument(alloc, "SCRIPT", "The script to read"))?
+        .arg(argument(alloc, "LOG", "The log to write"))
+}
+
+fn run_command<'a>(alloc: Global) -> Result<Command<'a>, AllocError>
+    ensures { IfOk result (IsCommandOf (command_app names.Run)) }
+{
+    Command::new(alloc, "run")
+        .about("Runs the seats of a script in threads, and records them in a new log")
+        .arg(argument(alloc, "SCRIPT", "The script to read"))?
+        .arg(argument(alloc, "LOG", "The log to write"))
+}
+
+// A command that reads a log.
+fn log_command<'a>(alloc: Global, name: &'a str, about: &'a str) -> Result<Command<'a>, AllocError>
+    ensures { IfOk result (IsCommandOf (with_rule (new_app name.entry.now) (needed (codes "LOG")))) }
+{
+    Command::new(alloc, name)
+        .about(about)
+        .arg(argument(alloc, "LOG", "The log to read"))
+}
+
+fn replay_command<'a>(alloc: Global) -> Result<Command<'a>, AllocError>
+    ensures { IfOk result (IsCommandOf (command_app names.Replay)) }
+{
+    Command::new(alloc, "replay")
+        .about("Replays a prefix of a log on an image")
+        .arg(argument(alloc, "LOG", "The log to read"))?
+        .arg(argument(alloc, "FIRST", "The image to begin with"))?
+        .arg(argument(alloc, "OUT", "The image to write"))?
+        .arg(argument(alloc, "WHAT", "entries:<n>, mark:<text> or flush"))
+}
+
+fn copy_command<'a>(alloc: Global) -> Result<Command<'a>, AllocError>
+    ensures { IfOk result (IsCommandOf (command_app names.Copy)) }
+{
+    Command::new(alloc, "copy")
+        .about("Copies a log to one with sectors of 4096 bytes")
+        .arg(argument(alloc, "LOG", "The log to read"))?
+        .arg(argument(alloc, "OUT", "The log to write"))?
+        .arg(argument(alloc, "SECTORS", "The sectors of the new log's disk"))
+}
+
+fn judge_command<'a>(alloc: Global) -> Result<Command<'a>, AllocError>
+    ensures { IfOk result (IsCommandOf (command_app names.Judge)) }
+{
+    Command::new(alloc, "judge")
+        .about("Judges whether an image could have been on the device")
+        .after_help(EVENTS)
+        .arg(argument(alloc, "SCRIPT", "The script to read"))?
+        .arg(argument(alloc, "M", "The number of events before the power failure"))?
+        .arg(argument(alloc, "IMAGE", "The image to judge"))
+}
+
+fn path_command<'a>(alloc: Global) -> Result<Command<'a>, AllocError>
+    ensures { IfOk result (IsCommandOf (command_app names.Path)) }
+{
+    Command::new(alloc, "path")
+        .about("Tells how an image could have come to the device")
+        .after_help(EVENTS)
+        .arg(argument(alloc, "SCRIPT", "The script to read"))?
+        .arg(argument(alloc, "M", "The number of events before the power failure"))?
+        .arg(argument(alloc, "IMAGE", "The image to judge"))
+}

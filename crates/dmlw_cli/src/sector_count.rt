@@ -1,0 +1,45 @@
+//! The number of sectors that a command line names for a new disk.
+ghost use Rattle.std.specs.Prelude.{◌≡◌, ◌≤◌, IfSome, None, ℕ};
+ghost use Rattle.dmlw_cli.specs.Counts.{IsSectorCount};
+
+use std::marker::Model;
+use text_words::number_of;
+
+/// How many sectors of 512 bytes the disk of a copied log has: 8, which is one log sector, to 1,048,576. Contracts see it as that number.
+#[derive(Debug, Drop)]
+pub struct SectorCount {
+    sectors: u64,
+}
+
+impl Model for SectorCount {
+    ghost use Rattle.std.specs.Prelude.{◌≤◌, ℕ};
+
+    ghost Value = { ℕ };
+
+    ghost view = { λ count. count.sectors };
+
+    ghost invariant = { λ count. (8 ≤ count.sectors) × (count.sectors ≤ 1048576) };
+}
+
+impl SectorCount {
+    /// The number that a word is: 1 to 20 decimal digits of a value from 8 to 1,048,576. None for any other word.
+    pub fn of(word: &[u8]) -> Option<SectorCount>
+        ensures some { IfSome result (IsSectorCount word.now) }
+        ensures none { result ≡ None → (count : ℕ) → IsSectorCount word.now count → ⊥ }
+    {
+        let sectors = number_of(word)?;
+        if sectors < 8 || 1_048_576 < sectors {
+            return None;
+        }
+        Some(SectorCount { sectors })
+    }
+
+    /// The number itself.
+    pub fn sectors(&self) -> u64
+        ensures value { result ≡ self.now }
+        ensures least { 8 ≤ result }
+        ensures most { result ≤ 1048576 }
+    {
+        self.sectors
+    }
+}

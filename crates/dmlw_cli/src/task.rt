@@ -1,0 +1,89 @@
+//! The tasks that a command line asks for.
+ghost use Rattle.std.specs.Prelude.{◌≡◌};
+ghost use Rattle.dmlw_cli.specs.Commands.{flaw_forms};
+
+use crate::sector_count::SectorCount;
+use clap::Error;
+use dmlw_explain::{CopyNames, ReplayNames};
+use replay::Upto;
+
+/// What a command line asks for. `script`, `log` and `image` are names of files.
+#[derive(Debug, Drop)]
+pub enum Task<'a> {
+    /// To record the requests of a script in a new log.
+    Record {
+        script: &'a str,
+        log: &'a str,
+    },
+    /// To run the seats of a script, each in a thread, and record their requests in a new log.
+    Run {
+        script: &'a str,
+        log: &'a str,
+    },
+    /// To list the entries of a log.
+    List {
+        log: &'a str,
+    },
+    /// To print the status of a log.
+    Status {
+        log: &'a str,
+    },
+    /// To replay a log on an image, up to an entry that is named.
+    Replay {
+        names: ReplayNames<'a>,
+        upto: Upto<'a>,
+    },
+    /// To copy a log to a new one with sectors of 4,096 bytes, on a disk of so many sectors of 512.
+    Copy {
+        names: CopyNames<'a>,
+        sectors: SectorCount,
+    },
+    /// To judge whether an image could have been on the disk of a script after so many events.
+    Judge {
+        script: &'a str,
+        moment: u64,
+        image: &'a str,
+    },
+    /// To tell how an image could have come to the disk of a script after so many events.
+    Path {
+        script: &'a str,
+        moment: u64,
+        image: &'a str,
+    },
+    /// To print this page: what is read and printed.
+    Formats(&'static str),
+    /// To show a text: help, the version, or why the line isn't one of the program's.
+    Show(Error),
+    /// To tell that this word is none of those that stand in its place.
+    Flawed(Flaw, &'a str),
+}
+
+/// A word that `clap` lets through, and that is none of the program's.
+#[derive(Clone, Copy, Debug, PartialEq, Eq)]
+pub enum Flaw {
+    /// WHAT names no end of a replay.
+    What,
+    /// SECTORS is no number from 8 to 1,048,576.
+    Sectors,
+    /// M is no number of 1 to 20 decimal digits below 2^64.
+    Moment,
+}
+
+impl Flaw {
+    /// The argument that the word stands for, the forms that are possible there, and where help is.
+    pub fn forms(self) -> &'static str
+        ensures { result.now ≡ flaw_forms self }
+    {
+        match self {
+            Flaw::What => {
+                "'<WHAT>'\n  [possible values: entries:<n>, mark:<text>, flush]\n\nFor more information, try 'dmlw help replay'."
+            }
+            Flaw::Sectors => {
+                "'<SECTORS>'\n  [possible values: a number from 8 to 1048576]\n\nFor more information, try 'dmlw help copy'."
+            }
+            Flaw::Moment => {
+                "'<M>'\n  [possible values: a number of 1 to 20 digits, below 2^64]\n\nFor more information, try 'dmlw help judge'."
+            }
+        }
+    }
+}

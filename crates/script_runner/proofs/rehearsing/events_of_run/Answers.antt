@@ -1,0 +1,59 @@
+-- Answers to the goals of `events_of_run` (src/rehearsing.rt) that the search leaves.
+use Rattle.std.proofs.Common.{◌≡◌, ℕ, ◌∙◌, true, ap, subst, sym}
+use Rattle.bio.specs.Lawful.{all_aligned, is_lawful, is_well_formed}
+use Rattle.bio.specs.SizeLaws.{lawful_parts}
+use Rattle.bio.specs.Sizes.{bytes_of}
+use Rattle.dmlw_script.specs.Plans.{top_of}
+use Rattle.pending.specs.CoreState.{CoreState}
+use Rattle.script_runner.specs.CallLaws.{on_error}
+use Rattle.script_runner.specs.OnDisks.{DiskRecorder}
+use Rattle.script_runner.specs.Rehearsals.{FailsRehearsal}
+use Rattle.script_runner.proofs.LawfulRuns.{run_lawful}
+use Rattle.script_runner.proofs.Stepping.{if_failed}
+use Rattle.script_runner.proofs.rehearsing.events_of_run.Goals as goal
+use Rattle.recorder.specs.Shown.{core_of}
+
+pub returns-in_err-played-clause-rehearsed : goal.returns-in_err-played-clause-rehearsed
+returns-in_err-played-clause-rehearsed c = if_failed _ c.from_residual.result c.from_residual.ensures.0
+
+pub returns-in_err-played-clause-lawful : goal.returns-in_err-played-clause-lawful
+returns-in_err-played-clause-lawful c = if_failed _ c.from_residual.result c.from_residual.ensures.0
+
+pub returns-in_err-played-clause-aligned : goal.returns-in_err-played-clause-aligned
+returns-in_err-played-clause-aligned c = if_failed _ c.from_residual.result c.from_residual.ensures.0
+
+pub returns-in_err-played-clause-faults : goal.returns-in_err-played-clause-faults
+returns-in_err-played-clause-faults c =
+    on_error c.from_residual.result c.from_residual.ensures.1 (λ fault is. subst (FailsRehearsal _ _) (sym is) c.in_err-played.ensures.faults)
+
+pub returns-clause-rehearsed : goal.returns-clause-rehearsed
+returns-clause-rehearsed c =
+    let played = c.in_ok-played.ensures.played in
+    record {
+      start = played.start;
+      starts = played.starts;
+      text = played.text;
+      last = played.last;
+      ran = played.ran;
+      recorded = ap (λ (r : DiskRecorder). (core_of r).events) played.left;
+    }
+
+pub returns-clause-lawful : goal.returns-clause-lawful
+returns-clause-lawful c =
+    let script = c.args.script.now in
+    let played = c.in_ok-played.ensures.played in
+    let well_formed = subst (λ (r : DiskRecorder). is_well_formed (core_of r).events ≡ true) played.left c.events-events.ensures.core.well_formed in
+    subst (λ (r : DiskRecorder). is_lawful (top_of script.data_disk) (core_of r).events ≡ true) (sym played.left)
+    (run_lawful script played.text played.start played.last c.commands-commands.ensures.script played.starts played.ran well_formed)
+
+pub returns-clause-aligned : goal.returns-clause-aligned
+returns-clause-aligned c =
+    let script = c.args.script.now in
+    let played = c.in_ok-played.ensures.played in
+    let recorded = c.in_ok-played.played.recorder in
+    let goes = c.lines_go_as_one_call.ensures script.names script.commands played.text played.start played.last played.ran in
+    let kept = ap (λ (r : DiskRecorder). (core_of r).sector_bytes) played.left in
+    let bytes : (core_of recorded).sector_bytes ≡ bytes_of script.log_size =
+    kept ∙ goes.sector_bytes ∙ ap (λ (core : CoreState). core.sector_bytes) played.starts.log_disk.begun.core in
+    subst (λ (size : ℕ). all_aligned size (core_of recorded).events ≡ true) bytes
+    (lawful_parts (core_of recorded).sector_bytes 1048576 (core_of recorded).events c.events-events.ensures.sound.lawful).1

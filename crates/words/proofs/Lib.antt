@@ -1,3 +1,0 @@
-mod WordLemmas
-mod Examples
-mod Utf8

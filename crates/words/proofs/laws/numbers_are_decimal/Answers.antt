@@ -1,8 +1,0 @@
-use Rattle.words.specs.WordLaws.{decimal_number, zero_in_front}
-use Rattle.words.proofs.laws.numbers_are_decimal.Goals as goal
-
-pub returns-clause-digits : goal.returns-clause-digits
-returns-clause-digits c = decimal_number
-
-pub returns-clause-zero : goal.returns-clause-zero
-returns-clause-zero c = zero_in_front

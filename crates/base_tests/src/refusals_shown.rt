@@ -2,7 +2,7 @@
 
 use refusals::{Fault, Refusal};
 use std::test::Fail;
-use test_asserts::err_taken;
+use test_devices::is_told;
 
 // A fault without a line, or at one.
 fn fault(line: Option<u64>, refusal: Refusal) -> Fault {
@@ -19,6 +19,6 @@ fn faults_are_shown(rt: HostRuntime) -> Result<(), Fail> {
         fault(Some(4), Refusal::Busy)
     )?;
     let wanted = "1 Io, 20 Memory, 38 NoThread, line 4: 24 Busy";
-    assert!(rt; err_taken(&rt, shown.as_str(), wanted, "faults"));
+    assert!(rt; is_told(&rt, shown.as_str(), wanted, "faults"));
     Ok(())
 }

@@ -5,7 +5,7 @@ use judge::{First, Verdict, could_hold, is_lawful};
 use std::alloc::{AllocError, Global};
 use std::process::Abort;
 use std::test::Fail;
-use test_asserts::{holds, rows_are_told};
+use test_devices::{holds, rows_are_told};
 
 // A write of so many bytes, each this one, with no flush.
 fn write(

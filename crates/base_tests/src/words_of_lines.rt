@@ -3,7 +3,7 @@
 use std::alloc::{AllocError, Global};
 use std::process::Abort;
 use std::test::Fail;
-use test_asserts::rows_are_told;
+use test_devices::rows_are_told;
 use text_words::{count_words, cut, number_of, push_number, word_at};
 
 // What a word is read as, and printed as again; or that it is no number.

@@ -26,11 +26,11 @@ use Rattle.dmlw_commands.specs.Endings.{ErrStream, Tells, err_stream}
 use Rattle.dmlw_commands.specs.Exits.{exit_by, exit_of, fault_line, stopped_line}
 use Rattle.dmlw_commands.specs.Records.{HoldsLog}
 use Rattle.dmlw_files.specs.Files.{Write}
-use Rattle.dmlw_replay.specs.declared.stop.Stop.{Stop}
-use Rattle.dmlw_replay.specs.declared.stop.Stop.TheVariants as stops
+use Rattle.dmlw_commands.specs.declared.replay_log.stop.Stop.{Stop}
+use Rattle.dmlw_commands.specs.declared.replay_log.stop.Stop.TheVariants as stops
 use Rattle.dmlw_explain.specs.declared.explaining.ReplayNames.{ReplayNames}
-use Rattle.dmlw_replay.specs.Replays.{HoldsReplayed, replay_exit}
-use Rattle.dmlw_replay.specs.Whats.{IsWhat}
+use Rattle.dmlw_commands.specs.Replays.{HoldsReplayed, replay_exit}
+use Rattle.dmlw_commands.specs.Whats.{IsWhat}
 use Rattle.dmlw_cli.specs.CommandLine.{Entered, Enters, IsCommandOf, bare_app, command_app, command_words, has_explain, is_explain, is_formats, is_positional, needed, program_app, without_explain}
 use Rattle.dmlw_cli.specs.Commands.{AsksForOne, DoesWords, EndsCommand, EndsFlawed, EndsPage, EndsTask, EndsText, EndsUntasked, IsFaultLine, LeavesLog, ReplaysWhat, TaskLeaves, TellsBy, TellsOneLine, TellsPage, TellsPrinting, TellsUntasked, flaw_text, is_asked_for, of_fault, of_replay, unread_exit}
 use Rattle.dmlw_cli.specs.Names.{HasWords, all_names, arguments, is_same, name_of, name_text}

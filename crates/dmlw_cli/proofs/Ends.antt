@@ -14,16 +14,16 @@ use Rattle.dmlw_files.specs.Files.{AsksFor, KeepsFiles, Write}
 use Rattle.dmlw_commands.specs.Records.{PrintsLog, Records}
 use Rattle.dmlw_run.specs.RunsLog.{PrintsRun, Runs}
 use Rattle.log_copy.specs.Refusals.{copy_refusal}
-use Rattle.dmlw_copy.specs.CopiesLog.{Copies, PrintsCopy, copy_exit, copy_line}
-use Rattle.dmlw_copy.specs.declared.stop.Stop.{Stop as CopyStop}
-use Rattle.dmlw_copy.specs.declared.stop.Stop.TheVariants as copy_stops
+use Rattle.dmlw_commands.specs.CopiesLog.{Copies, PrintsCopy, copy_exit, copy_line}
+use Rattle.dmlw_commands.specs.declared.copy_log.stop.Stop.{Stop as CopyStop}
+use Rattle.dmlw_commands.specs.declared.copy_log.stop.Stop.TheVariants as copy_stops
 use Rattle.world.specs.declared.finding.Finding.{Finding}
 use Rattle.world.specs.declared.finding.Finding.TheVariants as findings
 use Rattle.dmlw_judge.specs.Judgements.{exit_answered, exit_judged}
 use Rattle.dmlw_judge.specs.Paths.{finding_meaning}
-use Rattle.dmlw_replay.specs.Replays.{PrintsReplay, Replays, replay_exit, replay_line}
-use Rattle.dmlw_replay.specs.declared.stop.Stop.{Stop}
-use Rattle.dmlw_replay.specs.declared.stop.Stop.TheVariants as stops
+use Rattle.dmlw_commands.specs.Replays.{PrintsReplay, Replays, replay_exit, replay_line}
+use Rattle.dmlw_commands.specs.declared.replay_log.stop.Stop.{Stop}
+use Rattle.dmlw_commands.specs.declared.replay_log.stop.Stop.TheVariants as stops
 use Rattle.judge.specs.declared.verdict.Verdict.{Verdict}
 use Rattle.judge.specs.declared.verdict.Verdict.TheVariants as verdicts
 use Rattle.replay.specs.Refusals.{replay_refusal}

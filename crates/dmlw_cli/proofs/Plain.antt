@@ -21,12 +21,12 @@ use Rattle.dmlw_judge.specs.Judgements.{EndsAnswering, EndsJudging, Meaning, Que
 use Rattle.dmlw_judge.specs.Paths.{EndsFinding, finding_meaning}
 use Rattle.dmlw_explain.specs.declared.explaining.CopyNames.{CopyNames}
 use Rattle.dmlw_explain.specs.declared.explaining.ReplayNames.{ReplayNames}
-use Rattle.dmlw_copy.specs.CopiesLog.{EndsCopying, HoldsCopied, file as uncopied}
-use Rattle.dmlw_copy.specs.declared.stop.Stop.TheVariants as copy_stops
+use Rattle.dmlw_commands.specs.CopiesLog.{EndsCopying, HoldsCopied, file as uncopied}
+use Rattle.dmlw_commands.specs.declared.copy_log.stop.Stop.TheVariants as copy_stops
 use Rattle.dmlw_cli.specs.Counts.{IsSectorCount}
-use Rattle.dmlw_replay.specs.declared.stop.Stop.TheVariants as stops
-use Rattle.dmlw_replay.specs.Replays.{EndsReplaying, HoldsReplayed, file as unreplayed}
-use Rattle.dmlw_replay.specs.Whats.{IsWhat}
+use Rattle.dmlw_commands.specs.declared.replay_log.stop.Stop.TheVariants as stops
+use Rattle.dmlw_commands.specs.Replays.{EndsReplaying, HoldsReplayed, file as unreplayed}
+use Rattle.dmlw_commands.specs.Whats.{IsWhat}
 use Rattle.replay.specs.declared.upto.Upto.{Upto}
 use Rattle.replay.specs.declared.upto.Upto.TheVariants as uptos
 use Rattle.text_words.specs.Words.{IsNumber, is_number, number_value}

@@ -23,10 +23,10 @@ use Rattle.dmlw_commands.specs.Lists.{ListsImage, ShowsStatus}
 use Rattle.dmlw_commands.specs.Records.{HoldsLog}
 use Rattle.dmlw_judge.specs.Judgements.{EndsJudging}
 use Rattle.dmlw_judge.specs.Paths.{EndsFinding}
-use Rattle.dmlw_copy.specs.CopiesLog.{EndsCopying, HoldsCopied}
+use Rattle.dmlw_commands.specs.CopiesLog.{EndsCopying, HoldsCopied}
 use Rattle.dmlw_run.specs.RunsLog.{EndsRunning, HoldsRun}
-use Rattle.dmlw_replay.specs.Replays.{EndsReplaying, HoldsReplayed}
-use Rattle.dmlw_replay.specs.Whats.{IsWhat}
+use Rattle.dmlw_commands.specs.Replays.{EndsReplaying, HoldsReplayed}
+use Rattle.dmlw_commands.specs.Whats.{IsWhat}
 use Rattle.replay.specs.declared.upto.Upto.{Upto}
 use Rattle.dmlw_cli.specs.CommandLine.{has_explain, without_explain}
 use Rattle.dmlw_cli.specs.Tasks.{IsRead}

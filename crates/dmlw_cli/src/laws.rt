@@ -10,12 +10,12 @@ ghost use Rattle.dmlw_commands.specs.declared.exit.Exit.TheVariants.{Done};
 ghost use Rattle.dmlw_commands.specs.Endings.{EndsRecording, EndsShowing, err_stream};
 ghost use Rattle.dmlw_files.specs.Files.{Write};
 ghost use Rattle.dmlw_commands.specs.Lists.{ListsImage, ShowsStatus};
-ghost use Rattle.dmlw_copy.specs.CopiesLog.{EndsCopying, HoldsCopied};
+ghost use Rattle.dmlw_commands.specs.CopiesLog.{EndsCopying, HoldsCopied};
 ghost use Rattle.dmlw_cli.specs.Counts.{IsSectorCount};
 ghost use Rattle.dmlw_run.specs.RunsLog.{EndsRunning};
 ghost use Rattle.dmlw_judge.specs.Judgements.{EndsJudging};
 ghost use Rattle.dmlw_judge.specs.Paths.{EndsFinding};
-ghost use Rattle.dmlw_replay.specs.Whats.{IsWhat};
+ghost use Rattle.dmlw_commands.specs.Whats.{IsWhat};
 ghost use Rattle.replay.specs.declared.upto.Upto.{Upto};
 ghost use Rattle.text_words.specs.Words.{IsNumber};
 

@@ -4,3 +4,10 @@ pub mod Listing
 pub mod Failing
 pub mod Endings
 mod Counterexamples
+mod Replayed
+mod ReplayEnds
+mod ReplayCounterexamples
+mod CopyEnds
+mod Copied
+mod Alike
+mod CopyCounterexamples

@@ -6,3 +6,12 @@ pub mod Opened
 pub mod Records
 pub mod Endings
 pub mod EndingLaws
+pub use Rattle.replay.specs.Replays as Replaying
+pub use Rattle.log_copy.specs.Copies as Copying
+pub use Rattle.log_copy.specs.Resized
+pub use Rattle.text_words.specs.Words
+pub mod Replays
+pub mod ReplayOpened
+pub mod Whats
+pub mod CopiesLog
+pub mod OnDisks

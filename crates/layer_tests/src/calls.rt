@@ -8,7 +8,7 @@ use std::alloc::{AllocError, Global};
 use std::io::Print;
 use std::process::Abort;
 use std::test::Fail;
-use test_asserts::{err_taken, is_same};
+use test_devices::{is_same, is_told};
 
 // The bytes of 16 sectors.
 const MOST: usize = 8192;
@@ -206,7 +206,7 @@ fn call_row<D: BlockDev + Drop>(
     let (moment, words) = asked.split_once(' ').unwrap_or_default();
     let now = Ms::new(moment.parse::<u64>().unwrap_or(0));
     let said = told(rt, alloc, device, now, words)?;
-    assert!(rt; err_taken(rt, said.as_str(), wanted, row));
+    assert!(rt; is_told(rt, said.as_str(), wanted, row));
     Ok(())
 }
 
@@ -221,7 +221,7 @@ fn message_row<D: Message + Drop>(
     let (layer, text) = asked.split_once(' ').unwrap_or_default();
     let layer = layer.parse::<u64>().unwrap_or(99);
     let answer = answer_of(alloc, device, layer, text)?;
-    assert!(rt; err_taken(rt, answer.as_str(), wanted, row));
+    assert!(rt; is_told(rt, answer.as_str(), wanted, row));
     Ok(())
 }
 

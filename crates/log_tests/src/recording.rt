@@ -4,7 +4,7 @@ use pending::*;
 use std::alloc::{AllocError, Global};
 use std::process::Abort;
 use std::test::Fail;
-use test_asserts::rows_are_told;
+use test_devices::rows_are_told;
 
 // A write of so many bytes; the number has a bit each for flush, FUA and meta.
 fn write(alloc: Global, first: u64, length: usize, flags: u64) -> Result<Bio, AllocError> {

@@ -8,7 +8,7 @@ use std::process::Abort;
 use std::sync::Wait;
 use std::test::Fail;
 use std::thread::Threads;
-use test_asserts::{err_taken, holds};
+use test_devices::{holds, is_told};
 use test_files::{Folder, OneFile};
 
 // A script of a write, a flush and a close.
@@ -79,11 +79,11 @@ fn check_output<F: Files>(
     let (status, told) = told.as_str().split_once('|').unwrap_or_default();
     let (out, err) = told.split_once('|').unwrap_or_default();
     let is_whole = status == "0" && out == wanted && err.is_empty();
-    let err_taken = matches!(
+    let is_told = matches!(
         err,
         "" | "dmlw: 2 Memory;" | "dmlw: 20 Memory;" | "dmlw: 32 File;"
     );
-    assert!(rt; holds(rt, is_whole || status != "0" && err_taken, line));
+    assert!(rt; holds(rt, is_whole || status != "0" && is_told, line));
     Ok(())
 }
 
@@ -265,7 +265,7 @@ fn check_reasons<F: Files>(
     let told = output_of(rt, alloc, "--explain list no-such-folder/log", files)?;
     let wanted =
         "1||dmlw: 32 File;  no-such-folder/log can't be read: No such file or directory (os error 2);";
-    assert!(rt; err_taken(rt, told.as_str(), wanted, "a file that isn't there"));
+    assert!(rt; is_told(rt, told.as_str(), wanted, "a file that isn't there"));
     let told = output_of(rt, alloc, "--explain record same same", files)?;
     let is_begun = told.as_str().starts_with("1||dmlw: 32 File;");
     let ending = "the log would be written over its script;";

@@ -11,7 +11,7 @@ use std::alloc::Global;
 use std::io::Print;
 use std::process::Abort;
 use std::test::Fail;
-use test_asserts::is_same;
+use test_devices::is_same;
 
 // Logs with sectors of 512 bytes, of which each request is whole sectors of 4,096.
 const WIDE: Sizes = Sizes {

@@ -7,7 +7,7 @@ use std::process::Abort;
 use std::sync::Wait;
 use std::test::Fail;
 use std::thread::Threads;
-use test_asserts::holds;
+use test_devices::holds;
 
 // The log of a whole run of the script below, as it is listed behind its first line.
 const WHOLE: &str = "0 @1 write 5+1;1 @3 flush;2 @4 mark dm-log-writes-end;";

@@ -7,7 +7,7 @@ use script_runner::*;
 use std::alloc::{AllocError, Global};
 use std::process::Abort;
 use std::test::Fail;
-use test_asserts::rows_are_told;
+use test_devices::rows_are_told;
 
 // The text of a script of these lines.
 fn text_of(alloc: Global, lines: &str) -> Result<String, AllocError> {

@@ -6,7 +6,7 @@ use std::io::Print;
 use std::process::Abort;
 use std::test::Fail;
 use table_line::{TableError, parse_line};
-use test_asserts::{err_taken, rows_are_told};
+use test_devices::{is_told, rows_are_told};
 
 // What reading a text answers: the printed script, or the fault.
 fn answer(alloc: Global, text: &[u8]) -> Result<String, AllocError> {
@@ -50,7 +50,7 @@ fn check_parts(
 ) -> Result<(), Fail> {
     assert!(rt; script.crash().is_none());
     let parts = parts_of(alloc, text, script)?;
-    assert!(rt; err_taken(rt, parts.as_str(), wanted, "a script's parts"));
+    assert!(rt; is_told(rt, parts.as_str(), wanted, "a script's parts"));
     Ok(())
 }
 
@@ -174,7 +174,7 @@ fn script_of_messages(alloc: Global) -> Result<String, AllocError> {
 fn messages_keep_their_words(rt: HostRuntime) -> Result<(), Fail> {
     let text = script_of_messages(rt.alloc())?;
     let shown = messages_read(rt.alloc(), text.as_bytes())?;
-    assert!(rt; err_taken(&rt, shown.as_str(), " Log 4 4 Data 0 70000", "messages"));
+    assert!(rt; is_told(&rt, shown.as_str(), " Log 4 4 Data 0 70000", "messages"));
     Ok(())
 }
 
@@ -201,7 +201,7 @@ fn disks_read(alloc: Global, text: &[u8]) -> Result<String, Fail> {
 fn disks_have_layers(rt: HostRuntime) -> Result<(), Fail> {
     let text = b"data 16\nlog 32\n\ndata-layer 0 8 linear disk 4\nlog-layer 0 9 error\nat 7\nf a\n";
     let shown = disks_read(rt.alloc(), text)?;
-    assert!(rt; err_taken(&rt, shown.as_str(), "4 16 8 1 9", "disks"));
+    assert!(rt; is_told(&rt, shown.as_str(), "4 16 8 1 9", "disks"));
     assert!(rt; line_of(text, 4) == Some(6));
     Ok(())
 }
@@ -241,6 +241,6 @@ fn errors_are_shown(rt: HostRuntime) -> Result<(), Fail> {
         TableError::OutOfRange,
         TableError::BadFeature
     )?;
-    assert!(rt; err_taken(&rt, shown.as_str(), ERRORS, "errors"));
+    assert!(rt; is_told(&rt, shown.as_str(), ERRORS, "errors"));
     Ok(())
 }

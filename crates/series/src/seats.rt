@@ -47,7 +47,7 @@ fn run_fuse<H: Threads + Wait + Sync>(
         return Ok(());
     }
     let listed = ask(rt, alloc, "list log", &mut folder)?;
-    if !err_taken(alloc, &told, calls)? {
+    if !is_told(alloc, &told, calls)? {
         report.differs(
             case.as_str(),
             &told,
@@ -94,7 +94,7 @@ fn marks_of(calls: u64) -> u64 {
 }
 
 // Whether each seat was told 100 done and its mark as logged or not logged, as many logged as the fuse has calls for, and logging ended.
-fn err_taken(alloc: Global, told: &Told, calls: u64) -> Result<bool, AllocError> {
+fn is_told(alloc: Global, told: &Told, calls: u64) -> Result<bool, AllocError> {
     let mut logged: u64 = 0;
     let mut is_good = told.status == 3 && told.err.is_empty();
     for (seat, line) in (0..SEATS).zip(told.out.as_str().split('\n')) {

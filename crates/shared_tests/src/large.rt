@@ -15,7 +15,7 @@ use std::sync::Wait;
 use std::test::*;
 use std::thread::Threads;
 use std::time::Clock;
-use test_asserts::{holds, is_same};
+use test_devices::{holds, is_same};
 
 // How many seats there are, and how many sectors each has for its own.
 const SEATS: u64 = 4;

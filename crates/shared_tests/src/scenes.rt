@@ -14,7 +14,7 @@ use std::sync::Wait;
 use std::test::*;
 use std::thread::Threads;
 use std::time::Clock;
-use test_asserts::{holds, is_same};
+use test_devices::{holds, is_same};
 
 // How many sectors the disks of two seats have.
 const FEW: u64 = 64;

@@ -7,7 +7,7 @@ use std::alloc::{AllocError, Global};
 use std::io::Print;
 use std::marker::Brand;
 use std::test::*;
-use test_asserts::is_same;
+use test_devices::is_same;
 
 // Statuses that are to be posted in turn, and whether each may be.
 const ROWS: [(u64, u64, Option<End>, bool); 12] = [

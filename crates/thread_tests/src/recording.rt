@@ -16,7 +16,7 @@ use std::io::Print;
 use std::marker::Brand;
 use std::sync::ledger::Blank;
 use std::test::*;
-use test_asserts::holds;
+use test_devices::holds;
 
 // How many sectors the recorded device has, and the log's.
 const SECTORS: u64 = 64;

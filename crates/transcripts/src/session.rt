@@ -325,12 +325,12 @@ fn push_ending(
     shown: &mut String,
     status: u8,
     is_held: bool,
-    err_taken: bool,
+    is_told: bool,
 ) -> Result<(), AllocError> {
     if is_held {
         shown.push_str("(held back)\n")?;
     }
-    if !err_taken {
+    if !is_told {
         shown.push_str("(not all told)\n")?;
     }
     if status != 0 {

@@ -9,7 +9,7 @@ use std::alloc::Global;
 use std::io::Print;
 use std::process::Abort;
 use std::test::Fail;
-use test_asserts::{err_taken, is_same};
+use test_devices::{is_same, is_told};
 
 // How many writes of a sector fail before one passes.
 fn failed_writes<D: Message + Drop>(rt: &impl Abort, device: &mut D, sector: u64) -> u64 {
@@ -127,7 +127,7 @@ fn put_message<D: BlockDev + Drop>(
     let (text, rest) = row.split_once('|').unwrap_or_default();
     let (wanted, letters) = rest.split_once('|').unwrap_or_default();
     let answer = answer_of(alloc, device, 1, text)?;
-    assert!(rt; err_taken(rt, answer.as_str(), wanted, row));
+    assert!(rt; is_told(rt, answer.as_str(), wanted, row));
     let wanted = [
         letters.contains('e'),
         letters.contains('f'),

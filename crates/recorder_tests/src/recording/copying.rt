@@ -15,8 +15,7 @@ use sector_disk::SectorDisk;
 use std::alloc::{AllocError, Global};
 use std::process::Abort;
 use std::test::Fail;
-use test_asserts::rows_are_told;
-use test_devices::Failing;
+use test_devices::{Failing, rows_are_told};
 
 // Copies, a line each: how many sectors the new log's disk has, how many writes and flushes its device does before it fails, the first of them as the log
 // begins, and the entries of a log with sectors of 512 bytes. `w` writes sectors 8 to 15, `u` does with FUA, `p` writes sectors 4 to 11, `l` sectors 8

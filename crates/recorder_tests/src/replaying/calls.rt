@@ -8,8 +8,7 @@ use std::alloc::{AllocError, Global};
 use std::io::Print;
 use std::process::Abort;
 use std::test::Fail;
-use test_asserts::{err_taken, holds};
-use test_devices::{Failing, Watched};
+use test_devices::{Failing, Watched, holds, is_told};
 
 // A replay's log and its target, each on a device that notes its calls.
 #[derive(Drop)]
@@ -117,7 +116,7 @@ fn assert_steps(
     for replay in replays.split(';') {
         let (asked, wanted) = replay.split_once('=').unwrap_or_default();
         let found = step(alloc, pair, &upto_of(asked))?;
-        assert!(rt; err_taken(rt, found.as_str(), wanted, row));
+        assert!(rt; is_told(rt, found.as_str(), wanted, row));
     }
     Ok(())
 }
@@ -233,7 +232,7 @@ fn check_mark(
     let image = image_named(alloc, "marks")?;
     let mut pair = pair_of(rt, alloc, image, u64::MAX, 16, u64::MAX)?;
     let found = step(alloc, &mut pair, &Upto::Mark(mark))?;
-    assert!(rt; err_taken(rt, found.as_str(), wanted, "a mark"));
+    assert!(rt; is_told(rt, found.as_str(), wanted, "a mark"));
     Ok(())
 }
 

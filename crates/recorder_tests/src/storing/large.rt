@@ -12,8 +12,7 @@ use sector_disk::SectorDisk;
 use std::alloc::{AllocError, Global};
 use std::process::Abort;
 use std::test::Fail;
-use test_asserts::rows_are_told;
-use test_devices::Watched;
+use test_devices::{Watched, rows_are_told};
 
 // Logs on disks of so many sectors, a line each. `w` appends a write of 8 sectors, `m` a mark, `s` settles; after `=` stand the status, and how many
 // entries and which sector size the super block has after a crash that keeps only what is settled.

@@ -1,0 +1,18 @@
+-- Answers to the goals of `copy_named` (src/copying.rt) that the search leaves.
+use Rattle.script_runner.specs.CallLaws.{on_error}
+use Rattle.dmlw_commands.proofs.Copied.{copied_from, failed_from}
+use Rattle.dmlw_commands.proofs.CopyEnds.{fails_by_file}
+use Rattle.dmlw_commands.proofs.copy_log.copying.copy_named.Goals as goal
+
+pub returns-in_err-log-clause-fails : goal.returns-in_err-log-clause-fails
+returns-in_err-log-clause-fails g c =
+    on_error c.from_residual.result c.from_residual.ensures.1
+    (λ stop is. fails_by_file _ _ c.in_err-log.field-0.0 stop c.in_err-log.ensures.fault is)
+
+pub returns-clause-copied : goal.returns-clause-copied
+returns-clause-copied g c =
+    copied_from _ c.in_ok-log.log.items _ c.copy_image.result c.in_ok-log.ensures.contents c.in_ok-log.ensures.whole c.copy_image.ensures.copied
+
+pub returns-clause-fails : goal.returns-clause-fails
+returns-clause-fails g c =
+    failed_from _ c.in_ok-log.log.items _ c.copy_image.result c.in_ok-log.ensures.contents c.in_ok-log.ensures.whole c.copy_image.ensures.fails

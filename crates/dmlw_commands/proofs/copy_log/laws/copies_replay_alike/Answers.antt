@@ -1,0 +1,9 @@
+-- Answers to the goals of `copies_replay_alike` (src/laws.rt) that the search leaves.
+use Rattle.dmlw_commands.proofs.Alike.{copy_alike, copy_whole}
+use Rattle.dmlw_commands.proofs.copy_log.laws.copies_replay_alike.Goals as goal
+
+pub returns-clause-whole : goal.returns-clause-whole
+returns-clause-whole c = copy_whole
+
+pub returns-clause-alike : goal.returns-clause-alike
+returns-clause-alike c = copy_alike

@@ -1,0 +1,27 @@
+-- Answers to the goals of `replay_named` (src/replaying.rt) that the search leaves.
+use Rattle.script_runner.specs.CallLaws.{on_error}
+use Rattle.dmlw_commands.proofs.ReplayEnds.{fails_by_file}
+use Rattle.dmlw_commands.proofs.Replayed.{both_images, failed_from, replayed_from}
+use Rattle.dmlw_commands.proofs.replay_log.replaying.replay_named.Goals as goal
+
+pub returns-in_err-log-clause-fails : goal.returns-in_err-log-clause-fails
+returns-in_err-log-clause-fails g c =
+    on_error c.from_residual.result c.from_residual.ensures.1
+    (λ stop is. fails_by_file _ _ _ c.in_err-log.field-0.0 stop c.in_err-log.ensures.fault is)
+
+pub returns-in_err-first-clause-fails : goal.returns-in_err-first-clause-fails
+returns-in_err-first-clause-fails g c =
+    on_error c.from_residual-in_err-first.result c.from_residual-in_err-first.ensures.1
+    (λ stop is. fails_by_file _ _ _ c.in_err-first.field-0.0 stop c.in_err-first.ensures.fault is)
+
+pub returns-clause-replayed : goal.returns-clause-replayed
+returns-clause-replayed g c =
+    replayed_from _ _ c.in_ok-log.log.items c.in_ok-first.first.items _ c.replay_images.result
+    (both_images _ _ _ c.in_ok-log.log.items c.in_ok-first.first.items c.in_ok-log.ensures.contents c.in_ok-log.ensures.whole
+    c.in_ok-first.ensures.contents c.in_ok-first.ensures.whole (c.in_ok-log.ensures.kept c.args.first.now)) c.replay_images.ensures.replayed
+
+pub returns-clause-fails : goal.returns-clause-fails
+returns-clause-fails g c =
+    failed_from _ _ c.in_ok-log.log.items c.in_ok-first.first.items _ c.replay_images.result
+    (both_images _ _ _ c.in_ok-log.log.items c.in_ok-first.first.items c.in_ok-log.ensures.contents c.in_ok-log.ensures.whole
+    c.in_ok-first.ensures.contents c.in_ok-first.ensures.whole (c.in_ok-log.ensures.kept c.args.first.now)) c.replay_images.ensures.fails

@@ -1,0 +1,141 @@
+-- What replaying the log in a file on the image in another one comes to.
+use Rattle.std.specs.Prelude.{◌≡◌, ◌⊎◌, ℕ, ◌/◌, ◌<◌, ◌≤◌, List, [], ◌++◌, Option, None, Some, Result, Ok, Err, codes, length}
+use Rattle.std.specs.Fmt.{decimal}
+use Rattle.std.specs.Io.KnownBytes.{Appends, Keeps}
+use Rattle.sectors.specs.Content.{AgreeBelow, sector_of}
+use Rattle.bio.specs.declared.outcome.DevError.TheVariants as devices
+use Rattle.log_format.specs.declared.entry.Entry.{Entry}
+use Rattle.log_format.specs.declared.decode.Super.{Super}
+use Rattle.log_format.specs.Replay.{replay}
+use Rattle.log_reader.specs.declared.fault.LogFault.{LogFault}
+use Rattle.log_reader.specs.declared.fault.ReadDeviceError.TheVariants as reads
+use Rattle.log_reader.specs.Readings.{IsReading}
+use Rattle.replay.specs.declared.fault.ReplayError.{ReplayError}
+use Rattle.replay.specs.declared.fault.ReplayError.TheVariants as replays
+use Rattle.replay.specs.declared.fault.ReplayFault.{ReplayFault}
+use Rattle.replay.specs.declared.upto.Upto.{Upto}
+use Rattle.replay.specs.Refusals.{replay_refusal}
+use Rattle.replay.specs.Replays.{AsksTooMany, EndsShort, IsUpto, LacksFlush, LacksMark, ReachesPast, entries_from}
+use Rattle.run_error.specs.declared.run_error.RunError.{RunError}
+use Rattle.run_error.specs.Errors.{IsFileError, memory_error}
+use Rattle.dmlw_commands.specs.declared.ending.Ended.{Ended}
+use Rattle.dmlw_commands.specs.declared.exit.Exit.{Exit}
+use Rattle.dmlw_commands.specs.declared.exit.Exit.TheVariants.{Done, Refused}
+use Rattle.dmlw_commands.specs.Endings.{ErrStream, TellsLine}
+use Rattle.dmlw_commands.specs.Exits.{exit_of, fault_line, stopped_line}
+use Rattle.dmlw_files.specs.Files.{MatchesContents, Write, one_more}
+use Rattle.dmlw_files.specs.Images.{IsImage}
+use Rattle.dmlw_commands.specs.Lists.{RefusesImage}
+use Rattle.dmlw_commands.specs.declared.replay_log.stop.Stop.{Stop}
+use Rattle.dmlw_commands.specs.declared.replay_log.stop.Stop.TheVariants as stops
+
+-- the line that says how many entries were replayed
+abbrev pub replayed_line : ℕ → List ℕ
+replayed_line count = codes "replayed " ++ (decimal count ++ codes "\n")
+
+-- these are the images of a replay: what the file of its log holds, and that of the image which it begins with
+pub record AreImages (log_file first_file : Option (List ℕ)) (log first : List ℕ) : Type 0 where
+  pub log_read : MatchesContents log_file log
+  pub log_image : IsImage log
+  pub first_read : MatchesContents first_file first
+  pub first_image : IsImage first
+
+-- the entries of a log up to the one that is named, which are so many, were replayed on a first image, and left this one
+pub record IsReplayed (log first : List ℕ) (upto : Upto) (count : ℕ) (image : List ℕ) : Type 0 where
+  pub head : Super
+  pub entries : List Entry
+  pub fault : Option LogFault
+  pub reading : IsReading log head entries fault
+  pub named : IsUpto upto entries 0 count
+  pub within : 0 < count → count ≤ length entries
+  pub size : length image ≡ length first
+  pub content : AgreeBelow (length first / 512) (replay head.sectorsize (entries_from entries 0 count) (sector_of first)) (sector_of image)
+
+-- the cause by which a replay on an image of so many sectors stopped after so many entries, of a log with this super block, these entries and this fault;
+-- its reader has not refused before
+abbrev pub HasStopCause : Upto → Super → List Entry → Option LogFault → ℕ → ℕ → ReplayError → Type 0
+HasStopCause upto head es fault disk applied replays.PastEntries = (applied ≡ 0) × AsksTooMany upto head.count 0
+HasStopCause upto head es fault disk applied replays.NoSuchMark = (applied ≡ 0) × LacksMark upto es 0 × (fault ≡ None)
+HasStopCause upto head es fault disk applied replays.NoFlush = (applied ≡ 0) × LacksFlush upto es 0 × (fault ≡ None)
+HasStopCause upto head es fault disk applied replays.PastTarget = ReachesPast head.sectorsize es applied disk
+HasStopCause upto head es fault disk applied (replays.Log (reads.Log found)) = (fault ≡ Some found) × EndsShort upto es 0 applied
+HasStopCause upto head es fault disk applied (replays.Log reads.Memory) = Unit {0}
+HasStopCause upto head es fault disk applied (replays.Target devices.Memory) = Unit {0}
+HasStopCause upto head es fault disk applied other = ⊥
+
+-- a replay of this log on this image stopped so
+pub record StopsReplay (log first : List ℕ) (upto : Upto) (stop : ReplayFault) : Type 0 where
+  pub head : Super
+  pub entries : List Entry
+  pub fault : Option LogFault
+  pub reading : IsReading log head entries fault
+  pub within : 0 < stop.applied → stop.applied ≤ length entries
+  pub cause : HasStopCause upto head entries fault (length first / 512) stop.applied stop.cause
+
+-- Why a log isn't replayed on a first image: there is no memory, the image isn't opened as a log, or the replay stops.
+pub data FailsOnImages (log first : List ℕ) (upto : Upto) : Stop → Type 0 where
+  memory : FailsOnImages log first upto (stops.Fault memory_error)
+  unopened : (fault : RunError) → RefusesImage log fault → FailsOnImages log first upto (stops.Fault fault)
+  stopped : (stop : ReplayFault) → StopsReplay log first upto stop → FailsOnImages log first upto (stops.Replay stop)
+
+-- Why the log in a file isn't replayed: a file can't be used, or there is no memory; or so it is of the images in the files.
+pub data FailsReplay (log_file first_file : Option (List ℕ)) (upto : Upto) : Stop → Type 0 where
+  file : (fault : RunError) → IsFileError fault → FailsReplay log_file first_file upto (stops.Fault fault)
+  images : (log first : List ℕ) (stop : Stop) → AreImages log_file first_file log first → FailsOnImages log first upto stop
+      → FailsReplay log_file first_file upto stop
+
+-- the log in a file was replayed, and so many entries and this image came of it
+pub record IsReplayedFrom (log_file first_file : Option (List ℕ)) (upto : Upto) (count : ℕ) (image : List ℕ) : Type 0 where
+  pub log : List ℕ
+  pub first : List ℕ
+  pub files : AreImages log_file first_file log first
+  pub replayed : IsReplayed log first upto count image
+
+-- the log in a file was replayed, and what came of it is what another file holds, where that is known
+pub record HoldsReplayed (log_file first_file : Option (List ℕ)) (upto : Upto) (written : Option (List ℕ)) : Type 0 where
+  pub count : ℕ
+  pub image : List ℕ
+  pub replayed : IsReplayedFrom log_file first_file upto count image
+  pub held : MatchesContents written image
+
+-- the log in a file was replayed, how many entries was printed, and one more write was asked for, of the file of this name with the image that came of it
+pub record PrintsReplay (log_file first_file : Option (List ℕ)) (name : List ℕ) (upto : Upto) (writes_old writes_new : Option (List Write))
+    (old new : Option (List ℕ)) (count : ℕ) : Type 0 where
+  pub image : List ℕ
+  pub replayed : IsReplayedFrom log_file first_file upto count image
+  pub printed : Appends old new (replayed_line count)
+  pub asked : writes_new ≡ one_more writes_old name image
+
+-- a file or the output can't be used, or there is no memory
+abbrev pub IsFileStop : Stop → Type 0
+IsFileStop (stops.Fault fault) = IsFileError fault
+IsFileStop (stops.Replay fault) = ⊥
+
+-- What replaying comes to: it was done; or it fails, nothing was printed, and no file was asked to be written; or the output can't be written, and no
+-- file was asked to be; or the image can't be written, after the printing.
+abbrev pub Replays : Option (List ℕ) → Option (List ℕ) → List ℕ → Upto → Option (List Write) → Option (List Write) → Option (List ℕ) → Option (List ℕ)
+    → Result ℕ Stop → Type 0
+Replays log_file first_file name upto writes_old writes_new old new (Ok count) = PrintsReplay log_file first_file name upto writes_old writes_new old new count
+Replays log_file first_file name upto writes_old writes_new old new (Err stop) =
+    (FailsReplay log_file first_file upto stop × Keeps old new × (writes_new ≡ writes_old))
+    ⊎ (IsFileStop stop × (writes_new ≡ writes_old))
+    ⊎ (IsFileStop stop × (count : ℕ) × PrintsReplay log_file first_file name upto writes_old writes_new old new count)
+
+-- how a replay ends that came to this
+abbrev pub replay_exit : Result ℕ Stop → Exit
+replay_exit (Ok count) = Done
+replay_exit (Err (stops.Fault fault)) = exit_of fault
+replay_exit (Err (stops.Replay fault)) = Refused
+
+-- the line that a user is told of a replay that came to this: of a fault, of a replay that stopped, or none
+abbrev pub replay_line : Result ℕ Stop → List ℕ
+replay_line (Ok count) = []
+replay_line (Err (stops.Fault fault)) = fault_line fault
+replay_line (Err (stops.Replay fault)) = stopped_line fault.applied (replay_refusal fault.cause)
+
+-- How the replay of the log in a file ends, of which the image goes into the file of this name: as what it did has it.
+pub record EndsReplaying (log_file first_file : Option (List ℕ)) (name : List ℕ) (upto : Upto) (writes_old writes_new : Option (List Write))
+    (old new : Option (List ℕ)) (t : ErrStream) (ended : Ended) : Type 0 where
+  pub done : Result ℕ Stop
+  pub replayed : Replays log_file first_file name upto writes_old writes_new old new done
+  pub tells : TellsLine t (replay_exit done) (replay_line done) ended

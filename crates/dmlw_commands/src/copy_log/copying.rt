@@ -1,0 +1,131 @@
+// How the log in a file is copied, and the image of the new one written.
+ghost use Rattle.std.specs.Prelude.{◌≡◌, ◌≤◌, ◌⊎◌, IfErr, IfOk, OnErr, OnOk};
+ghost use Rattle.std.specs.Io.KnownBytes.{Appends};
+ghost use Rattle.run_error.specs.Errors.{IsFileError};
+ghost use Rattle.dmlw_commands.specs.declared.exit.Exit.{Exit};
+ghost use Rattle.dmlw_commands.specs.Endings.{err_stream};
+ghost use Rattle.dmlw_commands.specs.Exits.{IsRefusal};
+ghost use Rattle.dmlw_files.specs.Files.{KeepsFiles, MatchesContents, one_more};
+ghost use Rattle.dmlw_files.specs.Images.{image_of};
+ghost use Rattle.dmlw_commands.specs.CopiesLog.{Copies, EndsCopying, FailsCopy, HoldsCopied, IsCopiedFrom, copied_line};
+
+use crate::copy_log::ending::{end_copying, stopped_of};
+use crate::copy_log::images::{Copied, copy_image};
+use crate::copy_log::stop::Stop;
+use crate::{Ended, Exit};
+use dmlw_explain::{CopyNames, explain_copying};
+use dmlw_files::{Files, read_image};
+use refusals::Refusal;
+use run_error::RunError;
+use sector_disk::SectorDisk;
+use std::alloc::Global;
+use std::io::Write;
+
+/// Does `copy LOG OUT SECTORS`: copies the log in a file to a new log with sectors of 4,096 bytes, on a disk of so many sectors of 512 bytes, 8 to
+/// 1,048,576, and answers how it ended. How many entries were copied goes to `out` before the disk's image is written; a fault is reported to
+/// `err`, with what helps where it `explains`. OUT is refused as a file where it is LOG.
+///
+/// Each entry keeps its flags, its body, and its place and length in bytes. The copy stops before an entry whose place or length in bytes is no
+/// multiple of 4,096, before one that doesn't fit, and at a fault of the log; then nothing is written.
+pub fn copy<F: Files, O: Write, E: Write>(
+    alloc: Global,
+    explains: bool,
+    names: CopyNames,
+    sectors: u64,
+    files: &mut F,
+    out: &mut O,
+    err: &mut E,
+) -> Ended
+    requires least { 8 ≤ sectors }
+    requires most { sectors ≤ 1048576 }
+    ensures ends { EndsCopying (F.contents files.old names.entry.log.now) names.entry.out.now sectors
+        (F.writes files.old) (F.writes files.new) (O.contents out.old) (O.contents out.new)
+        (err_stream explains (E.contents err.old) (E.contents err.new)) result }
+    // Where it is done, OUT holds the image of the new log's disk.
+    ensures written { result.exit ≡ Exit.Done → HoldsCopied (F.contents files.old names.entry.log.now) sectors (F.contents files.new names.entry.out.now) }
+    // It is done or refused; where it is refused each file holds what it held, and a log isn't written over.
+    ensures exits { (result.exit ≡ Exit.Done) ⊎ (result.exit ≡ Exit.Refused) }
+    ensures kept { IsRefusal result.exit → KeepsFiles (F.contents files.old) (F.contents files.new) }
+    ensures apart { names.entry.log.now ≡ names.entry.out.now → F.writes files.new ≡ F.writes files.old }
+{
+    let done = copy_file(alloc, names, sectors, files, out);
+    let more = explain_copying(alloc, explains, stopped_of(done), names, files);
+    end_copying(alloc, done, more.as_str(), out, err)
+}
+
+// Copies the log in a file, tells how many entries that were, and has the image written.
+fn copy_file<F: Files, O: Write>(
+    alloc: Global,
+    names: CopyNames,
+    sectors: u64,
+    files: &mut F,
+    out: &mut O,
+) -> Result<u64, Stop>
+    requires least { 8 ≤ sectors }
+    requires most { sectors ≤ 1048576 }
+    ensures copies { Copies (F.contents files.old names.entry.log.now) names.entry.out.now sectors
+        (F.writes files.old) (F.writes files.new) (O.contents out.old) (O.contents out.new) result }
+    ensures held { OnOk result (HoldsCopied (F.contents files.old names.entry.log.now) sectors (F.contents files.new names.entry.out.now)) }
+    ensures kept { OnErr result (KeepsFiles (F.contents files.old) (F.contents files.new)) }
+    ensures apart { names.entry.log.now ≡ names.entry.out.now → F.writes files.new ≡ F.writes files.old }
+{
+    if files.is_same(names.log, names.out) {
+        return Err(Stop::Fault(RunError::from(Refusal::File)));
+    }
+    let Copied { count, disk } = copy_named(alloc, names.log, sectors, files)?;
+    match hand_over(alloc, count, disk, names.out, files, out) {
+        Ok(()) => Ok(count),
+        Err(fault) => Err(Stop::Fault(fault)),
+    }
+}
+
+// Copies the log in a file.
+fn copy_named<F: Files>(
+    alloc: Global,
+    log: &str,
+    sectors: u64,
+    files: &mut F,
+) -> Result<Copied, Stop>
+    requires least { 8 ≤ sectors }
+    requires most { sectors ≤ 1048576 }
+    ensures copied { IfOk result (λ done. IsCopiedFrom (F.contents files.old log.now) done.count sectors (image_of done.disk)) }
+    ensures fails { IfErr result (FailsCopy (F.contents files.old log.now) sectors) }
+    ensures kept { KeepsFiles (F.contents files.old) (F.contents files.new) }
+    ensures unwritten { F.writes files.new ≡ F.writes files.old }
+{
+    let log = read_image(alloc, log, files)?;
+    copy_image(alloc, log, sectors)
+}
+
+// Tells how many entries were copied, and has the image of the new log's disk written.
+fn hand_over<F: Files, O: Write>(
+    alloc: Global,
+    count: u64,
+    disk: SectorDisk,
+    name: &str,
+    files: &mut F,
+    out: &mut O,
+) -> Result<(), RunError>
+    ensures done { OnOk result (Appends (O.contents out.old) (O.contents out.new) (copied_line count)
+        × (F.writes files.new ≡ one_more (F.writes files.old) name.now (image_of disk))) }
+    ensures held { OnOk result (MatchesContents (F.contents files.new name.now) (image_of disk)) }
+    ensures fails { IfErr result IsFileError }
+    ensures asked { OnErr result ((F.writes files.new ≡ F.writes files.old)
+        ⊎ (Appends (O.contents out.old) (O.contents out.new) (copied_line count)
+        × (F.writes files.new ≡ one_more (F.writes files.old) name.now (image_of disk)))) }
+    ensures kept { OnErr result (KeepsFiles (F.contents files.old) (F.contents files.new)) }
+{
+    print_count(count, out)?;
+    files.write(alloc, name, disk)?;
+    Ok(())
+}
+
+// Tells how many entries were copied.
+fn print_count<O: Write>(count: u64, out: &mut O) -> Result<(), RunError>
+    ensures printed { OnOk result (Appends (O.contents out.old) (O.contents out.new) (copied_line count)) }
+    ensures fails { IfErr result IsFileError }
+{
+    writeln!(out, "copied {count}")?;
+    out.flush()?;
+    Ok(())
+}

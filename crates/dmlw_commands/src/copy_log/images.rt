@@ -1,0 +1,91 @@
+// How the log that an image has is copied to a new log, on disks in memory.
+ghost use Rattle.std.specs.Prelude.{◌≡◌, ◌≤◌, IfErr, IfOk};
+ghost use Rattle.sector_disk.specs.Shown.{shown_of};
+ghost use Rattle.log_reader.specs.Shown.{reader_of};
+ghost use Rattle.log_store.specs.Shown.{store_of};
+ghost use Rattle.run_error.specs.Errors.{memory_error};
+ghost use Rattle.dmlw_files.specs.Images.{IsImage, image_of};
+ghost use Rattle.dmlw_commands.specs.CopiesLog.{FailsOnImage, IsCopied};
+ghost use Rattle.dmlw_commands.specs.OnDisks.{IsBegun, IsOpened, RefusesOpen};
+
+use crate::copy_log::stop::Stop;
+use bio::{End, SectorSize};
+use log_copy::copy_log;
+use log_reader::LogReader;
+use log_store::LogStore;
+use refusals::Refusal;
+use run_error::RunError;
+use sector_disk::SectorDisk;
+use std::alloc::Global;
+
+/// What a copy left.
+#[derive(Debug, Drop)]
+pub(crate) struct Copied {
+    /// How many entries were copied.
+    pub(crate) count: u64,
+    /// The new log's disk.
+    pub(crate) disk: SectorDisk,
+}
+
+/// Copies the log that an image has to a new log with sectors of 4,096 bytes, on a disk of so many sectors of 512 bytes, 8 to 1,048,576.
+/// In memory are both disks and one entry; the old log's disk is gone after it.
+pub(crate) fn copy_image(alloc: Global, log: Vec<u8>, sectors: u64) -> Result<Copied, Stop>
+    requires log { IsImage log.items }
+    requires least { 8 ≤ sectors }
+    requires most { sectors ≤ 1048576 }
+    ensures copied { IfOk result (λ done. IsCopied log.items done.count sectors (image_of done.disk)) }
+    ensures fails { IfErr result (FailsOnImage log.items sectors) }
+{
+    let mut reader = open_log(alloc, log)?;
+    let mut store = begin_log(alloc, sectors)?;
+    match copy_log(&mut reader, &mut store) {
+        Ok(count) => {
+            let disk = store.into_device();
+            Ok(Copied { count, disk })
+        }
+        Err(fault) => Err(Stop::Copy(fault)),
+    }
+}
+
+// Opens the log that an image has, on the disk that it is.
+fn open_log(alloc: Global, log: Vec<u8>) -> Result<LogReader<SectorDisk>, RunError>
+    requires { IsImage log.items }
+    ensures opened { IfOk result (λ reader. IsOpened log.items (reader_of reader)) }
+    ensures refused { IfErr result (RefusesOpen log.items) }
+{
+    let disk = SectorDisk::from_bytes(alloc, log)?;
+    match LogReader::open(alloc, disk) {
+        Ok(reader) => Ok(reader),
+        Err((_disk, error)) => Err(RunError::from(Refusal::from(error))),
+    }
+}
+
+// Begins the new log, on a disk of so many sectors of zeroes. Nothing was copied yet, so want of memory is told as such, and not as an end of logging.
+fn begin_log(alloc: Global, sectors: u64) -> Result<LogStore<SectorDisk>, RunError>
+    requires least { 8 ≤ sectors }
+    requires most { sectors ≤ 1048576 }
+    ensures begun { IfOk result (λ store. IsBegun sectors (store_of store)) }
+    ensures memory { IfErr result (λ fault. fault ≡ memory_error) }
+{
+    let disk = new_disk(alloc, sectors)?;
+    match LogStore::create_sized(disk, SectorSize::B4096) {
+        Ok(store) => Ok(store),
+        Err((_disk, End::Memory)) => Err(RunError::from(Refusal::Memory)),
+        Err((_disk, End::Full | End::Device)) => unreachable!(
+            "a disk in memory never fails, and has room"
+        ),
+    }
+}
+
+// A disk of so many sectors of zeroes.
+fn new_disk(alloc: Global, sectors: u64) -> Result<SectorDisk, RunError>
+    requires least { 8 ≤ sectors }
+    requires most { sectors ≤ 1048576 }
+    ensures size { IfOk result (λ disk. (shown_of disk).size ≡ sectors) }
+    ensures memory { IfErr result (λ fault. fault ≡ memory_error) }
+{
+    match SectorDisk::new(alloc, sectors) {
+        Ok(disk) => Ok(disk),
+        Err(error) => Err(RunError::from(error)),
+    }
+}

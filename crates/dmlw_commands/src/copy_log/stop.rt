@@ -1,0 +1,23 @@
+// Why a log isn't copied.
+ghost use Rattle.std.specs.Prelude.{◌≡◌};
+ghost use Rattle.dmlw_commands.specs.declared.copy_log.stop.Stop.TheVariants as stops;
+
+use log_copy::CopyFault;
+use run_error::RunError;
+
+/// Why a log wasn't copied.
+#[derive(Clone, Copy, Debug, PartialEq, Eq)]
+pub enum Stop {
+    /// A file or the output can't be used, the image is no log, or there is no memory.
+    Fault(RunError),
+    /// The copy stopped.
+    Copy(CopyFault),
+}
+
+impl From<RunError> for Stop {
+    ghost from_gives = { λ fault stop. stop ≡ stops.Fault fault };
+
+    fn from(fault: RunError) -> Stop {
+        Stop::Fault(fault)
+    }
+}

@@ -1,0 +1,46 @@
+//! How a replay ends.
+ghost use Rattle.std.specs.Prelude.{◌≡◌, ◌++◌, [], true};
+ghost use Rattle.std.specs.Io.KnownBytes.{Appends, Keeps};
+ghost use Rattle.dmlw_commands.specs.Replays.{replay_exit, replay_line};
+
+use crate::replay_log::stop::Stop;
+use crate::{Ended, end, report_stopped};
+use dmlw_explain::Stopped;
+use refusals::Refusal;
+use run_error::RunError;
+use std::alloc::Global;
+use std::io::Write;
+
+/// How a replay ends that came to this. What stopped it is reported by one line, and `more` stands behind it; where it is done and there is no
+/// more, nothing goes to `err`.
+pub(crate) fn end_replaying<O: Write, E: Write>(
+    alloc: Global,
+    done: Result<u64, Stop>,
+    more: &str,
+    out: &mut O,
+    err: &mut E,
+) -> Ended
+    ensures exit { result.exit ≡ replay_exit done }
+    ensures kept { Keeps (O.contents out.old) (O.contents out.new) }
+    ensures quiet { replay_line done ≡ [] → more.now ≡ [] → E.contents err.new ≡ E.contents err.old }
+    ensures told { result.err_taken ≡ true → Appends (E.contents err.old) (E.contents err.new) (replay_line done ++ more.now) }
+{
+    match done {
+        Ok(_) => end(alloc, Ok(()), more, out, err),
+        Err(Stop::Fault(fault)) => end(alloc, Err(fault), more, out, err),
+        Err(Stop::Replay(fault)) => {
+            report_stopped(alloc, fault.applied, Refusal::from(fault.cause), more, err)
+        }
+    }
+}
+
+/// Why a replay ended that came to this, if it wasn't done.
+pub(crate) fn stopped_of(done: Result<u64, Stop>) -> Option<Stopped> {
+    let (refusal, applied) = match done {
+        Ok(_) => return None,
+        Err(Stop::Fault(RunError::Refused(fault))) => (fault.refusal, 0),
+        Err(Stop::Fault(RunError::LoggingEnded(end))) => (Refusal::from(end), 0),
+        Err(Stop::Replay(fault)) => (Refusal::from(fault.cause), fault.applied),
+    };
+    Some(Stopped { refusal, applied })
+}

@@ -1,0 +1,70 @@
+//! Replays the log that an image has on the disk that another image is.
+ghost use Rattle.std.specs.Prelude.{◌≡◌, ◌/◌, IfErr, IfOk, length};
+ghost use Rattle.sector_disk.specs.Shown.{shown_of};
+ghost use Rattle.sector_disk.specs.Sizes.{Begins};
+ghost use Rattle.sectors.specs.Content.{sector_of};
+ghost use Rattle.run_error.specs.Errors.{memory_error};
+ghost use Rattle.dmlw_files.specs.Images.{IsImage, image_of};
+ghost use Rattle.dmlw_commands.specs.ReplayOpened.{stop_by};
+ghost use Rattle.dmlw_commands.specs.Replays.{FailsOnImages, IsReplayed};
+
+use crate::replay_log::stop::Stop;
+use headline::{ReopenError, reopen_and_replay};
+use refusals::Refusal;
+use replay::Upto;
+use run_error::RunError;
+use sector_disk::SectorDisk;
+use std::alloc::Global;
+
+/// What a replay left.
+#[derive(Debug, Drop)]
+pub(crate) struct Replayed {
+    /// How many entries were replayed.
+    pub(crate) count: u64,
+    /// The disk that has the image that came of it.
+    pub(crate) disk: SectorDisk,
+}
+
+/// Replays a log on the disk that a first image is, up to the entry that is named, by the call that carries the headline; the log's disk is gone
+/// after it.
+pub(crate) fn replay_images(
+    alloc: Global,
+    log: Vec<u8>,
+    first: Vec<u8>,
+    upto: &Upto,
+) -> Result<Replayed, Stop>
+    requires log { IsImage log.items }
+    requires first { IsImage first.items }
+    ensures replayed { IfOk result (λ done. IsReplayed log.items first.items upto.now done.count (image_of done.disk)) }
+    ensures fails { IfErr result (FailsOnImages log.items first.items upto.now) }
+{
+    let log = disk_of(alloc, log)?;
+    let mut disk = disk_of(alloc, first)?;
+    let (_log, done) = reopen_and_replay(alloc, log, &mut disk, upto);
+    match done {
+        Ok(count) => Ok(Replayed { count, disk }),
+        Err(error) => Err(stop_of(error)),
+    }
+}
+
+// Why a log wasn't replayed that wasn't reopened, or of which the replay stopped.
+fn stop_of(error: ReopenError) -> Stop
+    ensures { result ≡ stop_by error }
+{
+    match error {
+        ReopenError::Open(error) => Stop::Fault(RunError::from(Refusal::from(error))),
+        ReopenError::Replay(stop) => Stop::Replay(stop),
+    }
+}
+
+// The disk that an image is.
+fn disk_of(alloc: Global, image: Vec<u8>) -> Result<SectorDisk, RunError>
+    requires { IsImage image.items }
+    ensures begins { IfOk result (λ disk. Begins (length image.items / 512) (sector_of image.items) (shown_of disk)) }
+    ensures memory { IfErr result (λ fault. fault ≡ memory_error) }
+{
+    match SectorDisk::from_bytes(alloc, image) {
+        Ok(disk) => Ok(disk),
+        Err(error) => Err(RunError::from(error)),
+    }
+}

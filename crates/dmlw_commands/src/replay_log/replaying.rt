@@ -1,0 +1,130 @@
+//! `replay LOG FIRST OUT WHAT`: applies a log, up to the entry that is named, to an image.
+ghost use Rattle.std.specs.Prelude.{◌≡◌, ◌⊎◌, IfErr, IfOk, OnErr, OnOk};
+ghost use Rattle.std.specs.Io.KnownBytes.{Appends};
+ghost use Rattle.run_error.specs.Errors.{IsFileError};
+ghost use Rattle.dmlw_commands.specs.declared.exit.Exit.{Exit};
+ghost use Rattle.dmlw_commands.specs.Endings.{err_stream};
+ghost use Rattle.dmlw_commands.specs.Exits.{IsRefusal};
+ghost use Rattle.dmlw_files.specs.Files.{KeepsFiles, MatchesContents, one_more};
+ghost use Rattle.dmlw_files.specs.Images.{image_of};
+ghost use Rattle.dmlw_commands.specs.Replays.{EndsReplaying, FailsReplay, HoldsReplayed, IsReplayedFrom, Replays, replayed_line};
+
+use crate::replay_log::ending::{end_replaying, stopped_of};
+use crate::replay_log::images::{Replayed, replay_images};
+use crate::replay_log::stop::Stop;
+use crate::{Ended, Exit};
+use dmlw_explain::{ReplayNames, explain_replaying};
+use dmlw_files::{Files, read_image};
+use refusals::Refusal;
+use replay::Upto;
+use run_error::RunError;
+use sector_disk::SectorDisk;
+use std::alloc::Global;
+use std::io::Write;
+
+/// Does `replay LOG FIRST OUT WHAT`: applies the entries of a log, up to the one that is named, to a first image, and answers how it ended.
+/// How many they are goes to `out` before the image that came of it is written; a fault is reported to `err`, with what helps where it
+/// `explains`. OUT may be the file FIRST, and is refused as a file where it is LOG.
+///
+/// An entry's sectors are the log's; a FUA entry is applied as any other. Both images are whole sectors of 512 bytes, 1 to 1,048,576.
+pub fn replay<F: Files, O: Write, E: Write>(
+    alloc: Global,
+    explains: bool,
+    names: ReplayNames,
+    upto: &Upto,
+    files: &mut F,
+    out: &mut O,
+    err: &mut E,
+) -> Ended
+    ensures ends { EndsReplaying (F.contents files.old names.entry.log.now) (F.contents files.old names.entry.first.now) names.entry.out.now upto.now
+        (F.writes files.old) (F.writes files.new) (O.contents out.old) (O.contents out.new)
+        (err_stream explains (E.contents err.old) (E.contents err.new)) result }
+    // Where it is done, OUT holds the image that came of it.
+    ensures written { result.exit ≡ Exit.Done → HoldsReplayed (F.contents files.old names.entry.log.now) (F.contents files.old names.entry.first.now) upto.now
+        (F.contents files.new names.entry.out.now) }
+    // It is done or refused; where it is refused each file holds what it held, and a log isn't written over.
+    ensures exits { (result.exit ≡ Exit.Done) ⊎ (result.exit ≡ Exit.Refused) }
+    ensures kept { IsRefusal result.exit → KeepsFiles (F.contents files.old) (F.contents files.new) }
+    ensures apart { names.entry.log.now ≡ names.entry.out.now → F.writes files.new ≡ F.writes files.old }
+{
+    let done = replay_files(alloc, names, upto, files, out);
+    let more = explain_replaying(alloc, explains, stopped_of(done), names, files);
+    end_replaying(alloc, done, more.as_str(), out, err)
+}
+
+// Replays the log in a file, tells how many entries that were, and has the image written.
+fn replay_files<F: Files, O: Write>(
+    alloc: Global,
+    names: ReplayNames,
+    upto: &Upto,
+    files: &mut F,
+    out: &mut O,
+) -> Result<u64, Stop>
+    ensures replays { Replays (F.contents files.old names.entry.log.now) (F.contents files.old names.entry.first.now) names.entry.out.now upto.now
+        (F.writes files.old) (F.writes files.new) (O.contents out.old) (O.contents out.new) result }
+    ensures held { OnOk result (HoldsReplayed (F.contents files.old names.entry.log.now) (F.contents files.old names.entry.first.now) upto.now
+        (F.contents files.new names.entry.out.now)) }
+    ensures kept { OnErr result (KeepsFiles (F.contents files.old) (F.contents files.new)) }
+    ensures apart { names.entry.log.now ≡ names.entry.out.now → F.writes files.new ≡ F.writes files.old }
+{
+    if files.is_same(names.log, names.out) {
+        return Err(Stop::Fault(RunError::from(Refusal::File)));
+    }
+    let Replayed { count, disk } = replay_named(alloc, names.log, names.first, upto, files)?;
+    match hand_over(alloc, count, disk, names.out, files, out) {
+        Ok(()) => Ok(count),
+        Err(fault) => Err(Stop::Fault(fault)),
+    }
+}
+
+// Replays the log in a file on the image in another one.
+fn replay_named<F: Files>(
+    alloc: Global,
+    log: &str,
+    first: &str,
+    upto: &Upto,
+    files: &mut F,
+) -> Result<Replayed, Stop>
+    ensures replayed { IfOk result (λ done.
+        IsReplayedFrom (F.contents files.old log.now) (F.contents files.old first.now) upto.now done.count (image_of done.disk)) }
+    ensures fails { IfErr result (FailsReplay (F.contents files.old log.now) (F.contents files.old first.now) upto.now) }
+    ensures kept { KeepsFiles (F.contents files.old) (F.contents files.new) }
+    ensures unwritten { F.writes files.new ≡ F.writes files.old }
+{
+    let log = read_image(alloc, log, files)?;
+    let first = read_image(alloc, first, files)?;
+    replay_images(alloc, log, first, upto)
+}
+
+// Tells how many entries were replayed, and has the image of the disk that was left written.
+fn hand_over<F: Files, O: Write>(
+    alloc: Global,
+    count: u64,
+    disk: SectorDisk,
+    name: &str,
+    files: &mut F,
+    out: &mut O,
+) -> Result<(), RunError>
+    ensures done { OnOk result (Appends (O.contents out.old) (O.contents out.new) (replayed_line count)
+        × (F.writes files.new ≡ one_more (F.writes files.old) name.now (image_of disk))) }
+    ensures held { OnOk result (MatchesContents (F.contents files.new name.now) (image_of disk)) }
+    ensures fails { IfErr result IsFileError }
+    ensures asked { OnErr result ((F.writes files.new ≡ F.writes files.old)
+        ⊎ (Appends (O.contents out.old) (O.contents out.new) (replayed_line count)
+        × (F.writes files.new ≡ one_more (F.writes files.old) name.now (image_of disk)))) }
+    ensures kept { OnErr result (KeepsFiles (F.contents files.old) (F.contents files.new)) }
+{
+    print_count(count, out)?;
+    files.write(alloc, name, disk)?;
+    Ok(())
+}
+
+// Tells how many entries were replayed.
+fn print_count<O: Write>(count: u64, out: &mut O) -> Result<(), RunError>
+    ensures printed { OnOk result (Appends (O.contents out.old) (O.contents out.new) (replayed_line count)) }
+    ensures fails { IfErr result IsFileError }
+{
+    writeln!(out, "replayed {count}")?;
+    out.flush()?;
+    Ok(())
+}

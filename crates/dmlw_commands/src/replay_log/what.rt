@@ -1,0 +1,22 @@
+//! The word of `replay` that names where a replay ends.
+ghost use Rattle.std.specs.Prelude.{◌≡◌, IfSome, None};
+ghost use Rattle.dmlw_commands.specs.Whats.{IsNoWhat, IsWhat};
+
+use replay::Upto;
+use text_words::number_of;
+
+/// The end of a replay that a word names: `entries:<n>`, with 1 to 20 decimal digits of a value below 2^64, `mark:<text>`, whose text may be
+/// empty, or `flush`. None for any other word.
+pub fn upto_of(word: &[u8]) -> Option<Upto<'_>>
+    ensures some { IfSome result (IsWhat word.now) }
+    ensures none { result ≡ None → IsNoWhat word.now }
+{
+    if word == b"flush".as_slice() {
+        return Some(Upto::Flush);
+    }
+    if let Some(text) = word.strip_prefix(b"mark:".as_slice()) {
+        return Some(Upto::Mark(text));
+    }
+    let digits = word.strip_prefix(b"entries:".as_slice())?;
+    Some(Upto::Count(number_of(digits)?))
+}

@@ -1,9 +1,0 @@
--- Answers to the goals of `copies_replay_alike` (src/laws.rt) that the search leaves.
-use Rattle.dmlw_copy.proofs.Alike.{copy_alike, copy_whole}
-use Rattle.dmlw_copy.proofs.laws.copies_replay_alike.Goals as goal
-
-pub returns-clause-whole : goal.returns-clause-whole
-returns-clause-whole c = copy_whole
-
-pub returns-clause-alike : goal.returns-clause-alike
-returns-clause-alike c = copy_alike

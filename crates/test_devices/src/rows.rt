@@ -1,0 +1,51 @@
+//! What rows of tests are held against. A text beside an assertion is dear to prove, and here it is proved once.
+ghost use Rattle.std.specs.Prelude.{◌≡◌};
+
+use std::fmt::Debug;
+use std::io::Print;
+
+/// Whether what was found is what was wanted. Where it isn't, it prints the row with both.
+pub fn is_same<T: PartialEq + Debug>(rt: &impl Print, found: &T, wanted: &T, row: &str) -> bool {
+    let is_same = found == wanted;
+    if !is_same {
+        let _ = println!(rt; "{row}: {found:?}, wanted {wanted:?}");
+    }
+    is_same
+}
+
+/// Whether what was told is what was wanted. Where it isn't, it prints the row with both.
+pub fn is_told(rt: &impl Print, told: &str, wanted: &str, row: &str) -> bool {
+    let is_told = told == wanted;
+    if !is_told {
+        let _ = println!(rt; "{row}: {told}, wanted {wanted}");
+    }
+    is_told
+}
+
+/// The test itself. Where it doesn't hold, this prints the row.
+pub fn holds(rt: &impl Print, test: bool, row: &str) -> bool
+    ensures { result ≡ test }
+{
+    if !test {
+        let _ = println!(rt; "{row}");
+    }
+    test
+}
+
+/// Whether what is told of each row is what stands behind its first `=`, where what stands before that is handed on. It prints each row of which it isn't.
+pub fn rows_are_told<E, F: FnMut(&str) -> Result<String, E>>(
+    rt: &impl Print,
+    rows: &str,
+    tell: F,
+) -> Result<bool, E>
+    requires { F.IsAlwaysCallable tell }
+{
+    let mut tell = tell;
+    let mut are_told = true;
+    for row in rows.split('\n') {
+        let (asked, wanted) = row.split_once('=').unwrap_or_default();
+        let told = tell(asked)?;
+        are_told &= is_told(rt, told.as_str(), wanted, row);
+    }
+    Ok(are_told)
+}

@@ -4,7 +4,7 @@
   bench/headline.py          writes them behind the page's marker line
   bench/headline.py --check  says whether they are as they stand in the crates
 
-Begins with the names of the clause `headline` of `reopen_and_replay`, and follows the `use` lines from file to file down to the kit's own words. A definition
+Begins with the names of the clause `headline` of `reopen_and_replay`, and with what says which contents a crash may leave (ALSO), and follows the `use` lines from file to file down to the kit's own words. A definition
 stands behind all that it names. It needs nothing but Python 3.
 """
 import glob, os, re, sys
@@ -12,6 +12,8 @@ import glob, os, re, sys
 root = os.path.dirname(os.path.dirname(os.path.abspath(__file__)))
 PAGE = f"{root}/docs/HEADLINE.md"
 MARKER = "<!-- What follows is written by bench/headline.py. -->"
+# (what a crash may leave is a field of what contracts see of a device: these say what it is)
+ALSO = [("Rattle.blockdev.specs.View", "IsLawful"), ("Rattle.sector_disk.specs.Shown", "shown_of")]
 START, FUNCTION, CLAUSE = f"{root}/crates/headline/src/reopening.rt", "reopen_and_replay", "headline"
 NAME = re.compile(r"[^\s(){}\[\],;.λ∀]+(?:\.[^\s(){}\[\],;.λ]+)*")
 HEAD = re.compile(r"^(?:(?:abbrev|unfoldable|transparent) )*(pub )?(?:(record|data) )?(?P<name>[^\s:({]+)")
@@ -197,6 +199,12 @@ def collect(specs):
             order.append(it)
 
     visit(first, uses_of(text, "ghost use"))
+    for module, name in ALSO:
+        it = specs.named(module, name)
+        if it.key() not in done:
+            done.add(it.key())
+            visit(it, specs.file(it.crate, it.file.split("/specs/")[1][:-5].replace("/", "."))[2])
+            order.append(it)
     return order
 
 

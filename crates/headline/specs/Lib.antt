@@ -1,6 +1,7 @@
 -- The definitions that the contracts of `headline` are written in.
 pub use Rattle.log_reader.specs.Devices
 pub use Rattle.log_reader.specs.Reads
+pub use Rattle.pending.specs.Beginnings
 pub use Rattle.recorder.specs.Shown
 pub use Rattle.replay.specs.Replays
 pub use Rattle.sectors.specs.Content

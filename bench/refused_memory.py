@@ -202,7 +202,7 @@ def other_answer(wanted, told, left, wanted_left):
     out, err, status = told
     if told == wanted and left == wanted_left:
         return "as with ample memory"
-    is_named = re.fullmatch(r"dmlw: (2|20) Memory( after \d+ entries)?\n", err)
+    is_named = re.fullmatch(r"dmlw: ((line \d+: )?2|20) Memory( after \d+ entries)?\n", err)
     if is_named and status in (1, 3) and left == OLDER and wanted[0].startswith(out):
         return "refused: " + err.strip()
     return "differs"

@@ -1,15 +1,18 @@
 -- For each definition of a script's run, what breaks it, and is refused by it, and what holds.
 use Rattle.std.proofs.Common.{◌≡◌, ◌∙◌, ◌+◌, ◌*◌, ◌<◌, ◌++◌, ℕ, suc, Bool, true, false, List, [], ◌∷◌, Option, Some, None, Result, Ok, Err, ap, arith, inl, inr, length, refl, replicate, slice_index_or, subst, sym}
 use Rattle.std.specs.Prelude.{codes, decimal, is_ok, slice_get}
+use Rattle.std.specs.List.{list_all}
 use Rattle.std.proofs.lemmas.List.{length-replicate}
 use Rattle.sectors.specs.Content.{AgreeBelow, Content, moved, sector_of}
 use Rattle.sectors.specs.PlaceLaws.{slice_get-append_here}
 use Rattle.refusals.specs.declared.refusal.Refusal.{Refusal}
 use Rattle.refusals.specs.declared.refusal.Refusal.TheVariants as refusals
+use Rattle.bio.specs.declared.event.CoreEvent.{CoreEvent}
 use Rattle.bio.specs.declared.event.CoreEvent.TheVariants as events
 use Rattle.bio.specs.declared.outcome.DevError.{DevError}
 use Rattle.bio.specs.declared.outcome.DevError.TheVariants.{Io}
 use Rattle.bio.specs.declared.outcome.End.{End}
+use Rattle.bio.specs.declared.outcome.End.TheVariants as ends
 use Rattle.bio.specs.declared.outcome.Status.{Status}
 use Rattle.bio.specs.declared.request.Bio.{Bio}
 use Rattle.bio.specs.declared.request.Bio.TheVariants as bios
@@ -62,7 +65,8 @@ use Rattle.script_runner.specs.HandOver.{HandsOver, ReadsSectors}
 use Rattle.script_runner.specs.Lines.{Answering, Asks, Does, EndsAsked, EndsRequest, HearsEnd, PrintsMark, RefusesMessage, RunsLine, submission_text}
 use Rattle.script_runner.specs.OnDisks.{DiskRecorder, DiskRun, FailsOnDisks, IsCounted, IsRecorded, IsStackOf, IsUnmade, Starts, file as disk_file, left_on, run as disk_run, stack_answering, unmade}
 use Rattle.script_runner.specs.Runs.{Chain, EndsRun, RefusesClose, RefusesLine, RunsLines, close, file as run_file, message}
-use Rattle.script_runner.specs.Submitted.{bio_of}
+use Rattle.script_runner.specs.Rehearsals.{IsRehearsed, is_memory_stop}
+use Rattle.script_runner.specs.Submitted.{bio_of, is_asked}
 use Rattle.script_runner.specs.Texts.{mark_failed, outcome_line, read_line}
 
 -- ---- handing over
@@ -585,3 +589,46 @@ fails_by_run : (text : List ℕ) (plan : ScriptValue) (before after : Option (Li
 fails_by_run text plan before after fault other made (disk_file again file) = absurd (other file)
 fails_by_run text plan before after fault other made (unmade again none kept) = absurd (made none)
 fails_by_run text plan before after fault other made (disk_run start again starts fails) = (start, starts, fails)
+
+-- ---- rehearsing
+
+-- a request that the recorder was asked of is asked, and one that found no memory isn't
+asked_flush : is_asked (requests.Asked bios.Flush None) ≡ true
+asked_flush = refl
+
+asked_failed : is_asked requests.Failed ≡ false
+asked_failed = refl
+
+-- a Stop for want of memory is one; by another cause it isn't, nor is a Close
+stop_memory : is_memory_stop (events.Stop ends.Memory) ≡ true
+stop_memory = refl
+
+stop_full : is_memory_stop (events.Stop ends.Full) ≡ false
+stop_full = refl
+
+stop_device : is_memory_stop (events.Stop ends.Device) ≡ false
+stop_device = refl
+
+stop_close : is_memory_stop events.Close ≡ false
+stop_close = refl
+
+-- a run that asked of a flush, and whose log is full, rehearses its script
+rehearsed_full : (plan : ScriptValue) (start last : DiskRun) (text : List ℕ) → Starts plan start → RunsLines stack_answering plan.names plan.commands text start last
+    → last.requests.items ≡ requests.Asked bios.Flush None ∷ [] → (core_of last.recorder).events ≡ events.Stop ends.Full ∷ [] → IsRehearsed plan (events.Stop ends.Full ∷ [])
+rehearsed_full plan start last text starts ran asked stopped = record {
+  start = start;
+  starts = starts;
+  text = text;
+  last = last;
+  ran = ran;
+  recorded = sym stopped;
+  asked = ap (list_all is_asked) asked;
+  ample = refl;
+}
+
+-- one of which a request failed doesn't, nor one that ended for want of memory
+rehearsed_failed : (plan : ScriptValue) (es : List CoreEvent) → (told : IsRehearsed plan es) → told.last.requests.items ≡ requests.Asked bios.Flush None ∷ requests.Failed ∷ [] → ⊥
+rehearsed_failed plan es told failed = let same : false ≡ true = sym (ap (list_all is_asked) failed) ∙ told.asked in cc
+
+rehearsed_stopped : (plan : ScriptValue) → IsRehearsed plan (events.Submit bios.Flush ∷ events.Stop ends.Memory ∷ []) → ⊥
+rehearsed_stopped plan told = let same : true ≡ false = told.ample in cc

@@ -1,6 +1,6 @@
 -- What playing a script comes to, from the run of its lines up to two disks in memory.
 use Rattle.std.proofs.Common.{◌≡◌, ◌⊎◌, ℕ, List, Option, inl, inr, ap, subst, sym}
-use Rattle.std.specs.Prelude.{Err, IfOk, Ok, Result}
+use Rattle.std.specs.Prelude.{Bool, Err, IfOk, Ok, Result}
 use Rattle.bio.specs.Sizes.{bytes_of}
 use Rattle.bio.specs.declared.sector_size.SectorSize.{SectorSize}
 use Rattle.blockdev.specs.declared.device.BlockDev.{Ghosts}
@@ -22,8 +22,8 @@ use Rattle.script_runner.specs.inside.Played.{FailsPlaying, IsPlayed, StartsBesi
 
 -- what was played from one kind of start was played from another, where each of the one kind is of the other
 pub played_from : {D L : Type 0} {d : Ghosts D} {l : Ghosts L} (m : Answering D L) (plan : ScriptValue) (Start Other : Running D L d l → Type 0) (before after : Option (List ℕ)) (recorder : Recorder L l)
-    (lies : ℕ) → ((run : Running D L d l) → Start run → Other run) → IsPlayed m plan Start before after recorder lies → IsPlayed m plan Other before after recorder lies
-played_from m plan Start Other before after recorder lies follows played = record {
+    (lies : ℕ) (ample : Bool) → ((run : Running D L d l) → Start run → Other run) → IsPlayed m plan Start before after recorder lies ample → IsPlayed m plan Other before after recorder lies ample
+played_from m plan Start Other before after recorder lies ample follows played = record {
   start = played.start;
   starts = follows played.start played.starts;
   last = played.last;
@@ -32,6 +32,7 @@ played_from m plan Start Other before after recorder lies follows played = recor
   printed = played.printed;
   left = played.left;
   lied = played.lied;
+  asked = played.asked;
 }
 
 -- and so does a failure
@@ -92,6 +93,6 @@ fails_on_disks text plan log before after fault is (run start f starts ends) = n
 -- the same of results
 pub all_played : {D L : Type 0} {d : Ghosts D} {l : Ghosts L} (m : Answering D L) (plan : ScriptValue) (Start Other : Running D L d l → Type 0) (before after : Option (List ℕ))
     (result : Result (Played L l) RunError) → ((run : Running D L d l) → Start run → Other run)
-    → IfOk result (λ played. IsPlayed m plan Start before after played.recorder played.data_lies) → IfOk result (λ played. IsPlayed m plan Other before after played.recorder played.data_lies)
+    → IfOk result (λ played. IsPlayed m plan Start before after played.recorder played.data_lies played.ample) → IfOk result (λ played. IsPlayed m plan Other before after played.recorder played.data_lies played.ample)
 all_played m plan Start Other before after (Err fault) follows holds = tt
-all_played m plan Start Other before after (Ok played) follows holds = played_from m plan Start Other before after played.recorder played.data_lies follows holds
+all_played m plan Start Other before after (Ok played) follows holds = played_from m plan Start Other before after played.recorder played.data_lies played.ample follows holds

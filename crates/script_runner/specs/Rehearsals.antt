@@ -1,13 +1,23 @@
 -- What rehearsing a script comes to: it runs on two disks in memory as a recording does, and only the recorder's events are kept.
-use Rattle.std.specs.Prelude.{◌≡◌, ℕ, List, None}
+use Rattle.std.specs.Prelude.{◌≡◌, ℕ, Bool, true, false, List, None}
+use Rattle.std.specs.List.{list_all, list_any}
 use Rattle.bio.specs.declared.event.CoreEvent.{CoreEvent}
+use Rattle.bio.specs.declared.event.CoreEvent.TheVariants as core_events
+use Rattle.bio.specs.declared.outcome.End.TheVariants as ends
 use Rattle.dmlw_script.specs.Plans.{ScriptValue}
 use Rattle.run_error.specs.declared.run_error.RunError.{RunError}
 use Rattle.script_runner.specs.OnDisks.{stack_answering, DiskRun, FailsOnDisks, Starts}
 use Rattle.script_runner.specs.Runs.{RunsLines}
+use Rattle.script_runner.specs.Submitted.{is_asked}
 use Rattle.recorder.specs.Shown.{core_of}
 
--- A script was rehearsed: its lines ran, whatever they print, and these are the recorder's events.
+-- the event says that logging ended for want of memory
+abbrev pub is_memory_stop : CoreEvent → Bool
+is_memory_stop (core_events.Stop ends.Memory) = true
+is_memory_stop _ = false
+
+-- A script was rehearsed: its lines ran, whatever they print, and these are the recorder's events. No request failed for want of memory as it was
+-- submitted, and logging didn't end for that.
 pub record IsRehearsed (plan : ScriptValue) (events : List CoreEvent) : Type 0 where
   pub start : DiskRun
   pub starts : Starts plan start
@@ -15,7 +25,12 @@ pub record IsRehearsed (plan : ScriptValue) (events : List CoreEvent) : Type 0 w
   pub last : DiskRun
   pub ran : RunsLines stack_answering plan.names plan.commands text start last
   pub recorded : events ≡ (core_of last.recorder).events
+  -- the recorder was asked of each request that the lines submit
+  pub asked : list_all is_asked last.requests.items ≡ true
+  -- no Stop says that there was no memory
+  pub ample : list_any is_memory_stop events ≡ false
 
--- rehearsing a script, which was read from a text, fails as recording it does, with a writer of which nothing is known
+-- rehearsing a script, which was read from a text, fails as recording it does, with a writer of which nothing is known; a run that finds no
+-- memory fails for that, where a recording may go on
 abbrev pub FailsRehearsal : List ℕ → ScriptValue → RunError → Type 0
 FailsRehearsal text plan fault = FailsOnDisks text plan None None fault

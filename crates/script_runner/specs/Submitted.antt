@@ -1,5 +1,5 @@
 -- What a script's line submits.
-use Rattle.std.specs.Prelude.{ℕ, ◌*◌, Bool, true, is_ok, replicate}
+use Rattle.std.specs.Prelude.{ℕ, ◌*◌, Bool, true, false, is_ok, replicate}
 use Rattle.bio.specs.declared.request.Bio.{Bio}
 use Rattle.bio.specs.declared.request.Bio.TheVariants as bios
 use Rattle.bio.specs.Check.{check_answer}
@@ -18,3 +18,8 @@ bio_of (submits.Discard first count) = bios.Discard first count
 abbrev pub fits_device : ℕ → Request → Bool
 fits_device sectors (requests.Asked bio id) = is_ok (check_answer bio sectors)
 fits_device sectors requests.Failed = true
+
+-- the recorder was asked of the request: there was memory for it
+abbrev pub is_asked : Request → Bool
+is_asked (requests.Asked bio id) = true
+is_asked requests.Failed = false

@@ -4,7 +4,7 @@ ghost use Rattle.bio.specs.Check.{check_answer, range_answer};
 ghost use Rattle.blockdev.specs.Calls.{Flushes, IsByteRange, IsRange, Writes};
 ghost use Rattle.script_runner.specs.HandOver.{DoesCall, HandsOver, ReadsSectors};
 
-use bio::{Bio, Ms};
+use bio::{Bio, DevError, Ms};
 use blockdev::BlockDev;
 use sectors::SECTOR_BYTES;
 use std::alloc::Global;
@@ -12,10 +12,11 @@ use std::alloc::Global;
 // A sector's size in bytes.
 const SECTOR: usize = SECTOR_BYTES as usize;
 
-// Hands a request over to a device: a write with flush as a flush, and then the write where the flush succeeded. Answers whether it succeeded.
-pub(crate) fn do_request<D: BlockDev>(device: &mut D, now: Ms, bio: &Bio) -> bool
+// Hands a request over to a device: a write with flush as a flush, and then the write where the
+// flush succeeded. Answers as the device did to the last call.
+pub(crate) fn do_request<D: BlockDev>(device: &mut D, now: Ms, bio: &Bio) -> Result<Ms, DevError>
     requires { IsTrue (is_ok (check_answer bio.now (D.shown device.old).size)) }
-    ensures does { HandsOver D.does now bio.now result device.old device.new }
+    ensures does { HandsOver D.does now bio.now (is_ok result) device.old device.new }
     ensures size { (D.shown device.new).size ≡ (D.shown device.old).size }
 {
     match bio {
@@ -25,7 +26,10 @@ pub(crate) fn do_request<D: BlockDev>(device: &mut D, now: Ms, bio: &Bio) -> boo
             flush: true,
             fua,
             ..
-        } => flush(device, now) && write(device, now, *first, bytes.as_slice(), *fua),
+        } => match flush(device, now) {
+            Ok(_) => write(device, now, *first, bytes.as_slice(), *fua),
+            Err(error) => Err(error),
+        },
         Bio::Write {
             first,
             bytes,
@@ -33,26 +37,32 @@ pub(crate) fn do_request<D: BlockDev>(device: &mut D, now: Ms, bio: &Bio) -> boo
             ..
         } => write(device, now, *first, bytes.as_slice(), *fua),
         Bio::Flush => flush(device, now),
-        Bio::Discard { first, count } => device.discard(now, *first, *count).is_ok(),
-        Bio::Read { .. } => true,
+        Bio::Discard { first, count } => device.discard(now, *first, *count),
+        Bio::Read { .. } => Ok(now),
     }
 }
 
-// Flushes a device. Answers whether that succeeded.
-fn flush<D: BlockDev>(device: &mut D, now: Ms) -> bool
-    ensures does { DoesCall D.does now Flushes result device.old device.new }
+// Flushes a device, and answers as it did.
+fn flush<D: BlockDev>(device: &mut D, now: Ms) -> Result<Ms, DevError>
+    ensures does { DoesCall D.does now Flushes (is_ok result) device.old device.new }
     ensures size { (D.shown device.new).size ≡ (D.shown device.old).size }
 {
-    device.flush(now).is_ok()
+    device.flush(now)
 }
 
-// Writes whole sectors to a device. Answers whether that succeeded.
-fn write<D: BlockDev>(device: &mut D, now: Ms, first: u64, bytes: &[u8], fua: bool) -> bool
+// Writes whole sectors to a device, and answers as it did.
+fn write<D: BlockDev>(
+    device: &mut D,
+    now: Ms,
+    first: u64,
+    bytes: &[u8],
+    fua: bool,
+) -> Result<Ms, DevError>
     requires { IsByteRange (D.shown device.old).size first (length bytes.now) }
-    ensures does { DoesCall D.does now (Writes first bytes.now fua) result device.old device.new }
+    ensures does { DoesCall D.does now (Writes first bytes.now fua) (is_ok result) device.old device.new }
     ensures size { (D.shown device.new).size ≡ (D.shown device.old).size }
 {
-    device.write(now, first, bytes, fua).is_ok()
+    device.write(now, first, bytes, fua)
 }
 
 // Reads so many sectors from a device; none where there is no memory for them or the read fails.

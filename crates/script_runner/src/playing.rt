@@ -30,6 +30,8 @@ pub(crate) struct Played<L: BlockDev + Drop> {
     pub(crate) recorder: Recorder<L>,
     // How often the layers over the data device have lied.
     pub(crate) data_lies: u64,
+    // Whether all that its lines asked of the recorder and the data device found memory.
+    pub(crate) ample: bool,
 }
 
 // Runs a script, which was read from `text`, on two disks in memory, each under its layers.
@@ -39,7 +41,7 @@ pub(crate) fn play_on_disks<O: Write>(
     script: &Script,
     out: &mut O,
 ) -> Result<Played<Stack>, RunError>
-    ensures played { IfOk result (λ played. IsPlayed stack_answering script.now (Starts script.now) (O.contents out.old) (O.contents out.new) played.recorder played.data_lies) }
+    ensures played { IfOk result (λ played. IsPlayed stack_answering script.now (Starts script.now) (O.contents out.old) (O.contents out.new) played.recorder played.data_lies played.ample) }
     ensures faults { IfErr result (FailsOnDisks text.now script.now (O.contents out.old) (O.contents out.new)) }
 {
     let log = new_stack(alloc, script.log())?;
@@ -55,7 +57,7 @@ fn play_beside<L: Message + Drop, O: Write>(
     out: &mut O,
 ) -> Result<Played<L>, RunError>
     requires { bytes_of script.now.log_size / 512 ≤ (L.shown log).size }
-    ensures played { IfOk result (λ played. IsPlayed {l = L.BlockDev} (answering StackAnswers L.answers) script.now (StartsBeside (bytes_of script.now.log_size) script.now.data_disk log) (O.contents out.old) (O.contents out.new) played.recorder played.data_lies) }
+    ensures played { IfOk result (λ played. IsPlayed {l = L.BlockDev} (answering StackAnswers L.answers) script.now (StartsBeside (bytes_of script.now.log_size) script.now.data_disk log) (O.contents out.old) (O.contents out.new) played.recorder played.data_lies played.ample) }
     ensures faults { IfErr result (FailsPlaying {l = L.BlockDev} (answering StackAnswers L.answers) text.now script.now (IsUnmadeOn L.BlockDev (bytes_of script.now.log_size) log) (StartsBeside (bytes_of script.now.log_size) script.now.data_disk log) (O.contents out.old) (O.contents out.new)) }
 {
     let data = new_stack(alloc, script.data())?;
@@ -73,15 +75,17 @@ fn play<D: Message + Drop, L: Message + Drop, O: Write>(
 ) -> Result<Played<L>, RunError>
     requires size { (D.shown disk).size ≡ top_of script.now.data_disk }
     requires room { bytes_of script.now.log_size / 512 ≤ (L.shown log).size }
-    ensures played { IfOk result (λ played. IsPlayed {d = D.BlockDev} {l = L.BlockDev} (answering D.answers L.answers) script.now (StartsOn (bytes_of script.now.log_size) disk log) (O.contents out.old) (O.contents out.new) played.recorder played.data_lies) }
+    ensures played { IfOk result (λ played. IsPlayed {d = D.BlockDev} {l = L.BlockDev} (answering D.answers L.answers) script.now (StartsOn (bytes_of script.now.log_size) disk log) (O.contents out.old) (O.contents out.new) played.recorder played.data_lies played.ample) }
     ensures faults { IfErr result (FailsPlaying {d = D.BlockDev} {l = L.BlockDev} (answering D.answers L.answers) text.now script.now (IsUnmadeOn L.BlockDev (bytes_of script.now.log_size) log) (StartsOn (bytes_of script.now.log_size) disk log) (O.contents out.old) (O.contents out.new)) }
 {
     let mut running = start_on(alloc, log, script.log_size(), disk, script.names().len())?;
     run(text, script, &mut running, out)?;
+    let ample = running.is_ample();
     let (recorder, disk) = running.into_parts();
     Ok(Played {
         recorder,
         data_lies: disk.lies(),
+        ample,
     })
 }
 

@@ -1,16 +1,18 @@
 //! Runs a script for its events alone: `events_of_run` is what a judge asks for.
 ghost use Rattle.std.specs.Prelude.{◌≡◌, IfErr, IfOk, true};
+ghost use Rattle.std.specs.List.{list_any};
 ghost use Rattle.bio.specs.Lawful.{all_aligned, is_lawful};
 ghost use Rattle.bio.specs.Sizes.{bytes_of};
 ghost use Rattle.dmlw_script.specs.Plans.{top_of};
-ghost use Rattle.script_runner.specs.Rehearsals.{FailsRehearsal, IsRehearsed};
+ghost use Rattle.script_runner.specs.Rehearsals.{FailsRehearsal, IsRehearsed, is_memory_stop};
 
 use crate::laws::lines_go_as_one_call;
 use crate::playing::play_on_disks;
-use bio::CoreEvent;
+use bio::{CoreEvent, End};
 use dmlw_script::Script;
 use layer_table::Stack;
 use recorder::Recorder;
+use refusals::Refusal;
 use run_error::RunError;
 use std::alloc::Global;
 use std::io;
@@ -44,6 +46,9 @@ impl Rehearsed {
 
 /// Runs a script, which was read from `text`, as `record` does, on two disks in memory, and keeps the recorder's events alone: what its
 /// lines print is dropped, and so is the log. Where logging ends before the script does, the run goes on. It fails as `record` does.
+/// And where the run went on though something in it found no memory, so that its events may be
+/// others than those with enough, it is refused with Memory, at no line. A read that finds none is
+/// no matter: what reads print is dropped.
 pub fn events_of_run(alloc: Global, text: &[u8], script: &Script) -> Result<Rehearsed, RunError>
     ensures rehearsed { IfOk result (IsRehearsed script.now) }
     // They are events of a device of the size of the data disk's top.
@@ -55,8 +60,25 @@ pub fn events_of_run(alloc: Global, text: &[u8], script: &Script) -> Result<Rehe
     lines_go_as_one_call::<Stack, Stack>();
     let _commands = script.commands();
     let played = play_on_disks(alloc, text, script, &mut io::sink())?;
-    let _events = played.recorder.events();
+    let events = played.recorder.events();
+    if !played.ample || has_memory_stop(events) {
+        return Err(RunError::from(Refusal::Memory));
+    }
     Ok(Rehearsed {
         recorder: played.recorder,
     })
+}
+
+// Whether logging ended for want of memory among these events.
+fn has_memory_stop(events: &[CoreEvent]) -> bool
+    ensures { result ≡ list_any is_memory_stop events.now }
+{
+    events.iter().any(|event| is_memory_stop(event))
+}
+
+// Whether an event says that logging ended for want of memory.
+fn is_memory_stop(event: &CoreEvent) -> bool
+    ensures { result ≡ is_memory_stop event.now }
+{
+    matches!(event, CoreEvent::Stop(End::Memory))
 }

@@ -1,9 +1,10 @@
 //! The request that a line submits, and what became of it.
 ghost use Rattle.std.specs.Prelude.{◌≡◌, IfOk, IsOk, Ok, false, ℕ};
+ghost use Rattle.std.specs.List.{list_all};
 ghost use Rattle.bio.specs.Check.{check_sized_answer};
 ghost use Rattle.bio.specs.Requests.{has_data};
 ghost use Rattle.dmlw_script.specs.Plans.{submission_answer};
-ghost use Rattle.script_runner.specs.Submitted.{bio_of};
+ghost use Rattle.script_runner.specs.Submitted.{bio_of, is_asked};
 
 use crate::last_data::LastData;
 use bio::{Bio, Id};
@@ -44,4 +45,18 @@ pub fn bio_of(last: &mut LastData, submission: Submission) -> Result<Bio, AllocE
         Submission::Flush => Ok(Bio::Flush),
         Submission::Discard { first, count } => Ok(Bio::Discard { first, count }),
     }
+}
+
+// Whether each of these requests was asked: none of them failed for want of memory.
+pub(crate) fn are_asked(requests: &[Request]) -> bool
+    ensures { result ≡ list_all is_asked requests.now }
+{
+    requests.iter().all(|request| is_asked(request))
+}
+
+// Whether a request was asked.
+fn is_asked(request: &Request) -> bool
+    ensures { result ≡ is_asked request.now }
+{
+    matches!(request, Request::Asked { .. })
 }

@@ -1,18 +1,18 @@
 //! A script's run, line by line: `Running` has the recorder, the data device and the script's requests.
 ghost use Rattle.std.specs.Prelude.{IsTrue};
 ghost use Rattle.std.specs.List.{list_all};
-ghost use Rattle.script_runner.specs.Submitted.{fits_device};
+ghost use Rattle.script_runner.specs.Submitted.{fits_device, is_asked};
 
 use crate::asking::{ask, complete_request};
 use crate::handing::{do_request, read_sectors};
 use crate::last_data::LastData;
 use crate::print::{name_of, print_mark, print_outcome, print_read, print_submission};
-use crate::request::Request;
+use crate::request::{Request, are_asked};
 use crate::step_error::StepError;
-use bio::{Bytes, Event, Ms};
+use bio::{Bytes, DevError, End, Event, Ms};
 use blockdev::{BlockDev, Message};
 use dmlw_script::{Command, DiskName, ScriptId, Step, Submission};
-use recorder::{Recorder, Reply, laws};
+use recorder::{Recorder, Reply, Turn, laws};
 use refusals::Refusal;
 use std::alloc::{AllocError, Global};
 use std::io::Write;
@@ -28,11 +28,14 @@ pub struct Running<D: BlockDev + Drop, L: BlockDev + Drop> {
     requests: Vec<Request>,
     // At which the calls of both devices begin.
     moment: Ms,
+    // Whether a mark, the log, or the data device's call for a request found no memory. A request
+    // that found none as it was submitted is `Failed`.
+    short: bool,
     ghost fits: { IsTrue (list_all (fits_device (D.shown disk).size) requests.items) },
 }
 
 impl<D: BlockDev + Drop, L: BlockDev + Drop> Running<D, L> {
-    ghost use Rattle.std.specs.Prelude.{◌≡◌, IfOk, []};
+    ghost use Rattle.std.specs.Prelude.{◌≡◌, IfOk, [], true};
 
     /// The run of a script before its first line, at moment 0, with room for so many requests.
     pub fn new(
@@ -50,6 +53,7 @@ impl<D: BlockDev + Drop, L: BlockDev + Drop> Running<D, L> {
             last: LastData::none(alloc),
             requests: Vec::with_capacity(alloc, requests)?,
             moment: Ms::new(0),
+            short: false,
         })
     }
 
@@ -58,6 +62,14 @@ impl<D: BlockDev + Drop, L: BlockDev + Drop> Running<D, L> {
         ensures { result.now ≡ self.now.recorder }
     {
         &self.recorder
+    }
+
+    /// Whether all that the lines asked for found memory, but for reads: one that finds none prints
+    /// that it failed, and the recorder isn't asked.
+    pub fn is_ample(&self) -> bool
+        ensures { result ≡ true → list_all is_asked self.now.requests.items ≡ true }
+    {
+        !self.short && are_asked(self.requests.as_slice())
     }
 
     /// The recorder and the data device, as they stand.
@@ -127,7 +139,9 @@ impl<D: Message + Drop, L: Message + Drop> Running<D, L> {
         match &self.requests[request] {
             Request::Failed => Ok(()),
             Request::Asked { bio, id } => {
-                let ok = do_request(&mut self.disk, self.moment, bio);
+                let answer = do_request(&mut self.disk, self.moment, bio);
+                let ok = answer.is_ok();
+                self.short = self.short || matches!(answer, Err(DevError::Memory));
                 complete_request(&mut self.recorder, *id, ok);
                 print_outcome(name_of(names, request), ok, out)
             }
@@ -160,7 +174,8 @@ impl<D: Message + Drop, L: Message + Drop> Running<D, L> {
         ensures size { (D.shown self.new.disk).size ≡ (D.shown self.old.disk).size }
         ensures count { length self.new.requests.items ≡ length self.old.requests.items }
     {
-        let _turn = self.recorder.turn();
+        let turn = self.recorder.turn();
+        self.short = self.short || matches!(turn, Turn::Ended(End::Memory));
     }
 
     // Tells the recorder of a mark, and says so where there is no memory for it.
@@ -176,6 +191,7 @@ impl<D: Message + Drop, L: Message + Drop> Running<D, L> {
         ensures count { length self.new.requests.items ≡ length self.old.requests.items }
     {
         let reply = self.recorder.event(Event::Mark(text.clone()?));
+        self.short = self.short || matches!(reply, Reply::Refused(_));
         print_mark(reply, out)
     }
 
@@ -207,7 +223,8 @@ impl<D: Message + Drop, L: Message + Drop> Running<D, L> {
         if let Reply::Refused(refusal) = self.recorder.event(Event::Close) {
             return Err(StepError::AtLine(refusal));
         }
-        let _ended = self.recorder.drain();
+        let ended = self.recorder.drain();
+        self.short = self.short || matches!(ended, Err(End::Memory));
         Ok(())
     }
 

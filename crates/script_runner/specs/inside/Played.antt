@@ -1,5 +1,6 @@
 -- What playing a script comes to, on any data device and a new log on any other device.
-use Rattle.std.specs.Prelude.{◌≡◌, ℕ, List, [], Option}
+use Rattle.std.specs.Prelude.{◌≡◌, ℕ, Bool, true, List, [], Option}
+use Rattle.std.specs.List.{list_all}
 use Rattle.std.specs.Io.KnownBytes.{Appends, Keeps}
 use Rattle.blockdev.specs.declared.device.BlockDev.{Ghosts}
 use Rattle.dmlw_script.specs.Plans.{Disk, ScriptValue}
@@ -13,6 +14,7 @@ use Rattle.script_runner.specs.Lines.{Answering}
 use Rattle.layer_table.specs.Layers.{on_stack}
 use Rattle.script_runner.specs.OnDisks.{IsStackOf}
 use Rattle.script_runner.specs.Runs.{EndsRun, RunsLines}
+use Rattle.script_runner.specs.Submitted.{is_asked}
 
 -- A script's run before its first line, at moment 0: on this data device, and on a new log on this device, with sectors of so many
 -- bytes.
@@ -30,9 +32,9 @@ pub record StartsBeside {L : Type 0} {l : Ghosts L} (bytes : ℕ) (data_disk : D
   pub moment : run.moment ≡ 0
 
 -- A script was played from such a start: its lines ran, what they print was added to what a writer holds, and it left this recorder and so many
--- calls of the data device that were dropped and told as done.
+-- calls of the data device that were dropped and told as done; where it is said to have found memory, each request was asked.
 pub record IsPlayed {D L : Type 0} {d : Ghosts D} {l : Ghosts L} (m : Answering D L) (plan : ScriptValue) (Start : Running D L d l → Type 0) (before after : Option (List ℕ))
-    (recorder : Recorder L l) (lies : ℕ) : Type 0 where
+    (recorder : Recorder L l) (lies : ℕ) (ample : Bool) : Type 0 where
   pub start : Running D L d l
   pub starts : Start start
   pub last : Running D L d l
@@ -41,6 +43,7 @@ pub record IsPlayed {D L : Type 0} {d : Ghosts D} {l : Ghosts L} (m : Answering 
   pub printed : Appends before after text
   pub left : recorder ≡ last.recorder
   pub lied : lies ≡ (d.shown last.disk).lies
+  pub asked : ample ≡ true → list_all is_asked last.requests.items ≡ true
 
 -- Why playing a script, which was read from a text, fails: there is no memory, or the output can't be written; no log could be made, and nothing was
 -- printed; or its run from such a start ends before its last line.

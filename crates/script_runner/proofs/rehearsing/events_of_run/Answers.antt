@@ -1,13 +1,14 @@
 -- Answers to the goals of `events_of_run` (src/rehearsing.rt) that the search leaves.
-use Rattle.std.proofs.Common.{◌≡◌, ℕ, ◌∙◌, true, ap, subst, sym}
+use Rattle.std.proofs.Common.{◌≡◌, ℕ, ◌∙◌, true, false, ap, inr, rules, subst, sym}
+use Rattle.std.specs.List.{list_any}
 use Rattle.bio.specs.Lawful.{all_aligned, is_lawful, is_well_formed}
 use Rattle.bio.specs.SizeLaws.{lawful_parts}
 use Rattle.bio.specs.Sizes.{bytes_of}
 use Rattle.dmlw_script.specs.Plans.{top_of}
 use Rattle.pending.specs.CoreState.{CoreState}
 use Rattle.script_runner.specs.CallLaws.{on_error}
-use Rattle.script_runner.specs.OnDisks.{DiskRecorder}
-use Rattle.script_runner.specs.Rehearsals.{FailsRehearsal}
+use Rattle.script_runner.specs.OnDisks.{DiskRecorder, file}
+use Rattle.script_runner.specs.Rehearsals.{FailsRehearsal, is_memory_stop}
 use Rattle.script_runner.proofs.LawfulRuns.{run_lawful}
 use Rattle.script_runner.proofs.Stepping.{if_failed}
 use Rattle.script_runner.proofs.rehearsing.events_of_run.Goals as goal
@@ -26,9 +27,14 @@ pub returns-in_err-played-clause-faults : goal.returns-in_err-played-clause-faul
 returns-in_err-played-clause-faults c =
     on_error c.from_residual.result c.from_residual.ensures.1 (λ fault is. subst (FailsRehearsal _ _) (sym is) c.in_err-played.ensures.faults)
 
+pub returns-then-not-played-clause-faults : goal.returns-then-not-played-clause-faults
+returns-then-not-played-clause-faults c = file c.from.result (inr c.from.ensures)
+
 pub returns-clause-rehearsed : goal.returns-clause-rehearsed
 returns-clause-rehearsed c =
     let played = c.in_ok-played.ensures.played in
+    let found : c.in_ok-played.played.ample ≡ true = search rules in
+    let none : list_any is_memory_stop c.events-events.result.now ≡ false = search rules in
     record {
       start = played.start;
       starts = played.starts;
@@ -36,6 +42,8 @@ returns-clause-rehearsed c =
       last = played.last;
       ran = played.ran;
       recorded = ap (λ (r : DiskRecorder). (core_of r).events) played.left;
+      asked = played.asked found;
+      ample = ap (list_any is_memory_stop) (sym c.events-events.ensures.events) ∙ none;
     }
 
 pub returns-clause-lawful : goal.returns-clause-lawful

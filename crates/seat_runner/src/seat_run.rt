@@ -29,7 +29,7 @@ use refusals::Refusal;
 use run_error::RunError;
 use script_runner::{Lies, new_stack};
 use sector_disk::SectorDisk;
-use shared::{Closed, Shared, Started, Unclosed, Unnamed, WriterSeat};
+use shared::{Closed, Ending, Shared, Started, Unclosed, Unnamed, WriterSeat};
 use std::alloc::{AllocError, Global};
 use std::marker::Brand;
 use std::sync::Wait;
@@ -195,7 +195,7 @@ fn close<R: Run + Names>(
     ensures refused { IfErr result IsRunRefusal }
 {
     match recorder.close(seats, writer, receipts) {
-        Ok(closed) => Ok(closed),
+        Ok(Ending { closed, posts: _ }) => Ok(closed),
         Err(unclosed) => Err(refusal_of(unclosed)),
     }
 }

@@ -1,10 +1,14 @@
 -- Worked answers: some that hold, and some that don't.
-use Rattle.std.proofs.Common.{◌==◌, Bool, true, false, [], ◌∷◌, length, inl, inr, refl, ap, true≢false}
+use Rattle.std.proofs.Common.{◌==◌, ℕ, Bool, true, false, List, [], ◌∷◌, length, None, inl, inr, refl, ap, true≢false, arith}
 use Rattle.bio.specs.declared.event.CoreEvent.TheVariants as events
 use Rattle.bio.specs.declared.request.Bio.{Bio}
 use Rattle.bio.specs.declared.request.Bio.TheVariants as bios
+use Rattle.board.specs.Posts.{opening}
+use Rattle.log_format.specs.Entries.{entry_of}
+use Rattle.lock_state.specs.declared.note.Item.{Item}
 use Rattle.lock_state.specs.History.{Part, begun, ended, new_part, noted}
 use Rattle.shared.specs.Answers.{Answered, Marked}
+use Rattle.shared.specs.Posting.{IsOfPrefix}
 use Rattle.shared.specs.declared.answer.Answer.TheVariants.{Done, Logged}
 use Rattle.shared.specs.declared.answer.MarkAnswer.TheVariants as marks
 
@@ -40,3 +44,26 @@ mark_logged = refl
 -- and not where its seat's list didn't grow
 mark_missing : Marked (new_part 0) (1 ∷ []) (marks.Logged (record { id = 3; number = 0 })) (new_part 0) → ⊥
 mark_missing answered = true≢false (ap (λ (part : Part). length part.own == 0) answered)
+
+-- the item of a flush, whose entry takes one sector of the log
+abbrev flushed : ℕ → Item
+flushed id = record { id = id; entry = entry_of 512 bios.Flush }
+
+abbrev two : List Item
+two = flushed 0 ∷ flushed 1 ∷ []
+
+-- the status of an empty log is that of a prefix of each log
+none_posted : IsOfPrefix 512 two opening
+none_posted = record { within = omega arith; sector = refl }
+
+-- so is that of one item of two, which lies in sector 1
+one_posted : IsOfPrefix 512 two (record { entries = 1; sector = 1; end = None })
+one_posted = record { within = omega arith; sector = refl }
+
+-- but one that counts an entry too many isn't
+three_posted : IsOfPrefix 512 two (record { entries = 3; sector = 3; end = None }) → ⊥
+three_posted is = let within = is.within in absurd (omega arith)
+
+-- nor is one with the sector of another prefix
+other_posted : IsOfPrefix 512 two (record { entries = 1; sector = 2; end = None }) → ⊥
+other_posted is = true≢false (ap (λ (n : ℕ). n == 2) is.sector)

@@ -9,10 +9,13 @@ ghost use Rattle.lock_state.specs.Closing.{IsShort};
 ghost use Rattle.lock_state.specs.Comparing.{BeginsTaken, Each};
 ghost use Rattle.lock_state.specs.History.{Part, first_cause, named, owned};
 ghost use Rattle.lock_state.specs.Legal.{LegalHistory};
-ghost use Rattle.lock_state.specs.Placed.{LeavesBeginning, StandsOn, entries_in};
+ghost use Rattle.lock_state.specs.Placed.{LeavesBeginning, StandsOn, Stay, entries_in};
 ghost use Rattle.shared.specs.Closing.{Agrees, Differs, IfBusy, IfForeign, IsReceipt, LeavesLog};
+ghost use Rattle.shared.specs.Posting.{ArePosted};
 
 use crate::desk::Desk;
+use crate::log_desk::LogDesk;
+use crate::posts::Posts;
 use crate::seat::WriterSeat;
 use crate::shared::Shared;
 use bio::{End, Status};
@@ -56,6 +59,13 @@ pub struct Closed<D: Drop, L: Drop> {
     pub store_end: Option<End>,
 }
 
+/// What a close hands back: the recorder, taken apart, and what was posted of its log.
+#[derive(Drop)]
+pub struct Ending<D: Drop, L: Drop, R: Run + Names> {
+    pub closed: Closed<D, L>,
+    pub posts: Posts<R>,
+}
+
 /// What is handed back where recording wasn't closed: all that was handed in.
 #[derive(Drop)]
 pub struct Open<D: BlockDev + Drop, L: BlockDev + Drop, R: Run + Names> {
@@ -65,10 +75,12 @@ pub struct Open<D: BlockDev + Drop, L: BlockDev + Drop, R: Run + Names> {
     pub receipts: Vec<Receipt>,
 }
 
-/// What is handed back where what was handed in isn't the recorder's own: the recorder, taken apart, with nothing more written, and all that was handed in.
+/// What is handed back where what was handed in isn't the recorder's own: the recorder, taken
+/// apart, with nothing more written, what was posted of its log, and all that was handed in.
 #[derive(Drop)]
 pub struct Strangers<D: Drop, L: Drop, R: Run + Names> {
     pub closed: Closed<D, L>,
+    pub posts: Posts<R>,
     pub seats: Vec<Seat<R>>,
     pub writer: WriterSeat<R>,
     pub receipts: Vec<Receipt>,
@@ -91,28 +103,30 @@ impl<D: BlockDev + Drop, L: BlockDev + Drop, R: Run + Names> Shared<D, L, R> {
         seats: Vec<Seat<R>>,
         writer: WriterSeat<R>,
         receipts: Vec<Receipt>,
-    ) -> Result<Closed<D, L>, Unclosed<Open<D, L, R>, Strangers<D, L, R>>>
-        ensures agrees { IfOk result (λ c. Agrees (record { core = c.core.state; by = c.by.items; stop = c.stop })
-            c.placed.items c.settled c.store_end c.done.items seats.items receipts.items) }
-        ensures legal { IfOk result (λ c. LegalHistory R.sector_bytes R.sectors c.core.state.events c.by.items seats.items) }
-        ensures closed { IfOk result (λ c. has_no_close c.core.state.events ≡ false) }
-        ensures counts { IfOk result (λ c. length seats.items ≡ R.parts → 0 < R.parts → named c.by.items ≡ owned seats.items) }
-        ensures receipts { IfOk result (λ c. Each (IsReceipt c.core.state c.settled) receipts.items) }
-        ensures crash { IfOk result (λ c. (L.shown c.log).lies ≡ 0 → (left : Content) → (L.shown c.log).crash left →
-            LeavesLog R.sector_bytes (L.shown c.log).size c.settled c.core.state c.end left) }
-        ensures log { IfOk result (λ c. (L.shown c.log).lies ≡ 0 →
-            LeavesLog R.sector_bytes (L.shown c.log).size c.settled c.core.state c.end (L.shown c.log).content) }
-        ensures stands { IfOk result (λ c. StandsOn R.log (L.shown c.log)) }
-        ensures status { IfOk result (λ c. c.status ≡ status_of R.sector_bytes (entries_in c.placed.items) c.end) }
-        ensures holds { IfOk result (λ c. (D.shown c.device).lies ≡ 0 → Holds (D.shown c.device).content c.done.items) }
-        ensures end { IfOk result (λ c. c.end ≡ first_cause c.stop c.store_end) }
-        ensures hazard { IfOk result (λ c. c.hazard ≡ None) }
-        ensures taken { IfOk result (λ c. c.taken ≡ c.core.state.taken) }
+    ) -> Result<Ending<D, L, R>, Unclosed<Open<D, L, R>, Strangers<D, L, R>>>
+        ensures agrees { IfOk result (λ c. Agrees (record { core = c.closed.core.state; by = c.closed.by.items; stop = c.closed.stop })
+            c.closed.placed.items c.closed.settled c.closed.store_end c.closed.done.items seats.items receipts.items) }
+        ensures legal { IfOk result (λ c. LegalHistory R.sector_bytes R.sectors c.closed.core.state.events c.closed.by.items seats.items) }
+        ensures closed { IfOk result (λ c. has_no_close c.closed.core.state.events ≡ false) }
+        ensures counts { IfOk result (λ c. length seats.items ≡ R.parts → 0 < R.parts → named c.closed.by.items ≡ owned seats.items) }
+        ensures receipts { IfOk result (λ c. Each (IsReceipt c.closed.core.state c.closed.settled) receipts.items) }
+        ensures crash { IfOk result (λ c. (L.shown c.closed.log).lies ≡ 0 → (left : Content) → (L.shown c.closed.log).crash left →
+            LeavesLog R.sector_bytes (L.shown c.closed.log).size c.closed.settled c.closed.core.state c.closed.end left) }
+        ensures log { IfOk result (λ c. (L.shown c.closed.log).lies ≡ 0 →
+            LeavesLog R.sector_bytes (L.shown c.closed.log).size c.closed.settled c.closed.core.state c.closed.end (L.shown c.closed.log).content) }
+        ensures stands { IfOk result (λ c. StandsOn R.log (L.shown c.closed.log)) }
+        ensures status { IfOk result (λ c. c.closed.status ≡ status_of R.sector_bytes (entries_in c.closed.placed.items) c.closed.end) }
+        ensures holds { IfOk result (λ c. (D.shown c.closed.device).lies ≡ 0 → Holds (D.shown c.closed.device).content c.closed.done.items) }
+        ensures end { IfOk result (λ c. c.closed.end ≡ first_cause c.closed.stop c.closed.store_end) }
+        ensures hazard { IfOk result (λ c. c.closed.hazard ≡ None) }
+        ensures taken { IfOk result (λ c. c.closed.taken ≡ c.closed.core.state.taken) }
+        ensures posted { IfOk result (λ c. ArePosted R.sector_bytes c.closed.placed.items c.posts) }
         ensures foreign { IfErr result (λ e. IfForeign e (λ f. Differs (record { core = f.closed.core.state; by = f.closed.by.items; stop = f.closed.stop })
             f.closed.placed.items f.closed.settled f.closed.store_end f.closed.done.items seats.items receipts.items)) }
         ensures foreign_legal { IfErr result (λ e. IfForeign e (λ f. (has_no_close f.closed.core.state.events ≡ false)
             × LegalHistory R.sector_bytes R.sectors f.closed.core.state.events f.closed.by.items [])) }
         ensures foreign_stands { IfErr result (λ e. IfForeign e (λ f. StandsOn R.log (L.shown f.closed.log))) }
+        ensures foreign_posted { IfErr result (λ e. IfForeign e (λ f. ArePosted R.sector_bytes f.closed.placed.items f.posts)) }
         ensures foreign_counts { IfErr result (λ e. IfForeign e (λ f.
             length seats.items ≡ R.parts → 0 < R.parts → named f.closed.by.items ≡ owned seats.items)) }
         ensures foreign_back { IfErr result (λ e. IfForeign e (λ f.
@@ -120,7 +134,12 @@ impl<D: BlockDev + Drop, L: BlockDev + Drop, R: Run + Names> Shared<D, L, R> {
         ensures busy { IfErr result (λ e. IfBusy e (λ o.
             (o.seats.items ≡ seats.items) × (o.writer ≡ writer) × (o.receipts.items ≡ receipts.items))) }
     {
-        let Held { desk, log, device } = match self.leave_locks() {
+        let Held {
+            desk,
+            log,
+            posts,
+            device,
+        } = match self.leave_locks() {
             Ok(held) => held,
             Err(recorder) => {
                 return Err(Unclosed::Busy(Open {
@@ -147,10 +166,12 @@ impl<D: BlockDev + Drop, L: BlockDev + Drop, R: Run + Names> Shared<D, L, R> {
             receipts.as_slice(),
         );
         if agrees {
-            return Ok(finish(queue, log, device));
+            let closed = finish(queue, log, device);
+            return Ok(Ending { closed, posts });
         }
         Err(Unclosed::Foreign(Strangers {
             closed: take_apart(queue, log, device),
+            posts,
             seats,
             writer,
             receipts,
@@ -159,7 +180,8 @@ impl<D: BlockDev + Drop, L: BlockDev + Drop, R: Run + Names> Shared<D, L, R> {
 
     // What the locks guard, where recording was closed; else the recorder again.
     fn leave_locks(self) -> Result<Held<D, L, R>, Shared<D, L, R>>
-        ensures { IfOk result (λ held. (has_no_close held.desk.queue.core.events ≡ false)
+        ensures posted { IfOk result (λ held. ArePosted R.sector_bytes held.log.placed held.posts) }
+        ensures closed { IfOk result (λ held. (has_no_close held.desk.queue.core.events ≡ false)
             × (length held.desk.queue.core.events ≤ length held.desk.notes.items)) }
     {
         let Shared {
@@ -177,7 +199,14 @@ impl<D: BlockDev + Drop, L: BlockDev + Drop, R: Run + Names> Shared<D, L, R> {
         let log = log.into_inner().into_inner();
         let device = device.into_inner().into_inner();
         if desk.is_ready() {
-            return Ok(Held { desk, log, device });
+            let LogDesk { log, posts } = log;
+            let posts = Posts::new(board, posts);
+            return Ok(Held {
+                desk,
+                log,
+                posts,
+                device,
+            });
         }
         Err(Shared {
             queue: CachePadded::new(Mutex::new(desk)),
@@ -193,10 +222,11 @@ impl<D: BlockDev + Drop, L: BlockDev + Drop, R: Run + Names> Shared<D, L, R> {
     }
 }
 
-// What the locks guarded.
-struct Held<D: BlockDev + Drop, L: BlockDev + Drop, R: Run> {
+// What the locks guarded, and the board.
+struct Held<D: BlockDev + Drop, L: BlockDev + Drop, R: Run + Names> {
     desk: Desk<R>,
     log: LogState<L, R>,
+    posts: Posts<R>,
     device: DataState<D, R>,
 }
 
@@ -243,6 +273,7 @@ fn finish<D: BlockDev + Drop, L: BlockDev + Drop, R: Run>(
     ensures agrees { (seats : List Part) (receipts : List Naming) → Agrees queue log.placed log.settled log.end device.calls seats receipts →
         Agrees (record { core = result.core.state; by = result.by.items; stop = result.stop })
         result.placed.items result.settled result.store_end result.done.items seats receipts }
+    ensures stay { Stay log.placed result.placed.items }
     ensures same { (result.core.state.events ≡ queue.core.events) × (result.by.items ≡ queue.by) }
     ensures crash { (L.shown result.log).lies ≡ 0 → (left : Content) → (L.shown result.log).crash left →
         LeavesLog R.sector_bytes (L.shown result.log).size result.settled result.core.state result.end left }

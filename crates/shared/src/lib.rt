@@ -1,13 +1,14 @@
 //! The recorder, shared by threads: each has a seat of its own, and one thread writes the log.
 //!
-//! Three locks guard three values of `lock_state`: the queue with the history, the log, and the recorded device. No lock is taken while another is held, so the
-//! queue's isn't held while a device is called. What a call adds to its seat's list, and which answer goes with that, its contract says; that a thread runs or is
+//! Three locks guard three values of `lock_state`: the queue with the history, the log, beside which lies the writer's seat at the board, and the recorded device.
+//! No lock is taken while another is held, so the queue's isn't held while a device is called. What a call adds to its seat's list, and which answer goes with that, its contract says; that a thread runs or is
 //! woken, no contract says.
 #![tactic(auto)]
 
 pub use answer::{Answer, MarkAnswer, MarkRefusal};
 pub use board::StatusSeat;
-pub use closing::{Closed, Open, Strangers, Unclosed};
+pub use closing::{Closed, Ending, Open, Strangers, Unclosed};
+pub use posts::Posts;
 pub use seat::WriterSeat;
 pub use shared::{Shared, Started};
 pub use unnamed::Unnamed;
@@ -16,7 +17,9 @@ mod answer;
 mod calls;
 mod closing;
 mod desk;
+mod log_desk;
 mod marks;
+mod posts;
 mod seat;
 mod shared;
 mod unnamed;

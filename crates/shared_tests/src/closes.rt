@@ -7,7 +7,7 @@ use bio::{Bio, Bytes, Ms};
 use board::Names;
 use lock_state::{Run, Seat};
 use sector_disk::SectorDisk;
-use shared::{Answer, Shared, Started, Unclosed, Unnamed, WriterSeat};
+use shared::{Answer, Ending, Shared, Started, Unclosed, Unnamed, WriterSeat};
 use std::alloc::{AllocError, Global};
 use std::marker::Brand;
 use std::sync::Wait;
@@ -73,15 +73,19 @@ fn unasked<R: Run + Names, H: Wait>(
         return Ok(false);
     };
     let is_asked = back.recorder.ask_close(rt).is_ok() && back.recorder.ask_close(rt).is_ok();
-    let Ok(closed) = back.recorder.close(back.seats, back.writer, back.receipts) else {
+    let Ok(Ending { closed, posts: _ }) = back
+        .recorder
+        .close(back.seats, back.writer, back.receipts)
+    else {
         return Ok(false);
     };
     let is_written = closed.placed.len() == 2 && closed.settled == 2 && closed.end.is_none();
     Ok(matches!(answer, Answer::Done) && is_asked && is_written)
 }
 
-// A recorder whose seat writes, flushes and reads; once recording is closed the writer writes all, and the close finds nothing left to write. Who looks sees the
-// status of an empty log before, and that of the whole log behind it.
+// A recorder whose seat writes, flushes and reads; once recording is closed the writer writes all,
+// and the close finds nothing left to write. Who looks sees the status of an empty log before, and
+// that of the whole log behind it; and what it saw is a beginning of what was posted.
 fn recorded<R: Run + Names, H: Wait>(
     rt: &H,
     alloc: Global,
@@ -113,11 +117,13 @@ fn recorded<R: Run + Names, H: Wait>(
     let is_asked = recorder.ask_close(rt).is_ok();
     recorder.write_loop(rt, &mut writer);
     let behind = recorder.status(&mut reader);
-    let Ok(closed) = recorder.close(seats, writer, Vec::new(alloc)) else {
+    let Ok(Ending { closed, mut posts }) = recorder.close(seats, writer, Vec::new(alloc)) else {
         return Ok(false);
     };
+    posts.agree(&mut reader);
     let is_written = closed.placed.len() == 3 && closed.settled == 3 && closed.end.is_none();
-    let is_shown = before.entries == 0 && before.sector == 0 && behind == closed.status;
+    let is_posted = behind == closed.status && posts.last() == behind;
+    let is_shown = before.entries == 0 && before.sector == 0 && is_posted;
     let are_done = matches!(written, Answer::Done) && matches!(flushed, Answer::Done);
     Ok(are_done && matches!(read, Answer::Read(_)) && is_asked && is_written && is_shown)
 }
@@ -179,7 +185,8 @@ fn is_foreign<R: Run + Names>(alloc: Global, wrote: Wrote<R>) -> Result<bool, Al
     let Err(Unclosed::Foreign(back)) = recorder.close(seats, writer, Vec::new(alloc)) else {
         return Ok(false);
     };
-    Ok(back.seats.len() == 1 && back.closed.placed.is_empty())
+    let is_unposted = back.posts.last().entries == 0;
+    Ok(back.seats.len() == 1 && back.closed.placed.is_empty() && is_unposted)
 }
 
 // The seats of two recorders change their calls: each recorder finds that its seat isn't its own, and hands it back.

@@ -9,7 +9,7 @@ use bio::Status;
 use blockdev::BlockDev;
 use board::Names;
 use lock_state::{Receipt, Run, Seat};
-use shared::{Closed, Shared, Started, StatusSeat, Unnamed, WriterSeat};
+use shared::{Closed, Ending, Shared, Started, StatusSeat, Unnamed, WriterSeat};
 use std::alloc::{AllocError, Global};
 use std::sync::Wait;
 use std::thread;
@@ -311,7 +311,7 @@ pub fn play<
     } = parts_of(alloc, works)?;
     let (seen, rises) = last_looks(alloc, &recorder, watches)?;
     let kept = Vec::from_slice(alloc, receipts.as_slice())?;
-    let Ok(closed) = recorder.close(seats, writer, receipts) else {
+    let Ok(Ending { closed, posts: _ }) = recorder.close(seats, writer, receipts) else {
         return Ok(None);
     };
     Ok(Some(Played {

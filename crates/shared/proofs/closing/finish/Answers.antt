@@ -1,4 +1,7 @@
 -- Answers to the goals of `finish` (src/closing.rt) that the search leaves.
+use Rattle.std.proofs.Common.{List, subst, sym}
+use Rattle.lock_state.specs.Placed.{Stay}
+use Rattle.lock_state.specs.declared.note.Item.{Item}
 use Rattle.shared.proofs.Finishing.{agrees_finally, leaves_finally}
 use Rattle.shared.proofs.closing.finish.Goals as goal
 
@@ -13,3 +16,6 @@ returns-clause-crash g c lies left crash =
     let a = c.take_apart.ensures in
     leaves_finally _ _ _ _ _ _ _ _ _ _ _ _ _ left c.drain.ensures.finished
     (record { same_queue = a.queue; same_placed = a.placed.0; same_settled = a.placed.1; same_end = a.store_end; same_calls = a.calls }) a.end (a.leaves lies left crash)
+
+pub returns-clause-stay : goal.returns-clause-stay
+returns-clause-stay g c = subst (λ (items : List Item). Stay c.args.log.placed items) (sym c.take_apart.ensures.placed.0) c.drain.ensures.goes.stay

@@ -1,0 +1,52 @@
+// What a close hands back of the board.
+ghost use Rattle.std.specs.Prelude.{◌≡◌, ℕ, List};
+ghost use Rattle.board.specs.Posts.{Begins, last_of};
+ghost use Rattle.lock_state.specs.declared.note.Item.{Item as Placing};
+ghost use Rattle.shared.specs.Posting.{ArePosted};
+
+use bio::Status;
+use board::{Board, Names, StatusSeat};
+use std::marker::Model;
+
+/// The board of a recorder that was closed, with the seat of its one writer. Contracts see it as
+/// the statuses that were posted, in order.
+#[derive(Drop)]
+pub struct Posts<R: Names> {
+    board: Board<R>,
+    writer: board::WriterSeat<R>,
+}
+
+impl<R: Names> Model for Posts<R> {
+    ghost use Rattle.std.specs.Prelude.{List};
+    ghost use Rattle.bio.specs.declared.outcome.Status.{Status};
+
+    ghost Value = { List Status };
+
+    ghost view = { λ p. p.writer };
+}
+
+impl<R: Names> Posts<R> {
+    // The board and its writer's seat.
+    pub(crate) fn new(board: Board<R>, writer: board::WriterSeat<R>) -> Posts<R>
+        ensures { result ≡ writer }
+    {
+        Posts { board, writer }
+    }
+
+    /// The status that was posted last.
+    pub fn last(&self) -> Status
+        ensures { result ≡ last_of self.now }
+    {
+        self.writer.last()
+    }
+
+    /// What a status seat has seen is a beginning of what was posted. So where each posted status is
+    /// that of a prefix of some items, and none goes back, that is so of each that was seen.
+    pub fn agree(&mut self, mine: &mut StatusSeat<R>)
+        ensures begins { Begins mine.old self.old }
+        ensures seen { (bytes : ℕ) (placed : List Placing) → ArePosted bytes placed self.old → ArePosted bytes placed mine.old }
+        ensures same { (self.new ≡ self.old) × (mine.new ≡ mine.old) }
+    {
+        self.board.agree(&mut self.writer, mine);
+    }
+}

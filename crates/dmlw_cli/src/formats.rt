@@ -91,12 +91,12 @@ takes is refused as 6 BadMessage at its line, a listed block that is added as 7 
 
 `help formats` prints this page.
 
-`replay LOG FIRST OUT WHAT` applies the beginning of a log that WHAT names: `entries:<n>`, so many entries; `mark:<text>`, all up to the first mark
+`replay LOG FIRST OUT WHAT` applies the prefix of a log that WHAT names: `entries:<n>`, so many entries; `mark:<text>`, all up to the first mark
 of exactly this text; `flush`, all up to the first flush. OUT is of the size of FIRST, and is written only where all of them were applied; it may be
 the file FIRST, and isn't written over LOG. FIRST is whole sectors, at most 1,048,576. The images have sectors of 512 bytes, also where the log's are larger.
 
 `copy LOG OUT SECTORS` copies a log to a new one with sectors of 4,096 bytes, on a disk of SECTORS sectors of 512 bytes, 8 to 1,048,576: each entry with its flags,
-its data or text, and its place and length in bytes, in their order. So each beginning of the copy replays to what that beginning of LOG replays to. OUT is written only
+its data or text, and its place and length in bytes, in their order. So each prefix of the copy replays to what that prefix of LOG replays to. OUT is written only
 where all entries were copied, and isn't written over LOG.
 
 `judge SCRIPT M IMAGE` runs the script as `record` does, writes no log, and judges whether the image could have been on the data disk, as seen from the top of its
@@ -110,8 +110,8 @@ of the runs is printed is left open.
 M, and n of `entries:<n>`, are 1 to 20 decimal digits of a value below 2^64. Another M, a WHAT of no such form, or another SECTORS is a
 usage fault, which is reported before a file is read.
 
-Each beginning of a recorded log replays to a content that flush, FUA and completion allow a disk to hold, to which these requests were sent, had power failed
-there.
+Where no layer of the log lied, and while logging goes on, each prefix of a recorded log replays to a content that flush, FUA and completion allow a disk to hold, to
+which these requests were sent, had power failed there.
 
 `3 4` is a status: three entries, of which the last uses sector 4. A mark's bytes outside 20 to 7e, and the backslash, stand as a backslash
 and two lower case hexadecimal digits.

@@ -6,7 +6,8 @@
 # marks are the marks, flushes the entries with FLUSH, fua those with FUA, all every entry. CHECK is run with its words and then the image's name, as
 # `examples/check-ext4.sh`; it may change the image, which is made anew for each step. Each step prints `entry 12 (mark NAME): passed` or `failed`, in brackets
 # what `dmlw list` prints of the entry, and a failed one behind it what the replay and the check said. The last line is a count. With --stop the first failure ends
-# it. Ends with status 0 where all passed, 1 where one failed or the log has a fault, and 2 where it can't begin.
+# it. A check that can't be made ends it too, as `not checked`: where CHECK ends with status 3, by which a check says so, or with 126 or 127, by which a shell says that
+# a program can't be run. Ends with status 0 where all passed, 1 where one failed or the log has a fault, 2 where it can't begin, and 3 where a check can't be made.
 #
 # n steps cost n replays, each from the log's first entry, since `dmlw replay` has no start entry. So going on from the image of the step before would
 # save nothing, also where CHECK only reads. Each step reads LOG and FIRST and writes an image of FIRST's size to TMPDIR; TMPDIR=/dev/shm keeps it in memory.
@@ -14,6 +15,7 @@ set -u
 
 usage() {
     echo "usage: $0 [--stop] marks|flushes|fua|all LOG FIRST CHECK [WORD ..]" >&2
+    echo "CHECK ends with status 0 where all is well, and with 3, 126 or 127 where it can't be made: that ends the loop with status 3" >&2
     exit 2
 }
 
@@ -28,6 +30,13 @@ is_asked() {
     all:* | marks:mark\ * | flushes:flush* | flushes:write*\ flush* | fua:flush*\ fua* | fua:write*\ fua*) ;;
     *) return 1 ;;
     esac
+}
+
+# Replays up to and with the entry of this number, and runs the check on what that leaves.
+check_at() {
+    "$dmlw" replay "$log" "$first" "$room/image" "entries:$(($1 + 1))" || return 1
+    shift
+    "$@" "$room/image"
 }
 
 stop=no
@@ -55,16 +64,25 @@ while IFS= read -r line; do
     number=${line%% *}
     kind=${line#* * }
     is_asked "$kind" || continue
-    checked=$((checked + 1))
-    if { "$dmlw" replay "$log" "$first" "$room/image" "entries:$((number + 1))" && "$@" "$room/image"; } >"$room/said" 2>&1 </dev/null; then
-        printf 'entry %s (%s): passed\n' "$number" "$kind"
-    else
-        printf 'entry %s (%s): failed\n' "$number" "$kind"
-        sed 's/^/  /' "$room/said"
-        failed=$((failed + 1))
-        status=1
-        [ $stop = no ] || break
+    check_at "$number" "$@" >"$room/said" 2>&1 </dev/null
+    ended=$?
+    case $ended in
+    0) told=passed ;;
+    3 | 126 | 127) told='not checked' ;;
+    *) told=failed ;;
+    esac
+    printf 'entry %s (%s): %s\n' "$number" "$kind" "$told"
+    [ "$told" != passed ] && sed 's/^/  /' "$room/said"
+    if [ "$told" = 'not checked' ]; then
+        echo "$0: the check can't be made: it ended with status $ended" >&2
+        status=3
+        break
     fi
+    checked=$((checked + 1))
+    [ "$told" = failed ] || continue
+    failed=$((failed + 1))
+    status=1
+    [ $stop = no ] || break
 done <"$room/list"
 echo "$checked checked, $failed failed"
 exit $status

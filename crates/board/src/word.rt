@@ -1,7 +1,7 @@
 // A status as one number: the entries from bit 26 on, the sector from bit 5 on, and below it why logging ended.
 ghost use Rattle.std.specs.Prelude.{◌≡◌, ◌≤◌, Option};
 ghost use Rattle.bio.specs.declared.outcome.End.{End};
-ghost use Rattle.bio.specs.declared.outcome.Status.{Status as LineMeaning};
+ghost use Rattle.bio.specs.declared.outcome.Status.{Status as Said};
 ghost use Rattle.board.specs.Posts.{IsFit, end_number, word_of as word_said};
 
 use bio::{End, Status};
@@ -21,7 +21,7 @@ pub fn word_of(status: Status) -> u64
 
 /// The status whose number this is.
 pub fn status_of(word: u64) -> Status
-    ensures { (status : LineMeaning) → IsFit status → word ≡ word_said status → result ≡ status }
+    ensures { (status : Said) → IsFit status → word ≡ word_said status → result ≡ status }
 {
     Status {
         entries: word / ENTRY,

@@ -22,7 +22,7 @@ use Rattle.world.proofs.Calls.{any_call}
 use Rattle.world.proofs.Following.{Follows, follow_all, is_wanted-some, not_ended}
 use Rattle.world.proofs.Leaving.{end_found, submits_some}
 use Rattle.world.proofs.Steps.{clash}
-use Rattle.world.proofs.Touching.{DeviceFrame, by_cases, by_test, go_none, go_on, go_one, landed_from, settles_there, touch_all}
+use Rattle.world.proofs.Touching.{StepsFrame, by_cases, by_test, go_none, go_on, go_one, landed_from, settles_there, touch_all}
 
 -- The machine after the plan's steps for all events, and for the open requests below a place: each wanted request that has ended, or is
 -- below the place, is the newest that is settled; an open one from there on hasn't landed.
@@ -82,7 +82,7 @@ begin_finish events wanted sure m well_formed choice before = record {
 -- a request that hasn't ended: the machine after its steps
 finish_open : (events : List CoreEvent) (wanted : ℕ → Option ℕ) (sure : ℕ → ℕ → Bool) (j : ℕ) (m : Machine) → is_well_formed events ≡ true
     → IsChoice events wanted sure → is_open_at events j ≡ true → Finishes events wanted j m
-    → (new : Machine) × DeviceFrame events m (by_sector (lands_late wanted j) (slice_get events j)) new × Finishes events wanted (suc j) new
+    → (new : Machine) × StepsFrame events m (by_sector (lands_late wanted j) (slice_get events j)) new × Finishes events wanted (suc j) new
 finish_open events wanted sure j m well_formed choice is_open before =
     let there = is_open_at-open events j is_open in
     let bio = there.bio in
@@ -98,7 +98,7 @@ finish_open events wanted sure j m well_formed choice is_open before =
     let new = touch.0 in
     let t = touch.2 in (
       new,
-      subst (λ event. DeviceFrame events m (by_sector (lands_late wanted j) event) new) (sym there.submitted) touch.1,
+      subst (λ event. StepsFrame events m (by_sector (lands_late wanted j) event) new) (sym there.submitted) touch.1,
       record {
         calls = t.calls ∙ before.calls;
         on = t.off ∙ before.on;
@@ -158,7 +158,7 @@ finish_ended events wanted j m is_ended before = record {
 -- the open requests below a place
 finish_all : (events : List CoreEvent) (wanted : ℕ → Option ℕ) (sure : ℕ → ℕ → Bool) (m : Machine) (j : ℕ) → is_well_formed events ≡ true
     → IsChoice events wanted sure → Finishes events wanted zero m
-    → (new : Machine) × DeviceFrame events m (collect (steps_left events wanted) j) new × Finishes events wanted j new
+    → (new : Machine) × StepsFrame events m (collect (steps_left events wanted) j) new × Finishes events wanted j new
 finish_all events wanted sure m zero well_formed choice before = (m, go_none events m, before)
 finish_all events wanted sure m (suc j) well_formed choice before =
     let front = finish_all events wanted sure m j well_formed choice before in
@@ -166,16 +166,16 @@ finish_all events wanted sure m (suc j) well_formed choice before =
     (next.0, go_on events m front.0 next.0 (collect (steps_left events wanted) j) (steps_left events wanted j) front.1 next.1, next.2)
   where
     step : (mid : Machine) → Finishes events wanted j mid → (is_open_at events j ≡ true) ⊎ (is_open_at events j ≡ false)
-        → (new : Machine) × DeviceFrame events mid (steps_left events wanted j) new × Finishes events wanted (suc j) new
+        → (new : Machine) × StepsFrame events mid (steps_left events wanted j) new × Finishes events wanted (suc j) new
     step mid finishes (inl is_open) =
         let next = finish_open events wanted sure j mid well_formed choice is_open finishes in (
           next.0,
-          subst (λ b. DeviceFrame events mid (if b then by_sector (lands_late wanted j) (slice_get events j) else []) next.0) (sym is_open) next.1,
+          subst (λ b. StepsFrame events mid (if b then by_sector (lands_late wanted j) (slice_get events j) else []) next.0) (sym is_open) next.1,
           next.2,
         )
     step mid finishes (inr is_ended) = (
       mid,
-      subst (λ b. DeviceFrame events mid (if b then by_sector (lands_late wanted j) (slice_get events j) else []) mid) (sym is_ended) (go_none events mid),
+      subst (λ b. StepsFrame events mid (if b then by_sector (lands_late wanted j) (slice_get events j) else []) mid) (sym is_ended) (go_none events mid),
       finish_ended events wanted j mid is_ended finishes,
     )
 

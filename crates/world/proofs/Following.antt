@@ -23,7 +23,7 @@ use Rattle.world.specs.inside.Plan.{IsChoice, by_sector, is_wanted, lands_early,
 use Rattle.world.proofs.Calls.{all_calls, any_call, before_submit_at, end_from, submit_from}
 use Rattle.world.proofs.Leaving.{end_found}
 use Rattle.world.proofs.Steps.{among_new, clash}
-use Rattle.world.proofs.Touching.{DeviceFrame, by_cases, go_none, go_on, go_one, landed_from, lands_there, more_landed, more_settled, settles_there, still_within, touch_all}
+use Rattle.world.proofs.Touching.{StepsFrame, by_cases, go_none, go_on, go_one, landed_from, lands_there, more_landed, more_settled, settles_there, still_within, touch_all}
 
 -- The machine after the plan's steps for the events below a place: each request that isn't wanted in a sector, and will end with success,
 -- has landed there, and is settled where that has to be sure; each that is wanted and has ended is the newest that is settled there.
@@ -115,7 +115,7 @@ each_of test bio tracked each =
 -- a submission: the machine after its steps
 pub follow_submit : (events : List CoreEvent) (wanted : ℕ → Option ℕ) (sure : ℕ → ℕ → Bool) (k : ℕ) (m : Machine) (bio : Bio)
     → is_well_formed events ≡ true → IsChoice events wanted sure → slice_get events k ≡ Some (core_events.Submit bio) → Follows events wanted sure k m
-    → (new : Machine) × DeviceFrame events m (steps_of events wanted sure k (Some (core_events.Submit bio))) new × Follows events wanted sure (suc k) new
+    → (new : Machine) × StepsFrame events m (steps_of events wanted sure k (Some (core_events.Submit bio))) new × Follows events wanted sure (suc k) new
 follow_submit events wanted sure k m bio well_formed choice is before =
     let tracked = (and_parts (is_recording (take k events)) (is_tracked bio) (well_formed-each events k (core_events.Submit bio) well_formed is)).1 in
     let unknown : list_any (is_submit k) m.calls ≡ false = elim (bool_cases (list_any (is_submit k) m.calls)) [
@@ -287,7 +287,7 @@ newest_among (first ∷ ids) id is =
 -- an end: the machine after its steps
 pub follow_end : (events : List CoreEvent) (wanted : ℕ → Option ℕ) (sure : ℕ → ℕ → Bool) (k : ℕ) (m : Machine) (id : ℕ) (ok : Bool)
     → is_well_formed events ≡ true → IsChoice events wanted sure → slice_get events k ≡ Some (core_events.Complete id ok) → Follows events wanted sure k m
-    → (new : Machine) × DeviceFrame events m (steps_of events wanted sure k (Some (core_events.Complete id ok))) new × Follows events wanted sure (suc k) new
+    → (new : Machine) × StepsFrame events m (steps_of events wanted sure k (Some (core_events.Complete id ok))) new × Follows events wanted sure (suc k) new
 follow_end events wanted sure k m id ok well_formed choice is before =
     let ended = well_formed-end events k id ok well_formed is in
     let bio = ended.bio in
@@ -358,7 +358,7 @@ follow_end events wanted sure k m id ok well_formed choice is before =
     λ sector other same covered. clash (covers_at sector (slice_get events other)) covered (ap (covers_at sector) (ap (slice_get events) same ∙ is)) in (
       new,
       go_on events m mid new (by_sector (lands_late wanted id) (slice_get events id)) (End id ok ∷ [])
-          (subst (λ event. DeviceFrame events m (by_sector (lands_late wanted id) event) mid) (sym ended.submitted) touch.1) (go_one events mid (End id ok) may),
+          (subst (λ event. StepsFrame events m (by_sector (lands_late wanted id) event) mid) (sym ended.submitted) touch.1) (go_one events mid (End id ok) may),
       record {
         calls = ap (λ steps. End id ok ∷ steps) calls ∙ sym longer;
         on = t.off ∙ before.on;
@@ -434,7 +434,7 @@ follow_other events wanted sure k m none uncovered before =
 -- any event
 follow_event : (events : List CoreEvent) (wanted : ℕ → Option ℕ) (sure : ℕ → ℕ → Bool) (k : ℕ) (m : Machine) (event : Option CoreEvent)
     → is_well_formed events ≡ true → IsChoice events wanted sure → slice_get events k ≡ event → Follows events wanted sure k m
-    → (new : Machine) × DeviceFrame events m (steps_of events wanted sure k event) new × Follows events wanted sure (suc k) new
+    → (new : Machine) × StepsFrame events m (steps_of events wanted sure k event) new × Follows events wanted sure (suc k) new
 follow_event events wanted sure k m (Some (core_events.Submit bio)) well_formed choice is before = follow_submit events wanted sure k m bio well_formed choice is before
 follow_event events wanted sure k m (Some (core_events.Complete id ok)) well_formed choice is before = follow_end events wanted sure k m id ok well_formed choice is before
 follow_event events wanted sure k m (Some (core_events.Mark text)) well_formed choice is before =
@@ -448,7 +448,7 @@ follow_event events wanted sure k m None well_formed choice is before =
 
 -- all events below a place
 pub follow_all : (events : List CoreEvent) (wanted : ℕ → Option ℕ) (sure : ℕ → ℕ → Bool) (k : ℕ) → is_well_formed events ≡ true → IsChoice events wanted sure
-    → (new : Machine) × DeviceFrame events start (collect (λ place. steps_of events wanted sure place (slice_get events place)) k) new × Follows events wanted sure k new
+    → (new : Machine) × StepsFrame events start (collect (λ place. steps_of events wanted sure place (slice_get events place)) k) new × Follows events wanted sure k new
 follow_all events wanted sure zero well_formed choice = (start, go_none events start, start_follows events wanted sure)
 follow_all events wanted sure (suc k) well_formed choice =
     let front = follow_all events wanted sure k well_formed choice in

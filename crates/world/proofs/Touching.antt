@@ -20,7 +20,7 @@ use Rattle.world.specs.inside.Plan.{by_sector, touch}
 use Rattle.world.proofs.Steps.{among_cases, among_more, clash, with_here}
 
 -- the steps are a run from the one machine to the other
-pub record DeviceFrame (events : List CoreEvent) (old : Machine) (steps : List Step) (new : Machine) : Type 0 where
+pub record StepsFrame (events : List CoreEvent) (old : Machine) (steps : List Step) (new : Machine) : Type 0 where
   pub runs : is_run events old steps ≡ true
   pub ends : taken old steps ≡ new
 
@@ -39,7 +39,7 @@ taken_append m [] ys = refl
 taken_append m (step ∷ xs) ys = taken_append (after m step) xs ys
 
 -- two runs, one after the other, are one
-pub go_on : (events : List CoreEvent) (a b c : Machine) (xs ys : List Step) → DeviceFrame events a xs b → DeviceFrame events b ys c → DeviceFrame events a (xs ++ ys) c
+pub go_on : (events : List CoreEvent) (a b c : Machine) (xs ys : List Step) → StepsFrame events a xs b → StepsFrame events b ys c → StepsFrame events a (xs ++ ys) c
 go_on events a b c xs ys front back = record {
   runs =
       run_append events a xs ys
@@ -50,11 +50,11 @@ go_on events a b c xs ys front back = record {
 }
 
 -- no steps are a run
-pub go_none : (events : List CoreEvent) (m : Machine) → DeviceFrame events m [] m
+pub go_none : (events : List CoreEvent) (m : Machine) → StepsFrame events m [] m
 go_none events m = record { runs = refl; ends = refl }
 
 -- one step is, where the machine has it
-pub go_one : (events : List CoreEvent) (m : Machine) (step : Step) → has_step events m step ≡ true → DeviceFrame events m (step ∷ []) (after m step)
+pub go_one : (events : List CoreEvent) (m : Machine) (step : Step) → has_step events m step ≡ true → StepsFrame events m (step ∷ []) (after m step)
 go_one events m step has = record { runs = ap (λ b. b && true) has; ends = refl }
 
 -- the request on top of the one list, where the test holds, and else the other list
@@ -99,11 +99,11 @@ with_not test sector id landed other at fails = elim (eqb_tells at sector) [
 -- what one request does in one sector
 touch_one : (events : List CoreEvent) (m : Machine) (lands settles : ℕ → Bool) (id sector : ℕ) → m.off ≡ false → is_pending m id ≡ true
     → covers_at sector (slice_get events id) ≡ true → (lands sector ≡ true → is_among (m.landed sector) id ≡ false)
-    → (new : Machine) × DeviceFrame events m (touch (lands sector) (settles sector) id sector) new × Touched (λ at. at == sector) lands settles id m new
+    → (new : Machine) × StepsFrame events m (touch (lands sector) (settles sector) id sector) new × Touched (λ at. at == sector) lands settles id m new
 touch_one events m lands settles id sector on pending covered fresh = elim (bool_cases (lands sector)) [
   | inr stays ↦ (
     m,
-    subst (λ b. DeviceFrame events m (touch b (settles sector) id sector) m) (sym stays) (go_none events m),
+    subst (λ b. StepsFrame events m (touch b (settles sector) id sector) m) (sym stays) (go_none events m),
     record {
       landed = λ at. with_not lands sector id m.landed m.landed at stays;
       settled = λ at. with_not (λ s. lands s && settles s) sector id m.landed m.settled at (ap (λ b. b && settles sector) stays);
@@ -121,8 +121,8 @@ touch_one events m lands settles id sector on pending covered fresh = elim (bool
       elim (bool_cases (settles sector)) [
         | inr keeps ↦ (
           landed,
-          subst (λ b. DeviceFrame events m (touch b (settles sector) id sector) landed) (sym goes)
-              (subst (λ b. DeviceFrame events m (touch true b id sector) landed) (sym keeps) (go_one events m (Land id sector) may)),
+          subst (λ b. StepsFrame events m (touch b (settles sector) id sector) landed) (sym goes)
+              (subst (λ b. StepsFrame events m (touch true b id sector) landed) (sym keeps) (go_one events m (Land id sector) may)),
           record {
             landed = λ at. with_is lands sector id m.landed m.landed at goes;
             settled = λ at. with_not (λ s. lands s && settles s) sector id m.landed m.settled at
@@ -138,8 +138,8 @@ touch_one events m lands settles id sector on pending covered fresh = elim (bool
             ap (λ b. not b && is_some (newest (with_sector sector (id ∷ m.landed sector) m.landed sector))) on
             ∙ ap (λ (ids : List ℕ). is_some (newest ids)) top in (
               new,
-              subst (λ b. DeviceFrame events m (touch b (settles sector) id sector) new) (sym goes)
-                  (subst (λ b. DeviceFrame events m (touch true b id sector) new) (sym destages)
+              subst (λ b. StepsFrame events m (touch b (settles sector) id sector) new) (sym goes)
+                  (subst (λ b. StepsFrame events m (touch true b id sector) new) (sym destages)
                   (go_on events m landed new (Land id sector ∷ []) (Destage sector ∷ []) (go_one events m (Land id sector) may)
                   (go_one events landed (Destage sector) may_too))),
               record {
@@ -243,7 +243,7 @@ longer_not first n at out = elim (eqb_tells at (first + n)) [
 touch_range : (events : List CoreEvent) (m : Machine) (lands settles : ℕ → Bool) (id first n : ℕ) → m.off ≡ false → is_pending m id ≡ true
     → ((k : ℕ) → k < n → covers_at (first + k) (slice_get events id) ≡ true)
     → ((k : ℕ) → k < n → lands (first + k) ≡ true → is_among (m.landed (first + k)) id ≡ false)
-    → (new : Machine) × DeviceFrame events m (collect (λ k. touch (lands (first + k)) (settles (first + k)) id (first + k)) n) new
+    → (new : Machine) × StepsFrame events m (collect (λ k. touch (lands (first + k)) (settles (first + k)) id (first + k)) n) new
     × Touched (is_in first n) lands settles id m new
 touch_range events m lands settles id first zero on pending covered fresh = (
   m,
@@ -285,7 +285,7 @@ touch_range events m lands settles id first (suc n) on pending covered fresh =
 pub touch_all : (events : List CoreEvent) (m : Machine) (lands settles : ℕ → Bool) (id : ℕ) (bio : Bio) → slice_get events id ≡ Some (core_events.Submit bio)
     → is_tracked bio ≡ true → m.off ≡ false → is_pending m id ≡ true
     → ((sector : ℕ) → covers bio sector ≡ true → lands sector ≡ true → is_among (m.landed sector) id ≡ false)
-    → (new : Machine) × DeviceFrame events m (by_sector (λ sector. touch (lands sector) (settles sector) id sector) (Some (core_events.Submit bio))) new
+    → (new : Machine) × StepsFrame events m (by_sector (λ sector. touch (lands sector) (settles sector) id sector) (Some (core_events.Submit bio))) new
     × Touched (covers bio) lands settles id m new
 touch_all events m lands settles id bio is tracked on pending fresh =
     let first = first_sector bio in

@@ -1,9 +1,10 @@
 //! Runs a script for its events alone: `events_of_run` is what a judge asks for.
-ghost use Rattle.std.specs.Prelude.{◌≡◌, IfErr, IfOk, true};
+ghost use Rattle.std.specs.Prelude.{◌≡◌, ◌&&◌, IfErr, IfOk, not, true};
 ghost use Rattle.std.specs.List.{list_any};
 ghost use Rattle.bio.specs.Lawful.{all_aligned, is_lawful};
 ghost use Rattle.bio.specs.Sizes.{bytes_of};
 ghost use Rattle.dmlw_script.specs.Plans.{top_of};
+ghost use Rattle.run_error.specs.Errors.{memory_error};
 ghost use Rattle.script_runner.specs.Rehearsals.{FailsRehearsal, IsRehearsed, is_memory_stop};
 
 use crate::laws::lines_go_as_one_call;
@@ -60,13 +61,31 @@ pub fn events_of_run(alloc: Global, text: &[u8], script: &Script) -> Result<Rehe
     lines_go_as_one_call::<Stack, Stack>();
     let _commands = script.commands();
     let played = play_on_disks(alloc, text, script, &mut io::sink())?;
-    let events = played.recorder.events();
-    if !played.ample || has_memory_stop(events) {
+    let ample = is_ample(played.ample, played.recorder.events());
+    kept_if(
+        ample,
+        Rehearsed {
+            recorder: played.recorder,
+        },
+    )
+}
+
+// Whether all found memory: each request that was asked, and the logging of these events.
+fn is_ample(asked: bool, events: &[CoreEvent]) -> bool
+    ensures { result ≡ (asked && not (list_any is_memory_stop events.now)) }
+{
+    asked && !has_memory_stop(events)
+}
+
+// What was made, where there was memory enough for all of it. Of any type, so that what it may drop isn't looked into.
+fn kept_if<T: Drop>(ample: bool, made: T) -> Result<T, RunError>
+    ensures kept { IfOk result (λ it. (it ≡ made) × (ample ≡ true)) }
+    ensures refused { IfErr result (λ fault. fault ≡ memory_error) }
+{
+    if !ample {
         return Err(RunError::from(Refusal::Memory));
     }
-    Ok(Rehearsed {
-        recorder: played.recorder,
-    })
+    Ok(made)
 }
 
 // Whether logging ended for want of memory among these events.

@@ -1,5 +1,6 @@
 -- Answers to the goals of `events_of_run` (src/rehearsing.rt) that the search leaves.
-use Rattle.std.proofs.Common.{◌≡◌, ℕ, ◌∙◌, true, false, ap, inr, rules, subst, sym}
+use Rattle.std.proofs.Common.{◌≡◌, ℕ, ◌∙◌, Bool, Err, IfErr, IfOk, Ok, Result, true, false, ap, inr, not, refl, subst, sym}
+use Rattle.std.proofs.lemmas.Bool.{and_parts}
 use Rattle.std.specs.List.{list_any}
 use Rattle.bio.specs.Lawful.{all_aligned, is_lawful, is_well_formed}
 use Rattle.bio.specs.SizeLaws.{lawful_parts}
@@ -27,14 +28,29 @@ pub returns-in_err-played-clause-faults : goal.returns-in_err-played-clause-faul
 returns-in_err-played-clause-faults c =
     on_error c.from_residual.result c.from_residual.ensures.1 (λ fault is. subst (FailsRehearsal _ _) (sym is) c.in_err-played.ensures.faults)
 
-pub returns-then-not-played-clause-faults : goal.returns-then-not-played-clause-faults
-returns-then-not-played-clause-faults c = file c.from.result (inr c.from.ensures)
+-- what was kept has what the made has, where it was kept
+of_kept : {A E : Type 0} (r : Result A E) (P : A → Type 0) (made : A) (ample : Bool) → IfOk r (λ it. (it ≡ made) × (ample ≡ true)) → (ample ≡ true → P made) → IfOk r P
+of_kept (Ok it) P made ample is gives = subst P (sym is.0) (gives is.1)
+of_kept (Err error) P made ample is gives = tt
+
+-- a test whose opposite holds doesn't
+is_off : (b : Bool) → not b ≡ true → b ≡ false
+is_off false is = refl
+is_off true is = absurd (cc)
+
+-- and where it wasn't, the fault is this
+of_refused : {A E : Type 0} (r : Result A E) (P Q : E → Type 0) → IfErr r P → ((error : E) → P error → Q error) → IfErr r Q
+of_refused (Ok it) P Q is gives = tt
+of_refused (Err error) P Q is gives = gives error is
+
+pub returns-clause-faults : goal.returns-clause-faults
+returns-clause-faults c = of_refused c.kept_if.result _ _ c.kept_if.ensures.refused (λ fault is. file fault (inr is))
 
 pub returns-clause-rehearsed : goal.returns-clause-rehearsed
 returns-clause-rehearsed c =
     let played = c.in_ok-played.ensures.played in
-    let found : c.in_ok-played.played.ample ≡ true = search rules in
-    let none : list_any is_memory_stop c.events-events.result.now ≡ false = search rules in
+    of_kept c.kept_if.result _ _ _ c.kept_if.ensures.kept (λ found.
+    let both = and_parts c.in_ok-played.played.ample _ (sym c.is_ample-ample.ensures ∙ found) in
     record {
       start = played.start;
       starts = played.starts;
@@ -42,17 +58,18 @@ returns-clause-rehearsed c =
       last = played.last;
       ran = played.ran;
       recorded = ap (λ (r : DiskRecorder). (core_of r).events) played.left;
-      asked = played.asked found;
-      ample = ap (list_any is_memory_stop) (sym c.events-events.ensures.events) ∙ none;
-    }
+      asked = played.asked both.0;
+      ample = ap (list_any is_memory_stop) (sym c.events.ensures.events) ∙ is_off _ both.1;
+    })
 
 pub returns-clause-lawful : goal.returns-clause-lawful
 returns-clause-lawful c =
     let script = c.args.script.now in
     let played = c.in_ok-played.ensures.played in
-    let well_formed = subst (λ (r : DiskRecorder). is_well_formed (core_of r).events ≡ true) played.left c.events-events.ensures.core.well_formed in
+    let well_formed = subst (λ (r : DiskRecorder). is_well_formed (core_of r).events ≡ true) played.left c.events.ensures.core.well_formed in
+    of_kept c.kept_if.result _ _ _ c.kept_if.ensures.kept (λ found.
     subst (λ (r : DiskRecorder). is_lawful (top_of script.data_disk) (core_of r).events ≡ true) (sym played.left)
-    (run_lawful script played.text played.start played.last c.commands-commands.ensures.script played.starts played.ran well_formed)
+    (run_lawful script played.text played.start played.last c.commands-commands.ensures.script played.starts played.ran well_formed))
 
 pub returns-clause-aligned : goal.returns-clause-aligned
 returns-clause-aligned c =
@@ -63,5 +80,6 @@ returns-clause-aligned c =
     let kept = ap (λ (r : DiskRecorder). (core_of r).sector_bytes) played.left in
     let bytes : (core_of recorded).sector_bytes ≡ bytes_of script.log_size =
     kept ∙ goes.sector_bytes ∙ ap (λ (core : CoreState). core.sector_bytes) played.starts.log_disk.begun.core in
+    of_kept c.kept_if.result _ _ _ c.kept_if.ensures.kept (λ found.
     subst (λ (size : ℕ). all_aligned size (core_of recorded).events ≡ true) bytes
-    (lawful_parts (core_of recorded).sector_bytes 1048576 (core_of recorded).events c.events-events.ensures.sound.lawful).1
+    (lawful_parts (core_of recorded).sector_bytes 1048576 (core_of recorded).events c.events.ensures.sound.lawful).1)

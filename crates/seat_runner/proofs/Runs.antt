@@ -19,6 +19,7 @@ use Rattle.log_format.specs.LogLaws.{log_within}
 use Rattle.log_format.specs.LogOf.{IsLogOf, log_sectors}
 use Rattle.pending.specs.CoreState.{CoreState}
 use Rattle.refusals.specs.declared.refusal.Refusal.{Refusal}
+use Rattle.refusals.specs.declared.refusal.Refusal.TheVariants as refusals
 use Rattle.run_error.specs.declared.run_error.RunError.{RunError}
 use Rattle.run_error.specs.Errors.{memory_error, refused_by}
 use Rattle.script_runner.specs.declared.recording.Lies.{Lies}
@@ -30,7 +31,7 @@ use Rattle.sectors.specs.Content.{AgreeBelow, Content, gather, sector_of}
 use Rattle.sectors.specs.SectorLaws.{length-gather, sector_of-gather}
 use Rattle.seat_runner.specs.declared.tally.Tally.{Tally}
 use Rattle.seat_runner.specs.inside.Playing.{AreNewPlayers, FitsRecorder, HavePlayed, Player, new_player}
-use Rattle.seat_runner.specs.SeatRuns.{FailsRun, IsClosed, IsRun, IsRunRefusal, IsSeatRun, refused}
+use Rattle.seat_runner.specs.SeatRuns.{FailsRun, HasRun, IsClosed, IsForeignClose, IsRun, IsSeatRun, IsUnclosed, IsUnplayed, busy, foreign, memory, thread}
 use Rattle.seat_runner.specs.Tallies.{joined}
 use Rattle.seat_runner.proofs.Seats.{take_next}
 use Rattle.shared.specs.Closing.{LeavesLog}
@@ -185,6 +186,20 @@ leaves_image plan log device image few core end is leaves =
       whole = left.whole;
     }
 
+-- each seat of a script made the calls of its lines
+each_ran : (plan : RunPlan) (players : List Player) (seats : List Part) (tallies : List Tally) → HavePlayed plan.calls plan.seats players
+    → seats ≡ map (λ (p : Player). p.part) players → tallies ≡ map (λ (p : Player). p.tally) players → (number : ℕ) (seat : Part) → slice_get seats number ≡ Some seat
+    → HasRun plan.calls tallies (map (λ (p : Player). p.receipts) players) number seat
+each_ran plan players seats tallies played parts told number seat there =
+    let found = map_from (λ (p : Player). p.part) players number seat (sym (ap (λ (ps : List Part). slice_get ps number) parts) ∙ there) in
+    let player = found.0 in record {
+      tally = player.tally;
+      counted = ap (λ (ts : List Tally). slice_get ts number) told ∙ map_there (λ (p : Player). p.tally) players number player found.1;
+      receipts = player.receipts;
+      kept = map_there (λ (p : Player). p.receipts) players number player found.1;
+      ran = subst (λ (part : Part). IsSeatRun plan.calls number part player.tally player.receipts) found.2 (played.each number player found.1);
+    }
+
 -- a script's run
 pub is_run : (ground : Ground) (bytes sectors : ℕ) (plan : RunPlan) (log : Stack) (players : List Player) (seats : List Part) (tallies : List Tally) (receipts : List Receipt)
     (closed : Closed Stack Stack) (status : Status) (lies : Lies) (image : List ℕ) → FitsRecorder bytes sectors plan → ground ≡ ground_of (stack_shown log)
@@ -205,15 +220,7 @@ is_run ground bytes sectors plan log players seats tallies receipts closed statu
       count = seats_long players seats plan.seats played.count parts;
       tallied = ap (λ (ts : List Tally). length ts) told ∙ map_long (λ (p : Player). p.tally) players ∙ played.count;
       given = map (λ (p : Player). p.receipts) players;
-      ran = λ number seat there.
-          let found = map_from (λ (p : Player). p.part) players number seat (sym (ap (λ (ps : List Part). slice_get ps number) parts) ∙ there) in
-          let player = found.0 in record {
-            tally = player.tally;
-            counted = ap (λ (ts : List Tally). slice_get ts number) told ∙ map_there (λ (p : Player). p.tally) players number player found.1;
-            receipts = player.receipts;
-            kept = map_there (λ (p : Player). p.receipts) players number player found.1;
-            ran = subst (λ (part : Part). IsSeatRun plan.calls number part player.tally player.receipts) found.2 (played.each number player found.1);
-          };
+      ran = each_ran plan players seats tallies played parts told;
       log = log;
       blank = blank;
       closed = closed;
@@ -228,9 +235,32 @@ is_run ground bytes sectors plan log players seats tallies receipts closed statu
       logged = λ zero. leaves_image plan log closed.log image closed.settled closed.core.state closed.end is (here.crash (sym none ∙ zero));
     }
 
--- a run that is refused
-pub fails_refused : (plan : RunPlan) (refusal : Refusal) (fault : RunError) → IsRunRefusal refusal → fault ≡ refused_by refusal → FailsRun plan fault
-fails_refused plan refusal fault is same = subst (FailsRun plan) (sym same) (refused refusal is)
+-- a run whose calls aren't made, or whose writer isn't told to end
+pub fails_unplayed : (plan : RunPlan) (refusal : Refusal) (fault : RunError) → IsUnplayed refusal → fault ≡ refused_by refusal → FailsRun plan fault
+fails_unplayed plan refusal fault why same =
+    subst (FailsRun plan) (sym same) (⊎_elim
+    (λ (is : refusal ≡ refusals.Memory). subst (λ (r : Refusal). FailsRun plan (refused_by r)) (sym is) memory)
+    (⊎_elim
+    (λ (is : refusal ≡ refusals.Busy). subst (λ (r : Refusal). FailsRun plan (refused_by r)) (sym is) busy)
+    (λ (is : refusal ≡ refusals.NoThread). subst (λ (r : Refusal). FailsRun plan (refused_by r)) (sym is) thread))
+    why)
+
+-- a run whose recorder isn't closed
+pub fails_unclosed : (plan : RunPlan) (players : List Player) (seats : List Part) (tallies : List Tally) (receipts : List Receipt) (refusal : Refusal) (fault : RunError)
+    → HavePlayed plan.calls plan.seats players → seats ≡ map (λ (p : Player). p.part) players → tallies ≡ map (λ (p : Player). p.tally) players
+    → receipts ≡ joined (map (λ (p : Player). p.receipts) players) → IsUnclosed seats receipts refusal → fault ≡ refused_by refusal → FailsRun plan fault
+fails_unclosed plan players seats tallies receipts refusal fault played parts told kept why same =
+    subst (FailsRun plan) (sym same) (⊎_elim
+    (λ (is : refusal ≡ refusals.Busy). subst (λ (r : Refusal). FailsRun plan (refused_by r)) (sym is) busy)
+    (λ (is : (refusal ≡ refusals.Foreign) × IsForeignClose seats receipts). subst (λ (r : Refusal). FailsRun plan (refused_by r)) (sym is.0) (foreign (record {
+      seats = seats;
+      count = seats_long players seats plan.seats played.count parts;
+      tallies = tallies;
+      given = map (λ (p : Player). p.receipts) players;
+      ran = each_ran plan players seats tallies played parts told;
+      close = subst (IsForeignClose seats) kept is.1;
+    })))
+    why)
 
 pub fails_memory : (plan : RunPlan) (fault : RunError) → fault ≡ memory_error → FailsRun plan fault
-fails_memory plan fault same = subst (FailsRun plan) (sym same) (refused _ (inl refl))
+fails_memory plan fault same = subst (FailsRun plan) (sym same) memory

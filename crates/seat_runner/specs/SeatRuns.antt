@@ -33,7 +33,7 @@ use Rattle.script_runner.specs.Submitted.{bio_of}
 use Rattle.seat_runner.specs.declared.tally.Tally.{Tally}
 use Rattle.seat_runner.specs.Tallies.{Came, joined, mark_outcome, mark_receipt_in, outcome_of, receipt_in, receipts_of, tally_of}
 use Rattle.shared.specs.Answers.{Answered, Marked}
-use Rattle.shared.specs.Closing.{Agrees, IsReceipt, LeavesLog}
+use Rattle.shared.specs.Closing.{Agrees, Differs, IsReceipt, LeavesLog}
 use Rattle.shared.specs.declared.answer.Answer.{Answer}
 use Rattle.shared.specs.declared.answer.MarkAnswer.{MarkAnswer}
 use Rattle.shared.specs.declared.closing.Closed.{Closed}
@@ -121,9 +121,28 @@ pub record IsRun (plan : RunPlan) (tallies : List Tally) (status : Status) (lies
   pub logged : lies.log_disk ≡ 0 →
       LeavesLog (bytes_of plan.log_size) (top_of plan.log_disk) closed.settled closed.core.state closed.end (seen_on plan.log_disk image)
 
--- a run is refused for one of these: there is no memory, a request is open at the close, what is closed isn't the recorder's own, or the writer has no thread
-abbrev pub IsRunRefusal : Refusal → Type 0
-IsRunRefusal refusal = (refusal ≡ refusals.Memory) ⊎ ((refusal ≡ refusals.Busy) ⊎ ((refusal ≡ refusals.Foreign) ⊎ (refusal ≡ refusals.NoThread)))
+-- Calls aren't made, or the writer isn't told to end, for one of these: there is no memory, a request is open, or the writer has no thread.
+abbrev pub IsUnplayed : Refusal → Type 0
+IsUnplayed refusal = (refusal ≡ refusals.Memory) ⊎ ((refusal ≡ refusals.Busy) ⊎ (refusal ≡ refusals.NoThread))
+
+-- What was closed with these seats and receipts isn't what the history has: one comparison fails.
+pub record IsForeignClose (seats : List Part) (receipts : List Receipt) : Type 0 where
+  pub closed : Closed Stack Stack
+  pub differs : Differs (record { core = closed.core.state; by = closed.by.items; stop = closed.stop }) closed.placed.items closed.settled closed.store_end
+      closed.done.items seats receipts
+
+-- a recorder isn't closed with these seats and receipts for one of these: a request is open, or one of them isn't the recorder's own
+abbrev pub IsUnclosed : List Part → List Receipt → Refusal → Type 0
+IsUnclosed seats receipts refusal = (refusal ≡ refusals.Busy) ⊎ ((refusal ≡ refusals.Foreign) × IsForeignClose seats receipts)
+
+-- The seats of a script made their calls, but what was closed with them isn't what the history has.
+pub record IsForeignRun (plan : RunPlan) : Type 0 where
+  pub seats : List Part
+  pub count : length seats ≡ plan.seats
+  pub tallies : List Tally
+  pub given : List (List Receipt)
+  pub ran : (number : ℕ) (seat : Part) → slice_get seats number ≡ Some seat → HasRun plan.calls tallies given number seat
+  pub close : IsForeignClose seats (joined given)
 
 -- No log could be made on the script's log disk: there was no memory, or a device failed under it.
 pub record IsUnmadeLog (plan : RunPlan) (end : End) : Type 0 where
@@ -133,7 +152,11 @@ pub record IsUnmadeLog (plan : RunPlan) (end : End) : Type 0 where
   pub failed : end ≡ ends.Device → HasFaulted (stack_shown old) (stack_shown new)
   pub fits : end ≡ ends.Full → ⊥
 
--- Why a script's run fails: it is refused, or no log could be made. No line is named.
+-- Why a script's run fails: there is no memory, the writer has no thread, a request is open at the close, what is closed isn't the recorder's own, or no log
+-- could be made. No line is named.
 pub data FailsRun (plan : RunPlan) : RunError → Type 0 where
-  refused : (refusal : Refusal) → IsRunRefusal refusal → FailsRun plan (refused_by refusal)
+  memory : FailsRun plan (refused_by refusals.Memory)
+  thread : FailsRun plan (refused_by refusals.NoThread)
+  busy : FailsRun plan (refused_by refusals.Busy)
+  foreign : IsForeignRun plan → FailsRun plan (refused_by refusals.Foreign)
   unmade : (end : End) → IsUnmadeLog plan end → FailsRun plan (LoggingEnded end)

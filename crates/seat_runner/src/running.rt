@@ -2,7 +2,7 @@
 ghost use Rattle.std.specs.Prelude.{◌≡◌, ◌⊎◌, ℕ, IfErr, IfOk, MatchResult};
 ghost use Rattle.refusals.specs.declared.refusal.Refusal.TheVariants as refusals;
 ghost use Rattle.seat_runner.specs.inside.Playing.{AreNewPlayers, DoesLines, FitsRecorder, HavePlayed};
-ghost use Rattle.seat_runner.specs.SeatRuns.{IsRunRefusal};
+ghost use Rattle.seat_runner.specs.SeatRuns.{IsUnplayed};
 
 use crate::work::Work;
 use blockdev::BlockDev;
@@ -32,7 +32,7 @@ pub(crate) fn run_all<
     requires fits { FitsRecorder R.sector_bytes R.sectors script.now }
     requires new { AreNewPlayers script.now.seats works.items }
     ensures played { IfOk result (λ works. HavePlayed script.now.calls script.now.seats works.items) }
-    ensures refused { IfErr result IsRunRefusal }
+    ensures refused { IfErr result IsUnplayed }
 {
     thread::scope(
         thread::scope_env(),
@@ -41,7 +41,7 @@ pub(crate) fn run_all<
             requires fits { FitsRecorder R.sector_bytes R.sectors script.now }
             requires new { AreNewPlayers script.now.seats works.items }
             ensures played { IfOk result (λ works. HavePlayed script.entry.now.calls script.entry.now.seats works.items) }
-            ensures refused { IfErr result IsRunRefusal }
+            ensures refused { IfErr result IsUnplayed }
         {
             if scope
                 .spawn(move || recorder.write_loop(rt, writer))

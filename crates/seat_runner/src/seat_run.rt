@@ -13,7 +13,7 @@ ghost use Rattle.script_runner.specs.OnDisks.{IsStackOf};
 ghost use Rattle.sector_disk.specs.Shown.{shown_of};
 ghost use Rattle.sectors.specs.Content.{gather};
 ghost use Rattle.seat_runner.specs.inside.Playing.{AreNewPlayers, FitsRecorder};
-ghost use Rattle.seat_runner.specs.SeatRuns.{FailsRun, IsClosed, IsRun, IsRunRefusal};
+ghost use Rattle.seat_runner.specs.SeatRuns.{FailsRun, IsClosed, IsRun, IsUnclosed};
 ghost use Rattle.shared.specs.Seats.{AreNewSeats};
 
 use crate::running::run_all;
@@ -192,21 +192,12 @@ fn close<R: Run + Names>(
 ) -> Result<Closed<Stack, Stack>, Refusal>
     requires { (length seats.items ≡ R.parts) × (0 < R.parts) }
     ensures closed { IfOk result (IsClosed R.log R.sector_bytes R.sectors seats.items receipts.items) }
-    ensures refused { IfErr result IsRunRefusal }
+    ensures refused { IfErr result (IsUnclosed seats.items receipts.items) }
 {
     match recorder.close(seats, writer, receipts) {
         Ok(Ending { closed, posts: _ }) => Ok(closed),
-        Err(unclosed) => Err(refusal_of(unclosed)),
-    }
-}
-
-// Why a recorder, which goes, wasn't closed.
-fn refusal_of<B: Drop, F: Drop>(unclosed: Unclosed<B, F>) -> Refusal
-    ensures { IsRunRefusal result }
-{
-    match unclosed {
-        Unclosed::Busy(_) => Refusal::Busy,
-        Unclosed::Foreign(_) => Refusal::Foreign,
+        Err(Unclosed::Busy(_)) => Err(Refusal::Busy),
+        Err(Unclosed::Foreign(_)) => Err(Refusal::Foreign),
     }
 }
 

@@ -1,5 +1,5 @@
 //! What became of a seat's calls, and how many of them came to what.
-ghost use Rattle.std.specs.Prelude.{◌≡◌, ◌+◌, ◌-◌, ◌^◌, ◌<◌};
+ghost use Rattle.std.specs.Prelude.{◌≡◌, ◌+◌, ◌-◌, ◌^◌, ◌<◌, ◌≤◌};
 ghost use Rattle.seat_runner.specs.Tallies.{HasRoom, counted, mark_outcome, no_calls, outcome_of};
 
 use shared::{Answer, MarkAnswer};
@@ -85,7 +85,8 @@ impl Tally {
 
 // One more, up to 2^64 - 1.
 fn one_more(count: u64) -> u64
-    ensures { count < 2 ^ 64 - 1 → result ≡ count + 1 }
+    ensures counts { count < 2 ^ 64 - 1 → result ≡ count + 1 }
+    ensures stops { 2 ^ 64 - 1 ≤ count → result ≡ count }
 {
     count.saturating_add(1)
 }

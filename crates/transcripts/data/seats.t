@@ -198,6 +198,29 @@ Scripts that are refused, and a log that would be written over its script.
   ! dmlw: line 3: 30 BadLine
   [1]
 
+The calls of a run begin at the moment 0: over a flakey layer that is up for its first 5 seconds a delay of 4,999 ms lets them pass, and one of 5,000 doesn't.
+
+  $ write script
+  > data 16
+  > log 64
+  > seats 1
+  > data-layer 0 16 flakey disk 0 5 5
+  > data-layer 0 16 delay disk 0 4999
+  > s0 w 0 1 11
+  $ dmlw run script log
+  seat 0: 1 done 0 logged 0 failed 0 not logged 0 refused
+  2 3
+  $ write script
+  > data 16
+  > log 64
+  > seats 1
+  > data-layer 0 16 flakey disk 0 5 5
+  > data-layer 0 16 delay disk 0 5000
+  > s0 w 0 1 11
+  $ dmlw run script log
+  seat 0: 0 done 0 logged 1 failed 0 not logged 0 refused
+  2 3
+
 What `--explain` says of such a script.
 
   $ write script

@@ -4,7 +4,7 @@ use Rattle.script_runner.specs.CallLaws.{on_error}
 use Rattle.sector_disk.specs.declared.disk.SectorDisk.{SectorDisk}
 use Rattle.sector_disk.specs.Shown.{shown_of}
 use Rattle.sectors.specs.Content.{gather}
-use Rattle.seat_runner.proofs.Runs.{fails_memory, fails_refused, is_run}
+use Rattle.seat_runner.proofs.Runs.{fails_memory, fails_unclosed, fails_unplayed, is_run}
 use Rattle.seat_runner.proofs.seat_run.run_on.Goals as goal
 
 pub returns-in_err-works-clause-faults : goal.returns-in_err-works-clause-faults
@@ -14,7 +14,7 @@ returns-in_err-works-clause-faults g c =
 pub returns-in_err-works-2-clause-faults : goal.returns-in_err-works-2-clause-faults
 returns-in_err-works-2-clause-faults g c =
     on_error c.from_residual-in_err-works-2.result c.from_residual-in_err-works-2.ensures.1
-    (λ fault is. fails_refused c.args.script.now c.in_err-works-2.field-0.0 fault c.in_err-works-2.ensures.refused is)
+    (λ fault is. fails_unplayed c.args.script.now c.in_err-works-2.field-0.0 fault c.in_err-works-2.ensures.refused is)
 
 pub returns-in_err-seats-clause-faults : goal.returns-in_err-seats-clause-faults
 returns-in_err-seats-clause-faults g c =
@@ -22,8 +22,10 @@ returns-in_err-seats-clause-faults g c =
 
 pub returns-in_err-closed-clause-faults : goal.returns-in_err-closed-clause-faults
 returns-in_err-closed-clause-faults g c =
+    let parts = c.in_ok-seats.ensures in
     on_error c.from_residual-in_err-closed.result c.from_residual-in_err-closed.ensures.1
-    (λ fault is. fails_refused c.args.script.now c.in_err-closed.field-0.0 fault c.in_err-closed.ensures.refused is)
+    (λ fault is. fails_unclosed c.args.script.now c.in_ok-works-2.works.items _ _ _ c.in_err-closed.field-0.0 fault c.in_ok-works-2.ensures.played parts.seats
+    parts.tallies parts.receipts c.in_err-closed.ensures.refused is)
 
 pub returns-clause-ran : goal.returns-clause-ran
 returns-clause-ran g c =

@@ -24,8 +24,9 @@ use Rattle.dmlw_commands.specs.declared.ending.Ended.{Ended}
 use Rattle.dmlw_commands.specs.declared.exit.Exit.{Exit}
 use Rattle.dmlw_commands.specs.declared.exit.Exit.TheVariants.{Done, Refused}
 use Rattle.dmlw_commands.specs.Endings.{ErrStream, TellsLine}
-use Rattle.dmlw_commands.specs.Exits.{exit_of, fault_line, stopped_line}
+use Rattle.dmlw_commands.specs.Exits.{exit_of, explained_fault, fault_line, stopped_line}
 use Rattle.dmlw_commands.specs.Lists.{RefusesImage}
+use Rattle.dmlw_explain.specs.declared.logs.Stopped.{Stopped}
 use Rattle.dmlw_files.specs.Files.{MatchesContents, Write, one_more}
 use Rattle.dmlw_files.specs.Images.{IsImage}
 use Rattle.dmlw_commands.specs.declared.copy_log.stop.Stop.{Stop}
@@ -130,6 +131,12 @@ abbrev pub copy_line : Result ℕ Stop → List ℕ
 copy_line (Ok count) = []
 copy_line (Err (stops.Fault fault)) = fault_line fault
 copy_line (Err (stops.Copy fault)) = stopped_line fault.applied (copy_refusal fault.cause)
+
+-- what is explained of a copy that came to this: by what it was refused, and after how many entries; nothing where it was done
+abbrev pub copy_explained : Result ℕ Stop → Option Stopped
+copy_explained (Ok count) = None
+copy_explained (Err (stops.Fault fault)) = Some (explained_fault fault)
+copy_explained (Err (stops.Copy fault)) = Some (record { refusal = copy_refusal fault.cause; applied = fault.applied })
 
 -- How the copy of the log in a file to a disk of so many sectors ends, whose image goes into the file of this name: as what it did has it.
 pub record EndsCopying (log_file : Option (List ℕ)) (name : List ℕ) (sectors : ℕ) (writes_old writes_new : Option (List Write)) (old new : Option (List ℕ))

@@ -4,11 +4,13 @@ use Rattle.std.specs.Prelude.{◌⊎◌, ◌≡◌, ℕ, List, [], ◌++◌, Non
 use Rattle.std.specs.Fmt.{decimal}
 use Rattle.bio.specs.declared.outcome.End.{End}
 use Rattle.bio.specs.declared.outcome.Status.{Status}
+use Rattle.bio.specs.Refusals.{end_refusal}
 use Rattle.refusals.specs.declared.refusal.Refusal.{Refusal}
 use Rattle.refusals.specs.Texts.{refusal_text}
 use Rattle.run_error.specs.declared.run_error.RunError.{RunError}
 use Rattle.run_error.specs.declared.run_error.RunError.TheVariants as errors
 use Rattle.run_error.specs.Errors.{error_text}
+use Rattle.dmlw_explain.specs.declared.logs.Stopped.{Stopped}
 use Rattle.dmlw_commands.specs.declared.exit.Exit.{Exit}
 use Rattle.dmlw_commands.specs.declared.exit.Exit.TheVariants.{Done, Refused, Usage, LoggingEnded, RuledOut}
 
@@ -24,6 +26,11 @@ status_of RuledOut = 1
 abbrev pub exit_of : RunError → Exit
 exit_of (errors.Refused fault) = Refused
 exit_of (errors.LoggingEnded end) = LoggingEnded
+
+-- what is explained of a command that ended by a fault: its refusal, at no entry
+abbrev pub explained_fault : RunError → Stopped
+explained_fault (errors.Refused fault) = record { refusal = fault.refusal; applied = 0 }
+explained_fault (errors.LoggingEnded end) = record { refusal = end_refusal end; applied = 0 }
 
 -- how a command ends that did this
 abbrev pub exit_by : Result (Unit {0}) RunError → Exit

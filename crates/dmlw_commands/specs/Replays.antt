@@ -22,7 +22,8 @@ use Rattle.dmlw_commands.specs.declared.ending.Ended.{Ended}
 use Rattle.dmlw_commands.specs.declared.exit.Exit.{Exit}
 use Rattle.dmlw_commands.specs.declared.exit.Exit.TheVariants.{Done, Refused}
 use Rattle.dmlw_commands.specs.Endings.{ErrStream, TellsLine}
-use Rattle.dmlw_commands.specs.Exits.{exit_of, fault_line, stopped_line}
+use Rattle.dmlw_commands.specs.Exits.{exit_of, explained_fault, fault_line, stopped_line}
+use Rattle.dmlw_explain.specs.declared.logs.Stopped.{Stopped}
 use Rattle.dmlw_files.specs.Files.{MatchesContents, Write, one_more}
 use Rattle.dmlw_files.specs.Images.{IsImage}
 use Rattle.dmlw_commands.specs.Lists.{RefusesImage}
@@ -132,6 +133,12 @@ abbrev pub replay_line : Result ℕ Stop → List ℕ
 replay_line (Ok count) = []
 replay_line (Err (stops.Fault fault)) = fault_line fault
 replay_line (Err (stops.Replay fault)) = stopped_line fault.applied (replay_refusal fault.cause)
+
+-- what is explained of a replay that came to this: by what it was refused, and after how many entries; nothing where it was done
+abbrev pub replay_explained : Result ℕ Stop → Option Stopped
+replay_explained (Ok count) = None
+replay_explained (Err (stops.Fault fault)) = Some (explained_fault fault)
+replay_explained (Err (stops.Replay fault)) = Some (record { refusal = replay_refusal fault.cause; applied = fault.applied })
 
 -- How the replay of the log in a file ends, of which the image goes into the file of this name: as what it did has it.
 pub record EndsReplaying (log_file first_file : Option (List ℕ)) (name : List ℕ) (upto : Upto) (writes_old writes_new : Option (List Write))

@@ -2,10 +2,11 @@
 ghost use Rattle.std.specs.Prelude.{◌≡◌, ◌++◌, [], Err, OnOk, true};
 ghost use Rattle.std.specs.Io.KnownBytes.{Appends, Keeps};
 ghost use Rattle.dmlw_commands.specs.declared.exit.Exit.{Exit};
-ghost use Rattle.dmlw_commands.specs.Exits.{exit_after, exit_by, exit_of, fault_line, stopped_line, told_line};
+ghost use Rattle.dmlw_commands.specs.Exits.{exit_after, exit_by, exit_of, explained_fault, fault_line, stopped_line, told_line};
 
 use crate::exit::Exit;
 use bio::Status;
+use dmlw_explain::Stopped;
 use refusals::Refusal;
 use run_error::RunError;
 use std::alloc::Global;
@@ -134,6 +135,20 @@ fn tell_stopped<E: Write>(
             write!(err, "dmlw: {refusal} after {applied} entries\n{more}")?;
             err.flush()
         }
+    }
+}
+
+/// What is explained of a command that ended by a fault: its refusal, at no entry.
+pub(crate) fn explained_fault(fault: RunError) -> Stopped
+    ensures { result ≡ explained_fault fault }
+{
+    let refusal = match fault {
+        RunError::Refused(fault) => fault.refusal,
+        RunError::LoggingEnded(end) => Refusal::from(end),
+    };
+    Stopped {
+        refusal,
+        applied: 0,
     }
 }
 

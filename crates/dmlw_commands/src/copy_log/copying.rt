@@ -1,10 +1,12 @@
 // How the log in a file is copied, and the image of the new one written.
-ghost use Rattle.std.specs.Prelude.{◌≡◌, ◌≤◌, ◌⊎◌, IfErr, IfOk, OnErr, OnOk};
+ghost use Rattle.std.specs.Prelude.{◌≡◌, Err, ◌≤◌, ◌⊎◌, IfErr, IfOk, OnErr, OnOk};
 ghost use Rattle.std.specs.Io.KnownBytes.{Appends};
-ghost use Rattle.run_error.specs.Errors.{IsFileError};
+ghost use Rattle.run_error.specs.Errors.{IsFileError, refused_by};
 ghost use Rattle.dmlw_commands.specs.declared.exit.Exit.{Exit};
-ghost use Rattle.dmlw_commands.specs.Endings.{err_stream};
-ghost use Rattle.dmlw_commands.specs.Exits.{IsRefusal};
+ghost use Rattle.refusals.specs.declared.refusal.Refusal.TheVariants as refusals;
+ghost use Rattle.dmlw_commands.specs.declared.copy_log.stop.Stop.TheVariants as stops;
+ghost use Rattle.dmlw_commands.specs.Endings.{TellsLine, err_stream};
+ghost use Rattle.dmlw_commands.specs.Exits.{IsRefusal, fault_line};
 ghost use Rattle.dmlw_files.specs.Files.{KeepsFiles, MatchesContents, one_more};
 ghost use Rattle.dmlw_files.specs.Images.{image_of};
 ghost use Rattle.dmlw_commands.specs.CopiesLog.{Copies, EndsCopying, FailsCopy, HoldsCopied, IsCopiedFrom, copied_line};
@@ -47,6 +49,8 @@ pub fn copy<F: Files, O: Write, E: Write>(
     ensures exits { (result.exit ≡ Exit.Done) ⊎ (result.exit ≡ Exit.Refused) }
     ensures kept { IsRefusal result.exit → KeepsFiles (F.contents files.old) (F.contents files.new) }
     ensures apart { names.entry.log.now ≡ names.entry.out.now → F.writes files.new ≡ F.writes files.old }
+    ensures same { names.entry.log.now ≡ names.entry.out.now →
+        TellsLine (err_stream explains (E.contents err.old) (E.contents err.new)) Exit.Refused (fault_line (refused_by refusals.File)) result }
 {
     let done = copy_file(alloc, names, sectors, files, out);
     let more = explain_copying(alloc, explains, stopped_of(done), names, files);
@@ -68,6 +72,7 @@ fn copy_file<F: Files, O: Write>(
     ensures held { OnOk result (HoldsCopied (F.contents files.old names.entry.log.now) sectors (F.contents files.new names.entry.out.now)) }
     ensures kept { OnErr result (KeepsFiles (F.contents files.old) (F.contents files.new)) }
     ensures apart { names.entry.log.now ≡ names.entry.out.now → F.writes files.new ≡ F.writes files.old }
+    ensures same { names.entry.log.now ≡ names.entry.out.now → result ≡ Err (stops.Fault (refused_by refusals.File)) }
 {
     if files.is_same(names.log, names.out) {
         return Err(Stop::Fault(RunError::from(Refusal::File)));

@@ -1,13 +1,13 @@
 // How a copy of a log ends.
 ghost use Rattle.std.specs.Prelude.{◌≡◌, ◌++◌, [], true};
 ghost use Rattle.std.specs.Io.KnownBytes.{Appends, Keeps};
-ghost use Rattle.dmlw_commands.specs.CopiesLog.{copy_exit, copy_line};
+ghost use Rattle.dmlw_commands.specs.CopiesLog.{copy_exit, copy_explained, copy_line};
 
 use crate::copy_log::stop::Stop;
+use crate::ending::explained_fault;
 use crate::{Ended, end, report_stopped};
 use dmlw_explain::Stopped;
 use refusals::Refusal;
-use run_error::RunError;
 use std::alloc::Global;
 use std::io::Write;
 
@@ -35,12 +35,15 @@ pub(crate) fn end_copying<O: Write, E: Write>(
 }
 
 /// Why a copy ended that came to this, if it wasn't done.
-pub(crate) fn stopped_of(done: Result<u64, Stop>) -> Option<Stopped> {
-    let (refusal, applied) = match done {
-        Ok(_) => return None,
-        Err(Stop::Fault(RunError::Refused(fault))) => (fault.refusal, 0),
-        Err(Stop::Fault(RunError::LoggingEnded(end))) => (Refusal::from(end), 0),
-        Err(Stop::Copy(fault)) => (Refusal::from(fault.cause), fault.applied),
-    };
-    Some(Stopped { refusal, applied })
+pub(crate) fn stopped_of(done: Result<u64, Stop>) -> Option<Stopped>
+    ensures { result ≡ copy_explained done }
+{
+    match done {
+        Ok(_) => None,
+        Err(Stop::Fault(fault)) => Some(explained_fault(fault)),
+        Err(Stop::Copy(fault)) => Some(Stopped {
+            refusal: Refusal::from(fault.cause),
+            applied: fault.applied,
+        }),
+    }
 }

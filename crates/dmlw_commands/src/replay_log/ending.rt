@@ -1,13 +1,13 @@
 //! How a replay ends.
 ghost use Rattle.std.specs.Prelude.{◌≡◌, ◌++◌, [], true};
 ghost use Rattle.std.specs.Io.KnownBytes.{Appends, Keeps};
-ghost use Rattle.dmlw_commands.specs.Replays.{replay_exit, replay_line};
+ghost use Rattle.dmlw_commands.specs.Replays.{replay_exit, replay_explained, replay_line};
 
+use crate::ending::explained_fault;
 use crate::replay_log::stop::Stop;
 use crate::{Ended, end, report_stopped};
 use dmlw_explain::Stopped;
 use refusals::Refusal;
-use run_error::RunError;
 use std::alloc::Global;
 use std::io::Write;
 
@@ -35,12 +35,15 @@ pub(crate) fn end_replaying<O: Write, E: Write>(
 }
 
 /// Why a replay ended that came to this, if it wasn't done.
-pub(crate) fn stopped_of(done: Result<u64, Stop>) -> Option<Stopped> {
-    let (refusal, applied) = match done {
-        Ok(_) => return None,
-        Err(Stop::Fault(RunError::Refused(fault))) => (fault.refusal, 0),
-        Err(Stop::Fault(RunError::LoggingEnded(end))) => (Refusal::from(end), 0),
-        Err(Stop::Replay(fault)) => (Refusal::from(fault.cause), fault.applied),
-    };
-    Some(Stopped { refusal, applied })
+pub(crate) fn stopped_of(done: Result<u64, Stop>) -> Option<Stopped>
+    ensures { result ≡ replay_explained done }
+{
+    match done {
+        Ok(_) => None,
+        Err(Stop::Fault(fault)) => Some(explained_fault(fault)),
+        Err(Stop::Replay(fault)) => Some(Stopped {
+            refusal: Refusal::from(fault.cause),
+            applied: fault.applied,
+        }),
+    }
 }

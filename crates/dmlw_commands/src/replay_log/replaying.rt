@@ -1,10 +1,12 @@
 //! `replay LOG FIRST OUT WHAT`: applies a log, up to the entry that is named, to an image.
-ghost use Rattle.std.specs.Prelude.{◌≡◌, ◌⊎◌, IfErr, IfOk, OnErr, OnOk};
+ghost use Rattle.std.specs.Prelude.{◌≡◌, Err, ◌⊎◌, IfErr, IfOk, OnErr, OnOk};
 ghost use Rattle.std.specs.Io.KnownBytes.{Appends};
-ghost use Rattle.run_error.specs.Errors.{IsFileError};
+ghost use Rattle.run_error.specs.Errors.{IsFileError, refused_by};
 ghost use Rattle.dmlw_commands.specs.declared.exit.Exit.{Exit};
-ghost use Rattle.dmlw_commands.specs.Endings.{err_stream};
-ghost use Rattle.dmlw_commands.specs.Exits.{IsRefusal};
+ghost use Rattle.refusals.specs.declared.refusal.Refusal.TheVariants as refusals;
+ghost use Rattle.dmlw_commands.specs.declared.replay_log.stop.Stop.TheVariants as stops;
+ghost use Rattle.dmlw_commands.specs.Endings.{TellsLine, err_stream};
+ghost use Rattle.dmlw_commands.specs.Exits.{IsRefusal, fault_line};
 ghost use Rattle.dmlw_files.specs.Files.{KeepsFiles, MatchesContents, one_more};
 ghost use Rattle.dmlw_files.specs.Images.{image_of};
 ghost use Rattle.dmlw_commands.specs.Replays.{EndsReplaying, FailsReplay, HoldsReplayed, IsReplayedFrom, Replays, replayed_line};
@@ -46,6 +48,8 @@ pub fn replay<F: Files, O: Write, E: Write>(
     ensures exits { (result.exit ≡ Exit.Done) ⊎ (result.exit ≡ Exit.Refused) }
     ensures kept { IsRefusal result.exit → KeepsFiles (F.contents files.old) (F.contents files.new) }
     ensures apart { names.entry.log.now ≡ names.entry.out.now → F.writes files.new ≡ F.writes files.old }
+    ensures same { names.entry.log.now ≡ names.entry.out.now →
+        TellsLine (err_stream explains (E.contents err.old) (E.contents err.new)) Exit.Refused (fault_line (refused_by refusals.File)) result }
 {
     let done = replay_files(alloc, names, upto, files, out);
     let more = explain_replaying(alloc, explains, stopped_of(done), names, files);
@@ -66,6 +70,7 @@ fn replay_files<F: Files, O: Write>(
         (F.contents files.new names.entry.out.now)) }
     ensures kept { OnErr result (KeepsFiles (F.contents files.old) (F.contents files.new)) }
     ensures apart { names.entry.log.now ≡ names.entry.out.now → F.writes files.new ≡ F.writes files.old }
+    ensures same { names.entry.log.now ≡ names.entry.out.now → result ≡ Err (stops.Fault (refused_by refusals.File)) }
 {
     if files.is_same(names.log, names.out) {
         return Err(Stop::Fault(RunError::from(Refusal::File)));

@@ -13,7 +13,12 @@ root = os.path.dirname(os.path.dirname(os.path.abspath(__file__)))
 PAGE = f"{root}/docs/HEADLINE.md"
 MARKER = "<!-- What follows is written by bench/headline.py. -->"
 # (what a crash may leave is a field of what contracts see of a device: these say what it is)
-ALSO = [("Rattle.blockdev.specs.View", "IsLawful"), ("Rattle.sector_disk.specs.Shown", "shown_of")]
+# (the types of fields that no `use` line of a definition names, and what the levels of a stack show)
+ALSO = [("Rattle.blockdev.specs.View", "IsLawful"), ("Rattle.sector_disk.specs.Shown", "shown_of"),
+        *((f"Rattle.layer_table.specs.{it}Level", f"{it.lower()}_shown") for it in ("One", "Two", "Three")),
+        *((f"Rattle.layer_table.specs.declared.levels.{it.lower()}.{it}", it) for it in ("One", "Two", "Three")),
+        ("Rattle.fault_layers.specs.declared.linear.Linear", "Linear"), ("Rattle.fault_layers.specs.declared.gated.Gated", "Gated"),
+        ("Rattle.dust_layer.specs.declared.dust.Dust", "Dust"), ("Rattle.replay.specs.declared.fault.ReplayFault", "ReplayFault")]
 START, FUNCTION, CLAUSE = f"{root}/crates/headline/src/reopening.rt", "reopen_and_replay", "headline"
 NAME = re.compile(r"[^\s(){}\[\],;.λ∀]+(?:\.[^\s(){}\[\],;.λ]+)*")
 HEAD = re.compile(r"^(?:(?:abbrev|unfoldable|transparent) )*(pub )?(?:(record|data) )?(?P<name>[^\s:({]+)")
@@ -131,7 +136,7 @@ class Specs:
         if not os.path.isfile(path):
             return None
         text, kind = text_of(path), rest[-1]
-        found = re.search(rf"((?:^///[^\n]*\n)*)(?:^#\[[^\n]*\n)*^(pub (?:struct|enum) {kind}\b[^\n]*(?:;|\{{\n.*?\n}})$)", text, re.M | re.S)
+        found = re.search(rf"((?:^///[^\n]*\n)*)(?:^#\[[^\n]*\n)*^(pub(?:\(crate\))? (?:struct|enum) {kind}\b[^\n]*(?:;|\{{\n.*?\n}})$)", text, re.M | re.S)
         if not found:
             return None
         whole = found.group(1) + found.group(2)
@@ -203,7 +208,8 @@ def collect(specs):
         it = specs.named(module, name)
         if it.key() not in done:
             done.add(it.key())
-            visit(it, specs.file(it.crate, it.file.split("/specs/")[1][:-5].replace("/", "."))[2])
+            if it.kind == "antt":
+                visit(it, specs.file(it.crate, it.file.split("/specs/")[1][:-5].replace("/", "."))[2])
             order.append(it)
     return order
 

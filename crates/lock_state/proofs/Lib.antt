@@ -10,4 +10,3 @@ pub mod Matching
 pub mod Serving
 pub mod Taking
 pub mod Examples
-pub mod Counterexamples

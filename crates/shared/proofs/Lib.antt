@@ -2,4 +2,3 @@
 pub mod Finishing
 pub mod Posting
 mod Examples
-mod Counterexamples

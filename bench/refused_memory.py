@@ -5,7 +5,7 @@
   bench/refused_memory.py --from [PROGRAM]      all growths from the Nth on are refused, as where memory has run out
 
 A small C library that is built here (it needs `cc`) stands before the program's `malloc` and `realloc`: it counts them, in all threads, and refuses one, or all
-from it on. Each script is recorded so, and its log listed, asked for its status, replayed, judged and, where it can be, copied; last four seats are run.
+from it on. Each script is recorded so, and its log listed, asked for its status, replayed, judged, asked for a path and, where it can be, copied; last four seats are run.
 
 Each answer has to be the one with ample memory, or Memory, or what is told where logging ended for want of memory. The log, where one was written, has to read
 back as a beginning of the completion list, which `bench/force.py` works out by its definition, and to hold all that was settled or told as logged. Prints
@@ -162,6 +162,12 @@ def record_answer(text, model, told, log, is_one):
     if is_one and len(failed) > 1:
         return "differs: two failed"
     choices = [once for once in (set(), set(failed) - {"mark"}) if lines_where(text, failed, once) == (shown[:-1] if not err else shown)]
+    stated = re.fullmatch(r"(\d+) \d+( logging_disabled)?\n", shown[-1]) if shown and failed or ended else None
+    if stated and (err, status) == ("dmlw: 2 Memory\n", 1) and log == OLDER:
+        # Requests had failed or logging had ended, and then there was no memory for the log's file: the lines and the status are printed before.
+        said = any(lines_where(text, failed, once) == shown[:-1] for once in (set(), set(failed) - {"mark"}))
+        known = shown[-1] == status_of(model.placed[: int(stated[1])]) + (stated[2] or "") + "\n"
+        return "refused: dmlw: 2 Memory behind the status" if said and known else "differs: refused otherwise"
     if err:
         may_begin = ["".join(lines_where(text, failed, once)) for once in (set(), set(failed) - {"mark"})]
         good = any(is_refused(told, log, it, close) for it in [*may_begin, model.printed()])
@@ -268,6 +274,8 @@ def commands_of(text, model):
     moment = model.events.last_moment()
     verdict = model.events.verdict(moment, zeroes)
     yield ("judge", "script", moment, "zeroes"), (verdict, "", int(verdict != "yes\n")), None
+    # (which run `path` tells is its own to choose: what it tells with ample memory is asked of it)
+    yield ("path", "script", moment, "zeroes"), None, None
 
 
 def one(job):
@@ -282,6 +290,8 @@ def one(job):
         if kind == "command":
             room.write("log", model.log_disk.image())
             room.write("zeroes", bytes(model.data.sectors * force.SECTOR))
+        if kind == "command" and wanted is None:
+            wanted = room.run(10**9, *words)[0]
         told, asked = room.run(number, *words)
         if kind == "record":
             answer = record_answer(text, model, told, room.read("log"), is_last)

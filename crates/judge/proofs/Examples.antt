@@ -230,6 +230,17 @@ account-ends account ends told = none_some 1 (sym (ap (λ places. place_at place
 account-last : (account : Account) → account.last.items ≡ [] → IsAccount replaced (holding 2) 4 account → ⊥
 account-last account last told = none_some 2 (sym (ap (λ places. place_at places 3) last) ∙ told.last 3 (omega arith))
 
+-- nor one of more or fewer sectors, though no request covers any
+account-shorter : (account : Account) → account.last.items ≡ [] → IsAccount [] (holding 0) 1 account → ⊥
+account-shorter account last told =
+    let none = ap length last in
+    absurd (let contra : 0 ≡ 1 = sym none ∙ told.last_size in cc)
+
+account-held-shorter : (account : Account) → account.held.items ≡ [] → IsAccount [] (holding 0) 1 account → ⊥
+account-held-shorter account held told =
+    let none = ap length held in
+    absurd (let contra : 0 ≡ 1 = sym none ∙ told.held_size in cc)
+
 -- zeroes were on a device of any size
 zeroes-first : first_bytes Zeroes 3 ≡ 0 ∷ 0 ∷ 0 ∷ []
 zeroes-first = refl

@@ -229,6 +229,12 @@ fresh-off told = let contra : true ≡ false = told.off in cc
 fresh-landed : IsFresh (replicate 512 7) (record fresh { cells = landing 0 empty_cell ∷ [] }) → ⊥
 fresh-landed told = let contra = number_is 1 0 (ap (λ (cells : List CellState). length (landed_of (slice_get cells 0))) told.cells) in omega arith
 
+fresh-called : IsFresh (replicate 512 7) (record fresh { calls = Power ∷ [] }) → ⊥
+fresh-called told = let contra = number_is 1 0 (ap (λ (calls : List Step). length calls) told.calls) in omega arith
+
+fresh-image : IsFresh (replicate 512 7) (record fresh { image = replicate 512 8 }) → ⊥
+fresh-image told = let contra = byte_is 8 7 told.image in absurd (omega arith)
+
 -- power goes, and nothing else changes
 steps-power : Steps [] Power fresh (record fresh { off = true })
 steps-power = record {
@@ -248,12 +254,33 @@ steps-image told = let contra = byte_is 8 7 (told.left 0 (omega arith)) in absur
 steps-refused : Steps [] (Submit 0) fresh (record fresh { calls = Submit 0 ∷ [] }) → ⊥
 steps-refused told = let contra : false ≡ true = told.may in cc
 
+-- nor is a sector or a byte added, of a world of no sectors
+abbrev bare : WorldState
+bare = record { cells = []; calls = []; off = false; image = [] }
+
+steps-wider : Steps [] Power bare (record bare { off = true; cells = empty_cell ∷ [] }) → ⊥
+steps-wider told = let contra = number_is 1 0 told.sectors in omega arith
+
+steps-longer : Steps [] Power bare (record bare { off = true; image = 7 ∷ [] }) → ⊥
+steps-longer told = let contra = number_is 1 0 told.size in omega arith
+
 -- no steps leave a world as it was
 all-none : AllSteps [] [] fresh fresh
 all-none = refl
 
 all-other : AllSteps [] [] fresh (record fresh { off = true }) → ⊥
 all-other told = let contra : false ≡ true = ap (λ (world : WorldState). world.off) told in cc
+
+-- power goes: a run, after which the image is as it was
+run-of-power : IsRun [] [] (Power ∷ []) (record bare { off = true })
+run-of-power = record { runs = refl; reached = refl; left = λ sector within. refl }
+
+-- what isn't there isn't submitted in a run, and no run leaves another image than what is durable
+run-of-nothing : IsRun [] [] (Submit 0 ∷ []) (record bare { calls = Submit 0 ∷ [] }) → ⊥
+run-of-nothing told = let contra : false ≡ true = told.runs in cc
+
+run-of-other : IsRun [] (replicate 512 7) (Power ∷ []) (record fresh { off = true; image = replicate 512 8 }) → ⊥
+run-of-other told = let contra = byte_is 8 7 (told.left 0 (omega arith)) in absurd (omega arith)
 
 -- no run has gone on where power is there
 run-of-none : IsRun [] (replicate 512 7) (Power ∷ []) fresh → ⊥

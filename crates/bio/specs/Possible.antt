@@ -28,7 +28,7 @@ abbrev pub is_flushed : List CoreEvent → ℕ → Bool
 is_flushed events id =
     any_below (λ flush. is_flush_submit (slice_get events flush) && (ended_ok events flush && is_before events id flush)) (length events)
 
--- power can't take the request back: it ended with success, and is FUA or was flushed afterwards
+-- the request is durable: it ended with success, and it is FUA, or a flush that was submitted after its end ended with success
 abbrev pub is_durable : List CoreEvent → ℕ → Bool
 is_durable events id = ended_ok events id && (submits has_fua (slice_get events id) || is_flushed events id)
 

@@ -20,7 +20,7 @@ pub record View : Type 1 where
   pub crash : Content → Type 0
   -- the reading of its clock
   pub moment : ℕ
-  -- what a crash at some moment from that reading on may have left, between two calls or during one
+  -- what a crash may have left since the clock had a reading: between two calls, or during one
   pub since : ℕ → Content → Type 0
   -- how often it failed, and how often it told a success of what it hadn't done; both stop at 2^64 - 1
   pub faults : ℕ
@@ -38,9 +38,9 @@ pub record IsLawful (v : View) : Type 0 where
   pub few_sectors : v.size ≤ 1048576
   -- a crash may leave the content
   pub current : v.crash v.content
-  -- what a crash now may leave, one since an earlier moment may have left
+  -- what a crash now may leave, a crash since any earlier moment may have left
   pub nested : (moment : ℕ) (left : Content) → moment ≤ v.moment → v.crash left → v.since moment left
-  -- and since now there was no other
+  -- and what a crash since now may have left, a crash now may leave
   pub only_now : (left : Content) → v.since v.moment left → v.crash left
   -- whatever was left has whole sectors
   pub whole : (moment : ℕ) (left : Content) → moment ≤ v.moment → v.since moment left → HasWholeSectors v.size left

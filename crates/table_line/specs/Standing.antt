@@ -23,7 +23,7 @@ abbrev pub CanStand : ℕ → List LayerSpec → Type 0
 CanStand sectors [] = Unit {0}
 CanStand sectors (layer ∷ layers) = IsLayerSpec layer × (layer.offset + layer.length ≤ sectors) × CanStand layer.length layers
 
--- with this feature a flakey layer tells of writes that they are done, and drops them
+-- with this feature a flakey layer, while it is down, answers Ok to writes, discards and flushes, and drops them
 abbrev pub is_drop_writes : Feature → Bool
 is_drop_writes features.None = false
 is_drop_writes features.ErrorReads = false

@@ -1,6 +1,7 @@
 -- Chains and links, by computation.
 use Rattle.std.proofs.Common.{◌≡◌, ◌≢◌, ℕ, List, [], ◌∷◌, Option, Some, None, refl, arith}
 use Rattle.chains.specs.Edits.{chain_in, fronted, joined, lengthened, lifted, shortened, turned, with_first}
+use Rattle.chains.specs.Lends.{with_value}
 use Rattle.chains.specs.Shown.{count_in, ChangesFew, KeepsRoom, Shown}
 use Rattle.chains.specs.inside.Rings.{times_in}
 use Rattle.chains.specs.inside.Tables.{chains_of, seen_lasts, values_of}
@@ -55,6 +56,9 @@ counted : count_in three ≡ 3
 unfolding three
 counted = refl
 
+counted-none : count_in {T = ℕ} ([] ∷ [] ∷ []) ≡ 0
+counted-none = refl
+
 -- there is no chain 7
 beyond : chain_in three 7 ≡ []
 unfolding three
@@ -83,6 +87,19 @@ room-kept = record { rows = refl; room = refl; spare = refl }
 room-used : KeepsRoom (shown 5 2) (shown 8 1) → ⊥
 unfolding shown
 room-used kept = let spare = kept.spare in omega arith
+
+rows-added : KeepsRoom (shown 5 2) (record (shown 5 2) { rows = 4 }) → ⊥
+unfolding shown
+rows-added kept = let rows = kept.rows in omega arith
+
+chains-room-added : KeepsRoom (shown 5 2) (record (shown 5 2) { room = 1 }) → ⊥
+unfolding shown
+chains-room-added kept = let room = kept.room in omega arith
+
+-- what is written through the reference to the first of a chain stands there, and all else is as it was
+written : with_value (shown 5 2) 1 10 ≡ record (shown 5 2) { chains = [] ∷ (10 ∷ 12 ∷ []) ∷ (21 ∷ []) ∷ [] }
+unfolding shown three
+written = refl
 
 -- Row 3 is free. Row 0 leads to row 2, and row 2 to row 0; row 1 to itself.
 next : List ℕ

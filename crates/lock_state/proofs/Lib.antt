@@ -10,3 +10,4 @@ pub mod Matching
 pub mod Serving
 pub mod Taking
 pub mod Examples
+pub mod Counterexamples

@@ -2,3 +2,4 @@
 pub mod Finishing
 pub mod Posting
 mod Examples
+mod Counterexamples

@@ -65,7 +65,8 @@ fn go(chains: &mut Chains<u64>, word: &str, one: usize, two: usize) {
     }
 }
 
-// The values of each chain, the chains parted by a bar; then how many rows there are by what is told of links that were changed.
+// The values of each chain, the chains parted by a bar; then how many rows there are by what is
+// told of links that were changed.
 fn shown(alloc: Global, chains: &Chains<u64>) -> Result<String, AllocError> {
     let mut text = String::new(alloc);
     for chain in 1..chains.chains() {
@@ -79,7 +80,8 @@ fn shown(alloc: Global, chains: &Chains<u64>) -> Result<String, AllocError> {
     Ok(text)
 }
 
-// What is shown after these steps, parted by commas, of three chains: a word and one or two numbers each.
+// What is shown after these steps, parted by commas, of
+// three chains: a word and one or two numbers each.
 fn played(alloc: Global, steps: &str) -> Result<String, AllocError> {
     let mut chains = Chains::new(alloc, 3)?;
     for step in steps.split(",") {

@@ -95,7 +95,8 @@ fn has_zeroes(bytes: &[u8]) -> bool {
     bytes.iter().all(|byte| *byte == 0)
 }
 
-// The verdict on images of one length, where the events are lawful: a sector, and the place of a request.
+// The verdict on images of one length, where the events are
+// lawful: a sector, and the place of a request.
 fn verdict_of(
     alloc: Global,
     events: &[CoreEvent],
@@ -123,7 +124,8 @@ fn verdict_of(
     }
 }
 
-// The verdict of a row: how many sectors, the events, the moment, and the sectors of both images that aren't zeroes.
+// The verdict of a row: how many sectors, the events, the
+// moment, and the sectors of both images that aren't zeroes.
 fn judged(alloc: Global, row: &str) -> Result<String, AllocError> {
     let mut parts = row.split("|");
     let sectors = parts.next().unwrap_or_default().parse::<u8>().unwrap_or(0);
@@ -134,10 +136,10 @@ fn judged(alloc: Global, row: &str) -> Result<String, AllocError> {
     verdict_of(alloc, &events, moment, &first, &image)
 }
 
-// Two writes of one sector, at moments before a flush and after it. Then: three writes of which two are flushed; a FUA
-// write over a plain one; two flushes of which the later ends first; a discard after a write; a flush and a FUA write
-// that failed; a value that isn't submitted yet; a write of three sectors, in part; a first content that isn't zero; no
-// event, and no sector.
+// Two writes of one sector, at moments before a flush and after it. Then: three writes of which two
+// are flushed; a FUA write over a plain one; two flushes of which the later ends first; a discard
+// after a write; a flush and a FUA write that failed; a value that isn't submitted yet; a write of
+// three sectors, in part; a first content that isn't zero; no event, and no sector.
 pub const ROWS: &str = "16|w 3 1,w 3 2,c 0,c 1,f,c 4|4||=yes
 16|w 3 1,w 3 2,c 0,c 1,f,c 4|4||3:1=yes
 16|w 3 1,w 3 2,c 0,c 1,f,c 4|4||3:2=yes
@@ -190,9 +192,10 @@ fn images_are_judged(rt: HostRuntime) -> Result<(), Fail> {
     Ok(())
 }
 
-// Lists, with `=` where they are lawful for 8 sectors, and `!` where one rule is broken: an end of what wasn't submitted,
-// of what has ended, of itself, of an end or of a read; what comes after a stop or a close; a close with an open
-// request; a read; a mark with a zero byte; a request that isn't whole, that is past the end, or before another.
+// Lists, with `=` where they are lawful for 8 sectors, and `!` where one rule is broken: an end of
+// what wasn't submitted, of what has ended, of itself, of an end or of a read; what comes after a
+// stop or a close; a close with an open request; a read; a mark with a zero byte; a request that
+// isn't whole, that is past the end, or before another.
 const LISTS: &str = "
 =w 7 1
 =w 7 1,c 0,d 0,f,m 0 120,x 2,c 3,close
@@ -277,7 +280,8 @@ fn verdict_on_many(
     could_hold(alloc, events, 20_000, First::Image(&first), &image)
 }
 
-// Of 20,000 events over 4,096 sectors the last values are possible, and an earlier one in the last sector isn't.
+// Of 20,000 events over 4,096 sectors the last values are
+// possible, and an earlier one in the last sector isn't.
 #[test]
 fn long_lists_are_judged(rt: HostRuntime) -> Result<(), Fail> {
     let alloc = rt.alloc();

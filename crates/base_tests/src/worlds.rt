@@ -78,7 +78,8 @@ fn path(
     }
 }
 
-// The run of a row: how many sectors, the events, the moment, and the sectors of both images that aren't zeroes.
+// The run of a row: how many sectors, the events, the
+// moment, and the sectors of both images that aren't zeroes.
 fn path_of(alloc: Global, row: &str) -> Result<String, AllocError> {
     let mut parts = row.split("|");
     let sectors = parts.next().unwrap_or_default().parse::<u8>().unwrap_or(0);
@@ -89,8 +90,9 @@ fn path_of(alloc: Global, row: &str) -> Result<String, AllocError> {
     path(alloc, &events, moment, &first, &image)
 }
 
-// Two writes of one sector, at moments before a flush and after it. Then: an open request, and one that failed; a discard; a flush that
-// failed; no sector, with a mark, a stop and a close; no event.
+// Two writes of one sector, at moments before a flush and after it.
+// Then: an open request, and one that failed; a discard; a flush
+// that failed; no sector, with a mark, a stop and a close; no event.
 const RUNS: &str =
     "16|w 3 1,w 3 2,c 0,c 1,f,c 4|4||=submit 0,land 0 3,submit 1,land 1 3,end 0 ok,end 1 ok,power
 16|w 3 1,w 3 2,c 0,c 1,f,c 4|4||3:1=submit 0,submit 1,land 1 3,land 0 3,destage 3,end 0 ok,end 1 ok,power
@@ -168,9 +170,10 @@ fn answer_of(alloc: Global, row: &str) -> Result<String, AllocError> {
     }
 }
 
-// A second submission, and one of an end; landings before a submission, after an end, elsewhere and twice; a destage where
-// nothing landed, and past the device's end; ends before a landing, on half of the sectors, of a FUA write that
-// isn't destaged after it landed, and of a flush after what is only in the cache; what comes after power.
+// A second submission, and one of an end; landings before a submission, after an end, elsewhere and
+// twice; a destage where nothing landed, and past the device's end; ends before a landing, on half
+// of the sectors, of a FUA write that isn't destaged after it landed, and of a flush after what is
+// only in the cache; what comes after power.
 const STEPS: &str = "w 3 1|submit 0=ok
 w 3 1|submit 0,submit 0=35 BadStep
 w 3 1,c 0|submit 1=35 BadStep

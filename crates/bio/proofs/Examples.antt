@@ -82,7 +82,8 @@ orderly : is_well_formed (Submit Flush ∷ Mark (0x61 ∷ []) ∷ Complete 0 tru
 orderly = refl
 
 -- so is an end that comes after a Stop
-orderly-stopped : is_well_formed (Submit Flush ∷ Stop ends.Full ∷ Complete 0 true ∷ Close ∷ []) ≡ true
+orderly-stopped : is_well_formed (Submit Flush ∷ Stop ends.Full ∷ Complete 0 true ∷ Close ∷ [])
+    ≡ true
 orderly-stopped = refl
 
 -- a mark with a zero byte isn't, nor is a read that is followed
@@ -182,7 +183,8 @@ aligned-count = refl
 aligned-flush : is_aligned 4096 Flush ≡ true
 aligned-flush = refl
 
--- a request past the end is told as that first, and one that isn't aligned only where it may be sent
+-- a request past the end is told as that first, and one
+-- that isn't aligned only where it may be sent
 sized-past : check_sized_answer 4096 (Discard 63 7) 64 ≡ Err PastEnd
 sized-past = refl
 

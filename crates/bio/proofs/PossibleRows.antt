@@ -1,16 +1,20 @@
 -- Which requests are durable and which are replaced, by computation.
-use Rattle.std.proofs.Common.{◌≡◌, ℕ, zero, suc, Bool, true, false, None, Some, List, [], ◌∷◌, get_or, slice_get, refl, replicate, ap, inl, inr, arith}
+use Rattle.std.proofs.Common.{◌≡◌, ℕ, zero, suc, Bool, true, false, None, Some, List, [], ◌∷◌}
+use Rattle.std.proofs.Common.{get_or, slice_get, refl, replicate, ap, inl, inr, arith}
 use Rattle.std.specs.Prelude.{◌==◌, if◌then◌else◌, unwrap_or}
 use Rattle.sectors.specs.Content as contents
 use Rattle.sectors.specs.Content.{Content}
 use Rattle.bio.specs.declared.event.CoreEvent.{CoreEvent}
 use Rattle.bio.specs.declared.event.CoreEvent.TheVariants.{Submit, Complete, Mark}
 use Rattle.bio.specs.declared.request.Bio.TheVariants.{Write, Flush, Discard, Read}
-use Rattle.bio.specs.Possible.{Possible, PossibleAt, has_kept, is_durable, is_flushed, is_kept, is_replaced, values_at}
+use Rattle.bio.specs.Possible.{Possible, PossibleAt, has_kept, is_durable, is_flushed, is_kept}
+use Rattle.bio.specs.Possible.{is_replaced, values_at}
 
 -- a write of sector 5 that ends, and a flush after it that ends by this result
 abbrev flushed : (ok : Bool) → List CoreEvent
-flushed ok = Submit (Write 5 (replicate 512 65) false false false) ∷ Complete 0 true ∷ Submit Flush ∷ Complete 2 ok ∷ []
+flushed ok =
+    Submit (Write 5 (replicate 512 65) false false false) ∷ Complete 0 true ∷ Submit
+    Flush ∷ Complete 2 ok ∷ []
 
 -- a write that a flush with success followed is durable, and covers its own sector alone
 durable-flushed : is_durable (flushed true) 0 ≡ true
@@ -23,7 +27,8 @@ kept-other : has_kept (flushed true) 6 ≡ false
 kept-other = refl
 
 -- a write that failed isn't
-durable-write-failed : is_durable (Submit (Discard 5 1) ∷ Complete 0 false ∷ Submit Flush ∷ Complete 2 true ∷ []) 0 ≡ false
+durable-write-failed : is_durable
+    (Submit (Discard 5 1) ∷ Complete 0 false ∷ Submit Flush ∷ Complete 2 true ∷ []) 0 ≡ false
 durable-write-failed = refl
 
 -- with a flush that failed it isn't
@@ -43,7 +48,8 @@ kept-crossed = refl
 -- a FUA write is durable at its end with success, and else not
 abbrev fua : (ok : Bool) → List CoreEvent
 fua ok =
-    Submit (Discard 5 1) ∷ Complete 0 true ∷ Submit (Write 5 (replicate 512 66) false true false) ∷ Submit (Discard 5 1) ∷ Complete 2 ok ∷ []
+    Submit (Discard 5 1) ∷ Complete 0 true ∷ Submit
+    (Write 5 (replicate 512 66) false true false) ∷ Submit (Discard 5 1) ∷ Complete 2 ok ∷ []
 
 durable-fua : is_durable (fua true) 2 ≡ true
 durable-fua = refl
@@ -90,7 +96,8 @@ value-read = refl
 -- a write of sector 5, and a FUA write of it after the first has ended
 abbrev replaced : List CoreEvent
 replaced =
-    Submit (Write 5 (replicate 512 65) false false false) ∷ Complete 0 true ∷ Submit (Write 5 (replicate 512 66) false true false) ∷ Complete 2 true ∷ []
+    Submit (Write 5 (replicate 512 65) false false false) ∷ Complete 0 true ∷ Submit
+    (Write 5 (replicate 512 66) false true false) ∷ Complete 2 true ∷ []
 
 -- one sector has this byte, and the others have sevens
 abbrev holding : ℕ → ℕ → Content
@@ -114,7 +121,8 @@ unfolding contents.over
 impossible-first (inl same) = let contra : true ≡ false = same.1 in cc
 impossible-first (inr (zero, is, last)) = let contra = byte_is 65 7 is in absurd (omega arith)
 impossible-first (inr (suc zero, is, last)) = cc
-impossible-first (inr (suc (suc zero), is, last)) = let contra = byte_is 66 7 is in absurd (omega arith)
+impossible-first (inr (suc (suc zero), is, last)) =
+    let contra = byte_is 66 7 is in absurd (omega arith)
 impossible-first (inr (suc (suc (suc zero)), is, last)) = cc
 impossible-first (inr (suc (suc (suc (suc id))), is, last)) = cc
 
@@ -124,7 +132,8 @@ unfolding contents.over
 impossible-older (inl same) = let contra : true ≡ false = same.1 in cc
 impossible-older (inr (zero, is, last)) = let contra : true ≡ false = last in cc
 impossible-older (inr (suc zero, is, last)) = cc
-impossible-older (inr (suc (suc zero), is, last)) = let contra = byte_is 66 65 is in absurd (omega arith)
+impossible-older (inr (suc (suc zero), is, last)) =
+    let contra = byte_is 66 65 is in absurd (omega arith)
 impossible-older (inr (suc (suc (suc zero)), is, last)) = cc
 impossible-older (inr (suc (suc (suc (suc id))), is, last)) = cc
 

@@ -1,6 +1,7 @@
 -- Whether a request may be sent to a device of so many sectors, and else the first reason against
 -- it: what `check` and `check_sized` answer.
-use Rattle.std.specs.Prelude.{ℕ, ◌+◌, ◌/◌, ◌%◌, ◌==◌, length, Bool, Result, Ok, Err, nat_lt, if◌then◌else◌}
+use Rattle.std.specs.Prelude.{ℕ, ◌+◌, ◌/◌, ◌%◌, ◌==◌, length, Bool, Result, Ok, Err, nat_lt}
+use Rattle.std.specs.Prelude.{if◌then◌else◌}
 use Rattle.bio.specs.declared.request.Bio.{Bio}
 use Rattle.bio.specs.declared.request.Bio.TheVariants.{Write, Flush, Discard, Read}
 use Rattle.bio.specs.declared.request.BadBio.{BadBio}
@@ -15,20 +16,24 @@ range_answer first count sectors =
     else if nat_lt sectors (first + count) then Err PastEnd
     else Ok tt
 
--- whether a request may be sent to a device of so many sectors, and else the first reason against it
+-- whether a request may be sent to a device of so many
+-- sectors, and else the first reason against it
 abbrev pub check_answer : Bio → ℕ → Result (Unit {0}) BadBio
 check_answer (Write first bytes flush fua meta) sectors =
-    if length bytes % 512 == 0 then range_answer first (length bytes / 512) sectors else Err NotWhole
+    if length bytes % 512 == 0 then range_answer first
+    (length bytes / 512) sectors else Err NotWhole
 check_answer Flush sectors = Ok tt
 check_answer (Discard first count) sectors = range_answer first count sectors
 check_answer (Read first count) sectors = range_answer first count sectors
 
--- an answer that is Ok stays where a test passes, and is Unaligned where it doesn't; a reason against the request stays
+-- an answer that is Ok stays where a test passes, and is Unaligned where it doesn't; a reason
+-- against the request stays
 abbrev pub unless_unaligned : Bool → Result (Unit {0}) BadBio → Result (Unit {0}) BadBio
 unless_unaligned aligned (Ok tt) = if aligned then Ok tt else Err Unaligned
 unless_unaligned aligned (Err bad) = Err bad
 
--- whether a request may be sent to a device of so many sectors and recorded in a log with sectors of so many bytes, and else the first
--- reason against it
+-- whether a request may be sent to a device of so many sectors and recorded in a log with sectors
+-- of so many bytes, and else the first reason against it
 abbrev pub check_sized_answer : ℕ → Bio → ℕ → Result (Unit {0}) BadBio
-check_sized_answer size bio sectors = unless_unaligned (is_aligned size bio) (check_answer bio sectors)
+check_sized_answer size bio sectors =
+    unless_unaligned (is_aligned size bio) (check_answer bio sectors)

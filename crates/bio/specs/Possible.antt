@@ -1,5 +1,7 @@
--- What a device that was sent these requests could hold, had power failed after the last of the events.
-use Rattle.std.specs.Prelude.{◌≡◌, ◌⊎◌, ℕ, Bool, false, ◌&&◌, ◌||◌, Option, Some, None, List, length, slice_get}
+-- What a device that was sent these requests could hold,
+-- had power failed after the last of the events.
+use Rattle.std.specs.Prelude.{◌≡◌, ◌⊎◌, ℕ, Bool, false, ◌&&◌, ◌||◌, Option, Some, None, List}
+use Rattle.std.specs.Prelude.{length, slice_get}
 use Rattle.sectors.specs.Places.{any_below}
 use Rattle.sectors.specs.Content.{Content, Patch, discards, nothing, writes}
 use Rattle.bio.specs.declared.request.Bio.{Bio}
@@ -26,11 +28,14 @@ ended_ok events id = is_success_at events (end_of events id)
 -- the request ended before the submission of a flush that ended with success
 abbrev pub is_flushed : List CoreEvent → ℕ → Bool
 is_flushed events id =
-    any_below (λ flush. is_flush_submit (slice_get events flush) && (ended_ok events flush && is_before events id flush)) (length events)
+    any_below (λ flush. is_flush_submit (slice_get events flush)
+    && (ended_ok events flush && is_before events id flush)) (length events)
 
--- the request is durable: it ended with success, and it is FUA, or a flush that was submitted after its end ended with success
+-- the request is durable: it ended with success, and it is FUA, or a flush that was submitted after
+-- its end ended with success
 abbrev pub is_durable : List CoreEvent → ℕ → Bool
-is_durable events id = ended_ok events id && (submits has_fua (slice_get events id) || is_flushed events id)
+is_durable events id =
+    ended_ok events id && (submits has_fua (slice_get events id) || is_flushed events id)
 
 -- the event submits a request that puts a value in the sector
 abbrev pub covers_at : ℕ → Option CoreEvent → Bool
@@ -46,7 +51,8 @@ has_kept events sector = any_below (is_kept events sector) (length events)
 
 -- the request of this place ended before a durable request that covers the sector was submitted
 abbrev pub is_replaced : List CoreEvent → ℕ → ℕ → Bool
-is_replaced events sector id = any_below (λ later. is_kept events sector later && is_before events id later) (length events)
+is_replaced events sector id =
+    any_below (λ later. is_kept events sector later && is_before events id later) (length events)
 
 -- the values that a request puts in sectors
 abbrev pub values_of : Bio → Patch
@@ -60,12 +66,14 @@ abbrev pub values_at : Option CoreEvent → Patch
 values_at (Some (Submit bio)) = values_of bio
 values_at _ = nothing
 
--- Could the sector hold what `now` has there, where `first` was there before the first event: that value, where no durable request
--- covers the sector, or the value of a request that was submitted, where it didn't end before a durable one over the sector was submitted.
+-- Could the sector hold what `now` has there, where `first` was there before the first event: that
+-- value, where no durable request covers the sector, or the value of a request that was submitted,
+-- where it didn't end before a durable one over the sector was submitted.
 abbrev pub PossibleAt : List CoreEvent → Content → Content → ℕ → Type 0
 PossibleAt events first now sector =
     ((now sector ≡ first sector) × (has_kept events sector ≡ false))
-    ⊎ ((id : ℕ) × (values_at (slice_get events id) sector ≡ Some (now sector)) × (is_replaced events sector id ≡ false))
+    ⊎ ((id : ℕ) × (values_at (slice_get events id) sector ≡ Some (now sector))
+    × (is_replaced events sector id ≡ false))
 
 -- could the device hold this content: each sector for itself
 abbrev pub Possible : List CoreEvent → Content → Content → Type 0

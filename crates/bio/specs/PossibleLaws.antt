@@ -1,5 +1,6 @@
 -- Which sectors a request has values for: just those that it covers.
-use Rattle.std.proofs.Common.{◌≡◌, ℕ, ◌-◌, true, false, Option, Some, None, List, replicate, refl, ap, sym, ◌∙◌, inl, inr, arith}
+use Rattle.std.proofs.Common.{◌≡◌, ℕ, ◌-◌, true, false, Option, Some, None, List, replicate, refl}
+use Rattle.std.proofs.Common.{ap, sym, ◌∙◌, inl, inr, arith}
 use Rattle.std.specs.Prelude.{if◌then◌else◌}
 use Rattle.sectors.specs.Content.{over, sector_of}
 use Rattle.sectors.specs.PlaceLaws.{bool_cases}
@@ -12,15 +13,19 @@ use Rattle.bio.specs.RequestLaws.{covers-parts}
 use Rattle.bio.specs.Requests.{covers}
 
 -- a request has no value for a sector that it doesn't cover
-request_uncovered : (bio : Bio) (sector : ℕ) → covers bio sector ≡ false → values_at (Some (Submit bio)) sector ≡ None
+request_uncovered : (bio : Bio) (sector : ℕ) → covers bio sector ≡ false
+    → values_at (Some (Submit bio)) sector ≡ None
 unfolding over
-request_uncovered (Write first bytes flush fua meta) sector passes = ap (λ b. if b then Some (sector_of bytes (sector - first)) else None) passes
+request_uncovered (Write first bytes flush fua meta) sector passes =
+    ap (λ b. if b then Some (sector_of bytes (sector - first)) else None) passes
 request_uncovered Flush sector passes = refl
-request_uncovered (Discard first count) sector passes = ap (λ b. if b then Some (replicate 512 0) else None) passes
+request_uncovered (Discard first count) sector passes =
+    ap (λ b. if b then Some (replicate 512 0) else None) passes
 request_uncovered (Read first count) sector passes = refl
 
 -- nor has any event
-pub uncovered_value : (event : Option CoreEvent) (sector : ℕ) → covers_at sector event ≡ false → values_at event sector ≡ None
+pub uncovered_value : (event : Option CoreEvent) (sector : ℕ) → covers_at sector event ≡ false
+    → values_at event sector ≡ None
 uncovered_value (Some (Submit bio)) sector passes = request_uncovered bio sector passes
 uncovered_value (Some (Complete id ok)) sector passes = refl
 uncovered_value (Some (Mark text)) sector passes = refl
@@ -29,12 +34,17 @@ uncovered_value (Some Close) sector passes = refl
 uncovered_value None sector passes = refl
 
 -- a request has a value for each sector that it covers
-request_covered : (bio : Bio) (sector : ℕ) → covers bio sector ≡ true → (value : List ℕ) × (values_at (Some (Submit bio)) sector ≡ Some value)
+request_covered : (bio : Bio) (sector : ℕ) → covers bio sector ≡ true
+    → (value : List ℕ) × (values_at (Some (Submit bio)) sector ≡ Some value)
 unfolding over
-request_covered (Write first bytes flush fua meta) sector covered =
-    (sector_of bytes (sector - first), ap (λ b. if b then Some (sector_of bytes (sector - first)) else None) covered)
-request_covered Flush sector covered = let range = covers-parts Flush sector covered in let less = range.2 in absurd (omega arith)
-request_covered (Discard first count) sector covered = (replicate 512 0, ap (λ b. if b then Some (replicate 512 0) else None) covered)
+request_covered (Write first bytes flush fua meta) sector covered = (
+  sector_of bytes (sector - first),
+  ap (λ b. if b then Some (sector_of bytes (sector - first)) else None) covered,
+)
+request_covered Flush sector covered =
+    let range = covers-parts Flush sector covered in let less = range.2 in absurd (omega arith)
+request_covered (Discard first count) sector covered =
+    (replicate 512 0, ap (λ b. if b then Some (replicate 512 0) else None) covered)
 request_covered (Read first count) sector covered = cc
 
 pub covered_value : (event : Option CoreEvent) (sector : ℕ) → covers_at sector event ≡ true
@@ -47,8 +57,10 @@ covered_value (Some Close) sector covered = cc
 covered_value None sector covered = cc
 
 -- an event with a value for a sector covers it
-pub value_covers : (event : Option CoreEvent) (sector : ℕ) (value : List ℕ) → values_at event sector ≡ Some value → covers_at sector event ≡ true
+pub value_covers : (event : Option CoreEvent) (sector : ℕ) (value : List ℕ)
+    → values_at event sector ≡ Some value → covers_at sector event ≡ true
 value_covers event sector value is = elim (bool_cases (covers_at sector event)) [
   | inl covered ↦ covered
-  | inr passes ↦ absurd (let contra : None ≡ Some value = sym (uncovered_value event sector passes) ∙ is in cc)
+  | inr passes ↦
+      absurd (let contra : None ≡ Some value = sym (uncovered_value event sector passes) ∙ is in cc)
 ]

@@ -1,6 +1,9 @@
 -- What the words of requests and events come to in numbers.
-use Rattle.std.proofs.Common.{◌≡◌, ◌↔◌, ℕ, zero, suc, ◌+◌, ◌/◌, ◌%◌, ◌==◌, ◌<◌, ◌≤◌, ◌≢◌, Bool, true, false, not, ◌&&◌, Option, Some, None, List, [], ◌∷◌, length, get_or, Result, Ok, Err, refl, ap, sym, ◌∙◌, inl, inr, arith}
-use Rattle.std.proofs.lemmas.Bool.{and_parts, le-leb, le-ltb, leb-true, lt-ltb, ltb-true, ltb-false, cases_lt}
+use Rattle.std.proofs.Common.{◌≡◌, ◌↔◌, ℕ, zero, suc, ◌+◌, ◌/◌, ◌%◌, ◌==◌, ◌<◌, ◌≤◌, ◌≢◌, Bool}
+use Rattle.std.proofs.Common.{true, false, not, ◌&&◌, Option, Some, None, List, [], ◌∷◌, length}
+use Rattle.std.proofs.Common.{get_or, Result, Ok, Err, refl, ap, sym, ◌∙◌, inl, inr, arith}
+use Rattle.std.proofs.lemmas.Bool.{and_parts, le-leb, le-ltb, leb-true, lt-ltb, ltb-true, ltb-false}
+use Rattle.std.proofs.lemmas.Bool.{cases_lt}
 use Rattle.std.specs.Prelude.{◌⊎◌, is_ok, nat_le, nat_lt, if◌then◌else◌}
 use Rattle.bio.specs.declared.event.CoreEvent.{CoreEvent}
 use Rattle.bio.specs.declared.request.Bio.{Bio}
@@ -18,23 +21,33 @@ use Rattle.bio.specs.Requests.{covers, first_sector, is_tracked, overlaps, secto
 
 -- the tests of a request that covers a sector
 pub covers-parts : (bio : Bio) (sector : ℕ) → covers bio sector ≡ true
-    → (is_tracked bio ≡ true) × (first_sector bio ≤ sector) × (sector < first_sector bio + sector_count bio)
+    → (is_tracked bio ≡ true) × (first_sector bio ≤ sector)
+    × (sector < first_sector bio + sector_count bio)
 covers-parts bio sector h =
-    let outer = and_parts (is_tracked bio && nat_le (first_sector bio) sector) (nat_lt sector (first_sector bio + sector_count bio)) h in
-    let inner = and_parts (is_tracked bio) (nat_le (first_sector bio) sector) outer.0 in
-    (inner.0, leb-true (first_sector bio) sector inner.1, ltb-true sector (first_sector bio + sector_count bio) outer.1)
+    let outer =
+    and_parts (is_tracked bio && nat_le (first_sector bio) sector)
+    (nat_lt sector (first_sector bio + sector_count bio)) h in
+    let inner = and_parts (is_tracked bio) (nat_le (first_sector bio) sector) outer.0 in (
+      inner.0,
+      leb-true (first_sector bio) sector inner.1,
+      ltb-true sector (first_sector bio + sector_count bio) outer.1,
+    )
 
 -- a request that is followed covers the sectors of its range
-pub covers-within : (bio : Bio) (sector : ℕ) → is_tracked bio ≡ true → first_sector bio ≤ sector → sector < first_sector bio + sector_count bio
+pub covers-within : (bio : Bio) (sector : ℕ) → is_tracked bio ≡ true → first_sector bio ≤ sector
+    → sector < first_sector bio + sector_count bio
     → covers bio sector ≡ true
 covers-within bio sector tracked from to =
-    ap (λ b. b && nat_le (first_sector bio) sector && nat_lt sector (first_sector bio + sector_count bio)) tracked
-    ∙ ap (λ b. b && nat_lt sector (first_sector bio + sector_count bio)) (le-leb (first_sector bio) sector from)
+    ap (λ b. b && nat_le (first_sector bio) sector
+    && nat_lt sector (first_sector bio + sector_count bio)) tracked
+    ∙ ap (λ b. b && nat_lt sector (first_sector bio + sector_count bio))
+    (le-leb (first_sector bio) sector from)
     ∙ lt-ltb sector (first_sector bio + sector_count bio) to
 
 -- it covers just these
 pub covers-range : (bio : Bio) (sector : ℕ) → is_tracked bio ≡ true
-    → (covers bio sector ≡ true) ↔ ((first_sector bio ≤ sector) × (sector < first_sector bio + sector_count bio))
+    → (covers bio sector ≡ true)
+    ↔ ((first_sector bio ≤ sector) × (sector < first_sector bio + sector_count bio))
 covers-range bio sector tracked = (
   λ h. let parts = covers-parts bio sector h in (parts.1, parts.2),
   λ both. covers-within bio sector tracked both.0 both.1,
@@ -71,7 +84,8 @@ overlaps-parts a b h =
     }
 
 -- tests that hold are all that an overlap wants
-six_hold : (a b c d e f : Bool) → a ≡ true → b ≡ true → c ≡ true → d ≡ true → e ≡ true → f ≡ true → (a && b && c && d && e && f) ≡ true
+six_hold : (a b c d e f : Bool) → a ≡ true → b ≡ true → c ≡ true → d ≡ true → e ≡ true → f ≡ true
+    → (a && b && c && d && e && f) ≡ true
 six_hold true true true true true true ha hb hc hd he hf = refl
 six_hold a b c d e false ha hb hc hd he hf = cc
 six_hold a b c d false f ha hb hc hd he hf = cc
@@ -88,7 +102,8 @@ greater m n = elim (cases_lt m n) [
 ]
 
 -- two requests overlap just where both cover some sector
-pub overlaps-common : (a b : Bio) → (overlaps a b ≡ true) ↔ ((sector : ℕ) × (covers a sector ≡ true) × (covers b sector ≡ true))
+pub overlaps-common : (a b : Bio)
+    → (overlaps a b ≡ true) ↔ ((sector : ℕ) × (covers a sector ≡ true) × (covers b sector ≡ true))
 overlaps-common a b = (
   λ h.
       let parts = overlaps-parts a b h in
@@ -122,16 +137,19 @@ overlaps-common a b = (
 )
 
 -- a place that was found is below another one just where it is less
-pub is_below-found : (found : Option ℕ) (limit : ℕ) → (is_below found limit ≡ true) ↔ ((place : ℕ) × (found ≡ Some place) × (place < limit))
+pub is_below-found : (found : Option ℕ) (limit : ℕ)
+    → (is_below found limit ≡ true) ↔ ((place : ℕ) × (found ≡ Some place) × (place < limit))
 is_below-found None limit = (λ h. let none : false ≡ true = h in cc, λ some. let is = some.1 in cc)
 is_below-found (Some place) limit = (
   λ h. (place, refl, ltb-true place limit h),
-  λ some. let same : place ≡ some.0 = let is = some.1 in cc in let less = some.2 in lt-ltb place limit (omega arith),
+  λ some. let same : place ≡ some.0 =
+      let is = some.1 in cc in let less = some.2 in lt-ltb place limit (omega arith),
 )
 
 -- one request ended before the other was submitted just where it has an end at an earlier place
 pub is_before-end : (events : List CoreEvent) (earlier later : ℕ)
-    → (is_before events earlier later ≡ true) ↔ ((end : ℕ) × (end_of events earlier ≡ Some end) × (end < later))
+    → (is_before events earlier later ≡ true)
+    ↔ ((end : ℕ) × (end_of events earlier ≡ Some end) × (end < later))
 is_before-end events earlier later = is_below-found (end_of events earlier) later
 
 -- a byte passes the test of a text just where it isn't zero
@@ -140,7 +158,8 @@ nonzero zero = (λ h. let none : false ≡ true = h in cc, λ differ. absurd (di
 nonzero (suc byte) = (λ h e. omega arith, λ differ. ap not (differ-eqb (suc byte) 0 differ))
 
 -- a text has no zero byte
-pub is_text-nonzero : (text : List ℕ) → (is_text text ≡ true) ↔ ((k : ℕ) → k < length text → get_or text k 0 ≢ 0)
+pub is_text-nonzero : (text : List ℕ)
+    → (is_text text ≡ true) ↔ ((k : ℕ) → k < length text → get_or text k 0 ≢ 0)
 is_text-nonzero [] = (λ h k less. absurd (omega arith), λ each. refl)
 is_text-nonzero (byte ∷ text) = (
   λ h.
@@ -151,14 +170,16 @@ is_text-nonzero (byte ∷ text) = (
       ∙ (is_text-nonzero text).1 (λ k less. each (suc k) (omega arith)),
 )
   where
-    each_of : (byte : ℕ) (text : List ℕ) → byte ≢ 0 → ((k : ℕ) → k < length text → get_or text k 0 ≢ 0)
+    each_of : (byte : ℕ) (text : List ℕ) → byte ≢ 0
+        → ((k : ℕ) → k < length text → get_or text k 0 ≢ 0)
         → (k : ℕ) → k < length (byte ∷ text) → get_or (byte ∷ text) k 0 ≢ 0
     each_of byte text here others zero less = here
     each_of byte text here others (suc k) less = others k (omega arith)
 
 -- the answer of a range, by its three tests
 range_of_tests : Bool → Bool → Bool → Result (Unit {0}) BadBio
-range_of_tests none long past = if none then Err NotWhole else if long then Err TooLong else if past then Err PastEnd else Ok tt
+range_of_tests none long past =
+    if none then Err NotWhole else if long then Err TooLong else if past then Err PastEnd else Ok tt
 
 -- where the answer is Ok, the range isn't past the end
 not_past : (none long past : Bool) → range_of_tests none long past ≡ Ok tt → past ≡ false
@@ -169,7 +190,8 @@ not_past false false true e = cc
 not_past false false false e = refl
 
 -- a range that may be sent to a device may be sent to a larger one
-range_answer-larger : (first count n m : ℕ) → range_answer first count n ≡ Ok tt → n ≤ m → range_answer first count m ≡ Ok tt
+range_answer-larger : (first count n m : ℕ) → range_answer first count n ≡ Ok tt → n ≤ m
+    → range_answer first count m ≡ Ok tt
 unfolding range_of_tests
 range_answer-larger first count n m passed more =
     let within = not_past (count == 0) (nat_lt 2048 count) (nat_lt n (first + count)) passed in
@@ -179,18 +201,23 @@ range_answer-larger first count n m passed more =
     ∙ passed
 
 -- and so is a write, whose data are whole sectors for both or for none
-write_answer-larger : (whole : Bool) (first count n m : ℕ) → (if whole then range_answer first count n else Err NotWhole) ≡ Ok tt → n ≤ m
+write_answer-larger : (whole : Bool) (first count n m : ℕ)
+    → (if whole then range_answer first count n else Err NotWhole) ≡ Ok tt → n ≤ m
     → (if whole then range_answer first count m else Err NotWhole) ≡ Ok tt
-write_answer-larger true first count n m passed more = range_answer-larger first count n m passed more
+write_answer-larger true first count n m passed more =
+    range_answer-larger first count n m passed more
 write_answer-larger false first count n m passed more = passed
 
 -- a request that may be sent to a device may be sent to a larger one
-pub check_answer-larger : (bio : Bio) (n m : ℕ) → check_answer bio n ≡ Ok tt → n ≤ m → check_answer bio m ≡ Ok tt
+pub check_answer-larger : (bio : Bio) (n m : ℕ) → check_answer bio n ≡ Ok tt → n ≤ m
+    → check_answer bio m ≡ Ok tt
 check_answer-larger (Write first bytes flush fua meta) n m passed more =
     write_answer-larger (length bytes % 512 == 0) first (length bytes / 512) n m passed more
 check_answer-larger Flush n m passed more = refl
-check_answer-larger (Discard first count) n m passed more = range_answer-larger first count n m passed more
-check_answer-larger (Read first count) n m passed more = range_answer-larger first count n m passed more
+check_answer-larger (Discard first count) n m passed more =
+    range_answer-larger first count n m passed more
+check_answer-larger (Read first count) n m passed more =
+    range_answer-larger first count n m passed more
 
 -- an answer that is Ok
 pub is_ok-ok : (answer : Result (Unit {0}) BadBio) → is_ok answer ≡ true → answer ≡ Ok tt
@@ -198,36 +225,46 @@ is_ok-ok (Ok tt) e = refl
 is_ok-ok (Err bad) e = cc
 
 -- a request that may be sent to a device ends within it
-pub passed_within : (bio : Bio) (sectors : ℕ) → check_answer bio sectors ≡ Ok tt → first_sector bio + sector_count bio ≤ sectors
+pub passed_within : (bio : Bio) (sectors : ℕ) → check_answer bio sectors ≡ Ok tt
+    → first_sector bio + sector_count bio ≤ sectors
 unfolding range_of_tests
 passed_within (Write first bytes flush fua meta) sectors passed =
     let past = by_whole (length bytes % 512 == 0) passed in
     ltb-false sectors (first + length bytes / 512) past
   where
-    by_whole : (whole : Bool) → (if whole then range_answer first (length bytes / 512) sectors else Err NotWhole) ≡ Ok tt
+    by_whole : (whole : Bool)
+        → (if whole then range_answer first (length bytes / 512) sectors else Err NotWhole) ≡ Ok tt
         → nat_lt sectors (first + length bytes / 512) ≡ false
-    by_whole true e = not_past (length bytes / 512 == 0) (nat_lt 2048 (length bytes / 512)) (nat_lt sectors (first + length bytes / 512)) e
+    by_whole true e =
+        not_past (length bytes / 512 == 0) (nat_lt 2048 (length bytes / 512))
+        (nat_lt sectors (first + length bytes / 512)) e
     by_whole false e = cc
 passed_within Flush sectors passed = omega arith
 passed_within (Discard first count) sectors passed =
-    ltb-false sectors (first + count) (not_past (count == 0) (nat_lt 2048 count) (nat_lt sectors (first + count)) passed)
+    ltb-false sectors (first + count)
+    (not_past (count == 0) (nat_lt 2048 count) (nat_lt sectors (first + count)) passed)
 passed_within (Read first count) sectors passed =
-    ltb-false sectors (first + count) (not_past (count == 0) (nat_lt 2048 count) (nat_lt sectors (first + count)) passed)
+    ltb-false sectors (first + count)
+    (not_past (count == 0) (nat_lt 2048 count) (nat_lt sectors (first + count)) passed)
 
 -- the request that an event submits ends within a device that the event is within
-pub submits_within : (bio : Bio) (sectors : ℕ) → is_within sectors (Some (Submit bio)) ≡ true → first_sector bio + sector_count bio ≤ sectors
-submits_within bio sectors within = passed_within bio sectors (is_ok-ok (check_answer bio sectors) within)
+pub submits_within : (bio : Bio) (sectors : ℕ) → is_within sectors (Some (Submit bio)) ≡ true
+    → first_sector bio + sector_count bio ≤ sectors
+submits_within bio sectors within =
+    passed_within bio sectors (is_ok-ok (check_answer bio sectors) within)
 
 -- an event that is within a device covers no sector past its end
-pub event_within : (event : Option CoreEvent) (sectors sector : ℕ) → is_within sectors event ≡ true → sectors ≤ sector → covers_at sector event ≡ false
-event_within (Some (Submit bio)) sectors sector within past = elim (bool_cases (covers bio sector)) [
-  | inl covered ↦
-      let range = covers-parts bio sector covered in
-      let less = range.2 in
-      let most = submits_within bio sectors within in
-      absurd (omega arith)
-  | inr other ↦ other
-]
+pub event_within : (event : Option CoreEvent) (sectors sector : ℕ) → is_within sectors event ≡ true
+    → sectors ≤ sector → covers_at sector event ≡ false
+event_within (Some (Submit bio)) sectors sector within past =
+    elim (bool_cases (covers bio sector)) [
+      | inl covered ↦
+          let range = covers-parts bio sector covered in
+          let less = range.2 in
+          let most = submits_within bio sectors within in
+          absurd (omega arith)
+      | inr other ↦ other
+    ]
 event_within (Some (Complete id ok)) sectors sector within past = refl
 event_within (Some (Mark text)) sectors sector within past = refl
 event_within (Some (Stop cause)) sectors sector within past = refl

@@ -1,6 +1,7 @@
 -- What a request is to the rest: which sectors it covers, whether it flushes, has
 -- FUA, is aligned, and whether two overlap.
-use Rattle.std.specs.Prelude.{ℕ, ◌+◌, ◌/◌, ◌%◌, ◌==◌, Bool, true, false, ◌&&◌, length, nat_lt, nat_le}
+use Rattle.std.specs.Prelude.{ℕ, ◌+◌, ◌/◌, ◌%◌, ◌==◌, Bool, true, false, ◌&&◌, length, nat_lt}
+use Rattle.std.specs.Prelude.{nat_le}
 use Rattle.bio.specs.declared.request.Bio.{Bio}
 use Rattle.bio.specs.declared.request.Bio.TheVariants.{Write, Flush, Discard, Read}
 
@@ -45,15 +46,16 @@ sector_count Flush = 0
 sector_count (Discard first count) = count
 sector_count (Read first count) = count
 
--- it begins and ends at multiples of so many bytes, for a log with sectors of that size: its first sector and its count are
--- multiples of the sectors of 512 bytes in one
+-- it begins and ends at multiples of so many bytes, for a log with sectors of that size: its first
+-- sector and its count are multiples of the sectors of 512 bytes in one
 abbrev pub is_aligned : ℕ → Bio → Bool
 is_aligned size bio = first_sector bio % (size / 512) == 0 && sector_count bio % (size / 512) == 0
 
 -- a write or a discard puts a value in the sector
 abbrev pub covers : Bio → ℕ → Bool
 covers bio sector =
-    is_tracked bio && nat_le (first_sector bio) sector && nat_lt sector (first_sector bio + sector_count bio)
+    is_tracked bio && nat_le (first_sector bio) sector
+    && nat_lt sector (first_sector bio + sector_count bio)
 
 -- two writes or discards meet: both put a value in some sector
 abbrev pub overlaps : Bio → Bio → Bool

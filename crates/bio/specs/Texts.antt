@@ -11,4 +11,5 @@ end_text (Some end) = codes " logging_disabled"
 
 -- a status is shown by the entries and the highest sector, and whether logging has ended
 abbrev pub status_text : Status → List ℕ
-status_text status = decimal status.entries ++ codes " " ++ decimal status.sector ++ end_text status.end
+status_text status =
+    decimal status.entries ++ codes " " ++ decimal status.sector ++ end_text status.end

@@ -8,8 +8,8 @@ use std::sync::Arc;
 
 /// A list of bytes, as a request's data or a mark's text. Contracts see it as that list.
 ///
-/// Bytes that are shared lie in memory once, however often they are cloned. Those that are made from a
-/// vector are held alone until they are cloned or `into_shared` is called.
+/// Bytes that are shared lie in memory once, however often they are cloned. Those that are made
+/// from a vector are held alone until they are cloned or `into_shared` is called.
 #[derive(Debug, Drop)]
 pub struct Bytes {
     storage: Storage,
@@ -43,8 +43,8 @@ impl Bytes {
         }
     }
 
-    /// The same bytes, of which each clone takes no more memory. Takes memory for a few words, and none
-    /// where they are shared already.
+    /// The same bytes, of which each clone takes no more memory. Takes memory for a few words, and
+    /// none where they are shared already.
     pub fn into_shared(self) -> Result<Bytes, AllocError>
         ensures { IfOk result (λ shared. shared ≡ self) }
     {
@@ -58,8 +58,8 @@ impl Bytes {
         })
     }
 
-    /// Gives the vector back. Takes no memory but where the bytes are shared with a clone that is still
-    /// there: then they are copied.
+    /// Gives the vector back. Takes no memory but where the bytes are shared with a clone that is
+    /// still there: then they are copied.
     pub fn into_vec(self) -> Result<Vec<u8>, AllocError>
         ensures { IfOk result (λ bytes. bytes.items ≡ self) }
     {
@@ -103,8 +103,8 @@ fn share(bytes: Vec<u8>) -> Result<Arc<Vec<u8>>, AllocError>
 impl Clone for Bytes {
     ghost is_clone = { λ from to. to ≡ from };
 
-    /// The same bytes. Of bytes that are shared, and of none, it takes no memory; else they are copied
-    /// once, and the copy is shared by its own clones.
+    /// The same bytes. Of bytes that are shared, and of none, it takes no memory; else they are
+    /// copied once, and the copy is shared by its own clones.
     fn clone(&self) -> Result<Bytes, AllocError>
         ensures { IfOk result (λ copy. copy ≡ self.now) }
     {

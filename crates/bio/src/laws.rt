@@ -1,6 +1,7 @@
 //! What the definitions in `specs/` come to, in plain words: covered sectors,
 //! overlaps, order of ends, and lawful event lists.
-ghost use Rattle.std.specs.Prelude.{◌≡◌, ◌≢◌, ◌↔◌, ◌+◌, ◌/◌, ◌<◌, ◌≤◌, Bool, EachIndex, IsTrue, List, Ok, Some, false, length, slice_index, ℕ};
+ghost use Rattle.std.specs.Prelude.{◌≡◌, ◌≢◌, ◌↔◌, ◌+◌, ◌/◌, ◌<◌, ◌≤◌, Bool, EachIndex, IsTrue};
+ghost use Rattle.std.specs.Prelude.{List, Ok, Some, false, length, slice_index, ℕ};
 ghost use Rattle.bio.specs.declared.event.CoreEvent.{CoreEvent};
 ghost use Rattle.bio.specs.declared.request.Bio.{Bio};
 ghost use Rattle.bio.specs.declared.request.Bio.TheVariants.{Write, Flush, Discard, Read};
@@ -16,14 +17,15 @@ pub fn limits()
     ensures { MAX_REQUEST_SECTORS ≡ 2048 }
 {}
 
-/// A write covers the sectors from its first on, as many as its bytes are whole sectors, and a discard as
-/// many as it counts. A read and a flush cover none.
+/// A write covers the sectors from its first on, as many as its bytes are whole sectors, and a
+/// discard as many as it counts. A read and a flush cover none.
 pub fn sectors_are_covered()
     ensures write { (first : ℕ) (bytes : List ℕ) (flush fua meta : Bool) (sector : ℕ) →
         IsTrue (covers (Write first bytes flush fua meta) sector)
         ↔ ((first ≤ sector) × (sector < first + length bytes / 512)) }
     ensures discard { (first count sector : ℕ) →
-        IsTrue (covers (Discard first count) sector) ↔ ((first ≤ sector) × (sector < first + count)) }
+        IsTrue (covers (Discard first count) sector)
+        ↔ ((first ≤ sector) × (sector < first + count)) }
     ensures read { (first count sector : ℕ) → covers (Read first count) sector ≡ false }
     ensures flush { (sector : ℕ) → covers Flush sector ≡ false }
 {}
@@ -36,7 +38,8 @@ pub fn overlaps_are_common_sectors()
 
 /// A request is before a later one just where it has an end, at a place below the later one's.
 pub fn ends_come_before()
-    ensures { (events : List CoreEvent) (earlier later : ℕ) → IsTrue (is_before events earlier later)
+    ensures { (events : List CoreEvent) (earlier later : ℕ)
+        → IsTrue (is_before events earlier later)
         ↔ ((end : ℕ) × (end_of events earlier ≡ Some end) × (end < later)) }
 {}
 
@@ -52,16 +55,18 @@ pub fn larger_devices_take_more()
         check_answer bio more ≡ Ok tt }
 {}
 
-/// A request that may be recorded in a log with sectors of the given size may be sent to the device, and
-/// is aligned to that size.
+/// A request that may be recorded in a log with sectors of the given size may be sent to the
+/// device, and is aligned to that size.
 pub fn sized_requests_pass_both()
     ensures { (size : ℕ) (bio : Bio) (sectors : ℕ) → (check_sized_answer size bio sectors ≡ Ok tt)
         ↔ ((check_answer bio sectors ≡ Ok tt) × IsTrue (is_aligned size bio)) }
 {}
 
-/// With log sectors of 512 bytes each request is aligned: `check_sized` answers what `check` does, and
-/// each lawful event list is lawful for such a log.
+/// With log sectors of 512 bytes each request is aligned: `check_sized` answers what `check` does,
+/// and each lawful event list is lawful for such a log.
 pub fn small_sectors_take_each_request()
-    ensures answer { (bio : Bio) (sectors : ℕ) → check_sized_answer 512 bio sectors ≡ check_answer bio sectors }
-    ensures lawful { (sectors : ℕ) (events : List CoreEvent) → is_lawful_sized 512 sectors events ≡ is_lawful sectors events }
+    ensures answer { (bio : Bio) (sectors : ℕ)
+        → check_sized_answer 512 bio sectors ≡ check_answer bio sectors }
+    ensures lawful { (sectors : ℕ) (events : List CoreEvent)
+        → is_lawful_sized 512 sectors events ≡ is_lawful sectors events }
 {}

@@ -1,9 +1,9 @@
 //! Block requests and their events.
 //!
-//! A request is a `Bio`; `check` decides whether it may be sent to a device, and `check_sized` whether it also suits a
-//! log of sectors of a given `SectorSize`. What happens to
-//! requests is a list of `CoreEvent`s; an `Id` is the place of a request's submission, or of a mark,
-//! in that list. The definitions beside the code (`specs/`) say which sectors a request covers
+//! A request is a `Bio`; `check` decides whether it may be sent to a device, and `check_sized`
+//! whether it also suits a log of sectors of a given `SectorSize`. What happens to requests is a
+//! list of `CoreEvent`s; an `Id` is the place of a request's submission, or of a mark, in that
+//! list. The definitions beside the code (`specs/`) say which sectors a request covers
 //! (`Requests`), where the requests of an event list end (`Events`), and which lists are lawful
 //! (`Lawful`). `laws` says in plain words what they come to.
 #![tactic(auto)]

@@ -1,5 +1,7 @@
--- For each clause of the law, of what a message changes, and of calls in turn, what breaks it and nothing else, and is refused by it.
-use Rattle.std.proofs.Common.{◌≡◌, ℕ, zero, suc, true, false, List, [], ◌∷◌, Some, None, Ok, Err, replicate, refl, ap, ◌∙◌, inl, inr, arith}
+-- For each clause of the law, of what a message changes, and of calls in turn, what breaks it and
+-- nothing else, and is refused by it.
+use Rattle.std.proofs.Common.{◌≡◌, ℕ, zero, suc, true, false, List, [], ◌∷◌, Some, None, Ok, Err}
+use Rattle.std.proofs.Common.{replicate, refl, ap, ◌∙◌, inl, inr, arith}
 use Rattle.std.specs.Prelude.{Result, ◌^◌, slice_index_or}
 use Rattle.bio.specs.declared.outcome.DevError.{DevError}
 use Rattle.bio.specs.declared.outcome.DevError.TheVariants.{Io}
@@ -95,7 +97,8 @@ faults : DeviceFrame one (record still { faults = 1 }) still → ⊥
 unfolding still
 faults goes = let h = goes.faults in omega arith
 
-lies : DeviceFrame one (record still { lies = 1; can_lie = true }) (record still { can_lie = true }) → ⊥
+lies : DeviceFrame one (record still { lies = 1; can_lie = true })
+    (record still { can_lie = true }) → ⊥
 unfolding still
 lies goes = let h = goes.lies in omega arith
 
@@ -141,11 +144,13 @@ unfolding still
 full told = let h = told.counted in omega arith
 
 -- a call that tells none, of a device that told some before it, up to one below the end
-told_before : NoLie (record still { lies = 3; can_lie = true }) (record still { lies = 3; can_lie = true })
+told_before : NoLie (record still { lies = 3; can_lie = true })
+    (record still { lies = 3; can_lie = true })
 unfolding still
 told_before = record { same = refl; counted = omega arith }
 
-told_most : NoLie (record still { lies = 18446744073709551614 }) (record still { lies = 18446744073709551614 })
+told_most : NoLie (record still { lies = 18446744073709551614 })
+    (record still { lies = 18446744073709551614 })
 unfolding still
 told_most = record { same = refl; counted = omega arith }
 
@@ -185,7 +190,8 @@ now lawful = let same = one_value 1 0 (lawful.only_now (all 1) tt 0) in omega ar
 -- one that leaves an empty sector
 whole : IsLawful (record still { crash = λ left. Unit {0}; since = λ moment left. Unit {0} }) → ⊥
 unfolding still
-whole lawful = let size = lawful.whole 0 (λ sector. []) (omega arith) tt 0 (omega arith) in omega arith
+whole lawful =
+    let size = lawful.whole 0 (λ sector. []) (omega arith) tt 0 (omega arith) in omega arith
 
 -- counts past the last one
 past_faults : IsLawful (record still { faults = 2 ^ 64 }) → ⊥
@@ -229,7 +235,8 @@ message_place same = let is = ap (λ (p : Place). p.origin) same.place in omega 
 
 message_content : Unchanged still (record still { content = all 2 }) → ⊥
 unfolding still all
-message_content same = let is = one_value 2 0 (ap (λ (c : Content). c 0) same.content) in omega arith
+message_content same =
+    let is = one_value 2 0 (ap (λ (c : Content). c 0) same.content) in omega arith
 
 -- one after which a crash leaves less, and one after which it leaves more
 message_crash : Unchanged still (record still { crash = λ left. ⊥ }) → ⊥
@@ -265,7 +272,8 @@ message_can_lie : Unchanged still (record still { can_lie = true }) → ⊥
 unfolding still
 message_can_lie same = let is = same.can_lie in cc
 
--- a device whose calls begin at the moment 5, and that notes each: the first one ends well, and each later one fails
+-- a device whose calls begin at the moment 5, and that notes
+-- each: the first one ends well, and each later one fails
 answer : List Call → Result ℕ DevError
 answer [] = Ok 5
 answer (call ∷ calls) = Err Io
@@ -285,7 +293,8 @@ turn_one : DoesInTurn notes 5 (Flushes ∷ []) [] (Ok tt) (Flushes ∷ [])
 unfolding notes answer
 turn_one = (Flushes ∷ [], (5, (refl, refl, refl)), refl)
 
-turn_two : DoesInTurn notes 5 (Flushes ∷ put_one ∷ Flushes ∷ []) [] (Err Io) (put_one ∷ Flushes ∷ [])
+turn_two : DoesInTurn notes 5 (Flushes ∷ put_one ∷ Flushes ∷ []) [] (Err Io)
+    (put_one ∷ Flushes ∷ [])
 unfolding notes answer
 turn_two = inr (Flushes ∷ [], (5, (refl, refl, refl)), inl (refl, refl, refl))
 
@@ -310,12 +319,14 @@ turn_unasked : DoesInTurn notes 5 [] [] (Err Io) [] → ⊥
 turn_unasked none = none
 
 -- nothing after the call that failed: not the next one, nor the same again
-turn_on : DoesInTurn notes 5 (Flushes ∷ put_one ∷ []) (Flushes ∷ []) (Err Io) (put_one ∷ Flushes ∷ Flushes ∷ []) → ⊥
+turn_on : DoesInTurn notes 5 (Flushes ∷ put_one ∷ []) (Flushes ∷ []) (Err Io)
+    (put_one ∷ Flushes ∷ Flushes ∷ []) → ⊥
 unfolding notes answer
 turn_on (inl (at, noted, told)) = cc
 turn_on (inr (mid, (end, (at, noted, told)), rest)) = cc
 
-turn_again : DoesInTurn notes 5 (Flushes ∷ []) (Flushes ∷ []) (Err Io) (Flushes ∷ Flushes ∷ Flushes ∷ []) → ⊥
+turn_again : DoesInTurn notes 5 (Flushes ∷ []) (Flushes ∷ []) (Err Io)
+    (Flushes ∷ Flushes ∷ Flushes ∷ []) → ⊥
 unfolding notes answer
 turn_again (inl (at, noted, told)) = cc
 turn_again (inr (mid, (end, (at, noted, told)), rest)) = rest

@@ -15,7 +15,8 @@ sum_of a b = min (a + b) last_count
 abbrev pub one_more : ℕ → ℕ
 one_more count = sum_of count 1
 
--- the view of a layer: the lower device's, with the faults and lies of the layer itself, which may drop calls or not
+-- the view of a layer: the lower device's, with the faults
+-- and lies of the layer itself, which may drop calls or not
 abbrev pub counted : View → ℕ → ℕ → Bool → View
 counted v faults lies drops = record {
   size = v.size;
@@ -30,7 +31,8 @@ counted v faults lies drops = record {
 }
 
 -- it is lawful where the lower device is
-pub lawful_counted : (v : View) (faults lies : ℕ) (drops : Bool) → IsLawful v → IsLawful (counted v faults lies drops)
+pub lawful_counted : (v : View) (faults lies : ℕ) (drops : Bool) → IsLawful v
+    → IsLawful (counted v faults lies drops)
 lawful_counted v faults lies drops lawful = record {
   some_sectors = lawful.some_sectors;
   few_sectors = lawful.few_sectors;
@@ -42,41 +44,53 @@ lawful_counted v faults lies drops lawful = record {
   lies = omega arith;
 }
 
--- where the lower device goes by a call, and the own counts don't fall, the layer does; that of its lies stays where it drops no calls
-pub goes_counted : (patch : Patch) (v w : View) (faults more_faults lies more_lies : ℕ) (drops later : Bool) → faults ≤ more_faults → lies ≤ more_lies
+-- where the lower device goes by a call, and the own counts don't fall, the layer does; that of its
+-- lies stays where it drops no calls
+pub goes_counted : (patch : Patch) (v w : View) (faults more_faults lies more_lies : ℕ)
+    (drops later : Bool) → faults ≤ more_faults → lies ≤ more_lies
     → later ≡ drops → (drops ≡ false → more_lies ≡ lies)
-    → DeviceFrame patch v w → DeviceFrame patch (counted v faults lies drops) (counted w more_faults more_lies later)
-goes_counted patch v w faults more_faults lies more_lies drops later h k stays honest goes = record {
-  size = goes.size;
-  place = goes.place;
-  content = goes.content;
-  crash = goes.crash;
-  moment = goes.moment;
-  gains = goes.gains;
-  keeps = goes.keeps;
-  faults = let low = goes.faults in omega arith;
-  lies = let low = goes.lies in omega arith;
-  can_lie = ap (λ (below : Bool). below || later) goes.can_lie ∙ ap (λ (own : Bool). v.can_lie || own) stays;
-  honest = λ none.
-      let same = honest (or_parts v.can_lie drops none).1 in
-      let below = goes.honest (or_parts v.can_lie drops none).0 in
-      omega arith;
-}
+    → DeviceFrame patch v w → DeviceFrame patch (counted v faults lies drops)
+    (counted w more_faults more_lies later)
+goes_counted patch v w faults more_faults lies more_lies drops later h k stays honest goes =
+    record {
+      size = goes.size;
+      place = goes.place;
+      content = goes.content;
+      crash = goes.crash;
+      moment = goes.moment;
+      gains = goes.gains;
+      keeps = goes.keeps;
+      faults = let low = goes.faults in omega arith;
+      lies = let low = goes.lies in omega arith;
+      can_lie =
+          ap (λ (below : Bool). below || later) goes.can_lie
+          ∙ ap (λ (own : Bool). v.can_lie || own) stays;
+      honest = λ none.
+          let same = honest (or_parts v.can_lie drops none).1 in
+          let below = goes.honest (or_parts v.can_lie drops none).0 in
+          omega arith;
+    }
 
 -- and what lands below, or is synced there, or stays, does so in the layer
-pub lands_counted : (patch : Patch) (fua : Bool) (v w : View) (faults more_faults lies more_lies : ℕ) (drops later : Bool) → WriteDone patch fua v w
+pub lands_counted : (patch : Patch) (fua : Bool) (v w : View)
+    (faults more_faults lies more_lies : ℕ) (drops later : Bool) → WriteDone patch fua v w
     → WriteDone patch fua (counted v faults lies drops) (counted w more_faults more_lies later)
-lands_counted patch fua v w faults more_faults lies more_lies drops later lands = record { content = lands.content; durable = lands.durable }
+lands_counted patch fua v w faults more_faults lies more_lies drops later lands =
+    record { content = lands.content; durable = lands.durable }
 
-pub syncs_counted : (w : View) (faults lies : ℕ) (drops : Bool) → FlushDone w → FlushDone (counted w faults lies drops)
+pub syncs_counted : (w : View) (faults lies : ℕ) (drops : Bool) → FlushDone w
+    → FlushDone (counted w faults lies drops)
 syncs_counted w faults lies drops syncs = record { only = syncs.only }
 
-pub stays_counted : (v w : View) (faults more_faults lies more_lies : ℕ) (drops later : Bool) → CrashSetKept v w
+pub stays_counted : (v w : View) (faults more_faults lies more_lies : ℕ) (drops later : Bool)
+    → CrashSetKept v w
     → CrashSetKept (counted v faults lies drops) (counted w more_faults more_lies later)
-stays_counted v w faults more_faults lies more_lies drops later stays = record { crash = stays.crash }
+stays_counted v w faults more_faults lies more_lies drops later stays =
+    record { crash = stays.crash }
 
 -- where the layer told no lie, the lower device told none
-pub no_lie_counted : (v w : View) (faults more_faults lies : ℕ) (drops later : Bool) → v.lies ≤ w.lies
+pub no_lie_counted : (v w : View) (faults more_faults lies : ℕ) (drops later : Bool)
+    → v.lies ≤ w.lies
     → NoLie (counted v faults lies drops) (counted w more_faults lies later) → NoLie v w
 no_lie_counted v w faults more_faults lies drops later low told =
     let same = told.same in
@@ -84,15 +98,18 @@ no_lie_counted v w faults more_faults lies drops later low told =
     record { same = omega arith; counted = omega arith }
 
 -- a layer that tells one more lie of its own tells a new one
-pub own_lie : (v : View) (faults lies : ℕ) (drops later : Bool) → lies ≤ last_count → NoLie (counted v faults lies drops) (counted v faults (one_more lies) later) → ⊥
+pub own_lie : (v : View) (faults lies : ℕ) (drops later : Bool) → lies ≤ last_count
+    → NoLie (counted v faults lies drops) (counted v faults (one_more lies) later) → ⊥
 own_lie v faults lies drops later h told =
     let same = told.same in
     let below = told.counted in
     omega arith
 
 -- the lower device's cause is the layer's
-pub cause_counted : (now : ℕ) (v w : View) (result : Result ℕ DevError) (faults more_faults lies more_lies : ℕ) (drops later : Bool) → faults ≤ more_faults
-    → HasCause now v w result → HasCause now (counted v faults lies drops) (counted w more_faults more_lies later) result
+pub cause_counted : (now : ℕ) (v w : View) (result : Result ℕ DevError)
+    (faults more_faults lies more_lies : ℕ) (drops later : Bool) → faults ≤ more_faults
+    → HasCause now v w result
+    → HasCause now (counted v faults lies drops) (counted w more_faults more_lies later) result
 cause_counted now v w result faults more_faults lies more_lies drops later h cause = record {
   failed = λ is. elim (cause.failed is) [
     | inl grew ↦ more grew
@@ -101,7 +118,9 @@ cause_counted now v w result faults more_faults lies more_lies drops later h cau
   ends = cause.ends;
 }
   where
-    more : v.faults < w.faults → (sum_of v.faults faults < sum_of w.faults more_faults) ⊎ (sum_of w.faults more_faults ≡ last_count)
+    more : v.faults < w.faults
+        → (sum_of v.faults faults < sum_of w.faults more_faults)
+        ⊎ (sum_of w.faults more_faults ≡ last_count)
     more grew = elim (cases_lt (sum_of v.faults faults) (sum_of w.faults more_faults)) [
       | inl less ↦ inl less
       | inr same ↦ inr (omega arith)
@@ -109,7 +128,8 @@ cause_counted now v w result faults more_faults lies more_lies drops later h cau
 
 -- one more fault of its own is a cause
 pub own_cause : (now : ℕ) (v : View) (faults lies : ℕ) (drops later : Bool) (error : DevError)
-    → HasCause now (counted v faults lies drops) (counted v (one_more faults) lies later) (Err error)
+    → HasCause now (counted v faults lies drops) (counted v (one_more faults) lies later)
+    (Err error)
 own_cause now v faults lies drops later error = record {
   failed = λ is. elim (cases_lt (sum_of v.faults faults) (sum_of v.faults (one_more faults))) [
     | inl less ↦ inl less

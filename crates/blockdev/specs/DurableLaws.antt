@@ -8,11 +8,13 @@ use Rattle.blockdev.specs.View.{IsLawful, View}
 use Rattle.blockdev.specs.Law.{AfterPatch, DeviceFrame, IsTorn, WriteDone, FlushDone}
 
 -- what is patched is torn
-pub after-torn : (patch : Patch) (before : Content → Type 0) (left : Content) → AfterPatch patch before left → IsTorn patch before left
+pub after-torn : (patch : Patch) (before : Content → Type 0) (left : Content)
+    → AfterPatch patch before left → IsTorn patch before left
 after-torn patch before left after = (after.0, after.1, patched_cases patch after.0 left after.2)
 
 -- what landed and was flushed is in what a crash leaves
-pub landed-flushed : (u v w : View) (first : ℕ) (bytes : List ℕ) (fua : Bool) (left : Content) → WriteDone (writes first bytes) fua u v
+pub landed-flushed : (u v w : View) (first : ℕ) (bytes : List ℕ) (fua : Bool) (left : Content)
+    → WriteDone (writes first bytes) fua u v
     → DeviceFrame nothing v w → FlushDone w → w.crash left → HasBytes left first bytes
 landed-flushed u v w first bytes fua left lands goes syncs may = λ sector h.
     syncs.only left may (first + sector)
@@ -21,21 +23,25 @@ landed-flushed u v w first bytes fua left lands goes syncs may = λ sector h.
     ∙ HasBytes-put first bytes u.content sector h
 
 -- so is what landed with FUA
-pub landed-durable : (v w : View) (first : ℕ) (bytes : List ℕ) (left : Content) → WriteDone (writes first bytes) true v w
+pub landed-durable : (v w : View) (first : ℕ) (bytes : List ℕ) (left : Content)
+    → WriteDone (writes first bytes) true v w
     → w.crash left → HasBytes left first bytes
 landed-durable v w first bytes left lands may = λ sector h.
     let old = lands.durable refl left may in
     old.2 (first + sector) ∙ HasBytes-put first bytes old.0 sector h
 
 -- a sector that each crash leaves so stays so under other sectors' calls
-pub durable-stays : (v w : View) (patch : Patch) (sector : ℕ) (value : List ℕ) → DeviceFrame patch v w → patch sector ≡ None
-    → ((left : Content) → v.crash left → left sector ≡ value) → (left : Content) → w.crash left → left sector ≡ value
+pub durable-stays : (v w : View) (patch : Patch) (sector : ℕ) (value : List ℕ)
+    → DeviceFrame patch v w → patch sector ≡ None
+    → ((left : Content) → v.crash left → left sector ≡ value) → (left : Content) → w.crash left
+    → left sector ≡ value
 durable-stays v w patch sector value goes none durable left may =
     let old = goes.crash left may in
     patched-none patch old.0 left old.2 sector none ∙ durable old.0 old.1
 
 -- what a crash during a call may have left is torn
-pub gained-torn : (v w : View) (patch : Patch) (left : Content) → IsLawful v → DeviceFrame patch v w → w.since v.moment left
+pub gained-torn : (v w : View) (patch : Patch) (left : Content) → IsLawful v → DeviceFrame patch v w
+    → w.since v.moment left
     → IsTorn patch v.crash left
 gained-torn v w patch left lawful goes may = elim (goes.gains v.moment left (omega arith) may) [
   | inl before ↦ (left, lawful.only_now left before, λ sector. inl refl)

@@ -4,14 +4,18 @@ use Rattle.bio.specs.declared.outcome.DevError.{DevError}
 use Rattle.blockdev.specs.Calls.{Call}
 
 -- a device does a call at a moment, and it ends well
-abbrev pub EndsWell : {D : Type 0} → (D → Call → ℕ → Result ℕ DevError → D → Type 0) → ℕ → Call → D → D → Type 0
+abbrev pub EndsWell : {D : Type 0} → (D → Call → ℕ → Result ℕ DevError → D → Type 0) → ℕ → Call → D
+    → D → Type 0
 EndsWell does now call old new = (end : ℕ) × does old call now (Ok end) new
 
--- a device does these calls in turn, all beginning at one moment: each ends well, or the first that doesn't is the last that is done, and its error the result
-abbrev pub DoesInTurn : {D : Type 0} → (D → Call → ℕ → Result ℕ DevError → D → Type 0) → ℕ → List Call → D → Result (Unit {0}) DevError → D → Type 0
+-- a device does these calls in turn, all beginning at one moment: each ends well, or the first that
+-- doesn't is the last that is done, and its error the result
+abbrev pub DoesInTurn : {D : Type 0} → (D → Call → ℕ → Result ℕ DevError → D → Type 0) → ℕ
+    → List Call → D → Result (Unit {0}) DevError → D → Type 0
 DoesInTurn does now [] old (Ok done) new = new ≡ old
 DoesInTurn does now [] old (Err error) new = ⊥
-DoesInTurn {D} does now (call ∷ calls) old (Ok done) new = (mid : D) × EndsWell does now call old mid × DoesInTurn does now calls mid (Ok done) new
+DoesInTurn {D} does now (call ∷ calls) old (Ok done) new =
+    (mid : D) × EndsWell does now call old mid × DoesInTurn does now calls mid (Ok done) new
 DoesInTurn {D} does now (call ∷ calls) old (Err error) new =
     does old call now (Err error) new
     ⊎ ((mid : D) × EndsWell does now call old mid × DoesInTurn does now calls mid (Err error) new)

@@ -4,12 +4,14 @@ use Rattle.bio.specs.declared.outcome.DevError.{DevError}
 use Rattle.sectors.specs.Content.{Content, HasNoneBelow, HasWholeSectors, Patch, nothing}
 use Rattle.sectors.specs.ContentLaws.{patched-same, put-none}
 use Rattle.sectors.specs.Parts.{HasNoneFrom, IsPart, Joins, SameValues, below, between}
-use Rattle.sectors.specs.PartLaws.{below-joins, below-part, below_all, below_more, below_none, between-part, patched-part, patched_twice, put-joined, put-same}
+use Rattle.sectors.specs.PartLaws.{below-joins, below-part, below_all, below_more, below_none}
+use Rattle.sectors.specs.PartLaws.{between-part, patched-part, patched_twice, put-joined, put-same}
 use Rattle.blockdev.specs.View.{IsLawful, View}
 use Rattle.blockdev.specs.Law.{AfterPatch, DeviceFrame, HasCause, WriteDone, NoLie, CrashSetKept}
 
 -- contents of a set, patched twice by a call
-after_twice : (patch : Patch) (set mid : Content → Type 0) (left : Content) → ((c : Content) → mid c → AfterPatch patch set c)
+after_twice : (patch : Patch) (set mid : Content → Type 0) (left : Content)
+    → ((c : Content) → mid c → AfterPatch patch set c)
     → AfterPatch patch mid left → AfterPatch patch set left
 after_twice patch set mid left first after =
     let before = first after.0 after.1 in
@@ -31,8 +33,10 @@ goes_none patch v = record {
   honest = λ none. refl;
 }
 
--- what goes by a part of a call goes by the whole one: so a call that failed after a part was a call
-pub goes_part : (part whole : Patch) (v w : View) → IsPart part whole → DeviceFrame part v w → DeviceFrame whole v w
+-- what goes by a part of a call goes by the whole one: so a
+-- call that failed after a part was a call
+pub goes_part : (part whole : Patch) (v w : View) → IsPart part whole → DeviceFrame part v w
+    → DeviceFrame whole v w
 goes_part part whole v w is goes = record {
   size = goes.size;
   place = goes.place;
@@ -51,7 +55,8 @@ goes_part part whole v w is goes = record {
     wider left after = (after.0, after.1, patched-part part whole after.0 left is after.2)
 
 -- two calls that go by one go by it together
-pub goes_both : (patch : Patch) (u v w : View) → DeviceFrame patch u v → DeviceFrame patch v w → DeviceFrame patch u w
+pub goes_both : (patch : Patch) (u v w : View) → DeviceFrame patch u v → DeviceFrame patch v w
+    → DeviceFrame patch u w
 goes_both patch u v w first second = record {
   size = second.size ∙ first.size;
   place = second.place ∙ first.place;
@@ -70,24 +75,29 @@ goes_both patch u v w first second = record {
 }
 
 -- two calls of which each does a part of a whole call go by it together
-pub goes_joined : (first second whole : Patch) (u v w : View) → IsPart first whole → IsPart second whole → DeviceFrame first u v → DeviceFrame second v w
+pub goes_joined : (first second whole : Patch) (u v w : View) → IsPart first whole
+    → IsPart second whole → DeviceFrame first u v → DeviceFrame second v w
     → DeviceFrame whole u w
 goes_joined first second whole u v w is_first is_second before after =
-    goes_both whole u v w (goes_part first whole u v is_first before) (goes_part second whole v w is_second after)
+    goes_both whole u v w (goes_part first whole u v is_first before)
+    (goes_part second whole v w is_second after)
 
 -- a call that changes nothing is a part of each
 pub nothing-part : (patch : Patch) → IsPart nothing patch
 nothing-part patch = λ sector. inl refl
 
 -- a call cut at a sector goes by the whole one
-pub goes_cut : (end : ℕ) (patch : Patch) (v w : View) → DeviceFrame (below end patch) v w → DeviceFrame patch v w
+pub goes_cut : (end : ℕ) (patch : Patch) (v w : View) → DeviceFrame (below end patch) v w
+    → DeviceFrame patch v w
 goes_cut end patch v w = goes_part (below end patch) patch v w (below-part end patch)
 
 -- the next piece of a call, after all before it
-pub goes_next : (from to : ℕ) (patch piece : Patch) (u v w : View) → from ≤ to → SameValues piece (between from to patch)
+pub goes_next : (from to : ℕ) (patch piece : Patch) (u v w : View) → from ≤ to
+    → SameValues piece (between from to patch)
     → DeviceFrame (below from patch) u v → DeviceFrame piece v w → DeviceFrame (below to patch) u w
 goes_next from to patch piece u v w h same before after =
-    goes_joined (below from patch) piece (below to patch) u v w (below_more from to patch h) is_piece before after
+    goes_joined (below from patch) piece (below to patch) u v w
+    (below_more from to patch h) is_piece before after
   where
     is_piece : IsPart piece (below to patch)
     is_piece = λ sector. elim (between-part from to patch sector) [
@@ -96,7 +106,8 @@ goes_next from to patch piece u v w h same before after =
     ]
 
 -- calls with the same values land together
-pub lands_same : (patch other : Patch) (fua : Bool) (v w : View) → SameValues patch other → WriteDone patch fua v w → WriteDone other fua v w
+pub lands_same : (patch other : Patch) (fua : Bool) (v w : View) → SameValues patch other
+    → WriteDone patch fua v w → WriteDone other fua v w
 lands_same patch other fua v w same lands = record {
   content = λ sector. lands.content sector ∙ put-same patch other v.content same sector;
   durable = λ is left may.
@@ -105,40 +116,56 @@ lands_same patch other fua v w same lands = record {
 }
 
 -- a device that isn't called has landed what has no values
-pub lands_none : (patch : Patch) (fua : Bool) (v : View) → ((sector : ℕ) → patch sector ≡ None) → WriteDone patch fua v v
+pub lands_none : (patch : Patch) (fua : Bool) (v : View) → ((sector : ℕ) → patch sector ≡ None)
+    → WriteDone patch fua v v
 lands_none patch fua v none = record {
   content = λ sector. sym (put-none patch v.content sector (none sector));
   durable = λ is left may. (left, may, λ sector. sym (put-none patch left sector (none sector)));
 }
 
 -- two calls that put the values of a whole call land as that
-pub lands_joined : (first second whole : Patch) (fua : Bool) (u v w : View) → Joins first second whole
+pub lands_joined : (first second whole : Patch) (fua : Bool) (u v w : View)
+    → Joins first second whole
     → WriteDone first fua u v → WriteDone second fua v w → WriteDone whole fua u w
 lands_joined first second whole fua u v w joins before after = record {
-  content = λ sector. after.content sector ∙ put-joined first second whole u.content v.content sector joins (before.content sector);
+  content =
+      λ sector. after.content sector
+      ∙ put-joined first second whole u.content v.content sector joins (before.content sector);
   durable = λ is left may.
       let mid = after.durable is left may in
-      let old = before.durable is mid.0 mid.1 in
-      (old.0, old.1, λ sector. mid.2 sector ∙ put-joined first second whole old.0 mid.0 sector joins (old.2 sector));
+      let old = before.durable is mid.0 mid.1 in (
+        old.0,
+        old.1,
+        λ sector. mid.2 sector
+            ∙ put-joined first second whole old.0 mid.0 sector joins (old.2 sector),
+      );
 }
 
 -- the next piece of a call lands after all before it
-pub lands_next : (from to : ℕ) (patch piece : Patch) (fua : Bool) (u v w : View) → from ≤ to → SameValues piece (between from to patch)
-    → WriteDone (below from patch) fua u v → WriteDone piece fua v w → WriteDone (below to patch) fua u w
+pub lands_next : (from to : ℕ) (patch piece : Patch) (fua : Bool) (u v w : View) → from ≤ to
+    → SameValues piece (between from to patch)
+    → WriteDone (below from patch) fua u v → WriteDone piece fua v w
+    → WriteDone (below to patch) fua u w
 lands_next from to patch piece fua u v w h same before after =
-    lands_joined (below from patch) (between from to patch) (below to patch) fua u v w (below-joins from to patch h)
+    lands_joined (below from patch) (between from to patch) (below to patch) fua u v w
+    (below-joins from to patch h)
     before (lands_same piece (between from to patch) fua v w same after)
 
 -- before the first piece of a call nothing has to land
-pub lands_first : (first : ℕ) (patch : Patch) (fua : Bool) (v : View) → HasNoneBelow first patch → WriteDone (below first patch) fua v v
-lands_first first patch fua v none = lands_none (below first patch) fua v (below_none first patch none)
+pub lands_first : (first : ℕ) (patch : Patch) (fua : Bool) (v : View) → HasNoneBelow first patch
+    → WriteDone (below first patch) fua v v
+lands_first first patch fua v none =
+    lands_none (below first patch) fua v (below_none first patch none)
 
 -- after its last piece all of a call has landed
-pub lands_all : (end : ℕ) (patch : Patch) (fua : Bool) (v w : View) → HasNoneFrom end patch → WriteDone (below end patch) fua v w → WriteDone patch fua v w
-lands_all end patch fua v w none = lands_same (below end patch) patch fua v w (below_all end patch none)
+pub lands_all : (end : ℕ) (patch : Patch) (fua : Bool) (v w : View) → HasNoneFrom end patch
+    → WriteDone (below end patch) fua v w → WriteDone patch fua v w
+lands_all end patch fua v w none =
+    lands_same (below end patch) patch fua v w (below_all end patch none)
 
 -- what landed with FUA has landed without
-pub lands_plain : (patch : Patch) (v w : View) (fua : Bool) → WriteDone patch fua v w → WriteDone patch false v w
+pub lands_plain : (patch : Patch) (v w : View) (fua : Bool) → WriteDone patch fua v w
+    → WriteDone patch false v w
 lands_plain patch v w fua lands = record {
   content = lands.content;
   durable = λ is left may. let never : ⊥ = cc in absurd never;
@@ -146,10 +173,12 @@ lands_plain patch v w fua lands = record {
 
 -- two calls that told no lie told none together
 pub no_lie_joined : (u v w : View) → NoLie u v → NoLie v w → NoLie u w
-no_lie_joined u v w first second = record { same = second.same ∙ first.same; counted = second.counted }
+no_lie_joined u v w first second =
+    record { same = second.same ∙ first.same; counted = second.counted }
 
 -- where two calls told no lie together, neither did
-pub no_lie_parts : (first second : Patch) (u v w : View) → DeviceFrame first u v → DeviceFrame second v w → NoLie u w → NoLie u v × NoLie v w
+pub no_lie_parts : (first second : Patch) (u v w : View) → DeviceFrame first u v
+    → DeviceFrame second v w → NoLie u w → NoLie u v × NoLie v w
 no_lie_parts first second u v w before after told =
     let a = before.lies in
     let b = after.lies in
@@ -159,7 +188,8 @@ no_lie_parts first second u v w before after told =
     (record { same = mid; counted = omega arith }, record { same = omega arith; counted = counted })
 
 -- an error's cause in a part is its cause in the whole call
-pub cause_joined : (patch : Patch) (now later : ℕ) (u v w : View) (error : DevError) → DeviceFrame patch u v
+pub cause_joined : (patch : Patch) (now later : ℕ) (u v w : View) (error : DevError)
+    → DeviceFrame patch u v
     → HasCause later v w (Err error) → HasCause now u w (Err error)
 cause_joined patch now later u v w error before cause = record {
   failed = λ is. elim (cause.failed is) [
@@ -171,15 +201,18 @@ cause_joined patch now later u v w error before cause = record {
 
 -- what a crash may leave stays over two calls that keep it
 pub stays_both : (u v w : View) → CrashSetKept u v → CrashSetKept v w → CrashSetKept u w
-stays_both u v w first second = record { crash = λ left may. second.crash left (first.crash left may) }
+stays_both u v w first second =
+    record { crash = λ left may. second.crash left (first.crash left may) }
 
 -- a device that isn't called keeps it
 pub stays_none : (v : View) → CrashSetKept v v
 stays_none v = record { crash = λ left may. may }
 
 -- what a crash leaves has whole sectors
-pub crash-whole : (v : View) (left : Content) → IsLawful v → v.crash left → HasWholeSectors v.size left
-crash-whole v left lawful may = lawful.whole v.moment left (omega arith) (lawful.nested v.moment left (omega arith) may)
+pub crash-whole : (v : View) (left : Content) → IsLawful v → v.crash left
+    → HasWholeSectors v.size left
+crash-whole v left lawful may =
+    lawful.whole v.moment left (omega arith) (lawful.nested v.moment left (omega arith) may)
 
 -- so has the content
 pub content-whole : (v : View) → IsLawful v → HasWholeSectors v.size v.content

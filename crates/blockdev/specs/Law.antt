@@ -11,9 +11,11 @@ AfterPatch patch before left = (old : Content) × before old × Patched patch ol
 
 -- one of these contents, with all of the call's values
 abbrev pub AfterWhole : Patch → (Content → Type 0) → Content → Type 0
-AfterWhole patch before left = (old : Content) × before old × ((sector : ℕ) → left sector ≡ put patch old sector)
+AfterWhole patch before left =
+    (old : Content) × before old × ((sector : ℕ) → left sector ≡ put patch old sector)
 
--- old content with a call's values in some of its sectors: each sector is as it was, or has the call's value
+-- old content with a call's values in some of its sectors:
+-- each sector is as it was, or has the call's value
 abbrev pub IsTorn : Patch → (Content → Type 0) → Content → Type 0
 IsTorn patch before left = (old : Content) × before old
     × ((sector : ℕ) → (left sector ≡ old sector) ⊎ (patch sector ≡ Some (left sector)))
@@ -33,7 +35,8 @@ pub record DeviceFrame (patch : Patch) (v w : View) : Type 0 where
   pub gains : (moment : ℕ) (left : Content) → moment ≤ v.moment → w.since moment left →
       v.since moment left ⊎ AfterPatch patch v.crash left
   -- what may have been left stays so
-  pub keeps : (moment : ℕ) (left : Content) → moment ≤ v.moment → v.since moment left → w.since moment left
+  pub keeps : (moment : ℕ) (left : Content) → moment ≤ v.moment → v.since moment left
+      → w.since moment left
   -- the counts don't fall
   pub faults : v.faults ≤ w.faults
   pub lies : v.lies ≤ w.lies
@@ -60,7 +63,8 @@ pub record NoLie (v w : View) : Type 0 where
   pub same : w.lies ≡ v.lies
   pub counted : w.lies < last_count
 
--- An answer has its cause: 'Io' comes only where the device failed, and an end isn't before the call.
+-- An answer has its cause: 'Io' comes only where the device
+-- failed, and an end isn't before the call.
 pub record HasCause (now : ℕ) (v w : View) (result : Result ℕ DevError) : Type 0 where
   pub failed : result ≡ Err Io → (v.faults < w.faults) ⊎ (w.faults ≡ last_count)
   pub ends : (end : ℕ) → result ≡ Ok end → now ≤ end

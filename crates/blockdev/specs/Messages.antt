@@ -59,7 +59,8 @@ unchanged_both u v w first second = record {
   crash_before = λ left may. first.crash_before left (second.crash_before left may);
   moment = second.moment ∙ first.moment;
   since = λ moment left may. second.since moment left (first.since moment left may);
-  since_before = λ moment left may. first.since_before moment left (second.since_before moment left may);
+  since_before =
+      λ moment left may. first.since_before moment left (second.since_before moment left may);
   faults = second.faults ∙ first.faults;
   lies = second.lies ∙ first.lies;
   can_lie = second.can_lie ∙ first.can_lie;

@@ -2,8 +2,10 @@
 //! Disks, layers and stacks implement it; recorders, readers and replays call devices by it alone.
 ghost use Rattle.std.specs.Prelude.{◌≡◌, ◌/◌, Bool, List, OnOk, Result, false, length, ℕ};
 ghost use Rattle.bio.specs.declared.outcome.DevError.{DevError};
-ghost use Rattle.blockdev.specs.Calls.{Call, Discards, Flushes, IsByteRange, IsRange, Reads, Writes};
-ghost use Rattle.blockdev.specs.Law.{DeviceFrame, HasCause, WriteDone, NoLie, CrashSetKept, FlushDone};
+ghost use Rattle.blockdev.specs.Calls.{Call, Discards, Flushes, IsByteRange, IsRange, Reads};
+ghost use Rattle.blockdev.specs.Calls.{Writes};
+ghost use Rattle.blockdev.specs.Law.{DeviceFrame, HasCause, WriteDone, NoLie, CrashSetKept};
+ghost use Rattle.blockdev.specs.Law.{FlushDone};
 ghost use Rattle.blockdev.specs.View.{IsLawful, View};
 ghost use Rattle.sectors.specs.Content.{discards, gather, nothing, writes};
 
@@ -11,21 +13,24 @@ use bio::{DevError, Ms};
 
 /// A device of 1 to 1,048,576 sectors of 512 bytes, with a cache that a crash may lose.
 ///
-/// A call begins at the moment `now`, and an Ok answers the moment of its end. A range that is read,
-/// written or discarded is at least one whole sector, all within the device: that is the caller's condition.
-/// What a flush and FUA promise is what Linux's Documentation/block/writeback_cache_control.rst asks of a device.
+/// A call begins at the moment `now`, and an Ok answers the moment of its end. A range that is
+/// read, written or discarded is at least one whole sector, all within the device: that is the
+/// caller's condition. What a flush and FUA promise is what Linux's
+/// Documentation/block/writeback_cache_control.rst asks of a device.
 pub trait BlockDev {
     /// What contracts see of the device.
     ghost shown: { Self → View };
 
-    /// Whether the device, before a call and after it, can have done this call at this moment with this answer.
+    /// Whether the device, before a call and after it, can
+    /// have done this call at this moment with this answer.
     ghost does: { Self → Call → ℕ → Result ℕ DevError → Self → Type 0 };
 
     /// The number of sectors, which never changes.
     fn sectors(&self) -> u64
         ensures { result ≡ (shown self.now).size };
 
-    /// Reads whole sectors from `first` on. After an Ok the buffer has their bytes, and after an error any bytes.
+    /// Reads whole sectors from `first` on. After an Ok the
+    /// buffer has their bytes, and after an error any bytes.
     fn read(&mut self, now: Ms, first: u64, buffer: &mut [u8]) -> Result<Ms, DevError>
         requires { IsByteRange (shown self.old).size first (length buffer.old) }
 
@@ -40,12 +45,13 @@ pub trait BlockDev {
         ensures cause { HasCause now (shown self.old) (shown self.new) result }
         ensures does { does self.old (Reads first buffer.old buffer.new) now result self.new };
 
-    /// Writes whole sectors from `first` on. With `fua` they are durable at an Ok. After an error each of
-    /// these sectors holds its old value or its new one.
+    /// Writes whole sectors from `first` on. With `fua` they are durable at an Ok. After an error
+    /// each of these sectors holds its old value or its new one.
     fn write(&mut self, now: Ms, first: u64, bytes: &[u8], fua: bool) -> Result<Ms, DevError>
         requires { IsByteRange (shown self.old).size first (length bytes.now) }
 
-        // Whatever it answers, some of the sectors have their new value, and the others what they had.
+        // Whatever it answers, some of the sectors have
+        // their new value, and the others what they had.
         ensures goes { DeviceFrame (writes first bytes.now) (shown self.old) (shown self.new) }
 
         // After an Ok, all of them have it.
@@ -55,8 +61,8 @@ pub trait BlockDev {
         ensures cause { HasCause now (shown self.old) (shown self.new) result }
         ensures does { does self.old (Writes first bytes.now fua) now result self.new };
 
-    /// Makes `count` sectors from `first` on zeroes, cached as a plain write is. After an error each of these
-    /// sectors holds its old value or zeroes.
+    /// Makes `count` sectors from `first` on zeroes, cached as a plain write is. After an error
+    /// each of these sectors holds its old value or zeroes.
     fn discard(&mut self, now: Ms, first: u64, count: u64) -> Result<Ms, DevError>
         requires { IsRange (shown self.old).size first count }
 
@@ -76,7 +82,8 @@ pub trait BlockDev {
         ensures goes { DeviceFrame nothing (shown self.old) (shown self.new) }
 
         // After an Ok, a crash leaves the content.
-        ensures syncs { OnOk result (NoLie (shown self.old) (shown self.new) → FlushDone (shown self.new)) }
+        ensures syncs { OnOk result
+            (NoLie (shown self.old) (shown self.new) → FlushDone (shown self.new)) }
 
         ensures cause { HasCause now (shown self.old) (shown self.new) result }
         ensures does { does self.old Flushes now result self.new };
@@ -85,7 +92,8 @@ pub trait BlockDev {
     fn faults(&self) -> u64
         ensures { result ≡ (shown self.now).faults };
 
-    /// How often the device, or one beneath it, told a success of what it hadn't done; it stops at 2^64 - 1.
+    /// How often the device, or one beneath it, told a
+    /// success of what it hadn't done; it stops at 2^64 - 1.
     fn lies(&self) -> u64
         ensures { result ≡ (shown self.now).lies };
 

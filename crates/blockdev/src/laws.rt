@@ -6,10 +6,11 @@ ghost use Rattle.sectors.specs.Content.{Content, HasBytes, HasWholeSectors, Patc
 
 use crate::BlockDev;
 
-/// What was written, and then flushed, is in whatever a crash leaves: the write landed, the device went
-/// through the flush, and the flush synced.
+/// What was written, and then flushed, is in whatever a crash leaves: the write landed, the device
+/// went through the flush, and the flush synced.
 pub fn flushed_writes_outlive_crashes<D: BlockDev>()
-    ensures { (before written flushed : D) (first : ℕ) (bytes : List ℕ) (fua : Bool) (left : Content) →
+    ensures { (before written flushed : D) (first : ℕ) (bytes : List ℕ) (fua : Bool)
+        (left : Content) →
         WriteDone (writes first bytes) fua (D.shown before) (D.shown written) →
         DeviceFrame nothing (D.shown written) (D.shown flushed) → FlushDone (D.shown flushed) →
         (D.shown flushed).crash left → HasBytes left first bytes }
@@ -22,7 +23,8 @@ pub fn fua_writes_outlive_crashes<D: BlockDev>()
         (D.shown written).crash left → HasBytes left first bytes }
 {}
 
-/// What is in whatever a crash leaves stays there, through each call that has no value for its sector.
+/// What is in whatever a crash leaves stays there, through
+/// each call that has no value for its sector.
 pub fn durable_sectors_stay<D: BlockDev>()
     ensures { (before after : D) (patch : Patch) (sector : ℕ) (value : List ℕ) →
         DeviceFrame patch (D.shown before) (D.shown after) → patch sector ≡ None →
@@ -30,16 +32,16 @@ pub fn durable_sectors_stay<D: BlockDev>()
         (left : Content) → (D.shown after).crash left → left sector ≡ value }
 {}
 
-/// A call, a failed one too, tears its own sectors at most: each sector of what a crash leaves after it is
-/// as a crash could leave it before, or has the call's value.
+/// A call, a failed one too, tears its own sectors at most: each sector of what a crash leaves
+/// after it is as a crash could leave it before, or has the call's value.
 pub fn calls_tear_their_own_sectors<D: BlockDev>()
     ensures { (before after : D) (patch : Patch) (left : Content) →
         DeviceFrame patch (D.shown before) (D.shown after) → (D.shown after).crash left →
         IsTorn patch (D.shown before).crash left }
 {}
 
-/// What a crash during a call may have left is the same: old content, with the call's values in some of its
-/// sectors.
+/// What a crash during a call may have left is the same: old
+/// content, with the call's values in some of its sectors.
 pub fn calls_tear_their_own_sectors_at_any_moment<D: BlockDev>()
     ensures { (before after : D) (patch : Patch) (left : Content) →
         DeviceFrame patch (D.shown before) (D.shown after) →
@@ -47,11 +49,13 @@ pub fn calls_tear_their_own_sectors_at_any_moment<D: BlockDev>()
         IsTorn patch (D.shown before).crash left }
 {}
 
-/// Whatever a crash leaves has whole sectors of 512 bytes, and so has the content, which a crash may leave.
+/// Whatever a crash leaves has whole sectors of 512 bytes,
+/// and so has the content, which a crash may leave.
 pub fn crashes_leave_whole_sectors<D: BlockDev>()
     ensures crash { (device : D) (left : Content) → (D.shown device).crash left →
         HasWholeSectors (D.shown device).size left }
-    ensures content { (device : D) → HasWholeSectors (D.shown device).size (D.shown device).content }
+    ensures content { (device : D)
+        → HasWholeSectors (D.shown device).size (D.shown device).content }
 {}
 
 /// Devices have 1 to 1,048,576 sectors, whatever calls they go through.
@@ -59,5 +63,6 @@ pub fn devices_keep_their_size<D: BlockDev>()
     ensures some { (device : D) → 0 < (D.shown device).size }
     ensures few { (device : D) → (D.shown device).size ≤ 1048576 }
     ensures kept { (before after : D) (patch : Patch) →
-        DeviceFrame patch (D.shown before) (D.shown after) → (D.shown after).size ≡ (D.shown before).size }
+        DeviceFrame patch (D.shown before) (D.shown after)
+        → (D.shown after).size ≡ (D.shown before).size }
 {}

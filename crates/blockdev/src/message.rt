@@ -11,7 +11,8 @@ use thiserror::Error;
 /// Why a message is refused.
 #[derive(Clone, Copy, Debug, PartialEq, Eq, Error)]
 pub enum MessageError {
-    /// The layer takes no such message, its block isn't within the layer, or there is no such layer.
+    /// The layer takes no such message, its block isn't
+    /// within the layer, or there is no such layer.
     #[error("no such message")]
     BadMessage,
     /// The block is listed as bad.
@@ -55,8 +56,9 @@ pub trait Message: BlockDev {
     /// Whether the device, before a message to this layer and after it, can have answered this.
     ghost answers: { Self → ℕ → List ℕ → Result (Unit {0}) MessageError → Self → Type 0 };
 
-    /// Hands a message to a layer, counted from 1. Whatever it answers, what the device holds, what a crash may leave, and
-    /// the counts of faults and lies stay as they are. Refused by BadMessage, AlreadyBad, NotBad or Memory.
+    /// Hands a message to a layer, counted from 1. Whatever it answers, what the device holds, what
+    /// a crash may leave, and the counts of faults and lies stay as they are. Refused by
+    /// BadMessage, AlreadyBad, NotBad or Memory.
     fn message(&mut self, layer: u64, text: &str) -> Result<(), MessageError>
         ensures same { Unchanged (Self.shown self.old) (Self.shown self.new) }
         ensures answers { answers self.old layer text.now result self.new };

@@ -1,5 +1,6 @@
 -- Each step keeps the rule of a board.
-use Rattle.std.proofs.Common.{◌≡◌, ◌≢◌, ℕ, zero, suc, List, [], ◌∷◌, ◌++◌, set, true, false, true≢false, refl, sym, ap, ◌∙◌, subst, ⊎_elim}
+use Rattle.std.proofs.Common.{◌≡◌, ◌≢◌, ℕ, zero, suc, List, [], ◌∷◌, ◌++◌, set, true, false}
+use Rattle.std.proofs.Common.{true≢false, refl, sym, ap, ◌∙◌, subst, ⊎_elim}
 use Rattle.std.specs.Prelude.{slice_set, slice_index}
 use mathlib.Core.Option.{none, some, some-ne-none, some-injective}
 use lib.ListN.{get_elem?}
@@ -8,54 +9,85 @@ use Rattle.atomic_table.proofs.Lists.{at_set, at_snoc, set_again}
 use Rattle.bio.specs.declared.outcome.Status.{Status}
 use Rattle.board.specs.declared.rule.Knows.{Knows}
 use Rattle.board.specs.Posts.{opening, last_of, word_of, IsFit, MayFollow, IsRising, Begins}
-use Rattle.board.specs.Rules.{writer_of, reader_of, told_by, as_reader, Publishes, Looks, Compares, Fits, IsPosted}
-use Rattle.board.proofs.Lists.{begins_itself, begins_longer, begins_none, last_of-push, rises_more, opening_rises}
+use Rattle.board.specs.Rules.{writer_of, reader_of, told_by, as_reader, Publishes, Looks, Compares}
+use Rattle.board.specs.Rules.{Fits, IsPosted}
+use Rattle.board.proofs.Lists.{begins_itself, begins_longer, begins_none, last_of-push, rises_more}
+use Rattle.board.proofs.Lists.{opening_rises}
 use Rattle.board.proofs.Words.{word_once}
 
 off : false ≡ true → ⊥
 off e = true≢false (sym e)
 
 pub begins : (word : ℕ) → word ≡ 0 → IsPosted (word ∷ []) (writer_of (opening ∷ []) ∷ [])
-begins word is = record { place = 0; statuses = opening ∷ []; word = ap (λ (n : ℕ). n ∷ []) is; rising = opening_rises; fits = one }
+begins word is =
+    record {
+      place = 0;
+      statuses = opening ∷ [];
+      word = ap (λ (n : ℕ). n ∷ []) is;
+      rising = opening_rises;
+      fits = one;
+    }
   where
-    one : (by : ℕ) (pass : Knows) → get_elem? (writer_of (opening ∷ []) ∷ []) by ≡ some pass → Fits 0 (opening ∷ []) by pass
+    one : (by : ℕ) (pass : Knows) → get_elem? (writer_of (opening ∷ []) ∷ []) by ≡ some pass
+        → Fits 0 (opening ∷ []) by pass
     one zero pass e = subst (Fits 0 (opening ∷ []) 0) (some-injective _ _ e)
-        (record { writes = λ w. (refl, refl); seen = begins_itself (opening ∷ []); told = begins_none (opening ∷ []) })
+        (record {
+          writes = λ w. (refl, refl);
+          seen = begins_itself (opening ∷ []);
+          told = begins_none (opening ∷ []);
+        })
     one (suc by) pass e = absurd (some-ne-none pass (sym e))
 
 -- one pass changed, and the others fit as they are
 fits_set : (place : ℕ) (statuses : List Status) (passes : List Knows) (by : ℕ) (new : Knows)
-    → ((j : ℕ) (pass : Knows) → j ≢ by → get_elem? passes j ≡ some pass → Fits place statuses j pass)
+    → ((j : ℕ) (pass : Knows) → j ≢ by → get_elem? passes j ≡ some pass
+    → Fits place statuses j pass)
     → Fits place statuses by new
-    → (j : ℕ) (pass : Knows) → get_elem? (set passes by new) j ≡ some pass → Fits place statuses j pass
+    → (j : ℕ) (pass : Knows) → get_elem? (set passes by new) j ≡ some pass
+    → Fits place statuses j pass
 fits_set place statuses passes by new others mine j pass e =
     ⊎_elim
-    (λ (x : (j ≡ by) × (new ≡ pass)). subst (λ (y : ℕ × Knows). Fits place statuses y.0 y.1) (λ i. (sym x.0 i, x.1 i)) mine)
+    (λ (x : (j ≡ by) × (new ≡ pass)). subst (λ (y : ℕ × Knows). Fits place statuses y.0 y.1)
+    (λ i. (sym x.0 i, x.1 i)) mine)
     (λ (x : (j ≢ by) × (get_elem? passes j ≡ some pass)). others j pass x.0 x.1)
     (at_set passes by j new pass e)
 
 -- a reader that has seen a beginning fits anywhere
-reader_fits : (place : ℕ) (statuses seen : List Status) (by : ℕ) → Begins seen statuses → Fits place statuses by (reader_of seen)
-reader_fits place statuses seen by begins = record { writes = λ w. absurd (off w); seen = begins; told = begins_none statuses }
+reader_fits : (place : ℕ) (statuses seen : List Status) (by : ℕ) → Begins seen statuses
+    → Fits place statuses by (reader_of seen)
+reader_fits place statuses seen by begins =
+    record { writes = λ w. absurd (off w); seen = begins; told = begins_none statuses }
 
-pub publish_keeps : (words : List ℕ) (passes : List Knows) (id : ℕ) (seen : List Status) (status : Status) → IsFit status → MayFollow (last_of seen) status
+pub publish_keeps : (words : List ℕ) (passes : List Knows) (id : ℕ) (seen : List Status)
+    (status : Status) → IsFit status → MayFollow (last_of seen) status
     → IsPosted words passes → get_elem? passes id ≡ some (writer_of seen)
-    → IsPosted (slice_set words 0 (word_of status)) (set passes id (writer_of (seen ++ status ∷ [])))
+    → IsPosted (slice_set words 0 (word_of status))
+    (set passes id (writer_of (seen ++ status ∷ [])))
 publish_keeps words passes id seen status fit follows posted there =
     let mine = (posted.fits id (writer_of seen) there).writes refl in
     let list = seen ++ status ∷ [] in record {
       place = posted.place;
       statuses = list;
-      word = ap (λ (ws : List ℕ). slice_set ws 0 (word_of status)) posted.word ∙ ap (λ (s : Status). word_of s ∷ []) (sym (last_of-push seen status));
+      word =
+          ap (λ (ws : List ℕ). slice_set ws 0 (word_of status)) posted.word
+          ∙ ap (λ (s : Status). word_of s ∷ []) (sym (last_of-push seen status));
       rising = rises_more seen status (subst IsRising (sym mine.1) posted.rising) fit follows;
       fits = fits_set posted.place list passes id (writer_of list)
           (λ j pass apart e.
           let was = posted.fits j pass e in record {
             writes = λ w. absurd (apart ((was.writes w).0 ∙ sym mine.0));
-            seen = begins_longer pass.seen seen (status ∷ []) (subst (Begins pass.seen) (sym mine.1) was.seen);
-            told = begins_longer pass.told seen (status ∷ []) (subst (Begins pass.told) (sym mine.1) was.told);
+            seen =
+                begins_longer pass.seen seen (status ∷ [])
+                (subst (Begins pass.seen) (sym mine.1) was.seen);
+            told =
+                begins_longer pass.told seen (status ∷ [])
+                (subst (Begins pass.told) (sym mine.1) was.told);
           })
-          (record { writes = λ w. (mine.0, refl); seen = begins_itself list; told = begins_none list });
+          (record {
+            writes = λ w. (mine.0, refl);
+            seen = begins_itself list;
+            told = begins_none list;
+          });
     }
 
 -- a step that writes this word; the rest of a step is not looked at
@@ -70,51 +102,72 @@ abbrev Posted : State (Unit {0}) Knows → Type 0
 Posted state = IsPosted state.words state.views
 
 pub publishes : (slots id new : ℕ) (me : Me (Unit {0}) Knows) (seen : List Status) (status : Status)
-    → me ≡ (writer_of seen, []) → new ≡ word_of status → IsFit status → MayFollow (last_of seen) status
+    → me ≡ (writer_of seen, []) → new ≡ word_of status → IsFit status
+    → MayFollow (last_of seen) status
     → Allows Posted slots id me 0 (λ _. new) (λ _. Publishes (writes_word new) me new)
 publishes slots id new me seen status is word fit follows =
-    subst (λ (m : Me (Unit {0}) Knows). Allows Posted slots id m 0 (λ _. new) (λ _. Publishes (writes_word new) m new)) (sym is)
+    subst (λ (m : Me (Unit {0}) Knows). Allows Posted slots id m 0 (λ _. new)
+    (λ _. Publishes (writes_word new) m new)) (sym is)
     (λ s posted sizes there small. (
       writer_of (seen ++ status ∷ []),
       keeps,
       tt,
-      subst (λ (n : ℕ). IsPosted (slice_set s.words 0 n) (set s.views id (writer_of (seen ++ status ∷ [])))) (sym word) (publish_keeps s.words s.views id seen status fit follows posted there),
-      λ other fits e. ap (λ (x : Status). (writer_of (seen ++ x ∷ []), [])) (word_once status other fit fits (sym word ∙ e)),
+      subst (λ (n : ℕ). IsPosted (slice_set s.words 0 n)
+          (set s.views id (writer_of (seen ++ status ∷ [])))) (sym word)
+          (publish_keeps s.words s.views id seen status fit follows posted there),
+      λ other fits e. ap (λ (x : Status). (writer_of (seen ++ x ∷ []), []))
+          (word_once status other fit fits (sym word ∙ e)),
     ))
 
-pub published_is : (before after : Me (Unit {0}) Knows) (new : ℕ) (seen : List Status) (status : Status) → before ≡ (writer_of seen, []) → new ≡ word_of status
-    → IsFit status → Publishes (writes_word new) before new after → after ≡ (writer_of (seen ++ status ∷ []), [])
+pub published_is : (before after : Me (Unit {0}) Knows) (new : ℕ) (seen : List Status)
+    (status : Status) → before ≡ (writer_of seen, []) → new ≡ word_of status
+    → IsFit status → Publishes (writes_word new) before new after
+    → after ≡ (writer_of (seen ++ status ∷ []), [])
 published_is before after new seen status is word fit told =
-    told status fit word ∙ ap (λ (m : Me (Unit {0}) Knows). (writer_of (m.0.seen ++ status ∷ []), [])) is
+    told status fit word ∙ ap
+    (λ (m : Me (Unit {0}) Knows). (writer_of (m.0.seen ++ status ∷ []), [])) is
 
 -- the words, of which the first is written again
-words_again : (words : List ℕ) (n : ℕ) → words ≡ n ∷ [] → slice_set words 0 (slice_index words 0) ≡ words
-words_again words n is = subst (λ (ws : List ℕ). slice_set ws 0 (slice_index ws 0) ≡ ws) (sym is) refl
+words_again : (words : List ℕ) (n : ℕ) → words ≡ n ∷ []
+    → slice_set words 0 (slice_index words 0) ≡ words
+words_again words n is =
+    subst (λ (ws : List ℕ). slice_set ws 0 (slice_index ws 0) ≡ ws) (sym is) refl
 
-look_keeps : (words : List ℕ) (passes : List Knows) (id : ℕ) (seen : List Status) → (posted : IsPosted words passes) → get_elem? passes id ≡ some (reader_of seen)
+look_keeps : (words : List ℕ) (passes : List Knows) (id : ℕ) (seen : List Status)
+    → (posted : IsPosted words passes) → get_elem? passes id ≡ some (reader_of seen)
     → IsPosted (slice_set words 0 (slice_index words 0)) (set passes id (reader_of posted.statuses))
 look_keeps words passes id seen posted there = record {
   place = posted.place;
   statuses = posted.statuses;
   word = words_again words _ posted.word ∙ posted.word;
   rising = posted.rising;
-  fits = fits_set posted.place posted.statuses passes id (reader_of posted.statuses) (λ j pass apart e. posted.fits j pass e)
+  fits =
+      fits_set posted.place posted.statuses passes id (reader_of posted.statuses)
+      (λ j pass apart e. posted.fits j pass e)
       (reader_fits posted.place posted.statuses posted.statuses id (begins_itself posted.statuses));
 }
 
-pub looks : (slots id : ℕ) (me : Me (Unit {0}) Knows) (seen : List Status) → me ≡ (reader_of seen, [])
+pub looks : (slots id : ℕ) (me : Me (Unit {0}) Knows) (seen : List Status)
+    → me ≡ (reader_of seen, [])
     → Allows Posted slots id me 0 (λ n. n) (Looks (writes_word 0) me)
 looks slots id me seen is =
-    subst (λ (m : Me (Unit {0}) Knows). Allows Posted slots id m 0 (λ n. n) (Looks (writes_word 0) m)) (sym is)
+    subst (λ (m : Me (Unit {0}) Knows). Allows Posted slots id m 0 (λ n. n)
+    (Looks (writes_word 0) m)) (sym is)
     (λ s posted sizes there small. (
       reader_of posted.statuses,
       keeps,
       tt,
       look_keeps s.words s.views id seen posted there,
-      ((posted.fits id (reader_of seen) there).seen, posted.rising, refl, ap (λ (ws : List ℕ). slice_index ws 0) posted.word),
+      (
+        (posted.fits id (reader_of seen) there).seen,
+        posted.rising,
+        refl,
+        ap (λ (ws : List ℕ). slice_index ws 0) posted.word,
+      ),
     ))
 
-compare_keeps : (words : List ℕ) (passes : List Knows) (id : ℕ) (pass : Knows) → pass.writes ≡ true → (posted : IsPosted words passes) → get_elem? passes id ≡ some pass
+compare_keeps : (words : List ℕ) (passes : List Knows) (id : ℕ) (pass : Knows) → pass.writes ≡ true
+    → (posted : IsPosted words passes) → get_elem? passes id ≡ some pass
     → IsPosted (slice_set words 0 (slice_index words 0)) (set passes id (writer_of pass.seen))
 compare_keeps words passes id pass writing posted there =
     let mine = posted.fits id pass there in record {
@@ -122,14 +175,22 @@ compare_keeps words passes id pass writing posted there =
       statuses = posted.statuses;
       word = words_again words _ posted.word ∙ posted.word;
       rising = posted.rising;
-      fits = fits_set posted.place posted.statuses passes id (writer_of pass.seen) (λ j other apart e. posted.fits j other e)
-          (record { writes = λ w. mine.writes writing; seen = mine.seen; told = begins_none posted.statuses });
+      fits =
+          fits_set posted.place posted.statuses passes id (writer_of pass.seen)
+          (λ j other apart e. posted.fits j other e)
+          (record {
+            writes = λ w. mine.writes writing;
+            seen = mine.seen;
+            told = begins_none posted.statuses;
+          });
     }
 
-pub compares : (slots id : ℕ) (me : Me (Unit {0}) Knows) (pass : Knows) → me ≡ (pass, []) → pass.writes ≡ true
+pub compares : (slots id : ℕ) (me : Me (Unit {0}) Knows) (pass : Knows) → me ≡ (pass, [])
+    → pass.writes ≡ true
     → Allows Posted slots id me 0 (λ n. n) (Compares (writes_word 0) me)
 compares slots id me pass is writing =
-    subst (λ (m : Me (Unit {0}) Knows). Allows Posted slots id m 0 (λ n. n) (Compares (writes_word 0) m)) (sym is)
+    subst (λ (m : Me (Unit {0}) Knows). Allows Posted slots id m 0 (λ n. n)
+    (Compares (writes_word 0) m)) (sym is)
     (λ s posted sizes there small.
     let mine = posted.fits id pass there in (
       writer_of pass.seen,
@@ -146,12 +207,16 @@ splits id pass s posted there = record {
   word = posted.word;
   rising = posted.rising;
   fits = λ j other e. ⊎_elim
-      (λ (was : get_elem? (set s.views id pass) j ≡ some other). posted.fits j other (subst (λ (l : List Knows). get_elem? l j ≡ some other) (set_again s.views id pass there) was))
-      (λ (new : as_reader pass ≡ other). subst (Fits posted.place posted.statuses j) new (reader_fits posted.place posted.statuses pass.seen j (posted.fits id pass there).seen))
+      (λ (was : get_elem? (set s.views id pass) j ≡ some other). posted.fits j other
+      (subst (λ (l : List Knows). get_elem? l j ≡ some other)
+      (set_again s.views id pass there) was))
+      (λ (new : as_reader pass ≡ other). subst (Fits posted.place posted.statuses j) new
+      (reader_fits posted.place posted.statuses pass.seen j (posted.fits id pass there).seen))
       (at_snoc (set s.views id pass) (as_reader pass) other j e);
 }
 
-pub joins : (id other : ℕ) (pass part : Knows) → Joins Posted id pass other part (told_by pass part) (reader_of [])
+pub joins : (id other : ℕ) (pass part : Knows)
+    → Joins Posted id pass other part (told_by pass part) (reader_of [])
 joins id other pass part s posted there apart from =
     let both = told_by pass part in
     let theirs : get_elem? s.views other ≡ some part = ⊎_elim (λ (t : (other ≡ id) × (both ≡ part)). absurd (apart t.0))
@@ -162,7 +227,12 @@ joins id other pass part s posted there apart from =
       word = posted.word;
       rising = posted.rising;
       fits = fits_set posted.place posted.statuses (set s.views id both) other (reader_of [])
-          (λ j w _ e. fits_set posted.place posted.statuses s.views id both (λ i y _ f. posted.fits i y f)
-          (record { writes = mine.writes; seen = mine.seen; told = (posted.fits other part theirs).seen }) j w e)
+          (λ j w _ e. fits_set posted.place posted.statuses s.views id both
+          (λ i y _ f. posted.fits i y f)
+          (record {
+            writes = mine.writes;
+            seen = mine.seen;
+            told = (posted.fits other part theirs).seen;
+          }) j w e)
           (reader_fits posted.place posted.statuses [] other (begins_none posted.statuses));
     }

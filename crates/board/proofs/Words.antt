@@ -30,12 +30,16 @@ end_once (Some ends.Memory) (Some ends.Device) e = absurd (omega arith)
 end_once (Some ends.Memory) (Some ends.Memory) e = refl
 
 -- the parts of a number
-parts : (entries sector end a b c : ℕ) → sector ≤ 1048576 → end ≤ 20 → b ≤ 1048576 → c ≤ 20 → entries * 67108864 + sector * 32 + end ≡ a * 67108864 + b * 32 + c
+parts : (entries sector end a b c : ℕ) → sector ≤ 1048576 → end ≤ 20 → b ≤ 1048576 → c ≤ 20
+    → entries * 67108864 + sector * 32 + end ≡ a * 67108864 + b * 32 + c
     → (entries ≡ a) × (sector ≡ b) × (end ≡ c)
 parts entries sector end a b c few small less tiny e = (omega arith, omega arith, omega arith)
 
 -- two statuses that fit and have one number are one
-pub word_once : (one other : Status) → IsFit one → IsFit other → word_of one ≡ word_of other → one ≡ other
+pub word_once : (one other : Status) → IsFit one → IsFit other → word_of one ≡ word_of other
+    → one ≡ other
 word_once one other fit fits e =
-    let p = parts one.entries one.sector (end_number one.end) other.entries other.sector (end_number other.end) fit.sector (end_few one.end) fits.sector (end_few other.end) e in
+    let p =
+    parts one.entries one.sector (end_number one.end) other.entries other.sector
+    (end_number other.end) fit.sector (end_few one.end) fits.sector (end_few other.end) e in
     λ i. record { entries = p.0 i; sector = p.1 i; end = end_once one.end other.end p.2 i }

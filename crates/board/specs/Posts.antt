@@ -1,5 +1,6 @@
 -- Statuses that are posted one after another, and how one of them is a single number.
-use Rattle.std.specs.Prelude.{◌≡◌, ℕ, ◌+◌, ◌*◌, ◌≤◌, List, [], ◌∷◌, ◌++◌, Option, Some, None, slice_get}
+use Rattle.std.specs.Prelude.{◌≡◌, ℕ, ◌+◌, ◌*◌, ◌≤◌, List, [], ◌∷◌, ◌++◌, Option, Some, None}
+use Rattle.std.specs.Prelude.{slice_get}
 use Rattle.bio.specs.declared.outcome.End.{End}
 use Rattle.bio.specs.declared.outcome.End.TheVariants as ends
 use Rattle.bio.specs.declared.outcome.Status.{Status}
@@ -36,7 +37,8 @@ pub record MayPost (statuses : List Status) (next : Status) : Type 0 where
 -- Statuses of which none goes back, whichever two of them are compared.
 pub record IsRising (statuses : List Status) : Type 0 where
   pub fit : (k : ℕ) (status : Status) → slice_get statuses k ≡ Some status → IsFit status
-  pub rises : (k j : ℕ) (status next : Status) → k ≤ j → slice_get statuses k ≡ Some status → slice_get statuses j ≡ Some next → MayFollow status next
+  pub rises : (k j : ℕ) (status next : Status) → k ≤ j → slice_get statuses k ≡ Some status
+      → slice_get statuses j ≡ Some next → MayFollow status next
 
 -- The one list begins with the other.
 pub record Begins (start statuses : List Status) : Type 0 where

@@ -10,7 +10,16 @@ use Rattle.board.specs.declared.rule.Knows.{Knows}
 
 -- the name of no table
 abbrev pub no_table : TableId
-no_table = record { words = 0; slots = 0; views_name = 0; atom = 0; block = 0; offset = 0; slot_names = [] }
+no_table =
+    record {
+      words = 0;
+      slots = 0;
+      views_name = 0;
+      atom = 0;
+      block = 0;
+      offset = 0;
+      slot_names = [];
+    }
 
 -- the writer's pass, that knows all that was posted
 abbrev pub writer_of : List Status → Knows
@@ -30,17 +39,24 @@ as_reader pass = reader_of pass.seen
 
 -- the writer posts the status that the word says
 abbrev pub Publishes : Step (Unit {0}) → Me (Unit {0}) Knows → ℕ → Me (Unit {0}) Knows → Type 0
-Publishes step before found after = (status : Status) → IsFit status → step.first ≡ word_of status → after ≡ (writer_of (before.0.seen ++ status ∷ []), [])
+Publishes step before found after =
+    (status : Status) → IsFit status → step.first ≡ word_of status
+    → after ≡ (writer_of (before.0.seen ++ status ∷ []), [])
 
--- a reader sees all that was posted, which begins with what it had seen; the word says the last of it
+-- a reader sees all that was posted, which begins with what
+-- it had seen; the word says the last of it
 abbrev pub Looks : Step (Unit {0}) → Me (Unit {0}) Knows → ℕ → Me (Unit {0}) Knows → Type 0
-Looks step before found after = Begins before.0.seen after.0.seen × IsRising after.0.seen × (after ≡ (reader_of after.0.seen, [])) × (found ≡ word_of (last_of after.0.seen))
+Looks step before found after =
+    Begins before.0.seen after.0.seen × IsRising after.0.seen
+    × (after ≡ (reader_of after.0.seen, [])) × (found ≡ word_of (last_of after.0.seen))
 
 -- the writer compares what it was told with what it posted
 abbrev pub Compares : Step (Unit {0}) → Me (Unit {0}) Knows → ℕ → Me (Unit {0}) Knows → Type 0
-Compares step before found after = Begins before.0.told before.0.seen × (after ≡ (writer_of before.0.seen, []))
+Compares step before found after =
+    Begins before.0.told before.0.seen × (after ≡ (writer_of before.0.seen, []))
 
--- What the rule says of one pass, where the writer's stands at this place and these statuses were posted.
+-- What the rule says of one pass, where the writer's stands
+-- at this place and these statuses were posted.
 pub record Fits (place : ℕ) (statuses : List Status) (by : ℕ) (pass : Knows) : Type 0 where
   -- only one pass is the writer's, and it knows all that was posted
   pub writes : pass.writes ≡ true → (by ≡ place) × (pass.seen ≡ statuses)
@@ -48,7 +64,8 @@ pub record Fits (place : ℕ) (statuses : List Status) (by : ℕ) (pass : Knows)
   pub seen : Begins pass.seen statuses
   pub told : Begins pass.told statuses
 
--- The rule: the word is the last of a list of statuses that never goes back, and each pass has seen a beginning of that list.
+-- The rule: the word is the last of a list of statuses that never goes back, and each pass has seen
+-- a beginning of that list.
 pub record IsPosted (words : List ℕ) (passes : List Knows) : Type 0 where
   pub place : ℕ
   pub statuses : List Status

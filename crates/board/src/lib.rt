@@ -1,8 +1,11 @@
-//! A board on which one writer posts the status of a log, and readers look at it. Nobody waits for anybody.
+//! A board on which one writer posts the status of a log,
+//! and readers look at it. Nobody waits for anybody.
 //!
-//! A status is one number in one shared word, so a reader never sees half of one. What is proved of readers is said of lists: each reader has seen a
-//! beginning of what the writer posted, and a look makes that beginning longer or leaves it, and answers its last status. So no reader sees a
-//! status go back. No call waits, and none takes memory but those that make the board and its readers.
+//! A status is one number in one shared word, so a reader never sees half of one. What is proved of
+//! readers is said of lists: each reader has seen a beginning of what the writer posted, and a look
+//! makes that beginning longer or leaves it, and answers its last status. So no reader sees a
+//! status go back. No call waits, and none takes memory but those that make the board and its
+//! readers.
 #![tactic(auto)]
 
 ghost use Rattle.std.specs.Prelude.{◌≡◌, ℕ, List, [], ◌∷◌, ◌++◌, Option, MatchBool};
@@ -19,7 +22,8 @@ use bio::{End, Status};
 use std::alloc::{AllocError, Global};
 use std::marker::{Brand, Model, PhantomData};
 
-/// Names a board. Each board has a name of its own, so the seat of another board is refused by its type.
+/// Names a board. Each board has a name of its own, so the
+/// seat of another board is refused by its type.
 pub trait Names {
     ghost use Rattle.atomic_table.specs.Seated.{TableId};
 
@@ -32,7 +36,8 @@ impl Names for Brand {
     ghost board = { no_table };
 }
 
-/// A board with its writer's seat, on which the status of an empty log stands, and which has no name yet. Contracts see it as its table.
+/// A board with its writer's seat, on which the status of an empty log stands, and which has no
+/// name yet. Contracts see it as its table.
 #[derive(Drop)]
 pub struct Blank {
     post: Post,
@@ -51,7 +56,8 @@ impl Model for Blank {
 
     ghost view = { λ b. b.post.shared.table_id };
 
-    ghost invariant = { λ b. (b.pass.table_id ≡ b.post.shared.table_id) × (b.post.shared.table_id.words ≡ 1) × (b.pass.me ≡ (writer_of (opening ∷ []), [])) };
+    ghost invariant = { λ b. (b.pass.table_id ≡ b.post.shared.table_id)
+        × (b.post.shared.table_id.words ≡ 1) × (b.pass.me ≡ (writer_of (opening ∷ []), [])) };
 }
 
 /// The board, that all share.
@@ -81,10 +87,12 @@ impl<N: Names> Model for WriterSeat<N> {
 
     ghost view = { λ w. w.pass.me.0.seen };
 
-    ghost invariant = { λ w. (w.pass.table_id ≡ N.board) × (w.pass.me ≡ (writer_of w.pass.me.0.seen, [])) × (w.last ≡ last_of w.pass.me.0.seen) };
+    ghost invariant = { λ w. (w.pass.table_id ≡ N.board)
+        × (w.pass.me ≡ (writer_of w.pass.me.0.seen, [])) × (w.last ≡ last_of w.pass.me.0.seen) };
 }
 
-/// The seat of a reader. Contracts see it as the statuses that it has seen, a beginning of what was posted.
+/// The seat of a reader. Contracts see it as the statuses
+/// that it has seen, a beginning of what was posted.
 #[derive(Drop)]
 pub struct StatusSeat<N: Names> {
     pass: Seat<(), Knows>,
@@ -100,11 +108,13 @@ impl<N: Names> Model for StatusSeat<N> {
 
     ghost view = { λ s. s.pass.me.0.seen };
 
-    ghost invariant = { λ s. (s.pass.table_id ≡ N.board) × (s.pass.me ≡ (reader_of s.pass.me.0.seen, [])) };
+    ghost invariant = { λ s. (s.pass.table_id ≡ N.board)
+        × (s.pass.me ≡ (reader_of s.pass.me.0.seen, [])) };
 }
 
 impl Blank {
-    /// A board with no reader, on which the status of an empty log stands. `Err` where there is no memory.
+    /// A board with no reader, on which the status of an
+    /// empty log stands. `Err` where there is no memory.
     pub fn new(alloc: Global) -> Result<Blank, AllocError> {
         let (post, pass) = Post::of_words(alloc, &[0], &())?;
         Ok(Blank { post, pass })
@@ -177,7 +187,8 @@ impl<N: Names> Board<N> {
         }
     }
 
-    /// Posts a status, of a log of at most 1,048,576 sectors: with no fewer entries than the one before, and an end that was posted stays.
+    /// Posts a status, of a log of at most 1,048,576 sectors: with no fewer entries than the one
+    /// before, and an end that was posted stays.
     pub fn publish(&self, writer: &mut WriterSeat<N>, status: Status)
         requires { MayPost writer.old status }
         ensures { writer.new ≡ writer.old ++ status ∷ [] }
@@ -187,7 +198,8 @@ impl<N: Names> Board<N> {
         writer.last = status;
     }
 
-    /// The status that was posted last. What the reader has seen by then begins with all that it had seen before, and never goes back.
+    /// The status that was posted last. What the reader has seen by then begins with all that it
+    /// had seen before, and never goes back.
     pub fn read(&self, mine: &mut StatusSeat<N>) -> Status
         ensures later { MayFollow (last_of mine.old) result }
         ensures begins { Begins mine.old mine.new }

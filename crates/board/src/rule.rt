@@ -6,7 +6,8 @@ use bio::Status;
 use std::alloc::Global;
 use std::collections::LinkedList;
 
-// What a pass knows: the statuses that it has seen, and those that another pass told it of; the writer's has seen all. No value of it is made.
+// What a pass knows: the statuses that it has seen, and those that another pass told it of; the
+// writer's has seen all. No value of it is made.
 pub struct Knows {
     pub writes: bool,
     pub seen: LinkedList<Status>,

@@ -1,4 +1,5 @@
-// A status as one number: the entries from bit 26 on, the sector from bit 5 on, and below it why logging ended.
+// A status as one number: the entries from bit 26 on, the
+// sector from bit 5 on, and below it why logging ended.
 ghost use Rattle.std.specs.Prelude.{◌≡◌, ◌≤◌, Option};
 ghost use Rattle.bio.specs.declared.outcome.End.{End};
 ghost use Rattle.bio.specs.declared.outcome.Status.{Status as Said};

@@ -1,6 +1,7 @@
 -- Chains and links, by computation.
 use Rattle.std.proofs.Common.{◌≡◌, ◌≢◌, ℕ, List, [], ◌∷◌, Option, Some, None, refl, arith}
-use Rattle.chains.specs.Edits.{chain_in, fronted, joined, lengthened, lifted, shortened, turned, with_first}
+use Rattle.chains.specs.Edits.{chain_in, fronted, joined, lengthened, lifted, shortened, turned}
+use Rattle.chains.specs.Edits.{with_first}
 use Rattle.chains.specs.Lends.{with_value}
 use Rattle.chains.specs.Shown.{count_in, ChangesFew, KeepsRoom, Shown}
 use Rattle.chains.specs.inside.Rings.{times_in}
@@ -66,7 +67,8 @@ beyond = refl
 
 -- what is seen after so many changes
 shown : ℕ → ℕ → Shown ℕ
-shown changed spare = record { chains = three; changed = changed; walked = None; rows = 3; room = 0; spare = spare }
+shown changed spare =
+    record { chains = three; changed = changed; walked = None; rows = 3; room = 0; spare = spare }
 
 few : ChangesFew (shown 5 0) (shown 8 0) 3
 unfolding shown
@@ -96,8 +98,10 @@ chains-room-added : KeepsRoom (shown 5 2) (record (shown 5 2) { room = 1 }) → 
 unfolding shown
 chains-room-added kept = let room = kept.room in omega arith
 
--- what is written through the reference to the first of a chain stands there, and all else is as it was
-written : with_value (shown 5 2) 1 10 ≡ record (shown 5 2) { chains = [] ∷ (10 ∷ 12 ∷ []) ∷ (21 ∷ []) ∷ [] }
+-- what is written through the reference to the first of a
+-- chain stands there, and all else is as it was
+written : with_value (shown 5 2) 1 10
+    ≡ record (shown 5 2) { chains = [] ∷ (10 ∷ 12 ∷ []) ∷ (21 ∷ []) ∷ [] }
 unfolding shown three
 written = refl
 
@@ -113,7 +117,8 @@ unfolding next lasts
 found = refl
 
 -- seen from row 0 chain 1 is the same ring
-found-walked : chains_of next (seen_lasts lasts (Some (record { chain = 1; at = Some 0 }))) ≡ (3 ∷ []) ∷ (2 ∷ 0 ∷ []) ∷ (1 ∷ []) ∷ []
+found-walked : chains_of next (seen_lasts lasts (Some (record { chain = 1; at = Some 0 })))
+    ≡ (3 ∷ []) ∷ (2 ∷ 0 ∷ []) ∷ (1 ∷ []) ∷ []
 unfolding next lasts
 found-walked = refl
 

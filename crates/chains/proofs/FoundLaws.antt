@@ -1,5 +1,6 @@
 -- The chains that links hold are just those that are found by following them.
-use Rattle.std.proofs.Common.{◌≡◌, ◌≢◌, ℕ, zero, suc, ◌<◌, ◌≤◌, List, [], ◌∷◌, length, Option, Some, None, refl, ap, sym, ◌∙◌, arith, cond}
+use Rattle.std.proofs.Common.{◌≡◌, ◌≢◌, ℕ, zero, suc, ◌<◌, ◌≤◌, List, [], ◌∷◌, length, Option, Some}
+use Rattle.std.proofs.Common.{None, refl, ap, sym, ◌∙◌, arith, cond}
 use Rattle.std.proofs.lemmas.Bool.{eq-eqb, ne_eqb}
 use Rattle.std.proofs.lemmas.List.{ext_get_or, length-map, get_or-map}
 use Rattle.chains.specs.Edits.{chain_in}
@@ -10,8 +11,10 @@ use Rattle.chains.proofs.RingLaws.{leads-end, times-same, times-append}
 use Rattle.chains.proofs.HoldsLaws.{few-in}
 
 -- where a way ends on its last row and passes it just once, it is found
-pub way-found : (next : List ℕ) (from row : ℕ) (rows : List ℕ) (last steps : ℕ) → Leads next from (row ∷ rows) last
-    → times last (row ∷ rows) ≤ 1 → length (row ∷ rows) ≤ steps → row ∷ rows ≡ rows_from next last steps from
+pub way-found : (next : List ℕ) (from row : ℕ) (rows : List ℕ) (last steps : ℕ)
+    → Leads next from (row ∷ rows) last
+    → times last (row ∷ rows) ≤ 1 → length (row ∷ rows) ≤ steps
+    → row ∷ rows ≡ rows_from next last steps from
 way-found next from row rows last zero leads few long = absurd (omega arith)
 way-found next from row [] last (suc steps) leads few long =
     let here = leads.0 in
@@ -33,19 +36,24 @@ way-found next from row (other ∷ rows) last (suc steps) leads few long =
     ∙ sym (ap (λ b. after next from ∷ cond b [] (rows_from next last steps (after next from))) on)
 
 -- a ring is found from its last row
-pub ring-found : (next : List ℕ) (last : ℕ) (rows : List ℕ) (steps : ℕ) → IsRing next last rows → times last rows ≤ 1 → length rows ≤ steps
+pub ring-found : (next : List ℕ) (last : ℕ) (rows : List ℕ) (steps : ℕ) → IsRing next last rows
+    → times last rows ≤ 1 → length rows ≤ steps
     → rows ≡ rows_from next last steps last
 ring-found next last [] steps ring few long = absurd (let some = ring.some in omega arith)
-ring-found next last (row ∷ rows) steps ring few long = way-found next last row rows last steps ring.leads few long
+ring-found next last (row ∷ rows) steps ring few long =
+    way-found next last row rows last steps ring.leads few long
 
 -- a chain is found
-pub chain-found : (next : List ℕ) (last : Option ℕ) (rows : List ℕ) → IsChain next last rows → ((row : ℕ) → times row rows ≤ 1)
+pub chain-found : (next : List ℕ) (last : Option ℕ) (rows : List ℕ) → IsChain next last rows
+    → ((row : ℕ) → times row rows ≤ 1)
     → length rows ≤ length next → rows ≡ chain_of next last
 chain-found next None rows chain few long = chain
-chain-found next (Some last) rows chain few long = ring-found next last rows (length next) chain (few last) long
+chain-found next (Some last) rows chain few long =
+    ring-found next last rows (length next) chain (few last) long
 
 -- each chain is found
-pub chains-found : {next : List ℕ} {lasts : List (Option ℕ)} {loose : List ℕ} {chains : List (List ℕ)} → Holds next lasts loose chains
+pub chains-found : {next : List ℕ} {lasts : List (Option ℕ)} {loose : List ℕ}
+    {chains : List (List ℕ)} → Holds next lasts loose chains
     → chains ≡ chains_of next lasts
 chains-found {next} {lasts} {loose} {chains} h =
     ext_get_or [] chains (chains_of next lasts) (h.size ∙ sym (length-map lasts (chain_of next)))

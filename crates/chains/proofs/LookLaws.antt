@@ -1,5 +1,6 @@
 -- A chain looked through, row by row.
-use Rattle.std.proofs.Common.{◌≡◌, ◌≢◌, ℕ, ◌<◌, ◌≤◌, List, [], ◌∷◌, length, map, Option, Some, None, refl, ap, sym, ◌∙◌, subst, arith, cond, eqb}
+use Rattle.std.proofs.Common.{◌≡◌, ◌≢◌, ℕ, ◌<◌, ◌≤◌, List, [], ◌∷◌, length, map, Option, Some, None}
+use Rattle.std.proofs.Common.{refl, ap, sym, ◌∙◌, subst, arith, cond, eqb}
 use Rattle.std.proofs.lemmas.Bool.{eq-eqb, ne_eqb}
 use Rattle.std.specs.Borrow.{Bor}
 use Rattle.std.specs.Option.{option_copied}
@@ -7,7 +8,8 @@ use Rattle.chains.specs.declared.links.Links.{Links}
 use Rattle.chains.specs.declared.walk.Walk.{Walk}
 use Rattle.chains.specs.Edits.{chain_in}
 use Rattle.chains.specs.inside.Rings.{after, last_in, times, Leads}
-use Rattle.chains.specs.inside.Tables.{filled, rows_from, seen_chains, seen_lasts, value_at, values_of, IsSound}
+use Rattle.chains.specs.inside.Tables.{filled, rows_from, seen_chains, seen_lasts, value_at}
+use Rattle.chains.specs.inside.Tables.{values_of, IsSound}
 use Rattle.chains.specs.inside.Looks.{values_left, IsLook, IsWay}
 use Rattle.chains.proofs.ListLaws.{one-of}
 use Rattle.chains.proofs.RingLaws.{leads-end, times-append, times-same}
@@ -22,30 +24,37 @@ some-is e = cc
 
 module _ {T : Type 0} where
   -- a way has a first row, and goes on behind it or ends
-  pub way-step : (next : List ℕ) (rows : List (Option T)) (last before row : ℕ) (left : Option ℕ) → length rows ≡ length next → IsWay next rows last before
+  pub way-step : (next : List ℕ) (rows : List (Option T)) (last before row : ℕ) (left : Option ℕ)
+      → length rows ≡ length next → IsWay next rows last before
       → row ≡ after next before → left ≡ cond (eqb row last) None (Some row)
       → (row < length rows) × ((value : T) × (value_at rows row ≡ Some value)
-      × (values_left next rows last (Some before) ≡ value ∷ values_left next rows last left)) × IsLook next rows last left
-  way-step next rows last before row left sized way is rest = by_todo way.todo way.leads way.some way.few way.long way.full
+      × (values_left next rows last (Some before) ≡ value ∷ values_left next rows last left))
+      × IsLook next rows last left
+  way-step next rows last before row left sized way is rest =
+      by_todo way.todo way.leads way.some way.few way.long way.full
     where
-      by_todo : (todo : List ℕ) → Leads next before todo last → 0 < length todo → times last todo ≤ 1 → length todo ≤ length next
+      by_todo : (todo : List ℕ) → Leads next before todo last → 0 < length todo
+          → times last todo ≤ 1 → length todo ≤ length next
           → ((r : ℕ) → 0 < times r todo → (r < length next) × (filled (value_at rows r) ≡ 1))
           → (row < length rows) × ((value : T) × (value_at rows row ≡ Some value)
-          × (values_left next rows last (Some before) ≡ value ∷ values_left next rows last left)) × IsLook next rows last left
+          × (values_left next rows last (Some before) ≡ value ∷ values_left next rows last left))
+          × IsLook next rows last left
       by_todo [] leads some few long full = absurd (omega arith)
       by_todo (first ∷ []) leads some few long full =
           let here : row ≡ first = is ∙ leads.0 in
           let front = times-same first first [] refl in
           let at = full first (omega arith) in
           let value = value-there (value_at rows row) (ap (λ r. filled (value_at rows r)) here ∙ at.1) in
-          let end : left ≡ None = rest ∙ ap (λ b. cond b None (Some row)) (eq-eqb row last (here ∙ leads.1)) in
+          let end : left ≡ None =
+          rest ∙ ap (λ b. cond b None (Some row)) (eq-eqb row last (here ∙ leads.1)) in
           let less = at.0 in
           let found = way-found next before first [] last (length next) leads few long in (
             omega arith,
             (
               value.0,
               value.1,
-              ap (λ rs. values_of rows rs) (sym found ∙ ap (λ r. r ∷ []) (sym here)) ∙ values-first rows row [] value.0 value.1
+              ap (λ rs. values_of rows rs) (sym found ∙ ap (λ r. r ∷ []) (sym here))
+                  ∙ values-first rows row [] value.0 value.1
                   ∙ ap (λ l. value.0 ∷ values_left next rows last l) (sym end),
             ),
             record { sized = sized; way = λ r e. absurd (let both = sym e ∙ end in cc) },
@@ -64,7 +73,9 @@ module _ {T : Type 0} where
           let on : left ≡ Some row = rest ∙ ap (λ b. cond b None (Some row)) (ne_eqb row last apart) in
           let less = at.0 in
           let found = way-found next before first (second ∷ todo) last (length next) leads few long in
-          let behind = way-found next first second todo last (length next) leads.1 (omega arith) (omega arith) in
+          let behind =
+          way-found next first second todo last (length next) leads.1 (omega arith)
+          (omega arith) in
           let P : ℕ → Type 0 = λ r. IsWay next rows last r in
           let go_on : IsWay next rows last first = record {
             todo = second ∷ todo;
@@ -79,7 +90,8 @@ module _ {T : Type 0} where
             (
               value.0,
               value.1,
-              ap (λ rs. values_of rows rs) (sym found ∙ ap (λ r. r ∷ second ∷ todo) (sym here)) ∙ values-first rows row (second ∷ todo) value.0 value.1
+              ap (λ rs. values_of rows rs) (sym found ∙ ap (λ r. r ∷ second ∷ todo) (sym here))
+                  ∙ values-first rows row (second ∷ todo) value.0 value.1
                   ∙ ap (λ rs. value.0 ∷ values_of rows rs) behind
                   ∙ ap (λ r. value.0 ∷ values_left next rows last (Some r)) (sym here)
                   ∙ ap (λ l. value.0 ∷ values_left next rows last l) (sym on),
@@ -88,13 +100,17 @@ module _ {T : Type 0} where
           )
 
   -- a chain that is looked through from its first on
-  pub look-begun : {links : Links} {rows : List (Option T)} {walk : Option Walk} → IsSound links rows walk → (chain last : ℕ) (at : Option ℕ) → 0 < chain
-      → at ≡ last_in (seen_lasts links.lasts.items walk) chain → ((row : ℕ) → at ≡ Some row → last ≡ row)
+  pub look-begun : {links : Links} {rows : List (Option T)} {walk : Option Walk}
+      → IsSound links rows walk → (chain last : ℕ) (at : Option ℕ) → 0 < chain
+      → at ≡ last_in (seen_lasts links.lasts.items walk) chain
+      → ((row : ℕ) → at ≡ Some row → last ≡ row)
       → IsLook links.next.items rows last at
-      × (values_left links.next.items rows last at ≡ chain_in (map (values_of rows) (seen_chains links walk)) chain)
+      × (values_left links.next.items rows last at
+      ≡ chain_in (map (values_of rows) (seen_chains links walk)) chain)
   look-begun {links} {rows} {walk} s chain last None shown noted same = (
     record { sized = s.table.sized; way = λ row e. cc },
-    sym (chain-map (values_of rows) (seen_chains links walk) chain refl ∙ ap (λ rs. values_of rows rs) (none-at s.table.holds chain (sym noted))),
+    sym (chain-map (values_of rows) (seen_chains links walk) chain refl
+        ∙ ap (λ rs. values_of rows rs) (none-at s.table.holds chain (sym noted))),
   )
   look-begun {links} {rows} {walk} s chain last (Some row) shown noted same =
       let t = s.table in
@@ -125,7 +141,8 @@ module _ {T : Type 0} where
       )
 
 -- a reference to what is there
-pub copied-some : {T : Type 0} (found : Option (Bor T)) (value : T) → option_copied found ≡ Some value
+pub copied-some : {T : Type 0} (found : Option (Bor T)) (value : T)
+    → option_copied found ≡ Some value
     → (reference : Bor T) × (found ≡ Some reference) × (reference.now ≡ value)
 copied-some None value is = cc
 copied-some (Some reference) value is = (reference, refl, (cc))

@@ -9,7 +9,8 @@ use crate::walk::seen_last;
 use std::iter::FusedIterator;
 use std::marker::Model;
 
-/// The values of a chain that are left, seen as their list. A step costs the same however long the chain is.
+/// The values of a chain that are left, seen as their list.
+/// A step costs the same however long the chain is.
 #[derive(Drop)]
 pub struct Iter<'a, T> {
     links: &'a Links,
@@ -57,7 +58,8 @@ fn unless_last(row: usize, last: usize) -> Option<usize>
 }
 
 impl<T: Drop> Chains<T> {
-    /// The values of a chain, in order. Of the chain that is being walked, from the one that the walk is at on.
+    /// The values of a chain, in order. Of the chain that is
+    /// being walked, from the one that the walk is at on.
     pub fn iter(&self, chain: usize) -> Iter<'_, T>
         requires { 0 < chain × chain < length self.now.chains }
         ensures { result ≡ chain_in self.now.chains chain }

@@ -1,5 +1,6 @@
 //! The links between rows, and the one call that changes them.
-ghost use Rattle.std.specs.Prelude.{◌≡◌, ℕ, ◌+◌, ◌-◌, ◌^◌, ◌<◌, ◌≤◌, min, None, [], ◌∷◌, ◌++◌, length, replicate, IfOk, OnOk, OnErr, vec_len, vec_capacity};
+ghost use Rattle.std.specs.Prelude.{◌≡◌, ℕ, ◌+◌, ◌-◌, ◌^◌, ◌<◌, ◌≤◌, min, None, [], ◌∷◌, ◌++◌};
+ghost use Rattle.std.specs.Prelude.{length, replicate, IfOk, OnOk, OnErr, vec_len, vec_capacity};
 ghost use Rattle.chains.specs.inside.Rings.{after, last_in};
 ghost use Rattle.chains.specs.inside.Changes.{IsWithin, lasts_after, next_after};
 
@@ -84,7 +85,8 @@ impl Links {
         ensures next { self.new.next ≡ self.old.next }
         ensures lasts { self.new.lasts.items ≡ self.old.lasts.items }
         ensures changed { self.new.changed ≡ self.old.changed }
-        ensures ok { OnOk result (length self.new.lasts.items + more ≤ vec_capacity self.new.lasts) }
+        ensures ok { OnOk result
+            (length self.new.lasts.items + more ≤ vec_capacity self.new.lasts) }
         ensures room { vec_capacity self.old.lasts ≤ vec_capacity self.new.lasts }
     {
         self.lasts.reserve(more)

@@ -1,9 +1,11 @@
 //! The rows of a table: one is got for a value, and a value is put into it or taken out.
-ghost use Rattle.std.specs.Prelude.{◌≡◌, ℕ, IsSome, ◌+◌, ◌-◌, ◌<◌, ◌≤◌, None, Some, List, length, map, max, slice_set, vec_capacity};
+ghost use Rattle.std.specs.Prelude.{◌≡◌, ℕ, IsSome, ◌+◌, ◌-◌, ◌<◌, ◌≤◌, None, Some, List, length};
+ghost use Rattle.std.specs.Prelude.{map, max, slice_set, vec_capacity};
 ghost use Rattle.std.specs.Borrow.{Lends, sem};
 ghost use Rattle.std.specs.contracts.option.Option.{the_row};
 ghost use Rattle.chains.specs.Edits.{chain_in, shortened};
-ghost use Rattle.chains.specs.inside.Tables.{HasRow, IsOpen, IsTable, spare_in, value_at, values_of};
+ghost use Rattle.chains.specs.inside.Tables.{HasRow, IsOpen, IsTable, spare_in, value_at};
+ghost use Rattle.chains.specs.inside.Tables.{values_of};
 
 use crate::links::Links;
 use crate::rings;
@@ -12,16 +14,24 @@ use std::mem;
 /// The chain of the free rows.
 pub const FREE: usize = 0;
 
-/// Gets a row for a value, so that it's loose: the first free one, or a new one where none is free. At most 1 change.
+/// Gets a row for a value, so that it's loose: the first free
+/// one, or a new one where none is free. At most 1 change.
 pub fn open_row<T>(links: &mut Links, rows: &mut Vec<Option<T>>) -> usize
     requires { HasRow links.old rows.old.items (vec_capacity rows.old) }
-    ensures opened { (chains : List (List ℕ)) → IsTable links.old.next.items links.old.lasts.items rows.old.items chains →
-        IsOpen links.new.next.items links.new.lasts.items rows.new.items result (shortened chains 0) }
-    ensures shown { (chains : List (List ℕ)) → IsTable links.old.next.items links.old.lasts.items rows.old.items chains →
-        map (values_of rows.new.items) (shortened chains 0) ≡ map (values_of rows.old.items) chains }
-    ensures rows { (chains : List (List ℕ)) → IsTable links.old.next.items links.old.lasts.items rows.old.items chains →
-        length rows.new.items ≡ max (length rows.old.items) (length rows.old.items - length (chain_in chains 0) + 1) }
-    ensures spare { (chains : List (List ℕ)) → IsTable links.old.next.items links.old.lasts.items rows.old.items chains →
+    ensures opened { (chains : List (List ℕ))
+        → IsTable links.old.next.items links.old.lasts.items rows.old.items chains →
+        IsOpen links.new.next.items links.new.lasts.items rows.new.items result
+        (shortened chains 0) }
+    ensures shown { (chains : List (List ℕ))
+        → IsTable links.old.next.items links.old.lasts.items rows.old.items chains →
+        map (values_of rows.new.items) (shortened chains 0)
+        ≡ map (values_of rows.old.items) chains }
+    ensures rows { (chains : List (List ℕ))
+        → IsTable links.old.next.items links.old.lasts.items rows.old.items chains →
+        length rows.new.items ≡ max (length rows.old.items)
+        (length rows.old.items - length (chain_in chains 0) + 1) }
+    ensures spare { (chains : List (List ℕ))
+        → IsTable links.old.next.items links.old.lasts.items rows.old.items chains →
         spare_in links.new rows.new.items (vec_capacity rows.new) (shortened chains 0) + 1
         ≡ spare_in links.old rows.old.items (vec_capacity rows.old) chains }
     ensures few { links.new.changed ≤ links.old.changed + 1 }

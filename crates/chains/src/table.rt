@@ -1,7 +1,10 @@
 //! Chains of values, and the calls that change them.
-ghost use Rattle.std.specs.Prelude.{◌≡◌, ◌≢◌, ℕ, ◌+◌, ◌<◌, ◌≤◌, ◌==◌, None, Some, Option, List, [], ◌∷◌, ◌++◌, length, replicate, max, IfOk, OnOk, OnErr, IfSome, OnSome, slice_get};
+ghost use Rattle.std.specs.Prelude.{◌≡◌, ◌≢◌, ℕ, ◌+◌, ◌<◌, ◌≤◌, ◌==◌, None, Some, Option, List, []};
+ghost use Rattle.std.specs.Prelude.{◌∷◌, ◌++◌, length, replicate, max, IfOk, OnOk, OnErr, IfSome};
+ghost use Rattle.std.specs.Prelude.{OnSome, slice_get};
 ghost use Rattle.std.specs.Option.{option_copied};
-ghost use Rattle.chains.specs.Edits.{chain_in, fronted, joined, lengthened, preceded, shortened, with_first};
+ghost use Rattle.chains.specs.Edits.{chain_in, fronted, joined, lengthened, preceded, shortened};
+ghost use Rattle.chains.specs.Edits.{with_first};
 ghost use Rattle.chains.specs.Shown.{ChangesFew, KeepsRoom, count_in};
 
 use crate::links::Links;
@@ -105,12 +108,16 @@ impl<T: Drop> Chains<T> {
         requires { 0 < self.old.room }
         ensures chains { self.new.chains ≡ self.old.chains ++ [] ∷ [] }
         ensures room { self.new.room + 1 ≡ self.old.room }
-        ensures rest { self.new ≡ record self.old { chains = self.new.chains; room = self.new.room } }
+        ensures rest { self.new ≡ record self.old {
+          chains = self.new.chains;
+          room = self.new.room;
+        } }
     {
         self.links.begin();
     }
 
-    /// Puts a value behind the last of a chain, into a free row, where there is one. At most 4 links are changed. Takes no memory.
+    /// Puts a value behind the last of a chain, into a free row, where there is one. At most 4
+    /// links are changed. Takes no memory.
     pub fn add_reserved(&mut self, chain: usize, value: T)
         requires rests { self.old.walked ≡ None }
         requires chain { 0 < chain × chain < length self.old.chains }
@@ -127,7 +134,8 @@ impl<T: Drop> Chains<T> {
         rings::put_last(&mut self.links, chain, row);
     }
 
-    /// Puts all of one chain behind the last of another: at most 4 links are changed, and no value is moved.
+    /// Puts all of one chain behind the last of another: at
+    /// most 4 links are changed, and no value is moved.
     pub fn join(&mut self, from: usize, onto: usize)
         requires rests { self.old.walked ≡ None }
         requires from { 0 < from × from < length self.old.chains }
@@ -141,7 +149,8 @@ impl<T: Drop> Chains<T> {
         rings::join(&mut self.links, from, onto);
     }
 
-    /// Puts all of one chain before the first of another: at most 3 links are changed, and no value is moved.
+    /// Puts all of one chain before the first of another:
+    /// at most 3 links are changed, and no value is moved.
     pub fn put_before(&mut self, from: usize, onto: usize)
         requires rests { self.old.walked ≡ None }
         requires from { 0 < from × from < length self.old.chains }
@@ -174,7 +183,8 @@ impl<T: Drop> Chains<T> {
         value
     }
 
-    /// Puts a value behind the last of a chain, into a free row, where there is one. At most 4 links are changed.
+    /// Puts a value behind the last of a chain, into a free
+    /// row, where there is one. At most 4 links are changed.
     ///
     /// # Errors
     ///
@@ -194,7 +204,8 @@ impl<T: Drop> Chains<T> {
         Ok(())
     }
 
-    /// Begins a chain with one value, in a free row, where there is one. At most 4 links are changed.
+    /// Begins a chain with one value, in a free row, where
+    /// there is one. At most 4 links are changed.
     ///
     /// # Errors
     ///
@@ -205,7 +216,8 @@ impl<T: Drop> Chains<T> {
         ensures changed { ChangesFew self.old self.new 4 }
         ensures walked { self.new.walked ≡ None }
         ensures rows { OnOk result (self.new.rows ≡ max self.old.rows (count_in self.new.chains)) }
-        ensures err { OnErr result (self.new ≡ record self.old { room = self.new.room; spare = self.new.spare }) }
+        ensures err { OnErr result
+            (self.new ≡ record self.old { room = self.new.room; spare = self.new.spare }) }
     {
         self.reserve(1)?;
         self.reserve_row()?;
@@ -240,7 +252,8 @@ impl<T: Drop> Chains<T> {
         seen_last(&self.links, self.walk, chain).is_none()
     }
 
-    /// Puts a value in place of the first of a chain, and answers that one; no link is changed. Where the chain has none, the value is let go.
+    /// Puts a value in place of the first of a chain, and answers that one; no link is changed.
+    /// Where the chain has none, the value is let go.
     pub fn replace_first(&mut self, chain: usize, value: T) -> Option<T>
         requires { 0 < chain × chain < length self.old.chains }
         ensures replaced { result ≡ slice_get (chain_in self.old.chains chain) 0 }

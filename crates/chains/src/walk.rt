@@ -29,7 +29,8 @@ pub fn first_row(links: &Links, walk: Option<Walk>, chain: usize) -> usize
     requires there { IsKept links.now.next.items (seen_lasts links.now.lasts.items walk) }
     requires chain { chain < length links.now.lasts.items }
     requires some { IsSome (last_in (seen_lasts links.now.lasts.items walk) chain) }
-    ensures { (last : ℕ) × (last_in (seen_lasts links.now.lasts.items walk) chain ≡ Some last) × (result ≡ after links.now.next.items last) }
+    ensures { (last : ℕ) × (last_in (seen_lasts links.now.lasts.items walk) chain ≡ Some last)
+        × (result ≡ after links.now.next.items last) }
 {
     match seen_last(links, walk, chain) {
         Some(last) => links.next(last),

@@ -1,7 +1,8 @@
 //! The walk over a chain, by which values are taken out of its middle.
 //!
-//! A ring is the same ring seen from any of its rows, so going past a value writes no link: only where the walk is changes, and that row is seen as
-//! the chain's last. The links are told of it when the walk ends.
+//! A ring is the same ring seen from any of its rows, so going past a
+//! value writes no link: only where the walk is changes, and that row is
+//! seen as the chain's last. The links are told of it when the walk ends.
 ghost use Rattle.std.specs.Prelude.{◌≡◌, ◌≢◌, ℕ, ◌<◌, None, Some, length};
 ghost use Rattle.chains.specs.Edits.{lifted, turned};
 ghost use Rattle.chains.specs.Shown.{ChangesFew, KeepsRoom};
@@ -22,9 +23,11 @@ impl<T: Drop> Chains<T> {
         self.walk = Some(Walk { chain, at });
     }
 
-    /// DeviceFrame past the first value of the chain that is being walked: it's the last then. No link is changed.
+    /// DeviceFrame past the first value of the chain that is
+    /// being walked: it's the last then. No link is changed.
     pub fn turn(&mut self)
-        ensures chains { (chain : ℕ) → self.old.walked ≡ Some chain → self.new.chains ≡ turned self.old.chains chain }
+        ensures chains { (chain : ℕ) → self.old.walked ≡ Some chain
+            → self.new.chains ≡ turned self.old.chains chain }
         ensures rest { self.new ≡ record self.old { chains = self.new.chains } }
         ensures none { self.old.walked ≡ None → self.new ≡ self.old }
     {
@@ -41,11 +44,13 @@ impl<T: Drop> Chains<T> {
         });
     }
 
-    /// Puts the first value of the chain that is being walked before the first of another: at most 3 links are changed, and no value is moved.
+    /// Puts the first value of the chain that is being walked before the first of another: at most
+    /// 3 links are changed, and no value is moved.
     pub fn lift(&mut self, onto: usize)
         requires onto { 0 < onto × onto < length self.old.chains }
         requires apart { self.old.walked ≢ Some onto }
-        ensures chains { (chain : ℕ) → self.old.walked ≡ Some chain → self.new.chains ≡ lifted self.old.chains chain onto }
+        ensures chains { (chain : ℕ) → self.old.walked ≡ Some chain
+            → self.new.chains ≡ lifted self.old.chains chain onto }
         ensures changed { ChangesFew self.old self.new 3 }
         ensures walked { self.new.walked ≡ self.old.walked }
         ensures room { KeepsRoom self.old self.new }

@@ -1,11 +1,13 @@
-//! dmlw records block requests in a log, as the kernel's dm-log-writes does, and reads such logs back.
+//! dmlw records block requests in a log, as the kernel's
+//! dm-log-writes does, and reads such logs back.
 //!
-//! `dmlw record SCRIPT LOG` runs a script of writes, flushes and their ends, and writes the log of the
-//! whole run, byte for byte; `dmlw run SCRIPT LOG` runs one of several seats, each in a thread. `dmlw list LOG` prints a log's entries up to the first fault, `dmlw status
-//! LOG` how far the log has come. `dmlw replay LOG FIRST OUT WHAT` puts a beginning of a log on an image,
-//! `dmlw judge SCRIPT M IMAGE` says whether an image could have been on the device after M events, had power
-//! failed there. Here `dmlw_cli::execute` is called over the system's files and streams, of which no clause knows
-//! what they hold.
+//! `dmlw record SCRIPT LOG` runs a script of writes, flushes and their ends, and writes the log of
+//! the whole run, byte for byte; `dmlw run SCRIPT LOG` runs one of several seats, each in a thread.
+//! `dmlw list LOG` prints a log's entries up to the first fault, `dmlw status LOG` how far the log
+//! has come. `dmlw replay LOG FIRST OUT WHAT` puts a beginning of a log on an image,
+//! `dmlw judge SCRIPT M IMAGE` says whether an image could have been on the device after M events,
+//! had power failed there. Here `dmlw_cli::execute` is called over the system's files and streams,
+//! of which no clause knows what they hold.
 #![tactic(auto)]
 
 use dmlw_cli::{execute, refuse};
@@ -26,7 +28,8 @@ fn main(rt: HostRuntime) -> ExitCode {
     ExitCode::from(status)
 }
 
-// Does the process's command line; where nobody reads the output on, the rest of it is dropped. An error comes only from before a command is begun.
+// Does the process's command line; where nobody reads the output on, the rest of it is dropped. An
+// error comes only from before a command is begun.
 fn run<R: Files + Env + Print + AllocGlobal + Threads + Wait + Sync, E: Write>(
     rt: &R,
     err: &mut E,

@@ -1,13 +1,17 @@
 -- How every task ends.
-use Rattle.std.proofs.Common.{◌≡◌, ◌≤◌, ◌⊎◌, ◌++◌, ℕ, [], append-nil, Bool, false, true, List, Option, Some, None, Result, Ok, Err, arith, inl, inr, refl, subst, sym}
+use Rattle.std.proofs.Common.{◌≡◌, ◌≤◌, ◌⊎◌, ◌++◌, ℕ, [], append-nil, Bool, false, true, List}
+use Rattle.std.proofs.Common.{Option, Some, None, Result, Ok, Err, arith, inl, inr, refl, subst}
+use Rattle.std.proofs.Common.{sym}
 use Rattle.bio.specs.declared.outcome.End.{End}
 use Rattle.bio.specs.declared.outcome.Status.{Status}
 use Rattle.run_error.specs.declared.run_error.RunError.{RunError}
 use Rattle.run_error.specs.declared.run_error.RunError.TheVariants as faults
 use Rattle.run_error.specs.Errors.{IsFileError, memory_error}
 use Rattle.dmlw_commands.specs.declared.exit.Exit.{Exit}
-use Rattle.dmlw_commands.specs.declared.exit.Exit.TheVariants.{Done, LoggingEnded, Refused, RuledOut, Usage}
-use Rattle.dmlw_commands.specs.Exits.{exit_after, exit_at, exit_of, fault_line, status_of, told_line}
+use Rattle.dmlw_commands.specs.declared.exit.Exit.TheVariants.{Done, LoggingEnded, Refused}
+use Rattle.dmlw_commands.specs.declared.exit.Exit.TheVariants.{RuledOut, Usage}
+use Rattle.dmlw_commands.specs.Exits.{exit_after, exit_at, exit_of, fault_line, status_of}
+use Rattle.dmlw_commands.specs.Exits.{told_line}
 use Rattle.dmlw_commands.specs.declared.ending.Ended.{Ended}
 use Rattle.dmlw_commands.specs.Endings.{ErrStream, Tells, TellsLine}
 use Rattle.dmlw_files.specs.Files.{AsksFor, KeepsFiles, Write}
@@ -28,13 +32,16 @@ use Rattle.judge.specs.declared.verdict.Verdict.{Verdict}
 use Rattle.judge.specs.declared.verdict.Verdict.TheVariants as verdicts
 use Rattle.replay.specs.Refusals.{replay_refusal}
 use Rattle.replay.specs.declared.upto.Upto.{Upto}
-use Rattle.dmlw_cli.specs.Commands.{AsksForOne, EndsCommand, EndsTask, EndsUntasked, IsFaultLine, LeavesBy, TellsBy, TellsOneLine, TellsUntasked, of_fault, of_replay}
+use Rattle.dmlw_cli.specs.Commands.{AsksForOne, EndsCommand, EndsTask, EndsUntasked, IsFaultLine}
+use Rattle.dmlw_cli.specs.Commands.{LeavesBy, TellsBy, TellsOneLine, TellsUntasked, of_fault}
+use Rattle.dmlw_cli.specs.Commands.{of_replay}
 use Rattle.clap.specs.Words.{Text, kind_of}
 use Rattle.clap.specs.declared.error.Error.{Error}
 use Rattle.dmlw_cli.specs.CommandLine.{is_formats}
 use Rattle.dmlw_cli.specs.Tasks.{IsRead, IsReadAs, memory}
 use Rattle.clap.specs.declared.error.kind.ErrorKind.{ErrorKind}
-use Rattle.clap.specs.declared.error.kind.ErrorKind.TheVariants.{DisplayHelp, DisplayVersion, OutOfMemory}
+use Rattle.clap.specs.declared.error.kind.ErrorKind.TheVariants.{DisplayHelp, DisplayVersion}
+use Rattle.clap.specs.declared.error.kind.ErrorKind.TheVariants.{OutOfMemory}
 use Rattle.std.specs.Io.KnownBytes.{Appends}
 use Rattle.dmlw_cli.specs.declared.task.Task.{Task}
 use Rattle.dmlw_cli.specs.declared.task.Task.TheVariants as tasks
@@ -45,9 +52,11 @@ not_file end (inl is) = cc
 not_file end (inr is) = cc
 
 -- where nothing was asked to be written, a command ends as any may
-pub ends_silently : (writes_old writes_new : Option (List Write)) (exit : Exit) → writes_new ≡ writes_old
+pub ends_silently : (writes_old writes_new : Option (List Write)) (exit : Exit)
+    → writes_new ≡ writes_old
     → EndsCommand writes_old writes_new (status_of exit)
-ends_silently writes_old writes_new exit same = record { known = at_most exit; once = inl same; unwritten = λ usage. same }
+ends_silently writes_old writes_new exit same =
+    record { known = at_most exit; once = inl same; unwritten = λ usage. same }
   where
     at_most : (e : Exit) → status_of e ≤ 3
     at_most Done = omega arith
@@ -57,10 +66,13 @@ ends_silently writes_old writes_new exit same = record { known = at_most exit; o
     at_most RuledOut = omega arith
 
 -- what is refused has asked for no file, or for its log, which couldn't be written
-refused_writing : (prints : Status → Type 0) (writes_old writes_new : Option (List Write)) (fault : RunError)
+refused_writing : (prints : Status → Type 0) (writes_old writes_new : Option (List Write))
+    (fault : RunError)
     → ((status : Status) → prints status → AsksForOne writes_old writes_new)
-    → ((writes_new ≡ writes_old) ⊎ (IsFileError fault × (status : Status) × prints status)) → EndsCommand writes_old writes_new 1
-refused_writing prints writes_old writes_new fault asks (inl same) = ends_silently writes_old writes_new Refused same
+    → ((writes_new ≡ writes_old) ⊎ (IsFileError fault × (status : Status) × prints status))
+    → EndsCommand writes_old writes_new 1
+refused_writing prints writes_old writes_new fault asks (inl same) =
+    ends_silently writes_old writes_new Refused same
 refused_writing prints writes_old writes_new fault asks (inr (file, status, printed)) = record {
   known = omega arith;
   once = inr (asks status printed);
@@ -68,128 +80,186 @@ refused_writing prints writes_old writes_new fault asks (inr (file, status, prin
 }
 
 -- a recording that came so far has asked for its log
-ends_logged : (end : Option End) (writes_old writes_new : Option (List Write)) → AsksForOne writes_old writes_new
+ends_logged : (end : Option End) (writes_old writes_new : Option (List Write))
+    → AsksForOne writes_old writes_new
     → EndsCommand writes_old writes_new (status_of (exit_at end))
-ends_logged None writes_old writes_new asked = record { known = omega arith; once = inr asked; unwritten = λ usage. absurd (omega arith) }
-ends_logged (Some cause) writes_old writes_new asked = record { known = omega arith; once = inr asked; unwritten = λ usage. absurd (omega arith) }
+ends_logged None writes_old writes_new asked =
+    record { known = omega arith; once = inr asked; unwritten = λ usage. absurd (omega arith) }
+ends_logged (Some cause) writes_old writes_new asked =
+    record { known = omega arith; once = inr asked; unwritten = λ usage. absurd (omega arith) }
 
 -- every recording ends so
-ends_recorded : (contents : Option (List ℕ)) (log : List ℕ) (writes_old writes_new : Option (List Write)) (old new : Option (List ℕ))
+ends_recorded : (contents : Option (List ℕ)) (log : List ℕ)
+    (writes_old writes_new : Option (List Write)) (old new : Option (List ℕ))
     (done : Result Status RunError) → Records contents log writes_old writes_new old new done
     → EndsCommand writes_old writes_new (status_of (exit_after done))
-ends_recorded contents log writes_old writes_new old new (Ok status) asked = ends_logged status.end writes_old writes_new (log, (asked.0, asked.2))
-ends_recorded contents log writes_old writes_new old new (Err (faults.Refused fault)) (writes, fails) =
-    refused_writing (PrintsLog contents log writes_old writes_new old new) writes_old writes_new (faults.Refused fault)
+ends_recorded contents log writes_old writes_new old new (Ok status) asked =
+    ends_logged status.end writes_old writes_new (log, (asked.0, asked.2))
+ends_recorded contents log writes_old writes_new old new (Err (faults.Refused fault))
+    (writes, fails) =
+    refused_writing (PrintsLog contents log writes_old writes_new old new) writes_old writes_new
+    (faults.Refused fault)
     (λ status printed. (log, (printed.0, printed.2))) writes
-ends_recorded contents log writes_old writes_new old new (Err (faults.LoggingEnded end)) (inl same, fails) =
+ends_recorded contents log writes_old writes_new old new (Err (faults.LoggingEnded end))
+    (inl same, fails) =
     ends_silently writes_old writes_new LoggingEnded same
 ends_recorded contents log writes_old writes_new old new (Err (faults.LoggingEnded end)) (inr (file, status, asked), fails) = absurd (not_file end file)
 
 -- every run of seats ends so
-ends_run : (contents : Option (List ℕ)) (log : List ℕ) (writes_old writes_new : Option (List Write)) (old new : Option (List ℕ))
+ends_run : (contents : Option (List ℕ)) (log : List ℕ) (writes_old writes_new : Option (List Write))
+    (old new : Option (List ℕ))
     (done : Result Status RunError) → Runs contents log writes_old writes_new old new done
     → EndsCommand writes_old writes_new (status_of (exit_after done))
-ends_run contents log writes_old writes_new old new (Ok status) asked = ends_logged status.end writes_old writes_new (log, (asked.0, asked.2))
+ends_run contents log writes_old writes_new old new (Ok status) asked =
+    ends_logged status.end writes_old writes_new (log, (asked.0, asked.2))
 ends_run contents log writes_old writes_new old new (Err (faults.Refused fault)) (writes, fails) =
-    refused_writing (PrintsRun contents log writes_old writes_new old new) writes_old writes_new (faults.Refused fault)
+    refused_writing (PrintsRun contents log writes_old writes_new old new) writes_old writes_new
+    (faults.Refused fault)
     (λ status printed. (log, (printed.0, printed.2))) writes
-ends_run contents log writes_old writes_new old new (Err (faults.LoggingEnded end)) (inl same, fails) =
+ends_run contents log writes_old writes_new old new (Err (faults.LoggingEnded end))
+    (inl same, fails) =
     ends_silently writes_old writes_new LoggingEnded same
 ends_run contents log writes_old writes_new old new (Err (faults.LoggingEnded end)) (inr (file, status, asked), fails) = absurd (not_file end file)
 
 -- a replay ends by no usage fault
-replayed_known : (done : Result ℕ Stop) → (status_of (replay_exit done) ≤ 3) × (status_of (replay_exit done) ≡ 2 → ⊥)
+replayed_known : (done : Result ℕ Stop)
+    → (status_of (replay_exit done) ≤ 3) × (status_of (replay_exit done) ≡ 2 → ⊥)
 replayed_known (Ok count) = (omega arith, λ usage. absurd (omega arith))
-replayed_known (Err (stops.Fault (faults.Refused fault))) = (omega arith, λ usage. absurd (omega arith))
-replayed_known (Err (stops.Fault (faults.LoggingEnded end))) = (omega arith, λ usage. absurd (omega arith))
+replayed_known (Err (stops.Fault (faults.Refused fault))) =
+    (omega arith, λ usage. absurd (omega arith))
+replayed_known (Err (stops.Fault (faults.LoggingEnded end))) =
+    (omega arith, λ usage. absurd (omega arith))
 replayed_known (Err (stops.Replay fault)) = (omega arith, λ usage. absurd (omega arith))
 
 -- a replay that has asked for nothing, or for its image
-replay_asks : (writes_old writes_new : Option (List Write)) (done : Result ℕ Stop) → ((writes_new ≡ writes_old) ⊎ AsksForOne writes_old writes_new)
+replay_asks : (writes_old writes_new : Option (List Write)) (done : Result ℕ Stop)
+    → ((writes_new ≡ writes_old) ⊎ AsksForOne writes_old writes_new)
     → EndsCommand writes_old writes_new (status_of (replay_exit done))
 replay_asks writes_old writes_new done once =
-    let known = replayed_known done in record { known = known.0; once = once; unwritten = λ usage. absurd (known.1 usage) }
+    let known = replayed_known done in
+    record { known = known.0; once = once; unwritten = λ usage. absurd (known.1 usage) }
 
 -- a replay that was printed has asked for its image
-printed_asks : (log_file first_file : Option (List ℕ)) (name : List ℕ) (upto : Upto) (writes_old writes_new : Option (List Write)) (old new : Option (List ℕ))
-    (count : ℕ) → PrintsReplay log_file first_file name upto writes_old writes_new old new count → AsksForOne writes_old writes_new
-printed_asks log_file first_file name upto writes_old writes_new old new count prints = (name, (prints.image, prints.asked))
+printed_asks : (log_file first_file : Option (List ℕ)) (name : List ℕ) (upto : Upto)
+    (writes_old writes_new : Option (List Write)) (old new : Option (List ℕ))
+    (count : ℕ) → PrintsReplay log_file first_file name upto writes_old writes_new old new count
+    → AsksForOne writes_old writes_new
+printed_asks log_file first_file name upto writes_old writes_new old new count prints =
+    (name, (prints.image, prints.asked))
 
 -- every replay ends so
-ends_replayed : (log_file first_file : Option (List ℕ)) (name : List ℕ) (upto : Upto) (writes_old writes_new : Option (List Write)) (old new : Option (List ℕ))
-    (done : Result ℕ Stop) → Replays log_file first_file name upto writes_old writes_new old new done
+ends_replayed : (log_file first_file : Option (List ℕ)) (name : List ℕ) (upto : Upto)
+    (writes_old writes_new : Option (List Write)) (old new : Option (List ℕ))
+    (done : Result ℕ Stop) → Replays log_file first_file name upto writes_old writes_new old new
+    done
     → EndsCommand writes_old writes_new (status_of (replay_exit done))
 ends_replayed log_file first_file name upto writes_old writes_new old new (Ok count) prints =
-    replay_asks writes_old writes_new (Ok count) (inr (printed_asks log_file first_file name upto writes_old writes_new old new count prints))
-ends_replayed log_file first_file name upto writes_old writes_new old new (Err stop) (inl (fails, kept, same)) =
+    replay_asks writes_old writes_new (Ok count)
+    (inr (printed_asks log_file first_file name upto writes_old writes_new old new count
+    prints))
+ends_replayed log_file first_file name upto writes_old writes_new old new (Err stop)
+    (inl (fails, kept, same)) =
     replay_asks writes_old writes_new (Err stop) (inl same)
-ends_replayed log_file first_file name upto writes_old writes_new old new (Err stop) (inr (inl (file, same))) =
+ends_replayed log_file first_file name upto writes_old writes_new old new (Err stop)
+    (inr (inl (file, same))) =
     replay_asks writes_old writes_new (Err stop) (inl same)
-ends_replayed log_file first_file name upto writes_old writes_new old new (Err stop) (inr (inr (file, count, prints))) =
-    replay_asks writes_old writes_new (Err stop) (inr (printed_asks log_file first_file name upto writes_old writes_new old new count prints))
+ends_replayed log_file first_file name upto writes_old writes_new old new (Err stop)
+    (inr (inr (file, count, prints))) =
+    replay_asks writes_old writes_new (Err stop)
+    (inr (printed_asks log_file first_file name upto writes_old writes_new old new count
+    prints))
 
 -- a copy ends by no usage fault
-copied_known : (done : Result ℕ CopyStop) → (status_of (copy_exit done) ≤ 3) × (status_of (copy_exit done) ≡ 2 → ⊥)
+copied_known : (done : Result ℕ CopyStop)
+    → (status_of (copy_exit done) ≤ 3) × (status_of (copy_exit done) ≡ 2 → ⊥)
 copied_known (Ok count) = (omega arith, λ usage. absurd (omega arith))
-copied_known (Err (copy_stops.Fault (faults.Refused fault))) = (omega arith, λ usage. absurd (omega arith))
-copied_known (Err (copy_stops.Fault (faults.LoggingEnded end))) = (omega arith, λ usage. absurd (omega arith))
+copied_known (Err (copy_stops.Fault (faults.Refused fault))) =
+    (omega arith, λ usage. absurd (omega arith))
+copied_known (Err (copy_stops.Fault (faults.LoggingEnded end))) =
+    (omega arith, λ usage. absurd (omega arith))
 copied_known (Err (copy_stops.Copy fault)) = (omega arith, λ usage. absurd (omega arith))
 
 -- a copy that has asked for nothing, or for its image
-copy_asks : (writes_old writes_new : Option (List Write)) (done : Result ℕ CopyStop) → ((writes_new ≡ writes_old) ⊎ AsksForOne writes_old writes_new)
+copy_asks : (writes_old writes_new : Option (List Write)) (done : Result ℕ CopyStop)
+    → ((writes_new ≡ writes_old) ⊎ AsksForOne writes_old writes_new)
     → EndsCommand writes_old writes_new (status_of (copy_exit done))
 copy_asks writes_old writes_new done asks =
     let known = copied_known done in
     record { known = known.0; once = asks; unwritten = λ usage. absurd (known.1 usage) }
 
 -- a copy that was printed has asked for its image
-copied_asks : (log_file : Option (List ℕ)) (name : List ℕ) (sectors : ℕ) (writes_old writes_new : Option (List Write)) (old new : Option (List ℕ))
-    (count : ℕ) → PrintsCopy log_file name sectors writes_old writes_new old new count → AsksForOne writes_old writes_new
-copied_asks log_file name sectors writes_old writes_new old new count prints = (name, (prints.image, prints.asked))
+copied_asks : (log_file : Option (List ℕ)) (name : List ℕ) (sectors : ℕ)
+    (writes_old writes_new : Option (List Write)) (old new : Option (List ℕ))
+    (count : ℕ) → PrintsCopy log_file name sectors writes_old writes_new old new count
+    → AsksForOne writes_old writes_new
+copied_asks log_file name sectors writes_old writes_new old new count prints =
+    (name, (prints.image, prints.asked))
 
 -- every copy ends so
-ends_copied : (log_file : Option (List ℕ)) (name : List ℕ) (sectors : ℕ) (writes_old writes_new : Option (List Write)) (old new : Option (List ℕ))
+ends_copied : (log_file : Option (List ℕ)) (name : List ℕ) (sectors : ℕ)
+    (writes_old writes_new : Option (List Write)) (old new : Option (List ℕ))
     (done : Result ℕ CopyStop) → Copies log_file name sectors writes_old writes_new old new done
     → EndsCommand writes_old writes_new (status_of (copy_exit done))
 ends_copied log_file name sectors writes_old writes_new old new (Ok count) prints =
-    copy_asks writes_old writes_new (Ok count) (inr (copied_asks log_file name sectors writes_old writes_new old new count prints))
-ends_copied log_file name sectors writes_old writes_new old new (Err stop) (inl (fails, kept, same)) =
+    copy_asks writes_old writes_new (Ok count)
+    (inr (copied_asks log_file name sectors writes_old writes_new old new count prints))
+ends_copied log_file name sectors writes_old writes_new old new (Err stop)
+    (inl (fails, kept, same)) =
     copy_asks writes_old writes_new (Err stop) (inl same)
-ends_copied log_file name sectors writes_old writes_new old new (Err stop) (inr (inl (file, same))) =
+ends_copied log_file name sectors writes_old writes_new old new (Err stop)
+    (inr (inl (file, same))) =
     copy_asks writes_old writes_new (Err stop) (inl same)
-ends_copied log_file name sectors writes_old writes_new old new (Err stop) (inr (inr (file, count, prints))) =
-    copy_asks writes_old writes_new (Err stop) (inr (copied_asks log_file name sectors writes_old writes_new old new count prints))
+ends_copied log_file name sectors writes_old writes_new old new (Err stop)
+    (inr (inr (file, count, prints))) =
+    copy_asks writes_old writes_new (Err stop)
+    (inr (copied_asks log_file name sectors writes_old writes_new old new count prints))
 
 -- every task ends so
-pub ends_task : (task : Task) (contents : List ℕ → Option (List ℕ)) (writes_old writes_new : Option (List Write)) (old new : Option (List ℕ))
-    (t : ErrStream) (ended : Ended) → EndsTask task contents writes_old writes_new old new t ended → EndsCommand writes_old writes_new (status_of ended.exit)
+pub ends_task : (task : Task) (contents : List ℕ → Option (List ℕ))
+    (writes_old writes_new : Option (List Write)) (old new : Option (List ℕ))
+    (t : ErrStream) (ended : Ended) → EndsTask task contents writes_old writes_new old new t ended
+    → EndsCommand writes_old writes_new (status_of ended.exit)
 ends_task (tasks.Record script log) contents writes_old writes_new old new t ended ends =
     subst (λ (e : Exit). EndsCommand writes_old writes_new (status_of e)) (sym ends.tells.exits)
-    (ends_recorded (contents script.now) log.now writes_old writes_new old new ends.done ends.recorded)
+    (ends_recorded (contents script.now) log.now writes_old writes_new old new ends.done
+    ends.recorded)
 ends_task (tasks.Run script log) contents writes_old writes_new old new t ended ends =
     subst (λ (e : Exit). EndsCommand writes_old writes_new (status_of e)) (sym ends.tells.exits)
     (ends_run (contents script.now) log.now writes_old writes_new old new ends.done ends.ran)
-ends_task (tasks.List log) contents writes_old writes_new old new t ended ends = ends_silently writes_old writes_new ended.exit ends.unwritten
-ends_task (tasks.Status log) contents writes_old writes_new old new t ended ends = ends_silently writes_old writes_new ended.exit ends.unwritten
+ends_task (tasks.List log) contents writes_old writes_new old new t ended ends =
+    ends_silently writes_old writes_new ended.exit ends.unwritten
+ends_task (tasks.Status log) contents writes_old writes_new old new t ended ends =
+    ends_silently writes_old writes_new ended.exit ends.unwritten
 ends_task (tasks.Replay files upto) contents writes_old writes_new old new t ended ends =
     subst (λ (e : Exit). EndsCommand writes_old writes_new (status_of e)) (sym ends.tells.exits)
-    (ends_replayed (contents files.log.now) (contents files.first.now) files.out.now upto writes_old writes_new old new ends.done ends.replayed)
+    (ends_replayed (contents files.log.now)
+    (contents files.first.now) files.out.now upto writes_old writes_new old new ends.done
+    ends.replayed)
 ends_task (tasks.Copy files sectors) contents writes_old writes_new old new t ended ends =
     subst (λ (e : Exit). EndsCommand writes_old writes_new (status_of e)) (sym ends.tells.exits)
-    (ends_copied (contents files.log.now) files.out.now sectors writes_old writes_new old new ends.done ends.copied)
-ends_task (tasks.Judge script moment image) contents writes_old writes_new old new t ended ends = ends_silently writes_old writes_new ended.exit ends.unwritten
-ends_task (tasks.Path script moment image) contents writes_old writes_new old new t ended ends = ends_silently writes_old writes_new ended.exit ends.unwritten
-ends_task (tasks.Formats page) contents writes_old writes_new old new t ended ends = ends_silently writes_old writes_new ended.exit ends.unwritten
-ends_task (tasks.Show error) contents writes_old writes_new old new t ended ends = ends_silently writes_old writes_new ended.exit ends.unwritten
-ends_task (tasks.Flawed flaw word) contents writes_old writes_new old new t ended ends = ends_silently writes_old writes_new ended.exit ends.unwritten
+    (ends_copied (contents files.log.now) files.out.now sectors writes_old writes_new old new
+    ends.done ends.copied)
+ends_task (tasks.Judge script moment image) contents writes_old writes_new old new t ended ends =
+    ends_silently writes_old writes_new ended.exit ends.unwritten
+ends_task (tasks.Path script moment image) contents writes_old writes_new old new t ended ends =
+    ends_silently writes_old writes_new ended.exit ends.unwritten
+ends_task (tasks.Formats page) contents writes_old writes_new old new t ended ends =
+    ends_silently writes_old writes_new ended.exit ends.unwritten
+ends_task (tasks.Show error) contents writes_old writes_new old new t ended ends =
+    ends_silently writes_old writes_new ended.exit ends.unwritten
+ends_task (tasks.Flawed flaw word) contents writes_old writes_new old new t ended ends =
+    ends_silently writes_old writes_new ended.exit ends.unwritten
 
 -- a line with nothing behind it
-nothing_behind : (old new : Option (List ℕ)) (line more : List ℕ) → more ≡ [] → Appends old new (line ++ more) → Appends old new line
+nothing_behind : (old new : Option (List ℕ)) (line more : List ℕ) → more ≡ []
+    → Appends old new (line ++ more) → Appends old new line
 nothing_behind old new line more none grew =
-    subst (Appends old new) (append-nil line) (subst (λ (l : List ℕ). Appends old new (line ++ l)) none grew)
+    subst (Appends old new) (append-nil line)
+    (subst (λ (l : List ℕ). Appends old new (line ++ l)) none grew)
 
 -- a command that ends by a fault with this line, and doesn't explain itself, has told the line
-told_one_line : (t : ErrStream) (exit : Exit) (line : List ℕ) (ended : Ended) → t.explains ≡ false → IsFaultLine exit line → TellsLine t exit line ended
+told_one_line : (t : ErrStream) (exit : Exit) (line : List ℕ) (ended : Ended) → t.explains ≡ false
+    → IsFaultLine exit line → TellsLine t exit line ended
     → TellsOneLine ended t.before t.after
 told_one_line t exit line ended off is tells = record {
   line = line;
@@ -200,26 +270,33 @@ told_one_line t exit line ended off is tells = record {
 }
 
 -- what a fault tells, by how it ends
-told_fault : (t : ErrStream) (cause : RunError) (ended : Ended) → t.explains ≡ false → TellsLine t (exit_of cause) (fault_line cause) ended
+told_fault : (t : ErrStream) (cause : RunError) (ended : Ended) → t.explains ≡ false
+    → TellsLine t (exit_of cause) (fault_line cause) ended
     → TellsBy ended.exit ended t.before t.after
 told_fault t cause ended off tells =
     subst (λ (e : Exit). TellsBy e ended t.before t.after) (sym tells.exits)
-    (by_fault cause (told_one_line t (exit_of cause) (fault_line cause) ended off (of_fault cause refl refl) tells))
+    (by_fault cause (told_one_line t (exit_of cause) (fault_line cause) ended off
+    (of_fault cause refl refl) tells))
   where
-    by_fault : (cause : RunError) → TellsOneLine ended t.before t.after → TellsBy (exit_of cause) ended t.before t.after
+    by_fault : (cause : RunError) → TellsOneLine ended t.before t.after
+        → TellsBy (exit_of cause) ended t.before t.after
     by_fault (faults.Refused refused) line = line
     by_fault (faults.LoggingEnded end) line = inr line
 
 -- what a command tells that did this
-told_by : (t : ErrStream) (done : Result (Unit {0}) RunError) (ended : Ended) → t.explains ≡ false → Tells t done ended → TellsBy ended.exit ended t.before t.after
-told_by t (Ok u) ended off tells = subst (λ (e : Exit). TellsBy e ended t.before t.after) (sym tells.exits) (tells.quiet off refl)
+told_by : (t : ErrStream) (done : Result (Unit {0}) RunError) (ended : Ended) → t.explains ≡ false
+    → Tells t done ended → TellsBy ended.exit ended t.before t.after
+told_by t (Ok u) ended off tells =
+    subst (λ (e : Exit). TellsBy e ended t.before t.after) (sym tells.exits) (tells.quiet off refl)
 told_by t (Err fault) ended off tells = told_fault t fault ended off tells
 
 -- what a recording tells
-told_recording : (t : ErrStream) (done : Result Status RunError) (ended : Ended) → t.explains ≡ false → TellsLine t (exit_after done) (told_line done) ended
+told_recording : (t : ErrStream) (done : Result Status RunError) (ended : Ended)
+    → t.explains ≡ false → TellsLine t (exit_after done) (told_line done) ended
     → TellsBy ended.exit ended t.before t.after
 told_recording t (Ok status) ended off tells =
-    subst (λ (e : Exit). TellsBy e ended t.before t.after) (sym tells.exits) (by_end status.end (tells.quiet off refl))
+    subst (λ (e : Exit). TellsBy e ended t.before t.after) (sym tells.exits)
+    (by_end status.end (tells.quiet off refl))
   where
     by_end : (end : Option End) → t.after ≡ t.before → TellsBy (exit_at end) ended t.before t.after
     by_end None same = same
@@ -227,34 +304,43 @@ told_recording t (Ok status) ended off tells =
 told_recording t (Err fault) ended off tells = told_fault t fault ended off tells
 
 -- what a replay tells
-told_replay : (t : ErrStream) (done : Result ℕ Stop) (ended : Ended) → t.explains ≡ false → TellsLine t (replay_exit done) (replay_line done) ended
+told_replay : (t : ErrStream) (done : Result ℕ Stop) (ended : Ended) → t.explains ≡ false
+    → TellsLine t (replay_exit done) (replay_line done) ended
     → TellsBy ended.exit ended t.before t.after
-told_replay t (Ok count) ended off tells = subst (λ (e : Exit). TellsBy e ended t.before t.after) (sym tells.exits) (tells.quiet off refl)
+told_replay t (Ok count) ended off tells =
+    subst (λ (e : Exit). TellsBy e ended t.before t.after) (sym tells.exits) (tells.quiet off refl)
 told_replay t (Err (stops.Fault cause)) ended off tells = told_fault t cause ended off tells
 told_replay t (Err (stops.Replay stop)) ended off tells =
     subst (λ (e : Exit). TellsBy e ended t.before t.after) (sym tells.exits)
-    (told_one_line t Refused (replay_line (Err (stops.Replay stop))) ended off (of_replay stop.applied (replay_refusal stop.cause) refl refl) tells)
+    (told_one_line t Refused (replay_line (Err (stops.Replay stop))) ended off
+    (of_replay stop.applied (replay_refusal stop.cause) refl refl) tells)
 
 -- what a copy tells
-told_copy : (t : ErrStream) (done : Result ℕ CopyStop) (ended : Ended) → t.explains ≡ false → TellsLine t (copy_exit done) (copy_line done) ended
+told_copy : (t : ErrStream) (done : Result ℕ CopyStop) (ended : Ended) → t.explains ≡ false
+    → TellsLine t (copy_exit done) (copy_line done) ended
     → TellsBy ended.exit ended t.before t.after
-told_copy t (Ok count) ended off tells = subst (λ (e : Exit). TellsBy e ended t.before t.after) (sym tells.exits) (tells.quiet off refl)
+told_copy t (Ok count) ended off tells =
+    subst (λ (e : Exit). TellsBy e ended t.before t.after) (sym tells.exits) (tells.quiet off refl)
 told_copy t (Err (copy_stops.Fault cause)) ended off tells = told_fault t cause ended off tells
 told_copy t (Err (copy_stops.Copy stop)) ended off tells =
     subst (λ (e : Exit). TellsBy e ended t.before t.after) (sym tells.exits)
-    (told_one_line t Refused (copy_line (Err (copy_stops.Copy stop))) ended off (of_replay stop.applied (copy_refusal stop.cause) refl refl) tells)
+    (told_one_line t Refused (copy_line (Err (copy_stops.Copy stop))) ended off
+    (of_replay stop.applied (copy_refusal stop.cause) refl refl) tells)
 
 -- what a judging tells
-told_judging : (t : ErrStream) (done : Result Verdict RunError) (ended : Ended) → t.explains ≡ false → TellsLine t (exit_judged done) (told_line done) ended
+told_judging : (t : ErrStream) (done : Result Verdict RunError) (ended : Ended) → t.explains ≡ false
+    → TellsLine t (exit_judged done) (told_line done) ended
     → TellsBy ended.exit ended t.before t.after
-told_judging t (Ok verdicts.Yes) ended off tells = subst (λ (e : Exit). TellsBy e ended t.before t.after) (sym tells.exits) (tells.quiet off refl)
+told_judging t (Ok verdicts.Yes) ended off tells =
+    subst (λ (e : Exit). TellsBy e ended t.before t.after) (sym tells.exits) (tells.quiet off refl)
 told_judging t (Ok (verdicts.No sector by)) ended off tells =
     subst (λ (e : Exit). TellsBy e ended t.before t.after) (sym tells.exits) (tells.quiet off refl)
 told_judging t (Err cause) ended off tells = told_fault t cause ended off tells
 
 -- what the finding of a path tells
 told_finding : (t : ErrStream) (done : Result Finding RunError) (ended : Ended) → t.explains ≡ false
-    → TellsLine t (exit_answered finding_meaning done) (told_line done) ended → TellsBy ended.exit ended t.before t.after
+    → TellsLine t (exit_answered finding_meaning done) (told_line done) ended
+    → TellsBy ended.exit ended t.before t.after
 told_finding t (Ok (findings.Run run)) ended off tells =
     subst (λ (e : Exit). TellsBy e ended t.before t.after) (sym tells.exits) (tells.quiet off refl)
 told_finding t (Ok (findings.RuledOut sector by)) ended off tells =
@@ -262,45 +348,61 @@ told_finding t (Ok (findings.RuledOut sector by)) ended off tells =
 told_finding t (Err cause) ended off tells = told_fault t cause ended off tells
 
 -- what a text tells
-text_tells : (kind : ErrorKind) (t : ErrStream) (ended : Ended) → EndsUntasked kind ended.exit → TellsUntasked kind t ended → t.explains ≡ false
+text_tells : (kind : ErrorKind) (t : ErrStream) (ended : Ended) → EndsUntasked kind ended.exit
+    → TellsUntasked kind t ended → t.explains ≡ false
     → TellsBy ended.exit ended t.before t.after
 text_tells OutOfMemory t ended ends tells off = told_by t (Err memory_error) ended off tells
 text_tells DisplayHelp t ended ends (done, fault, tells) off = told_by t done ended off tells
 text_tells DisplayVersion t ended ends (done, fault, tells) off = told_by t done ended off tells
-text_tells _ t ended ends tells off = subst (λ (e : Exit). TellsBy e ended t.before t.after) (sym ends) tt
+text_tells _ t ended ends tells off =
+    subst (λ (e : Exit). TellsBy e ended t.before t.after) (sym ends) tt
 
 -- what every task tells that doesn't explain itself
-pub task_tells : (task : Task) (contents : List ℕ → Option (List ℕ)) (writes_old writes_new : Option (List Write)) (old new : Option (List ℕ))
-    (t : ErrStream) (ended : Ended) → EndsTask task contents writes_old writes_new old new t ended → t.explains ≡ false
+pub task_tells : (task : Task) (contents : List ℕ → Option (List ℕ))
+    (writes_old writes_new : Option (List Write)) (old new : Option (List ℕ))
+    (t : ErrStream) (ended : Ended) → EndsTask task contents writes_old writes_new old new t ended
+    → t.explains ≡ false
     → TellsBy ended.exit ended t.before t.after
-task_tells (tasks.Record script log) contents writes_old writes_new old new t ended ends off = told_recording t ends.done ended off ends.tells
-task_tells (tasks.Run script log) contents writes_old writes_new old new t ended ends off = told_recording t ends.done ended off ends.tells
-task_tells (tasks.List log) contents writes_old writes_new old new t ended ends off = told_by t ends.done ended off ends.tells
-task_tells (tasks.Status log) contents writes_old writes_new old new t ended ends off = told_by t ends.done ended off ends.tells
-task_tells (tasks.Replay files upto) contents writes_old writes_new old new t ended ends off = told_replay t ends.done ended off ends.tells
-task_tells (tasks.Copy files sectors) contents writes_old writes_new old new t ended ends off = told_copy t ends.done ended off ends.tells
+task_tells (tasks.Record script log) contents writes_old writes_new old new t ended ends off =
+    told_recording t ends.done ended off ends.tells
+task_tells (tasks.Run script log) contents writes_old writes_new old new t ended ends off =
+    told_recording t ends.done ended off ends.tells
+task_tells (tasks.List log) contents writes_old writes_new old new t ended ends off =
+    told_by t ends.done ended off ends.tells
+task_tells (tasks.Status log) contents writes_old writes_new old new t ended ends off =
+    told_by t ends.done ended off ends.tells
+task_tells (tasks.Replay files upto) contents writes_old writes_new old new t ended ends off =
+    told_replay t ends.done ended off ends.tells
+task_tells (tasks.Copy files sectors) contents writes_old writes_new old new t ended ends off =
+    told_copy t ends.done ended off ends.tells
 task_tells (tasks.Judge script moment image) contents writes_old writes_new old new t ended ends off = told_judging t ends.done ended off ends.tells
 task_tells (tasks.Path script moment image) contents writes_old writes_new old new t ended ends off = told_finding t ends.done ended off ends.tells
-task_tells (tasks.Formats page) contents writes_old writes_new old new t ended ends off = told_by t ends.told.done ended off ends.told.tells
-task_tells (tasks.Show error) contents writes_old writes_new old new t ended ends off = text_tells (kind_of error) t ended ends.ends ends.tells off
+task_tells (tasks.Formats page) contents writes_old writes_new old new t ended ends off =
+    told_by t ends.told.done ended off ends.told.tells
+task_tells (tasks.Show error) contents writes_old writes_new old new t ended ends off =
+    text_tells (kind_of error) t ended ends.ends ends.tells off
 task_tells (tasks.Flawed flaw word) contents writes_old writes_new old new t ended ends off =
     subst (λ (e : Exit). TellsBy e ended t.before t.after) (sym ends.usage) tt
 
 -- where there was no memory to read words, that is what they are read as
-pub memory_read : (words : List Text) (error : Error) → kind_of error ≡ OutOfMemory → IsRead words (tasks.Show error)
+pub memory_read : (words : List Text) (error : Error) → kind_of error ≡ OutOfMemory
+    → IsRead words (tasks.Show error)
 memory_read words error is = read_as (is_formats words) words error is
   where
-    read_as : (formats : Bool) (words : List Text) (error : Error) → kind_of error ≡ OutOfMemory → IsReadAs formats words (tasks.Show error)
+    read_as : (formats : Bool) (words : List Text) (error : Error) → kind_of error ≡ OutOfMemory
+        → IsReadAs formats words (tasks.Show error)
     read_as true words error is = is
     read_as false words error is = memory is
 
 -- a log that was asked for is one file
-pub asks_for_one : (log : List ℕ) (kept : Type 0) (old new : Option (List Write)) → kept ⊎ AsksFor log old new → kept ⊎ AsksForOne old new
+pub asks_for_one : (log : List ℕ) (kept : Type 0) (old new : Option (List Write))
+    → kept ⊎ AsksFor log old new → kept ⊎ AsksForOne old new
 asks_for_one log kept old new (inl keeps) = inl keeps
 asks_for_one log kept old new (inr asked) = inr (log, asked)
 
 -- what a recording or a run leaves, by its ends
-pub leaves_by : (holds : Exit → Option (List ℕ) → Type 0) (log : List ℕ) (contents later : List ℕ → Option (List ℕ)) (exit : Exit)
+pub leaves_by : (holds : Exit → Option (List ℕ) → Type 0) (log : List ℕ)
+    (contents later : List ℕ → Option (List ℕ)) (exit : Exit)
     → (exit ≡ Done → holds Done (later log))
     → (exit ≡ LoggingEnded → KeepsFiles contents later ⊎ holds LoggingEnded (later log))
     → LeavesBy holds log contents later exit

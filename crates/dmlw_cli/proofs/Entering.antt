@@ -16,7 +16,8 @@ use Rattle.dmlw_cli.specs.declared.task.Task.TheVariants as tasks
 use Rattle.dmlw_cli.proofs.Naming.{one_name, same_some}
 
 -- where there was no memory, a command asks to show so
-shown_for_memory : (name : Name) (rows : List Row) (error : Error) → kind_of error ≡ OutOfMemory → AsksBy name rows (tasks.Show error)
+shown_for_memory : (name : Name) (rows : List Row) (error : Error) → kind_of error ≡ OutOfMemory
+    → AsksBy name rows (tasks.Show error)
 shown_for_memory names.Record rows error is = is
 shown_for_memory names.Run rows error is = is
 shown_for_memory names.List rows error is = is
@@ -27,18 +28,22 @@ shown_for_memory names.Judge rows error is = is
 shown_for_memory names.Path rows error is = is
 
 -- what words are read as is what they ask for
-pub read_asks : (words : List Text) (task : Task) (entered : Entered) → IsReadByClap words task → Enters words entered → IsComplete entered
+pub read_asks : (words : List Text) (task : Task) (entered : Entered) → IsReadByClap words task
+    → Enters words entered → IsComplete entered
     → Asks entered task
 read_asks words (tasks.Show error) entered (memory is) enters complete =
-    let (name, is_name, words) = complete in (name, is_name, shown_for_memory name entered.1 error is)
+    let (name, is_name, words) = complete in
+    (name, is_name, shown_for_memory name entered.1 error is)
 read_asks words (tasks.Show error) entered (fault among) enters complete =
     absurd (subst (λ (kinds : Kinds). IsAmong (kind_of error) kinds) enters.faultless among)
-read_asks words (tasks.Show error) entered (missing faultless incomplete is) enters complete = absurd (incomplete entered enters complete)
+read_asks words (tasks.Show error) entered (missing faultless incomplete is) enters complete =
+    absurd (incomplete entered enters complete)
 read_asks words task entered read enters complete =
     subst (λ (e : Entered). Asks e task) (same_some _ _ (sym read.1.1 ∙ enters.enters)) read.1.2
 
 -- what words ask for that enter a command is what this command asks for
-pub asks_for : (name : Name) (rows : List Row) (task : Task) → Asks (name_text name, rows) task → AsksBy name rows task
+pub asks_for : (name : Name) (rows : List Row) (task : Task) → Asks (name_text name, rows) task
+    → AsksBy name rows task
 asks_for name rows task asks =
     let (found, is_found, by) = asks in
     subst (λ (n : Name). AsksBy n rows task) (one_name (name_text name) found name is_found refl) by
@@ -57,4 +62,5 @@ is_free_program = refl
 pub explains_of : {X : Type 0} (text_of : X → List ℕ) (words rest : List X) → rest ≡ drop 1 words
     → list_any (λ word. is_explain (text_of word)) rest ≡ has_explain (map text_of words)
 explains_of text_of [] rest is = ap (list_any (λ word. is_explain (text_of word))) is
-explains_of text_of (x ∷ xs) rest is = ap (list_any (λ word. is_explain (text_of word))) is ∙ list_any-map is_explain text_of xs
+explains_of text_of (x ∷ xs) rest is =
+    ap (list_any (λ word. is_explain (text_of word))) is ∙ list_any-map is_explain text_of xs

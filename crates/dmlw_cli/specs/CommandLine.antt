@@ -1,10 +1,12 @@
 -- The command line of the program as clap reads it: its commands, their words and `--explain`.
 -- `Tasks` says what such a command line asks for.
-use Rattle.std.specs.Prelude.{◌≡◌, ℕ, ◌==◌, ◌&&◌, Bool, true, false, not, List, [], ◌∷◌, Some, codes, fold}
+use Rattle.std.specs.Prelude.{◌≡◌, ℕ, ◌==◌, ◌&&◌, Bool, true, false, not, List, [], ◌∷◌, Some}
+use Rattle.std.specs.Prelude.{codes, fold}
 use Rattle.std.specs.List.{filter, list_any}
 use Rattle.clap.specs.declared.builder.command.Command.{Command}
 use Rattle.clap.specs.declared.builder.command.Command.TheViews.{out-Command as fields_of}
-use Rattle.clap.specs.Words.{App, Row, Rule, Text, app_of, fault_of, new_app, new_rule, subcommand_of, with_rule, with_subcommand}
+use Rattle.clap.specs.Words.{App, Row, Rule, Text, app_of, fault_of, new_app, new_rule}
+use Rattle.clap.specs.Words.{subcommand_of, with_rule, with_subcommand}
 use Rattle.clap.specs.Simple.{on_top}
 use Rattle.dmlw_cli.specs.declared.name.Name.{Name}
 use Rattle.dmlw_cli.specs.Names.{all_names, arguments, is_same, name_text}
@@ -34,7 +36,8 @@ without_explain (program ∷ words) = program ∷ filter (λ word. not (is_expla
 
 -- a command line that asks for the page of the formats
 abbrev pub is_formats : List (List ℕ) → Bool
-is_formats (program ∷ first ∷ second ∷ []) = is_same first (codes "help") && is_same second (codes "formats")
+is_formats (program ∷ first ∷ second ∷ []) =
+    is_same first (codes "help") && is_same second (codes "formats")
 is_formats _ = false
 
 -- a word that a command's line has to have
@@ -43,12 +46,18 @@ needed name = record (new_rule name) { required = true }
 
 -- a command, as clap reads it: each of its arguments has to have a word
 abbrev pub command_app : Name → App
-command_app name = fold (λ app argument. with_rule app (needed argument)) (new_app (name_text name)) (arguments name)
+command_app name =
+    fold (λ app argument. with_rule app (needed argument)) (new_app (name_text name))
+    (arguments name)
 
 -- the program's command line without its commands, as clap reads it
 abbrev pub bare_app : App
 bare_app =
-    on_top (λ top. record top { has_version = true; subcommand_required = true; arg_required_else_help = true }) (new_app (codes "dmlw"))
+    on_top (λ top. record top {
+      has_version = true;
+      subcommand_required = true;
+      arg_required_else_help = true;
+    }) (new_app (codes "dmlw"))
 
 -- the program's command line, as clap reads it
 abbrev pub program_app : App

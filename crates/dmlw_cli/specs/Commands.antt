@@ -1,12 +1,14 @@
 -- What a command line comes to.
-use Rattle.std.specs.Prelude.{◌≡◌, ◌≤◌, ◌⊎◌, ◌++◌, ℕ, Bool, true, false, Err, IfErr, List, MatchResult, Option, Result, codes}
+use Rattle.std.specs.Prelude.{◌≡◌, ◌≤◌, ◌⊎◌, ◌++◌, ℕ, Bool, true, false, Err, IfErr, List}
+use Rattle.std.specs.Prelude.{MatchResult, Option, Result, codes}
 use Rattle.std.specs.declared.io.ErrorKind.{ErrorKind as IoErrorKind}
 use Rattle.std.specs.declared.io.ErrorKind.TheVariants.{InvalidData}
 use Rattle.std.specs.Io.KnownBytes.{Appends, Keeps}
 use Rattle.run_error.specs.declared.run_error.RunError.{RunError}
 use Rattle.run_error.specs.Errors.{IsFileError, memory_error}
 use Rattle.clap.specs.declared.error.kind.ErrorKind.{ErrorKind}
-use Rattle.clap.specs.declared.error.kind.ErrorKind.TheVariants.{DisplayHelp, DisplayVersion, OutOfMemory}
+use Rattle.clap.specs.declared.error.kind.ErrorKind.TheVariants.{DisplayHelp, DisplayVersion}
+use Rattle.clap.specs.declared.error.kind.ErrorKind.TheVariants.{OutOfMemory}
 use Rattle.clap.specs.Words.{kind_of}
 use Rattle.refusals.specs.declared.refusal.Refusal.{Refusal}
 use Rattle.dmlw_cli.specs.declared.task.Flaw.{Flaw}
@@ -14,7 +16,8 @@ use Rattle.dmlw_cli.specs.declared.task.Flaw.TheVariants as flaws
 use Rattle.dmlw_cli.specs.declared.task.Task.{Task}
 use Rattle.dmlw_cli.specs.declared.task.Task.TheVariants as tasks
 use Rattle.dmlw_commands.specs.declared.exit.Exit.{Exit}
-use Rattle.dmlw_commands.specs.declared.exit.Exit.TheVariants.{Done, LoggingEnded, Refused, RuledOut, Usage}
+use Rattle.dmlw_commands.specs.declared.exit.Exit.TheVariants.{Done, LoggingEnded, Refused}
+use Rattle.dmlw_commands.specs.declared.exit.Exit.TheVariants.{RuledOut, Usage}
 use Rattle.dmlw_commands.specs.declared.ending.Ended.{Ended}
 use Rattle.dmlw_commands.specs.Endings.{EndsRecording, EndsShowing, ErrStream, Tells, err_stream}
 use Rattle.dmlw_commands.specs.Exits.{exit_of, fault_line, stopped_line}
@@ -31,8 +34,9 @@ use Rattle.replay.specs.declared.upto.Upto.{Upto}
 use Rattle.dmlw_cli.specs.CommandLine.{has_explain, without_explain}
 use Rattle.dmlw_cli.specs.Tasks.{IsRead}
 
--- How a command line ends that has no task, by what clap makes of it: memory running out is a refusal, help and the
--- version are done unless they can't be printed, and the others are usage faults.
+-- How a command line ends that has no task, by what clap makes of
+-- it: memory running out is a refusal, help and the version are done
+-- unless they can't be printed, and the others are usage faults.
 abbrev pub EndsUntasked : ErrorKind → Exit → Type 0
 EndsUntasked OutOfMemory exit = exit ≡ Refused
 EndsUntasked DisplayHelp exit = (exit ≡ Done) ⊎ (exit ≡ Refused)
@@ -47,9 +51,11 @@ is_asked_for _ = false
 
 -- help or the version was printed, or the output can't be written
 abbrev pub TellsPrinting : ErrStream → Ended → Type 0
-TellsPrinting t ended = (done : Result (Unit {0}) RunError) × IfErr done IsFileError × Tells t done ended
+TellsPrinting t ended =
+    (done : Result (Unit {0}) RunError) × IfErr done IsFileError × Tells t done ended
 
--- how a command line ends that couldn't be read: a word that is no text is a usage fault, and the rest is refused
+-- how a command line ends that couldn't be read: a word
+-- that is no text is a usage fault, and the rest is refused
 abbrev pub unread_exit : IoErrorKind → Exit
 unread_exit InvalidData = Usage
 unread_exit _ = Refused
@@ -58,49 +64,56 @@ unread_exit _ = Refused
 abbrev pub AsksForOne : Option (List Write) → Option (List Write) → Type 0
 AsksForOne old new = (name : List ℕ) × AsksFor name old new
 
--- How every command line ends: with a status from 0 to 3, and it has asked for one file at most to be written, and
--- for none where the status is 2.
+-- How every command line ends: with a status from 0 to 3, and it has asked for one file at most to
+-- be written, and for none where the status is 2.
 pub record EndsCommand (old new : Option (List Write)) (status : ℕ) : Type 0 where
   pub known : status ≤ 3
   pub once : (new ≡ old) ⊎ AsksForOne old new
   pub unwritten : status ≡ 2 → new ≡ old
 
--- What is told on the error stream of a text that is shown, as one of this kind: of memory that ran out its line, of help and the
--- version the line of the file's error where they can't be printed; the others are told themselves.
+-- What is told on the error stream of a text that is shown, as one of this kind: of memory that ran
+-- out its line, of help and the version the line of the file's error where they can't be printed;
+-- the others are told themselves.
 abbrev pub TellsUntasked : ErrorKind → ErrStream → Ended → Type 0
 TellsUntasked OutOfMemory t ended = Tells t (Err memory_error) ended
 TellsUntasked DisplayHelp t ended = TellsPrinting t ended
 TellsUntasked DisplayVersion t ended = TellsPrinting t ended
 TellsUntasked _ t ended = Unit {0}
 
--- How a text ends that is shown, as one of this kind: no file was asked to be written, it ends as its kind has it,
--- and nothing was printed on the output unless it was asked for.
-pub record EndsText (kind : ErrorKind) (writes_old writes_new : Option (List Write)) (old new : Option (List ℕ)) (t : ErrStream) (ended : Ended) : Type 0 where
+-- How a text ends that is shown, as one of this kind: no file was asked to be written, it ends as
+-- its kind has it, and nothing was printed on the output unless it was asked for.
+pub record EndsText (kind : ErrorKind) (writes_old writes_new : Option (List Write))
+    (old new : Option (List ℕ)) (t : ErrStream) (ended : Ended) : Type 0 where
   pub unwritten : writes_new ≡ writes_old
   pub ends : EndsUntasked kind ended.exit
   pub silent : is_asked_for kind ≡ false → Keeps old new
   pub tells : TellsUntasked kind t ended
 
 -- How the printing of a page ends: it was printed, or the output can't be written.
-pub record TellsPage (page : List ℕ) (old new : Option (List ℕ)) (t : ErrStream) (ended : Ended) : Type 0 where
+pub record TellsPage (page : List ℕ) (old new : Option (List ℕ)) (t : ErrStream)
+    (ended : Ended) : Type 0 where
   pub done : Result (Unit {0}) RunError
   pub printed : MatchResult done (λ _. Appends old new page) IsFileError
   pub tells : Tells t done ended
 
 -- a page is printed, and no file was asked to be written
-pub record EndsPage (page : List ℕ) (writes_old writes_new : Option (List Write)) (old new : Option (List ℕ)) (t : ErrStream) (ended : Ended) : Type 0 where
+pub record EndsPage (page : List ℕ) (writes_old writes_new : Option (List Write))
+    (old new : Option (List ℕ)) (t : ErrStream) (ended : Ended) : Type 0 where
   pub unwritten : writes_new ≡ writes_old
   pub told : TellsPage page old new t ended
 
 -- How the replay of the log in a file ends, up to what a word names.
-abbrev pub ReplaysWhat : List ℕ → Option (List ℕ) → Option (List ℕ) → List ℕ → Option (List Write) → Option (List Write) → Option (List ℕ)
+abbrev pub ReplaysWhat : List ℕ → Option (List ℕ) → Option (List ℕ) → List ℕ → Option (List Write)
+    → Option (List Write) → Option (List ℕ)
     → Option (List ℕ) → ErrStream → Ended → Type 0
 ReplaysWhat what log_file first_file name writes_old writes_new old new t ended =
-    (upto : Upto) × IsWhat what upto × EndsReplaying log_file first_file name upto writes_old writes_new old new t ended
+    (upto : Upto) × IsWhat what upto
+    × EndsReplaying log_file first_file name upto writes_old writes_new old new t ended
 
 -- What the replay of the log in a file leaves in its file, up to what a word names.
 abbrev pub LeavesReplayed : List ℕ → Option (List ℕ) → Option (List ℕ) → Option (List ℕ) → Type 0
-LeavesReplayed what log_file first_file written = (upto : Upto) × IsWhat what upto × HoldsReplayed log_file first_file upto written
+LeavesReplayed what log_file first_file written =
+    (upto : Upto) × IsWhat what upto × HoldsReplayed log_file first_file upto written
 
 -- the argument that such a word stands for, the forms that are possible there, and where help is
 abbrev pub flaw_forms : Flaw → List ℕ
@@ -113,82 +126,117 @@ flaw_forms flaws.Moment =
 
 -- what a user is told of a word that is none of those that stand in its place
 abbrev pub flaw_text : Flaw → List ℕ → List ℕ
-flaw_text flaw word = codes "error: invalid value '" ++ (word ++ (codes "' for " ++ (flaw_forms flaw ++ codes "\n")))
+flaw_text flaw word =
+    codes "error: invalid value '" ++ (word ++ (codes "' for " ++ (flaw_forms flaw ++ codes "\n")))
 
--- How a command line ends that has such a word: as a usage fault, of which the text was told. Nothing was printed on the output, and no file
--- was asked to be written.
-pub record EndsFlawed (flaw : Flaw) (word : List ℕ) (writes_old writes_new : Option (List Write)) (old new : Option (List ℕ)) (t : ErrStream) (ended : Ended) : Type 0 where
+-- How a command line ends that has such a word: as a usage fault, of which the text was told.
+-- Nothing was printed on the output, and no file was asked to be written.
+pub record EndsFlawed (flaw : Flaw) (word : List ℕ) (writes_old writes_new : Option (List Write))
+    (old new : Option (List ℕ)) (t : ErrStream) (ended : Ended) : Type 0 where
   pub unwritten : writes_new ≡ writes_old
   pub usage : ended.exit ≡ Usage
   pub silent : new ≡ old
   pub told : ended.err_taken ≡ true → Appends t.before t.after (flaw_text flaw word)
 
 -- how a task ends, over files that hold this
-abbrev pub EndsTask : Task → (List ℕ → Option (List ℕ)) → Option (List Write) → Option (List Write) → Option (List ℕ) → Option (List ℕ) → ErrStream → Ended → Type 0
+abbrev pub EndsTask : Task → (List ℕ → Option (List ℕ)) → Option (List Write) → Option (List Write)
+    → Option (List ℕ) → Option (List ℕ) → ErrStream → Ended → Type 0
 EndsTask (tasks.Record script log) contents writes_old writes_new old new t ended =
     EndsRecording (contents script.now) log.now writes_old writes_new old new t ended
 EndsTask (tasks.Run script log) contents writes_old writes_new old new t ended =
     EndsRunning (contents script.now) log.now writes_old writes_new old new t ended
-EndsTask (tasks.List log) contents writes_old writes_new old new t ended = EndsShowing ListsImage (contents log.now) writes_old writes_new old new t ended
-EndsTask (tasks.Status log) contents writes_old writes_new old new t ended = EndsShowing ShowsStatus (contents log.now) writes_old writes_new old new t ended
+EndsTask (tasks.List log) contents writes_old writes_new old new t ended =
+    EndsShowing ListsImage (contents log.now) writes_old writes_new old new t ended
+EndsTask (tasks.Status log) contents writes_old writes_new old new t ended =
+    EndsShowing ShowsStatus (contents log.now) writes_old writes_new old new t ended
 EndsTask (tasks.Replay files upto) contents writes_old writes_new old new t ended =
-    EndsReplaying (contents files.log.now) (contents files.first.now) files.out.now upto writes_old writes_new old new t ended
+    EndsReplaying (contents files.log.now)
+    (contents files.first.now) files.out.now upto writes_old writes_new old new t ended
 EndsTask (tasks.Copy files sectors) contents writes_old writes_new old new t ended =
     EndsCopying (contents files.log.now) files.out.now sectors writes_old writes_new old new t ended
 EndsTask (tasks.Judge script moment image) contents writes_old writes_new old new t ended =
-    EndsJudging (record { script = contents script.now; image = contents image.now; moment = moment }) writes_old writes_new old new t ended
+    EndsJudging (record {
+      script = contents script.now;
+      image = contents image.now;
+      moment = moment;
+    }) writes_old writes_new old new t ended
 EndsTask (tasks.Path script moment image) contents writes_old writes_new old new t ended =
-    EndsFinding (record { script = contents script.now; image = contents image.now; moment = moment }) writes_old writes_new old new t ended
-EndsTask (tasks.Formats page) contents writes_old writes_new old new t ended = EndsPage page.now writes_old writes_new old new t ended
-EndsTask (tasks.Show error) contents writes_old writes_new old new t ended = EndsText (kind_of error) writes_old writes_new old new t ended
-EndsTask (tasks.Flawed flaw word) contents writes_old writes_new old new t ended = EndsFlawed flaw word.now writes_old writes_new old new t ended
+    EndsFinding (record {
+      script = contents script.now;
+      image = contents image.now;
+      moment = moment;
+    }) writes_old writes_new old new t ended
+EndsTask (tasks.Formats page) contents writes_old writes_new old new t ended =
+    EndsPage page.now writes_old writes_new old new t ended
+EndsTask (tasks.Show error) contents writes_old writes_new old new t ended =
+    EndsText (kind_of error) writes_old writes_new old new t ended
+EndsTask (tasks.Flawed flaw word) contents writes_old writes_new old new t ended =
+    EndsFlawed flaw word.now writes_old writes_new old new t ended
 
--- What a recording or a run leaves in its log's file, by how it ends: what `holds` says of it where it is done; so it does where logging ended,
--- unless each file holds what it held.
-pub record LeavesBy (holds : Exit → Option (List ℕ) → Type 0) (log : List ℕ) (contents later : List ℕ → Option (List ℕ)) (exit : Exit) : Type 0 where
+-- What a recording or a run leaves in its log's file, by how it ends: what `holds` says of it where
+-- it is done; so it does where logging ended, unless each file holds what it held.
+pub record LeavesBy (holds : Exit → Option (List ℕ) → Type 0) (log : List ℕ)
+    (contents later : List ℕ → Option (List ℕ)) (exit : Exit) : Type 0 where
   pub done : exit ≡ Done → holds Done (later log)
   pub ended : exit ≡ LoggingEnded → KeepsFiles contents later ⊎ holds LoggingEnded (later log)
 
 -- what a recording leaves in its log's file: the log
-abbrev pub LeavesLog : List ℕ → List ℕ → (List ℕ → Option (List ℕ)) → (List ℕ → Option (List ℕ)) → Option (List ℕ) → Option (List ℕ) → Exit → Type 0
-LeavesLog script log contents later old new exit = LeavesBy (λ by written. HoldsLog (contents script) by old new written) log contents later exit
+abbrev pub LeavesLog : List ℕ → List ℕ → (List ℕ → Option (List ℕ)) → (List ℕ → Option (List ℕ))
+    → Option (List ℕ) → Option (List ℕ) → Exit → Type 0
+LeavesLog script log contents later old new exit =
+    LeavesBy (λ by written. HoldsLog (contents script) by old new written) log contents later exit
 
 -- what a run of seats leaves in its log's file: the log
-abbrev pub LeavesRun : List ℕ → List ℕ → (List ℕ → Option (List ℕ)) → (List ℕ → Option (List ℕ)) → Option (List ℕ) → Option (List ℕ) → Exit → Type 0
-LeavesRun script log contents later old new exit = LeavesBy (λ by written. HoldsRun (contents script) by old new written) log contents later exit
+abbrev pub LeavesRun : List ℕ → List ℕ → (List ℕ → Option (List ℕ)) → (List ℕ → Option (List ℕ))
+    → Option (List ℕ) → Option (List ℕ) → Exit → Type 0
+LeavesRun script log contents later old new exit =
+    LeavesBy (λ by written. HoldsRun (contents script) by old new written) log contents later exit
 
--- what a task leaves in the file that it asks to be written: a recording and a run their log, a replay that is done the image that came of it, and a copy that
--- is done the new log
-abbrev pub TaskLeaves : Task → (List ℕ → Option (List ℕ)) → (List ℕ → Option (List ℕ)) → Option (List ℕ) → Option (List ℕ) → Exit → Type 0
-TaskLeaves (tasks.Record script log) contents later old new exit = LeavesLog script.now log.now contents later old new exit
-TaskLeaves (tasks.Run script log) contents later old new exit = LeavesRun script.now log.now contents later old new exit
+-- what a task leaves in the file that it asks to be written: a recording and a run their log, a
+-- replay that is done the image that came of it, and a copy that is done the new log
+abbrev pub TaskLeaves : Task → (List ℕ → Option (List ℕ)) → (List ℕ → Option (List ℕ))
+    → Option (List ℕ) → Option (List ℕ) → Exit → Type 0
+TaskLeaves (tasks.Record script log) contents later old new exit =
+    LeavesLog script.now log.now contents later old new exit
+TaskLeaves (tasks.Run script log) contents later old new exit =
+    LeavesRun script.now log.now contents later old new exit
 TaskLeaves (tasks.Replay files upto) contents later old new exit =
-    exit ≡ Done → HoldsReplayed (contents files.log.now) (contents files.first.now) upto (later files.out.now)
-TaskLeaves (tasks.Copy files sectors) contents later old new exit = exit ≡ Done → HoldsCopied (contents files.log.now) sectors (later files.out.now)
+    exit ≡ Done → HoldsReplayed (contents files.log.now) (contents files.first.now) upto
+    (later files.out.now)
+TaskLeaves (tasks.Copy files sectors) contents later old new exit =
+    exit ≡ Done → HoldsCopied (contents files.log.now) sectors (later files.out.now)
 TaskLeaves task contents later old new exit = Unit {0}
 
--- What doing a command line comes to, over files that hold this and then that: its words but `--explain` are read as a task, and that task
--- ends, explaining itself where that word stands among them, and leaves what it makes in its file.
-pub record DoesWords (words : List (List ℕ)) (contents later : List ℕ → Option (List ℕ)) (writes_old writes_new : Option (List Write)) (old new : Option (List ℕ))
+-- What doing a command line comes to, over files that hold this and then that: its words but
+-- `--explain` are read as a task, and that task ends, explaining itself where that word stands
+-- among them, and leaves what it makes in its file.
+pub record DoesWords (words : List (List ℕ)) (contents later : List ℕ → Option (List ℕ))
+    (writes_old writes_new : Option (List Write)) (old new : Option (List ℕ))
     (errors_old errors_new : Option (List ℕ)) (ended : Ended) : Type 0 where
   pub task : Task
   pub read : IsRead (without_explain words) task
-  pub ends : EndsTask task contents writes_old writes_new old new (err_stream (has_explain words) errors_old errors_new) ended
+  pub ends : EndsTask task contents writes_old writes_new old new
+      (err_stream (has_explain words) errors_old errors_new) ended
   pub leaves : TaskLeaves task contents later old new ended.exit
 
--- The line of a fault by which a command ends so: of the fault itself, or of a replay or a copy that it refused after so many entries.
+-- The line of a fault by which a command ends so: of the fault itself, or of a replay or a copy
+-- that it refused after so many entries.
 pub data IsFaultLine (exit : Exit) (line : List ℕ) : Type 0 where
-  of_fault : (cause : RunError) → exit ≡ exit_of cause → line ≡ fault_line cause → IsFaultLine exit line
-  of_replay : (applied : ℕ) (cause : Refusal) → exit ≡ Refused → line ≡ stopped_line applied cause → IsFaultLine exit line
+  of_fault : (cause : RunError) → exit ≡ exit_of cause → line ≡ fault_line cause
+      → IsFaultLine exit line
+  of_replay : (applied : ℕ) (cause : Refusal) → exit ≡ Refused → line ≡ stopped_line applied cause
+      → IsFaultLine exit line
 
--- One line was told, of a fault by which the command ends so, and nothing else, where the error stream took it.
+-- One line was told, of a fault by which the command ends
+-- so, and nothing else, where the error stream took it.
 pub record TellsOneLine (ended : Ended) (old new : Option (List ℕ)) : Type 0 where
   pub line : List ℕ
   pub is : IsFaultLine ended.exit line
   pub told : ended.err_taken ≡ true → Appends old new line
 
--- What is told of how a command ends so, which doesn't explain itself: of a refusal one line, and nothing where it is done or ruled out. Where logging
--- ended, a line where no log could be made, and nothing where the log came as far as it did.
+-- What is told of how a command ends so, which doesn't explain itself: of a refusal one line, and
+-- nothing where it is done or ruled out. Where logging ended, a line where no log could be made,
+-- and nothing where the log came as far as it did.
 abbrev pub TellsBy : Exit → Ended → Option (List ℕ) → Option (List ℕ) → Type 0
 TellsBy Done ended old new = new ≡ old
 TellsBy Refused ended old new = TellsOneLine ended old new

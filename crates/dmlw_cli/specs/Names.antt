@@ -1,5 +1,6 @@
 -- The names of the commands, and the words that each takes.
-use Rattle.std.specs.Prelude.{◌≡◌, ℕ, Bool, true, List, [], ◌∷◌, Option, Some, None, codes, if◌then◌else◌, is_some, nat_eq}
+use Rattle.std.specs.Prelude.{◌≡◌, ℕ, Bool, true, List, [], ◌∷◌, Option, Some, None, codes}
+use Rattle.std.specs.Prelude.{if◌then◌else◌, is_some, nat_eq}
 use Rattle.std.specs.Cmp.Lexicographic.{pointwise}
 use Rattle.std.specs.List.{AllByRecursion}
 use Rattle.clap.specs.Words.{Row, Text, first_of}
@@ -28,7 +29,9 @@ named_or name word other = if is_same word (name_text name) then Some name else 
 -- the command that a word names
 abbrev pub name_of : List ℕ → Option Name
 name_of word =
-    named_or names.Record word (named_or names.Run word (named_or names.List word (named_or names.Status word (named_or names.Replay word
+    named_or names.Record word
+    (named_or names.Run word
+    (named_or names.List word (named_or names.Status word (named_or names.Replay word
     (named_or names.Copy word (named_or names.Judge word (named_or names.Path word None)))))))
 
 -- the commands, in the order of the help
@@ -48,4 +51,5 @@ arguments names.Path = codes "SCRIPT" ∷ codes "M" ∷ codes "IMAGE" ∷ []
 
 -- each argument of a command has a word among these rows
 abbrev pub HasWords : Name → List Row → Type 0
-HasWords name rows = AllByRecursion (λ argument. is_some (first_of argument rows) ≡ true) (arguments name)
+HasWords name rows =
+    AllByRecursion (λ argument. is_some (first_of argument rows) ≡ true) (arguments name)

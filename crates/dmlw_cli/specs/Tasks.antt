@@ -4,7 +4,8 @@ use Rattle.std.specs.Prelude.{◌≡◌, ℕ, Bool, List, [], Option, Some, fals
 use Rattle.clap.specs.Words.{IsAmong, Row, Text, fault_of, first_of, kind_of, subcommand_of}
 use Rattle.std.specs.Prelude.{codes}
 use Rattle.clap.specs.declared.error.kind.ErrorKind.{ErrorKind}
-use Rattle.clap.specs.declared.error.kind.ErrorKind.TheVariants.{MissingRequiredArgument, OutOfMemory}
+use Rattle.clap.specs.declared.error.kind.ErrorKind.TheVariants.{MissingRequiredArgument}
+use Rattle.clap.specs.declared.error.kind.ErrorKind.TheVariants.{OutOfMemory}
 use Rattle.dmlw_cli.specs.CommandLine.{Entered, Enters, is_formats, program_app}
 use Rattle.dmlw_cli.specs.Counts.{IsSectorCount}
 use Rattle.dmlw_cli.specs.Names.{HasWords, name_text}
@@ -20,26 +21,36 @@ use Rattle.text_words.specs.Words.{IsNumber, is_number}
 abbrev pub IsWord : List Row → Text → Text → Type 0
 IsWord rows argument word = first_of argument rows ≡ Some word
 
--- The task is what a command asks for with the words of these rows: by a WHAT, a SECTORS or an M that is none, to tell so; or there was no memory
--- to read the command line.
+-- The task is what a command asks for with the words of these rows: by a WHAT, a SECTORS or an M
+-- that is none, to tell so; or there was no memory to read the command line.
 abbrev pub AsksBy : Name → List Row → Task → Type 0
-AsksBy names.Record rows (tasks.Record script log) = IsWord rows (codes "SCRIPT") script.now × IsWord rows (codes "LOG") log.now
-AsksBy names.Run rows (tasks.Run script log) = IsWord rows (codes "SCRIPT") script.now × IsWord rows (codes "LOG") log.now
+AsksBy names.Record rows (tasks.Record script log) =
+    IsWord rows (codes "SCRIPT") script.now × IsWord rows (codes "LOG") log.now
+AsksBy names.Run rows (tasks.Run script log) =
+    IsWord rows (codes "SCRIPT") script.now × IsWord rows (codes "LOG") log.now
 AsksBy names.List rows (tasks.List log) = IsWord rows (codes "LOG") log.now
 AsksBy names.Status rows (tasks.Status log) = IsWord rows (codes "LOG") log.now
-AsksBy names.Replay rows (tasks.Replay files upto) = IsWord rows (codes "LOG") files.log.now × IsWord rows (codes "FIRST") files.first.now
-    × IsWord rows (codes "OUT") files.out.now × (what : Text) × IsWord rows (codes "WHAT") what × IsWhat what upto
-AsksBy names.Replay rows (tasks.Flawed flaws.What what) = IsWord rows (codes "WHAT") what.now × IsNoWhat what.now
-AsksBy names.Copy rows (tasks.Copy files sectors) = IsWord rows (codes "LOG") files.log.now × IsWord rows (codes "OUT") files.out.now
+AsksBy names.Replay rows (tasks.Replay files upto) =
+    IsWord rows (codes "LOG") files.log.now × IsWord rows (codes "FIRST") files.first.now
+    × IsWord rows (codes "OUT") files.out.now × (what : Text) × IsWord rows (codes "WHAT") what
+    × IsWhat what upto
+AsksBy names.Replay rows (tasks.Flawed flaws.What what) =
+    IsWord rows (codes "WHAT") what.now × IsNoWhat what.now
+AsksBy names.Copy rows (tasks.Copy files sectors) =
+    IsWord rows (codes "LOG") files.log.now × IsWord rows (codes "OUT") files.out.now
     × (word : Text) × IsWord rows (codes "SECTORS") word × IsSectorCount word sectors
 AsksBy names.Copy rows (tasks.Flawed flaws.Sectors word) =
     IsWord rows (codes "SECTORS") word.now × ((sectors : ℕ) → IsSectorCount word.now sectors → ⊥)
-AsksBy names.Judge rows (tasks.Judge script moment image) = IsWord rows (codes "SCRIPT") script.now × IsWord rows (codes "IMAGE") image.now
+AsksBy names.Judge rows (tasks.Judge script moment image) =
+    IsWord rows (codes "SCRIPT") script.now × IsWord rows (codes "IMAGE") image.now
     × (m : Text) × IsWord rows (codes "M") m × IsNumber m moment
-AsksBy names.Judge rows (tasks.Flawed flaws.Moment m) = IsWord rows (codes "M") m.now × (is_number m.now ≡ false)
-AsksBy names.Path rows (tasks.Path script moment image) = IsWord rows (codes "SCRIPT") script.now × IsWord rows (codes "IMAGE") image.now
+AsksBy names.Judge rows (tasks.Flawed flaws.Moment m) =
+    IsWord rows (codes "M") m.now × (is_number m.now ≡ false)
+AsksBy names.Path rows (tasks.Path script moment image) =
+    IsWord rows (codes "SCRIPT") script.now × IsWord rows (codes "IMAGE") image.now
     × (m : Text) × IsWord rows (codes "M") m × IsNumber m moment
-AsksBy names.Path rows (tasks.Flawed flaws.Moment m) = IsWord rows (codes "M") m.now × (is_number m.now ≡ false)
+AsksBy names.Path rows (tasks.Flawed flaws.Moment m) =
+    IsWord rows (codes "M") m.now × (is_number m.now ≡ false)
 AsksBy name rows (tasks.Show error) = kind_of error ≡ OutOfMemory
 AsksBy name rows task = ⊥
 
@@ -57,17 +68,20 @@ IsComplete entered = (name : Name) × (entered.0 ≡ name_text name) × HasWords
 
 -- clap finds no fault in these words, and they ask for the task
 abbrev pub IsAsked : List Text → Task → Type 0
-IsAsked words task = (fault_of program_app words ≡ []) × IsAskedBy (subcommand_of program_app words) task
+IsAsked words task =
+    (fault_of program_app words ≡ []) × IsAskedBy (subcommand_of program_app words) task
 
--- Why these words have no task: there is no memory to read them, clap finds a fault of this kind in them, or a word is
--- missing though it finds none.
+-- Why these words have no task: there is no memory to read them, clap finds a fault of this kind in
+-- them, or a word is missing though it finds none.
 pub data IsUntasked (words : List Text) (kind : ErrorKind) : Type 0 where
   memory : kind ≡ OutOfMemory → IsUntasked words kind
   fault : IsAmong kind (fault_of program_app words) → IsUntasked words kind
-  missing : fault_of program_app words ≡ [] → ((entered : Entered) → Enters words entered → IsComplete entered → ⊥)
+  missing : fault_of program_app words ≡ []
+      → ((entered : Entered) → Enters words entered → IsComplete entered → ⊥)
       → kind ≡ MissingRequiredArgument → IsUntasked words kind
 
--- The task is what clap makes of these words: to show why they have none, or what they ask for, in which it finds no fault.
+-- The task is what clap makes of these words: to show why they have none, or what they ask for, in
+-- which it finds no fault.
 abbrev pub IsReadByClap : List Text → Task → Type 0
 IsReadByClap words (tasks.Show error) = IsUntasked words (kind_of error)
 IsReadByClap words task = IsAsked words task
@@ -83,7 +97,7 @@ abbrev pub IsReadAs : Bool → List Text → Task → Type 0
 IsReadAs true words task = IsFormats task
 IsReadAs false words task = IsReadByClap words task
 
--- The task is what these words are read as: `help formats` asks for the page of the formats, and of other words it is what
--- clap makes of them.
+-- The task is what these words are read as: `help formats` asks for the page of the formats, and of
+-- other words it is what clap makes of them.
 abbrev pub IsRead : List Text → Task → Type 0
 IsRead words task = IsReadAs (is_formats words) words task

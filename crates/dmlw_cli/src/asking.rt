@@ -15,7 +15,8 @@ use text_words::number_of;
 /// The task that `record` asks for with the words that were entered.
 pub fn record_task<'a>(found: &ArgMatches<'a>) -> Option<Task<'a>>
     ensures asks { IfSome result (AsksBy names.Record (rows_of (found_of found.now))) }
-    ensures complete { HasWords names.Record (rows_of (found_of found.now)) → is_some result ≡ true }
+    ensures complete { HasWords names.Record (rows_of (found_of found.now))
+        → is_some result ≡ true }
 {
     let script = word_of(found, "SCRIPT")?;
     let log = word_of(found, "LOG")?;
@@ -44,7 +45,8 @@ pub fn list_task<'a>(found: &ArgMatches<'a>) -> Option<Task<'a>>
 /// The task that `status` asks for.
 pub fn status_task<'a>(found: &ArgMatches<'a>) -> Option<Task<'a>>
     ensures asks { IfSome result (AsksBy names.Status (rows_of (found_of found.now))) }
-    ensures complete { HasWords names.Status (rows_of (found_of found.now)) → is_some result ≡ true }
+    ensures complete { HasWords names.Status (rows_of (found_of found.now))
+        → is_some result ≡ true }
 {
     let log = word_of(found, "LOG")?;
     Some(Task::Status { log })
@@ -53,7 +55,8 @@ pub fn status_task<'a>(found: &ArgMatches<'a>) -> Option<Task<'a>>
 /// The task that `replay` asks for: by a WHAT that names no end of a replay, to tell so.
 pub fn replay_task<'a>(found: &ArgMatches<'a>) -> Option<Task<'a>>
     ensures asks { IfSome result (AsksBy names.Replay (rows_of (found_of found.now))) }
-    ensures complete { HasWords names.Replay (rows_of (found_of found.now)) → is_some result ≡ true }
+    ensures complete { HasWords names.Replay (rows_of (found_of found.now))
+        → is_some result ≡ true }
 {
     let log = word_of(found, "LOG")?;
     let first = word_of(found, "FIRST")?;
@@ -123,7 +126,8 @@ pub fn path_task<'a>(found: &ArgMatches<'a>) -> Option<Task<'a>>
 
 // The word that was entered for an argument.
 fn word_of<'a>(found: &ArgMatches<'a>, argument: &str) -> Option<&'a str>
-    ensures { option_map (λ word. word.now) result ≡ first_of argument.now (rows_of (found_of found.now)) }
+    ensures { option_map (λ word. word.now) result
+        ≡ first_of argument.now (rows_of (found_of found.now)) }
 {
     found.get_str(argument)
 }

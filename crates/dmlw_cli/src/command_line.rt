@@ -1,8 +1,11 @@
 //! Reads a command line by `clap`, and finds the task that it asks for.
-ghost use Rattle.std.specs.Prelude.{◌≡◌, ◌⊎◌, List, ℕ, ◌++◌, IfOk, IfSome, None, OnOk, Some, false, is_some, map, not, true};
+ghost use Rattle.std.specs.Prelude.{◌≡◌, ◌⊎◌, List, ℕ, ◌++◌, IfOk, IfSome, None, OnOk, Some, false};
+ghost use Rattle.std.specs.Prelude.{is_some, map, not, true};
 ghost use Rattle.std.specs.List.{filter, list_any};
-ghost use Rattle.clap.specs.Words.{FailsBy, fault_of, found_of, kind_of, rows_of, subcommand_of, subcommand_rows_of};
-ghost use Rattle.dmlw_cli.specs.CommandLine.{Entered, has_explain, is_explain, is_formats, program_app, without_explain};
+ghost use Rattle.clap.specs.Words.{FailsBy, fault_of, found_of, kind_of, rows_of, subcommand_of};
+ghost use Rattle.clap.specs.Words.{subcommand_rows_of};
+ghost use Rattle.dmlw_cli.specs.CommandLine.{Entered, has_explain, is_explain, is_formats};
+ghost use Rattle.dmlw_cli.specs.CommandLine.{program_app, without_explain};
 ghost use Rattle.dmlw_cli.specs.Names.{HasWords};
 ghost use Rattle.dmlw_cli.specs.Tasks.{AsksBy, IsAskedBy, IsComplete, IsRead, IsReadByClap};
 
@@ -31,7 +34,9 @@ fn task_of<'a>(matches: &ArgMatches<'a>) -> Option<Task<'a>>
 
 // The word by which a command was entered, and what was found of its own words.
 fn entered<'m, 'a>(matches: &'m ArgMatches<'a>) -> Option<(&'a str, &'m ArgMatches<'a>)>
-    ensures some { IfSome result (λ found. subcommand_rows_of matches.now ≡ Some (found.0.now, rows_of (found_of found.1.now))) }
+    ensures some { IfSome result
+        (λ found. subcommand_rows_of matches.now
+        ≡ Some (found.0.now, rows_of (found_of found.1.now))) }
     ensures none { result ≡ None → subcommand_rows_of matches.now ≡ None }
 {
     matches.subcommand()
@@ -65,7 +70,8 @@ fn parse<'a, S: AsStr>(alloc: Global, words: &'a [S]) -> Result<ArgMatches<'a>, 
 
 // The error of a command line that lacks a word, which no parse lets through.
 fn incomplete(alloc: Global) -> Error
-    ensures { (kind_of result ≡ ErrorKind.OutOfMemory) ⊎ (kind_of result ≡ ErrorKind.MissingRequiredArgument) }
+    ensures { (kind_of result ≡ ErrorKind.OutOfMemory)
+        ⊎ (kind_of result ≡ ErrorKind.MissingRequiredArgument) }
 {
     match missing_word(alloc) {
         Ok(error) => error,
@@ -86,8 +92,8 @@ fn is_explain(word: &str) -> bool
     word == "--explain"
 }
 
-/// Whether a command line asks the command to explain itself: by the word `--explain`, in any place after
-/// the program's name.
+/// Whether a command line asks the command to explain itself: by the word `--explain`, in any place
+/// after the program's name.
 pub fn has_explain<S: AsStr>(words: &[S]) -> bool
     ensures { result ≡ has_explain (map S.text words.now) }
 {
@@ -109,7 +115,8 @@ pub fn without_explain<'a, S: AsStr>(
     alloc: Global,
     words: &'a [S],
 ) -> Result<Vec<&'a str>, AllocError>
-    ensures { IfOk result (λ plain. map (λ word. word.now) plain.items ≡ without_explain (map S.text words.entry.now)) }
+    ensures { IfOk result (λ plain. map (λ word. word.now) plain.items
+        ≡ without_explain (map S.text words.entry.now)) }
 {
     let mut plain = Vec::new(alloc);
     if let [program, rest @ ..] = words {
@@ -122,7 +129,8 @@ pub fn without_explain<'a, S: AsStr>(
 // Appends the words after the program's name but those that ask for that.
 fn push_plain<'a, S: AsStr>(words: &'a [S], plain: &mut Vec<&'a str>) -> Result<(), AllocError>
     ensures { OnOk result (map (λ word. word.now) plain.new.items ≡
-        map (λ word. word.now) plain.old.items ++ filter (λ word. not (is_explain word)) (map S.text words.entry.now)) }
+        map (λ word. word.now) plain.old.items
+        ++ filter (λ word. not (is_explain word)) (map S.text words.entry.now)) }
 {
     for word in words {
         let word = word.as_str();
@@ -143,9 +151,9 @@ fn is_formats(words: &[&str]) -> bool
     }
 }
 
-/// Reads a command line without `--explain`; the first word is the program's name. `help formats` asks for
-/// the page of the formats, and other words are read as clap does: a name of a file is taken as it stands
-/// where it doesn't begin with a hyphen.
+/// Reads a command line without `--explain`; the first word is the program's name. `help formats`
+/// asks for the page of the formats, and other words are read as clap does: a name of a file is
+/// taken as it stands where it doesn't begin with a hyphen.
 pub fn read_words<'a>(alloc: Global, words: &'a [&'a str]) -> Task<'a>
     ensures { IsRead (map (λ word. word.now) words.entry.now) result }
 {

@@ -4,7 +4,9 @@ ghost use Rattle.std.specs.Io.KnownBytes.{Appends, Keeps};
 ghost use Rattle.std.specs.IoError.{error_kind};
 ghost use Rattle.clap.specs.Words.{kind_of};
 ghost use Rattle.dmlw_cli.specs.CommandLine.{has_explain};
-ghost use Rattle.dmlw_cli.specs.Commands.{AsksForOne, DoesWords, EndsCommand, EndsTask, EndsUntasked, TaskLeaves, TellsBy, TellsPage, TellsUntasked, flaw_text, is_asked_for, unread_exit};
+ghost use Rattle.dmlw_cli.specs.Commands.{AsksForOne, DoesWords, EndsCommand, EndsTask};
+ghost use Rattle.dmlw_cli.specs.Commands.{EndsUntasked, TaskLeaves, TellsBy, TellsPage};
+ghost use Rattle.dmlw_cli.specs.Commands.{TellsUntasked, flaw_text, is_asked_for, unread_exit};
 ghost use Rattle.dmlw_commands.specs.Endings.{err_stream};
 ghost use Rattle.run_error.specs.Errors.{IsFileError};
 ghost use Rattle.dmlw_files.specs.Files.{KeepsFiles};
@@ -33,16 +35,16 @@ use std::io::Write;
 use std::sync::Wait;
 use std::thread::Threads;
 
-/// Does what a command line asks for, and answers how it ended: its exit status is 0 done, 1 refused or an
-/// image that is ruled out, 2 a command line that isn't one of the program's, 3 logging ended before its time. `words` begin with the
-/// program's name. What the user is to read goes to `out`; faults go to `err`, and with `--explain` among
-/// the words what helps against them. Where `out` can't be written the command is refused, as by a file
-/// that can't be.
+/// Does what a command line asks for, and answers how it ended: its exit status is 0 done, 1
+/// refused or an image that is ruled out, 2 a command line that isn't one of the program's, 3
+/// logging ended before its time. `words` begin with the program's name. What the user is to read
+/// goes to `out`; faults go to `err`, and with `--explain` among the words what helps against them.
+/// Where `out` can't be written the command is refused, as by a file that can't be.
 ///
 /// Threads are started and waited for by `rt`: of the commands `run` alone does so.
 ///
-/// Whatever the words are, it does what they are read as, and no more. `crate::laws` says which words are
-/// read as which command.
+/// Whatever the words are, it does what they are read as, and no more. `crate::laws` says which
+/// words are read as which command.
 pub fn execute<'a, S: AsStr, F: Files, O: Write, E: Write, H: Threads + Wait + Sync>(
     rt: &H,
     alloc: Global,
@@ -51,16 +53,24 @@ pub fn execute<'a, S: AsStr, F: Files, O: Write, E: Write, H: Threads + Wait + S
     out: &mut O,
     err: &mut E,
 ) -> Ended
-    ensures does { DoesWords (map S.text words.entry.now) (F.contents files.old) (F.contents files.new) (F.writes files.old) (F.writes files.new)
+    ensures does { DoesWords (map S.text words.entry.now) (F.contents files.old)
+        (F.contents files.new) (F.writes files.old) (F.writes files.new)
         (O.contents out.old) (O.contents out.new) (E.contents err.old) (E.contents err.new) result }
-    ensures command { EndsCommand (F.writes files.old) (F.writes files.new) (status_of result.exit) }
+    ensures command { EndsCommand (F.writes files.old) (F.writes files.new)
+        (status_of result.exit) }
 
-    // Where it is refused each file holds what it held; so it does where logging ended, unless a log was asked to be written.
-    ensures kept { IsRefusal result.exit → KeepsFiles (F.contents files.old) (F.contents files.new) }
-    ensures unmade { result.exit ≡ LoggingEnded → KeepsFiles (F.contents files.old) (F.contents files.new) ⊎ AsksForOne (F.writes files.old) (F.writes files.new) }
+    // Where it is refused each file holds what it held; so it does where logging ended, unless a
+    // log was asked to be written.
+    ensures kept { IsRefusal result.exit
+        → KeepsFiles (F.contents files.old) (F.contents files.new) }
+    ensures unmade { result.exit ≡ LoggingEnded
+        → KeepsFiles (F.contents files.old) (F.contents files.new)
+        ⊎ AsksForOne (F.writes files.old) (F.writes files.new) }
 
-    // Without `--explain` nothing goes to `err` where it is done, and of a refusal its one line, as far as `err` takes it.
-    ensures told { has_explain (map S.text words.entry.now) ≡ false → TellsBy result.exit result (E.contents err.old) (E.contents err.new) }
+    // Without `--explain` nothing goes to `err` where it is done,
+    // and of a refusal its one line, as far as `err` takes it.
+    ensures told { has_explain (map S.text words.entry.now) ≡ false
+        → TellsBy result.exit result (E.contents err.old) (E.contents err.new) }
 {
     let explains = has_explain(words);
     match without_explain(alloc, words) {
@@ -86,11 +96,17 @@ fn perform<F: Files, O: Write, E: Write, H: Threads + Wait + Sync>(
     out: &mut O,
     err: &mut E,
 ) -> Ended
-    ensures ends { EndsTask task.entry (F.contents files.old) (F.writes files.old) (F.writes files.new)
-        (O.contents out.old) (O.contents out.new) (err_stream explains (E.contents err.old) (E.contents err.new)) result }
-    ensures leaves { TaskLeaves task.entry (F.contents files.old) (F.contents files.new) (O.contents out.old) (O.contents out.new) result.exit }
-    ensures kept { IsRefusal result.exit → KeepsFiles (F.contents files.old) (F.contents files.new) }
-    ensures unmade { result.exit ≡ LoggingEnded → KeepsFiles (F.contents files.old) (F.contents files.new) ⊎ AsksForOne (F.writes files.old) (F.writes files.new) }
+    ensures ends { EndsTask task.entry (F.contents files.old) (F.writes files.old)
+        (F.writes files.new)
+        (O.contents out.old) (O.contents out.new)
+        (err_stream explains (E.contents err.old) (E.contents err.new)) result }
+    ensures leaves { TaskLeaves task.entry (F.contents files.old) (F.contents files.new)
+        (O.contents out.old) (O.contents out.new) result.exit }
+    ensures kept { IsRefusal result.exit
+        → KeepsFiles (F.contents files.old) (F.contents files.new) }
+    ensures unmade { result.exit ≡ LoggingEnded
+        → KeepsFiles (F.contents files.old) (F.contents files.new)
+        ⊎ AsksForOne (F.writes files.old) (F.writes files.new) }
 {
     match task {
         Task::Record { script, log } => record(alloc, explains, script, log, files, out, err),
@@ -117,8 +133,8 @@ fn perform<F: Files, O: Write, E: Write, H: Threads + Wait + Sync>(
     }
 }
 
-/// Says why a command line can't be read, and answers the exit status: 2 where a word isn't UTF-8
-/// text, else 1.
+/// Says why a command line can't be read, and answers the
+/// exit status: 2 where a word isn't UTF-8 text, else 1.
 pub fn refuse<E: Write>(alloc: Global, error: io::Error, err: &mut E) -> u8
     ensures { result ≡ status_of (unread_exit (error_kind error)) }
 {
@@ -142,7 +158,8 @@ fn print_page<O: Write, E: Write>(alloc: Global, page: &str, out: &mut O, err: &
 }
 
 fn write_page<O: Write>(page: &str, out: &mut O) -> Result<(), RunError>
-    ensures { MatchResult result (λ _. Appends (O.contents out.old) (O.contents out.new) page.now) IsFileError }
+    ensures { MatchResult result
+        (λ _. Appends (O.contents out.old) (O.contents out.new) page.now) IsFileError }
 {
     out.write_all(page.as_bytes())?;
     out.flush()?;
@@ -152,7 +169,8 @@ fn write_page<O: Write>(page: &str, out: &mut O) -> Result<(), RunError>
 // Tells that a word is none of those that stand in its place.
 fn tell_flaw<E: Write>(flaw: Flaw, word: &str, err: &mut E) -> Ended
     ensures usage { result.exit ≡ Usage }
-    ensures told { result.err_taken ≡ true → Appends (E.contents err.old) (E.contents err.new) (flaw_text flaw word.now) }
+    ensures told { result.err_taken ≡ true
+        → Appends (E.contents err.old) (E.contents err.new) (flaw_text flaw word.now) }
 {
     Ended {
         exit: Exit::Usage,
@@ -161,7 +179,8 @@ fn tell_flaw<E: Write>(flaw: Flaw, word: &str, err: &mut E) -> Ended
 }
 
 fn write_flaw<E: Write>(flaw: Flaw, word: &str, err: &mut E) -> io::Result<()>
-    ensures { OnOk result (Appends (E.contents err.old) (E.contents err.new) (flaw_text flaw word.now)) }
+    ensures { OnOk result (Appends (E.contents err.old) (E.contents err.new)
+        (flaw_text flaw word.now)) }
 {
     let forms = flaw.forms();
     writeln!(err, "error: invalid value '{word}' for {forms}")?;
@@ -172,7 +191,8 @@ fn write_flaw<E: Write>(flaw: Flaw, word: &str, err: &mut E) -> io::Result<()>
 // Shows the text of a command line that has no other task.
 fn show<O: Write, E: Write>(alloc: Global, text: Error, out: &mut O, err: &mut E) -> Ended
     ensures ends { EndsUntasked (kind_of text) result.exit }
-    ensures silent { is_asked_for (kind_of text) ≡ false → Keeps (O.contents out.old) (O.contents out.new) }
+    ensures silent { is_asked_for (kind_of text) ≡ false
+        → Keeps (O.contents out.old) (O.contents out.new) }
     ensures tells { (explains : Bool) → TellsUntasked (kind_of text)
         (err_stream explains (E.contents err.old) (E.contents err.new)) result }
 {

@@ -1,7 +1,8 @@
 //! Laws of command lines: each is a function whose contract it is, and which runs to nothing.
 ghost use Rattle.std.specs.Prelude.{◌≡◌, ◌∷◌, [], List, Option, Some, false, true, ℕ};
 ghost use Rattle.dmlw_cli.specs.CommandLine.{command_words, is_positional};
-ghost use Rattle.dmlw_cli.specs.Commands.{DoesWords, LeavesLog, LeavesReplayed, LeavesRun, ReplaysWhat};
+ghost use Rattle.dmlw_cli.specs.Commands.{DoesWords, LeavesLog, LeavesReplayed, LeavesRun};
+ghost use Rattle.dmlw_cli.specs.Commands.{ReplaysWhat};
 ghost use Rattle.dmlw_cli.specs.Names.{name_of, name_text};
 ghost use Rattle.dmlw_cli.specs.declared.name.Name.{Name};
 ghost use Rattle.dmlw_cli.specs.declared.name.Name.TheVariants as names;
@@ -22,99 +23,149 @@ ghost use Rattle.text_words.specs.Words.{IsNumber};
 /// A word names a command exactly where it is the command's name.
 #[tactic(auto, using(crate::proofs::Naming::named, crate::proofs::Naming::named_again))]
 pub fn names_are_told_apart()
-    ensures named { (word : List ℕ) (name : Name) → name_of word ≡ Some name → word ≡ name_text name }
+    ensures named { (word : List ℕ) (name : Name) → name_of word ≡ Some name
+        → word ≡ name_text name }
     ensures again { (name : Name) → name_of (name_text name) ≡ Some name }
 {}
 
-/// Words that don't begin with a hyphen are names of files: where `record SCRIPT LOG` is done, the script
-/// in that file was recorded in that log.
+/// Words that don't begin with a hyphen are names of files: where `record SCRIPT LOG` is done, the
+/// script in that file was recorded in that log.
 pub fn plain_words_record()
-    ensures ends { (contents later : List ℕ → Option (List ℕ)) (before after : Option (List Write)) (old new errors_old errors_new : Option (List ℕ)) (ended : Ended)
+    ensures ends { (contents later : List ℕ → Option (List ℕ)) (before after : Option (List Write))
+        (old new errors_old errors_new : Option (List ℕ)) (ended : Ended)
         (program script log : List ℕ) → is_positional script ≡ true → is_positional log ≡ true →
-        DoesWords (command_words program names.Record (script ∷ log ∷ [])) contents later before after old new errors_old errors_new ended →
-        EndsRecording (contents script) log before after old new (err_stream false errors_old errors_new) ended }
+        DoesWords (command_words program names.Record
+        (script ∷ log ∷ [])) contents later before after old new errors_old errors_new ended →
+        EndsRecording (contents script) log before after old new
+        (err_stream false errors_old errors_new) ended }
     // And the file LOG holds the log.
-    ensures leaves { (contents later : List ℕ → Option (List ℕ)) (before after : Option (List Write)) (old new errors_old errors_new : Option (List ℕ)) (ended : Ended)
+    ensures leaves { (contents later : List ℕ → Option (List ℕ))
+        (before after : Option (List Write)) (old new errors_old errors_new : Option (List ℕ))
+        (ended : Ended)
         (program script log : List ℕ) → is_positional script ≡ true → is_positional log ≡ true →
-        DoesWords (command_words program names.Record (script ∷ log ∷ [])) contents later before after old new errors_old errors_new ended →
+        DoesWords (command_words program names.Record
+        (script ∷ log ∷ [])) contents later before after old new errors_old errors_new ended →
         LeavesLog script log contents later old new ended.exit }
 {}
 
-/// Where `run SCRIPT LOG` is done, the seats of the script in that file were run, and recorded in that log.
+/// Where `run SCRIPT LOG` is done, the seats of the script
+/// in that file were run, and recorded in that log.
 pub fn plain_words_run()
-    ensures ends { (contents later : List ℕ → Option (List ℕ)) (before after : Option (List Write)) (old new errors_old errors_new : Option (List ℕ)) (ended : Ended)
+    ensures ends { (contents later : List ℕ → Option (List ℕ)) (before after : Option (List Write))
+        (old new errors_old errors_new : Option (List ℕ)) (ended : Ended)
         (program script log : List ℕ) → is_positional script ≡ true → is_positional log ≡ true →
-        DoesWords (command_words program names.Run (script ∷ log ∷ [])) contents later before after old new errors_old errors_new ended →
-        EndsRunning (contents script) log before after old new (err_stream false errors_old errors_new) ended }
+        DoesWords (command_words program names.Run
+        (script ∷ log ∷ [])) contents later before after old new errors_old errors_new ended →
+        EndsRunning (contents script) log before after old new
+        (err_stream false errors_old errors_new) ended }
     // And the file LOG holds the log.
-    ensures leaves { (contents later : List ℕ → Option (List ℕ)) (before after : Option (List Write)) (old new errors_old errors_new : Option (List ℕ)) (ended : Ended)
+    ensures leaves { (contents later : List ℕ → Option (List ℕ))
+        (before after : Option (List Write)) (old new errors_old errors_new : Option (List ℕ))
+        (ended : Ended)
         (program script log : List ℕ) → is_positional script ≡ true → is_positional log ≡ true →
-        DoesWords (command_words program names.Run (script ∷ log ∷ [])) contents later before after old new errors_old errors_new ended →
+        DoesWords (command_words program names.Run
+        (script ∷ log ∷ [])) contents later before after old new errors_old errors_new ended →
         LeavesRun script log contents later old new ended.exit }
 {}
 
 /// Where `list LOG` is done, the list of the log in that file was shown.
 pub fn plain_words_list()
-    ensures { (contents later : List ℕ → Option (List ℕ)) (before after : Option (List Write)) (old new errors_old errors_new : Option (List ℕ)) (ended : Ended)
+    ensures { (contents later : List ℕ → Option (List ℕ)) (before after : Option (List Write))
+        (old new errors_old errors_new : Option (List ℕ)) (ended : Ended)
         (program log : List ℕ) → is_positional log ≡ true →
-        DoesWords (command_words program names.List (log ∷ [])) contents later before after old new errors_old errors_new ended →
-        EndsShowing ListsImage (contents log) before after old new (err_stream false errors_old errors_new) ended }
+        DoesWords (command_words program names.List
+        (log ∷ [])) contents later before after old new errors_old errors_new ended →
+        EndsShowing ListsImage (contents log) before after old new
+        (err_stream false errors_old errors_new) ended }
 {}
 
 /// Where `status LOG` is done, the status of the log in that file was shown.
 pub fn plain_words_status()
-    ensures { (contents later : List ℕ → Option (List ℕ)) (before after : Option (List Write)) (old new errors_old errors_new : Option (List ℕ)) (ended : Ended)
+    ensures { (contents later : List ℕ → Option (List ℕ)) (before after : Option (List Write))
+        (old new errors_old errors_new : Option (List ℕ)) (ended : Ended)
         (program log : List ℕ) → is_positional log ≡ true →
-        DoesWords (command_words program names.Status (log ∷ [])) contents later before after old new errors_old errors_new ended →
-        EndsShowing ShowsStatus (contents log) before after old new (err_stream false errors_old errors_new) ended }
-{}
-
-/// Where `replay LOG FIRST OUT WHAT` is done, the log in that file was replayed, up to what WHAT names, on the image
-/// in the file FIRST, for the file OUT.
-pub fn plain_words_replay()
-    ensures ends { (contents later : List ℕ → Option (List ℕ)) (before after : Option (List Write)) (old new errors_old errors_new : Option (List ℕ)) (ended : Ended)
-        (program log first out what : List ℕ) (upto : Upto) → is_positional log ≡ true → is_positional first ≡ true → is_positional out ≡ true →
-        IsWhat what upto →
-        DoesWords (command_words program names.Replay (log ∷ first ∷ out ∷ what ∷ [])) contents later before after old new errors_old errors_new ended →
-        ReplaysWhat what (contents log) (contents first) out before after old new (err_stream false errors_old errors_new) ended }
-    // And the file OUT holds the image that came of it.
-    ensures leaves { (contents later : List ℕ → Option (List ℕ)) (before after : Option (List Write)) (old new errors_old errors_new : Option (List ℕ)) (ended : Ended)
-        (program log first out what : List ℕ) (upto : Upto) → is_positional log ≡ true → is_positional first ≡ true → is_positional out ≡ true →
-        IsWhat what upto →
-        DoesWords (command_words program names.Replay (log ∷ first ∷ out ∷ what ∷ [])) contents later before after old new errors_old errors_new ended →
-        ended.exit ≡ Done → LeavesReplayed what (contents log) (contents first) (later out) }
-{}
-
-/// Where `copy LOG OUT SECTORS` is done, the log in that file was copied to a new one with sectors of 4,096 bytes, on a disk of as many sectors as
-/// SECTORS says, for the file OUT.
-pub fn plain_words_copy()
-    ensures ends { (contents later : List ℕ → Option (List ℕ)) (before after : Option (List Write)) (old new errors_old errors_new : Option (List ℕ)) (ended : Ended)
-        (program log out word : List ℕ) (sectors : ℕ) → is_positional log ≡ true → is_positional out ≡ true → IsSectorCount word sectors →
-        DoesWords (command_words program names.Copy (log ∷ out ∷ word ∷ [])) contents later before after old new errors_old errors_new ended →
-        EndsCopying (contents log) out sectors before after old new (err_stream false errors_old errors_new) ended }
-    // And the file OUT holds the new log.
-    ensures leaves { (contents later : List ℕ → Option (List ℕ)) (before after : Option (List Write)) (old new errors_old errors_new : Option (List ℕ)) (ended : Ended)
-        (program log out word : List ℕ) (sectors : ℕ) → is_positional log ≡ true → is_positional out ≡ true → IsSectorCount word sectors →
-        DoesWords (command_words program names.Copy (log ∷ out ∷ word ∷ [])) contents later before after old new errors_old errors_new ended →
-        ended.exit ≡ Done → HoldsCopied (contents log) sectors (later out) }
-{}
-
-/// Where `judge SCRIPT M IMAGE` is done, the image in that file was judged by the script in that file, after as many
-/// events as M says.
-pub fn plain_words_judge()
-    ensures { (contents later : List ℕ → Option (List ℕ)) (before after : Option (List Write)) (old new errors_old errors_new : Option (List ℕ)) (ended : Ended)
-        (program script m image : List ℕ) (moment : ℕ) → is_positional script ≡ true → IsNumber m moment → is_positional image ≡ true →
-        DoesWords (command_words program names.Judge (script ∷ m ∷ image ∷ [])) contents later before after old new errors_old errors_new ended →
-        EndsJudging (record { script = contents script; image = contents image; moment = moment }) before after old new
+        DoesWords (command_words program names.Status
+        (log ∷ [])) contents later before after old new errors_old errors_new ended →
+        EndsShowing ShowsStatus (contents log) before after old new
         (err_stream false errors_old errors_new) ended }
 {}
 
-/// Where `path SCRIPT M IMAGE` is done, it was told how the image in that file could have come to the device of the script in that file,
-/// after as many events as M says.
+/// Where `replay LOG FIRST OUT WHAT` is done, the log in that file was replayed, up to what WHAT
+/// names, on the image in the file FIRST, for the file OUT.
+pub fn plain_words_replay()
+    ensures ends { (contents later : List ℕ → Option (List ℕ)) (before after : Option (List Write))
+        (old new errors_old errors_new : Option (List ℕ)) (ended : Ended)
+        (program log first out what : List ℕ) (upto : Upto) → is_positional log ≡ true
+        → is_positional first ≡ true → is_positional out ≡ true →
+        IsWhat what upto →
+        DoesWords (command_words program names.Replay (log ∷ first ∷ out ∷ what ∷ [])) contents
+        later before after old new errors_old errors_new ended →
+        ReplaysWhat what (contents log) (contents first) out before after old new
+        (err_stream false errors_old errors_new) ended }
+    // And the file OUT holds the image that came of it.
+    ensures leaves { (contents later : List ℕ → Option (List ℕ))
+        (before after : Option (List Write)) (old new errors_old errors_new : Option (List ℕ))
+        (ended : Ended)
+        (program log first out what : List ℕ) (upto : Upto) → is_positional log ≡ true
+        → is_positional first ≡ true → is_positional out ≡ true →
+        IsWhat what upto →
+        DoesWords (command_words program names.Replay (log ∷ first ∷ out ∷ what ∷ [])) contents
+        later before after old new errors_old errors_new ended →
+        ended.exit ≡ Done → LeavesReplayed what (contents log) (contents first) (later out) }
+{}
+
+/// Where `copy LOG OUT SECTORS` is done, the log in that file was copied to a new one with sectors
+/// of 4,096 bytes, on a disk of as many sectors as SECTORS says, for the file OUT.
+pub fn plain_words_copy()
+    ensures ends { (contents later : List ℕ → Option (List ℕ)) (before after : Option (List Write))
+        (old new errors_old errors_new : Option (List ℕ)) (ended : Ended)
+        (program log out word : List ℕ) (sectors : ℕ) → is_positional log ≡ true
+        → is_positional out ≡ true → IsSectorCount word sectors →
+        DoesWords (command_words program names.Copy
+        (log ∷ out ∷ word ∷ [])) contents later before after old new errors_old errors_new ended →
+        EndsCopying (contents log) out sectors before after old new
+        (err_stream false errors_old errors_new) ended }
+    // And the file OUT holds the new log.
+    ensures leaves { (contents later : List ℕ → Option (List ℕ))
+        (before after : Option (List Write)) (old new errors_old errors_new : Option (List ℕ))
+        (ended : Ended)
+        (program log out word : List ℕ) (sectors : ℕ) → is_positional log ≡ true
+        → is_positional out ≡ true → IsSectorCount word sectors →
+        DoesWords (command_words program names.Copy
+        (log ∷ out ∷ word ∷ [])) contents later before after old new errors_old errors_new ended →
+        ended.exit ≡ Done → HoldsCopied (contents log) sectors (later out) }
+{}
+
+/// Where `judge SCRIPT M IMAGE` is done, the image in that file was judged by the script in that
+/// file, after as many events as M says.
+pub fn plain_words_judge()
+    ensures { (contents later : List ℕ → Option (List ℕ)) (before after : Option (List Write))
+        (old new errors_old errors_new : Option (List ℕ)) (ended : Ended)
+        (program script m image : List ℕ) (moment : ℕ) → is_positional script ≡ true
+        → IsNumber m moment → is_positional image ≡ true →
+        DoesWords (command_words program names.Judge
+        (script ∷ m ∷ image ∷ [])) contents later before after old new errors_old errors_new ended →
+        EndsJudging (record {
+          script = contents script;
+          image = contents image;
+          moment = moment;
+        }) before after old new
+        (err_stream false errors_old errors_new) ended }
+{}
+
+/// Where `path SCRIPT M IMAGE` is done, it was told how the image in that file could have come to
+/// the device of the script in that file, after as many events as M says.
 pub fn plain_words_path()
-    ensures { (contents later : List ℕ → Option (List ℕ)) (before after : Option (List Write)) (old new errors_old errors_new : Option (List ℕ)) (ended : Ended)
-        (program script m image : List ℕ) (moment : ℕ) → is_positional script ≡ true → IsNumber m moment → is_positional image ≡ true →
-        DoesWords (command_words program names.Path (script ∷ m ∷ image ∷ [])) contents later before after old new errors_old errors_new ended →
-        EndsFinding (record { script = contents script; image = contents image; moment = moment }) before after old new
+    ensures { (contents later : List ℕ → Option (List ℕ)) (before after : Option (List Write))
+        (old new errors_old errors_new : Option (List ℕ)) (ended : Ended)
+        (program script m image : List ℕ) (moment : ℕ) → is_positional script ≡ true
+        → IsNumber m moment → is_positional image ≡ true →
+        DoesWords (command_words program names.Path
+        (script ∷ m ∷ image ∷ [])) contents later before after old new errors_old errors_new ended →
+        EndsFinding (record {
+          script = contents script;
+          image = contents image;
+          moment = moment;
+        }) before after old new
         (err_stream false errors_old errors_new) ended }
 {}

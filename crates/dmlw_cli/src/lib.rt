@@ -1,8 +1,9 @@
 //! What each command line of dmlw comes to, over files and writers of any kind.
 //!
-//! `execute` does one command line; its contract says of each command what it has printed and which file it has asked to
-//! be written, in the words of `specs/Commands`. The commands themselves stand in `dmlw_commands`, `dmlw_run` and
-//! `dmlw_judge`; `command_line` reads the words, `laws` says which plain words are which command.
+//! `execute` does one command line; its contract says of each command what it has printed and which
+//! file it has asked to be written, in the words of `specs/Commands`. The commands themselves stand
+//! in `dmlw_commands`, `dmlw_run` and `dmlw_judge`; `command_line` reads the words, `laws` says
+//! which plain words are which command.
 #![tactic(auto)]
 
 pub use executing::{execute, refuse};

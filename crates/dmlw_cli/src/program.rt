@@ -1,13 +1,15 @@
 //! The program's command line, as `clap` reads it: its commands, their words and their help.
 ghost use Rattle.std.specs.Prelude.{◌≡◌, IfOk, codes, false};
 ghost use Rattle.clap.specs.Words.{App, app_of, new_app, rule_of, with_rule, with_subcommand};
-ghost use Rattle.dmlw_cli.specs.CommandLine.{IsCommandOf, bare_app, command_app, needed, program_app};
+ghost use Rattle.dmlw_cli.specs.CommandLine.{IsCommandOf, bare_app, command_app, needed};
+ghost use Rattle.dmlw_cli.specs.CommandLine.{program_app};
 ghost use Rattle.dmlw_cli.specs.declared.name.Name.TheVariants as names;
 
 use clap::{Arg, Command};
 use std::alloc::{AllocError, Global};
 
-// What `help` prints. It has the commands that `program_command` has, and `help formats`, which is none of them.
+// What `help` prints. It has the commands that `program_command`
+// has, and `help formats`, which is none of them.
 const HELP: &str = "\
 Records block requests in a log, and reads logs back
 
@@ -119,7 +121,8 @@ fn run_command<'a>(alloc: Global) -> Result<Command<'a>, AllocError>
 
 // A command that reads a log.
 fn log_command<'a>(alloc: Global, name: &'a str, about: &'a str) -> Result<Command<'a>, AllocError>
-    ensures { IfOk result (IsCommandOf (with_rule (new_app name.entry.now) (needed (codes "LOG")))) }
+    ensures { IfOk result (IsCommandOf
+        (with_rule (new_app name.entry.now) (needed (codes "LOG")))) }
 {
     Command::new(alloc, name)
         .about(about)

@@ -5,7 +5,8 @@ ghost use Rattle.dmlw_cli.specs.Counts.{IsSectorCount};
 use std::marker::Model;
 use text_words::number_of;
 
-/// How many sectors of 512 bytes the disk of a copied log has: 8, which is one log sector, to 1,048,576. Contracts see it as that number.
+/// How many sectors of 512 bytes the disk of a copied log has: 8, which is one log sector, to
+/// 1,048,576. Contracts see it as that number.
 #[derive(Debug, Drop)]
 pub struct SectorCount {
     sectors: u64,
@@ -22,7 +23,8 @@ impl Model for SectorCount {
 }
 
 impl SectorCount {
-    /// The number that a word is: 1 to 20 decimal digits of a value from 8 to 1,048,576. None for any other word.
+    /// The number that a word is: 1 to 20 decimal digits of
+    /// a value from 8 to 1,048,576. None for any other word.
     pub fn of(word: &[u8]) -> Option<SectorCount>
         ensures some { IfSome result (IsSectorCount word.now) }
         ensures none { result ≡ None → (count : ℕ) → IsSectorCount word.now count → ⊥ }

@@ -1,5 +1,6 @@
 -- How the copy of the log in a file ends.
-use Rattle.std.proofs.Common.{◌≡◌, ◌∙◌, ◌⊎◌, ℕ, List, Option, Result, Ok, Err, OnErr, OnOk, ap, inl, inr, refl, subst, sym}
+use Rattle.std.proofs.Common.{◌≡◌, ◌∙◌, ◌⊎◌, ℕ, List, Option, Result, Ok, Err, OnErr, OnOk, ap, inl}
+use Rattle.std.proofs.Common.{inr, refl, subst, sym}
 use Rattle.std.specs.Io.KnownBytes.{Appends, Keeps}
 use Rattle.std.specs.Result.{IsErrAnd}
 use Rattle.script_runner.specs.CallLaws.{appends_kept, keeps_same, keeps_twice}
@@ -14,7 +15,10 @@ use Rattle.dmlw_commands.specs.Exits.{IsRefusal, exit_of}
 use Rattle.dmlw_files.specs.Files.{KeepsFiles, MatchesContents, Write, one_more}
 use Rattle.dmlw_commands.specs.declared.copy_log.stop.Stop.{Stop}
 use Rattle.dmlw_commands.specs.declared.copy_log.stop.Stop.TheVariants as stops
-use Rattle.dmlw_commands.specs.CopiesLog.{EndsCopying, FailsOnImage, FailsCopy, HoldsCopied, IsFileStop, IsCopiedFrom, PrintsCopy, Copies, file, memory, of_image, copy_exit, copy_line, copied_line, stopped, unopened}
+use Rattle.dmlw_commands.specs.CopiesLog.{EndsCopying, FailsOnImage, FailsCopy, HoldsCopied}
+use Rattle.dmlw_commands.specs.CopiesLog.{IsFileStop, IsCopiedFrom, PrintsCopy, Copies, file}
+use Rattle.dmlw_commands.specs.CopiesLog.{memory, of_image, copy_exit, copy_line, copied_line}
+use Rattle.dmlw_commands.specs.CopiesLog.{stopped, unopened}
 
 -- a file's error is a refusal
 file_refused : (fault : RunError) → IsFileError fault → exit_of fault ≡ Refused
@@ -27,20 +31,25 @@ stop_refused (stops.Fault fault) is = file_refused fault is
 stop_refused (stops.Copy fault) is = absurd is
 
 -- so is each way in which copying fails on images
-image_refused : (log : List ℕ) (sectors : ℕ) (stop : Stop) → FailsOnImage log sectors stop → copy_exit (Err stop) ≡ Refused
+image_refused : (log : List ℕ) (sectors : ℕ) (stop : Stop) → FailsOnImage log sectors stop
+    → copy_exit (Err stop) ≡ Refused
 image_refused log sectors stop memory = refl
 image_refused log sectors stop (unopened fault refuses) = ap exit_of refuses.2
 image_refused log sectors stop (stopped fault stops) = refl
 
 -- and on files
-file_stop_refused : (log_file : Option (List ℕ)) (sectors : ℕ) (stop : Stop) → FailsCopy log_file sectors stop
+file_stop_refused : (log_file : Option (List ℕ)) (sectors : ℕ) (stop : Stop)
+    → FailsCopy log_file sectors stop
     → copy_exit (Err stop) ≡ Refused
 file_stop_refused log_file sectors stop (file fault is) = file_refused fault is
-file_stop_refused log_file sectors stop (of_image log same read is fails) = image_refused log sectors same fails
+file_stop_refused log_file sectors stop (of_image log same read is fails) =
+    image_refused log sectors same fails
 
 -- a copy is done or refused
-pub done_or_refused : (log_file : Option (List ℕ)) (name : List ℕ) (sectors : ℕ) (writes_old writes_new : Option (List Write))
-    (old new : Option (List ℕ)) (done : Result ℕ Stop) → Copies log_file name sectors writes_old writes_new old new done
+pub done_or_refused : (log_file : Option (List ℕ)) (name : List ℕ) (sectors : ℕ)
+    (writes_old writes_new : Option (List Write))
+    (old new : Option (List ℕ)) (done : Result ℕ Stop)
+    → Copies log_file name sectors writes_old writes_new old new done
     → (copy_exit done ≡ Done) ⊎ (copy_exit done ≡ Refused)
 done_or_refused log_file name sectors writes_old writes_new old new (Ok count) prints = inl refl
 done_or_refused log_file name sectors writes_old writes_new old new (Err stop) (inl (fails, none, same)) = inr (file_stop_refused log_file sectors stop fails)
@@ -48,16 +57,21 @@ done_or_refused log_file name sectors writes_old writes_new old new (Err stop) (
 done_or_refused log_file name sectors writes_old writes_new old new (Err stop) (inr (inr (is, count, prints))) = inr (stop_refused stop is)
 
 -- a copy that is refused keeps each file, as what it did kept it, and what came after that
-pub refused_keeps : (old middle new : List ℕ → Option (List ℕ)) (done : Result ℕ Stop) (exit : Exit) → OnErr done (KeepsFiles old middle) → KeepsFiles middle new
+pub refused_keeps : (old middle new : List ℕ → Option (List ℕ)) (done : Result ℕ Stop) (exit : Exit)
+    → OnErr done (KeepsFiles old middle) → KeepsFiles middle new
     → exit ≡ copy_exit done → IsRefusal exit → KeepsFiles old new
 refused_keeps old middle new (Ok count) exit kept same is (inl refused) = absurd (cc (is, refused))
-refused_keeps old middle new (Ok count) exit kept same is (inr (inl refused)) = absurd (cc (is, refused))
-refused_keeps old middle new (Ok count) exit kept same is (inr (inr refused)) = absurd (cc (is, refused))
+refused_keeps old middle new (Ok count) exit kept same is (inr (inl refused)) =
+    absurd (cc (is, refused))
+refused_keeps old middle new (Ok count) exit kept same is (inr (inr refused)) =
+    absurd (cc (is, refused))
 refused_keeps old middle new (Err stop) exit kept same is refused = λ name. same name ∙ kept name
 
 -- what a copy printed is kept
-prints_kept : (log_file : Option (List ℕ)) (name : List ℕ) (sectors : ℕ) (writes_old writes_new : Option (List Write))
-    (old middle new : Option (List ℕ)) (count : ℕ) → PrintsCopy log_file name sectors writes_old writes_new old middle count → Keeps middle new
+prints_kept : (log_file : Option (List ℕ)) (name : List ℕ) (sectors : ℕ)
+    (writes_old writes_new : Option (List Write))
+    (old middle new : Option (List ℕ)) (count : ℕ)
+    → PrintsCopy log_file name sectors writes_old writes_new old middle count → Keeps middle new
     → PrintsCopy log_file name sectors writes_old writes_new old new count
 prints_kept log_file name sectors writes_old writes_new old middle new count prints kept = record {
   image = prints.image;
@@ -67,32 +81,48 @@ prints_kept log_file name sectors writes_old writes_new old middle new count pri
 }
 
 -- what copying came to stays so
-copies_kept : (log_file : Option (List ℕ)) (name : List ℕ) (sectors : ℕ) (writes_old writes_new : Option (List Write))
-    (old middle new : Option (List ℕ)) (done : Result ℕ Stop) → Copies log_file name sectors writes_old writes_new old middle done → Keeps middle new
+copies_kept : (log_file : Option (List ℕ)) (name : List ℕ) (sectors : ℕ)
+    (writes_old writes_new : Option (List Write))
+    (old middle new : Option (List ℕ)) (done : Result ℕ Stop)
+    → Copies log_file name sectors writes_old writes_new old middle done → Keeps middle new
     → Copies log_file name sectors writes_old writes_new old new done
 copies_kept log_file name sectors writes_old writes_new old middle new (Ok count) prints kept =
     prints_kept log_file name sectors writes_old writes_new old middle new count prints kept
-copies_kept log_file name sectors writes_old writes_new old middle new (Err stop) (inl (fails, none, same)) kept =
+copies_kept log_file name sectors writes_old writes_new old middle new (Err stop)
+    (inl (fails, none, same)) kept =
     inl (fails, keeps_twice old middle new none kept, same)
 copies_kept log_file name sectors writes_old writes_new old middle new (Err stop) (inr (inl (is, same))) kept = inr (inl (is, same))
-copies_kept log_file name sectors writes_old writes_new old middle new (Err stop) (inr (inr (is, count, prints))) kept =
-    inr (inr (is, count, prints_kept log_file name sectors writes_old writes_new old middle new count prints kept))
+copies_kept log_file name sectors writes_old writes_new old middle new (Err stop)
+    (inr (inr (is, count, prints))) kept =
+    inr (inr (
+      is,
+      count,
+      prints_kept log_file name sectors writes_old writes_new old middle new
+          count prints kept,
+    ))
 
 -- how a copy ends
-pub copying_ends : (log_file : Option (List ℕ)) (name : List ℕ) (sectors : ℕ) (writes_old writes_middle writes_new : Option (List Write))
+pub copying_ends : (log_file : Option (List ℕ)) (name : List ℕ) (sectors : ℕ)
+    (writes_old writes_middle writes_new : Option (List Write))
     (old middle new : Option (List ℕ)) (t : ErrStream) (done : Result ℕ Stop) (ended : Ended)
-    → Copies log_file name sectors writes_old writes_middle old middle done → Keeps middle new → writes_new ≡ writes_middle
-    → TellsLine t (copy_exit done) (copy_line done) ended → EndsCopying log_file name sectors writes_old writes_new old new t ended
+    → Copies log_file name sectors writes_old writes_middle old middle done → Keeps middle new
+    → writes_new ≡ writes_middle
+    → TellsLine t (copy_exit done) (copy_line done) ended
+    → EndsCopying log_file name sectors writes_old writes_new old new t ended
 copying_ends log_file name sectors writes_old writes_middle writes_new old middle new t done ended came kept same tells = record {
   done = done;
   copied = copies_kept log_file name sectors writes_old writes_new old middle new done
-      (subst (λ (writes : Option (List Write)). Copies log_file name sectors writes_old writes old middle done) (sym same) came) kept;
+      (subst (λ (writes : Option
+      (List Write)). Copies log_file name sectors writes_old writes old middle done)
+      (sym same) came) kept;
   tells = tells;
 }
 
 -- a copy was done, and what came of it was handed over
-pub handed_over : (log_file : Option (List ℕ)) (name : List ℕ) (sectors : ℕ) (writes_old writes_middle writes_new : Option (List Write))
-    (old new : Option (List ℕ)) (count : ℕ) (image : List ℕ) → IsCopiedFrom log_file count sectors image → writes_middle ≡ writes_old
+pub handed_over : (log_file : Option (List ℕ)) (name : List ℕ) (sectors : ℕ)
+    (writes_old writes_middle writes_new : Option (List Write))
+    (old new : Option (List ℕ)) (count : ℕ) (image : List ℕ)
+    → IsCopiedFrom log_file count sectors image → writes_middle ≡ writes_old
     → Appends old new (copied_line count) × (writes_new ≡ one_more writes_middle name image)
     → PrintsCopy log_file name sectors writes_old writes_new old new count
 handed_over log_file name sectors writes_old writes_middle writes_new old new count image copied same (printed, asked) = record {
@@ -103,39 +133,59 @@ handed_over log_file name sectors writes_old writes_middle writes_new old new co
 }
 
 -- a copy was done, and what came of it couldn't be handed over
-pub not_handed_over : (log_file : Option (List ℕ)) (name : List ℕ) (sectors : ℕ) (writes_old writes_middle writes_new : Option (List Write))
-    (old new : Option (List ℕ)) (count : ℕ) (image : List ℕ) (fault : RunError) → IsCopiedFrom log_file count sectors image
+pub not_handed_over : (log_file : Option (List ℕ)) (name : List ℕ) (sectors : ℕ)
+    (writes_old writes_middle writes_new : Option (List Write))
+    (old new : Option (List ℕ)) (count : ℕ) (image : List ℕ) (fault : RunError)
+    → IsCopiedFrom log_file count sectors image
     → writes_middle ≡ writes_old → IsFileError fault
-    → (writes_new ≡ writes_middle) ⊎ (Appends old new (copied_line count) × (writes_new ≡ one_more writes_middle name image))
+    → (writes_new ≡ writes_middle)
+    ⊎ (Appends old new (copied_line count) × (writes_new ≡ one_more writes_middle name image))
     → Copies log_file name sectors writes_old writes_new old new (Err (stops.Fault fault))
-not_handed_over log_file name sectors writes_old writes_middle writes_new old new count image fault copied same is (inl none) =
+not_handed_over log_file name sectors writes_old writes_middle writes_new old new count image fault
+    copied same is (inl none) =
     inr (inl (is, none ∙ same))
-not_handed_over log_file name sectors writes_old writes_middle writes_new old new count image fault copied same is (inr asked) =
-    inr (inr (is, count, handed_over log_file name sectors writes_old writes_middle writes_new old new count image copied same asked))
+not_handed_over log_file name sectors writes_old writes_middle writes_new old new count image fault
+    copied same is (inr asked) =
+    inr (inr (
+      is,
+      count,
+      handed_over log_file name sectors writes_old writes_middle writes_new old
+          new count image copied same asked,
+    ))
 
 -- a file that can't be used ends a copy
-pub fails_by_file : (log_file : Option (List ℕ)) (sectors : ℕ) (fault : RunError) (stop : Stop) → IsFileError fault → stop ≡ stops.Fault fault
+pub fails_by_file : (log_file : Option (List ℕ)) (sectors : ℕ) (fault : RunError) (stop : Stop)
+    → IsFileError fault → stop ≡ stops.Fault fault
     → FailsCopy log_file sectors stop
-fails_by_file log_file sectors fault stop is same = subst (FailsCopy log_file sectors) (sym same) (file fault is)
+fails_by_file log_file sectors fault stop is same =
+    subst (FailsCopy log_file sectors) (sym same) (file fault is)
 
 -- nothing was printed, and no file asked for, where copying fails before that
-pub not_copied : (log_file : Option (List ℕ)) (name : List ℕ) (sectors : ℕ) (writes_old writes_new : Option (List Write)) (old : Option (List ℕ))
-    (stop : Stop) (r : Result ℕ Stop) → FailsCopy log_file sectors stop → writes_new ≡ writes_old → IsErrAnd r (λ e. e ≡ stop)
+pub not_copied : (log_file : Option (List ℕ)) (name : List ℕ) (sectors : ℕ)
+    (writes_old writes_new : Option (List Write)) (old : Option (List ℕ))
+    (stop : Stop) (r : Result ℕ Stop) → FailsCopy log_file sectors stop → writes_new ≡ writes_old
+    → IsErrAnd r (λ e. e ≡ stop)
     → Copies log_file name sectors writes_old writes_new old old r
 not_copied log_file name sectors writes_old writes_new old stop (Ok count) fails same is = absurd is
 not_copied log_file name sectors writes_old writes_new old stop (Err e) fails same is =
     inl (subst (FailsCopy log_file sectors) (sym is) fails, keeps_same old, same)
 
 -- what came of a copy is held where it is written
-pub holds_copied : (log_file written : Option (List ℕ)) (sectors : ℕ) (count : ℕ) (image : List ℕ) → IsCopiedFrom log_file count sectors image
+pub holds_copied : (log_file written : Option (List ℕ)) (sectors : ℕ) (count : ℕ) (image : List ℕ)
+    → IsCopiedFrom log_file count sectors image
     → MatchesContents written image → HoldsCopied log_file sectors written
-holds_copied log_file written sectors count image copied held = record { count = count; image = image; copied = copied; held = held }
+holds_copied log_file written sectors count image copied held =
+    record { count = count; image = image; copied = copied; held = held }
 
 -- and after a copy that is done it is held still, where each file was kept since
-pub done_holds : (log_file : Option (List ℕ)) (sectors : ℕ) (middle new : List ℕ → Option (List ℕ)) (name : List ℕ) (done : Result ℕ Stop) (exit : Exit)
-    → OnOk done (HoldsCopied log_file sectors (middle name)) → KeepsFiles middle new → exit ≡ copy_exit done → exit ≡ Done
+pub done_holds : (log_file : Option (List ℕ)) (sectors : ℕ) (middle new : List ℕ → Option (List ℕ))
+    (name : List ℕ) (done : Result ℕ Stop) (exit : Exit)
+    → OnOk done (HoldsCopied log_file sectors (middle name)) → KeepsFiles middle new
+    → exit ≡ copy_exit done → exit ≡ Done
     → HoldsCopied log_file sectors (new name)
-done_holds log_file sectors middle new name (Ok count) exit held kept same is = subst (HoldsCopied log_file sectors) (sym (kept name)) held
+done_holds log_file sectors middle new name (Ok count) exit held kept same is =
+    subst (HoldsCopied log_file sectors) (sym (kept name)) held
 done_holds log_file sectors middle new name (Err (stops.Fault (faults.Refused fault))) exit held kept same is = absurd (cc (same, is))
 done_holds log_file sectors middle new name (Err (stops.Fault (faults.LoggingEnded end))) exit held kept same is = absurd (cc (same, is))
-done_holds log_file sectors middle new name (Err (stops.Copy fault)) exit held kept same is = absurd (cc (same, is))
+done_holds log_file sectors middle new name (Err (stops.Copy fault)) exit held kept same is =
+    absurd (cc (same, is))

@@ -1,5 +1,7 @@
 -- For each definition of a replay's command, what breaks it, and is refused by it.
-use Rattle.std.proofs.Common.{◌≡◌, ◌∙◌, ℕ, ◌<◌, true, false, Option, Some, None, List, [], ◌∷◌, ◌++◌, Result, Ok, Err, ap, arith, drop, inl, inr, length, refl, replicate, slice_index_or, subst, sym}
+use Rattle.std.proofs.Common.{◌≡◌, ◌∙◌, ℕ, ◌<◌, true, false, Option, Some, None, List, [], ◌∷◌}
+use Rattle.std.proofs.Common.{◌++◌, Result, Ok, Err, ap, arith, drop, inl, inr, length, refl}
+use Rattle.std.proofs.Common.{replicate, slice_index_or, subst, sym}
 use Rattle.std.specs.Prelude.{◌/◌, codes, decimal}
 use Rattle.sectors.specs.Content.{sector_of}
 use Rattle.text_words.specs.Words.{is_number, number_value}
@@ -31,7 +33,10 @@ use Rattle.dmlw_commands.specs.Exits.{fault_line, stopped_line}
 use Rattle.dmlw_files.specs.Files.{Write}
 use Rattle.dmlw_commands.specs.declared.replay_log.stop.Stop.{Stop}
 use Rattle.dmlw_commands.specs.declared.replay_log.stop.Stop.TheVariants as stops
-use Rattle.dmlw_commands.specs.Replays.{AreImages, EndsReplaying, FailsReplay, HasStopCause, HoldsReplayed, IsReplayed, PrintsReplay, Replays, StopsReplay, file, images, replay_exit, replay_line, replayed_line, unopened}
+use Rattle.dmlw_commands.specs.Replays.{AreImages, EndsReplaying, FailsReplay, HasStopCause}
+use Rattle.dmlw_commands.specs.Replays.{HoldsReplayed, IsReplayed, PrintsReplay, Replays}
+use Rattle.dmlw_commands.specs.Replays.{StopsReplay, file, images, replay_exit, replay_line}
+use Rattle.dmlw_commands.specs.Replays.{replayed_line, unopened}
 use Rattle.dmlw_commands.specs.Whats.{IsNoWhat, IsWhat}
 
 -- the end of a replay that is named is a mark of this text
@@ -49,7 +54,9 @@ what_count = (codes "12", refl, (refl, refl))
 what_count_other : IsWhat (codes "entries:12") (Count 13) → ⊥
 what_count_other (digits, same, number) =
     let here : codes "12" ≡ digits = ap (λ (xs : List ℕ). drop 8 xs) same in
-    let twelve = same_number 12 13 (subst (λ (xs : List ℕ). number_value xs ≡ 13) (sym here) number.1) in omega arith
+    let twelve =
+    same_number 12 13 (subst (λ (xs : List ℕ). number_value xs ≡ 13) (sym here) number.1) in
+    omega arith
 
 -- none by no digits
 what_digits : (n : ℕ) → IsWhat (codes "entries:") (Count n) → ⊥
@@ -61,7 +68,8 @@ what_digits n (digits, same, number) =
 what_mark : (upto : Upto) → asks_mark upto (codes "b") → IsWhat (codes "mark:a") upto → ⊥
 what_mark (Count n) asks named = absurd asks
 what_mark (Mark text) asks named =
-    let same : codes "mark:a" ≡ codes "mark:b" = subst (λ (xs : List ℕ). codes "mark:a" ≡ codes "mark:" ++ xs) asks named in
+    let same : codes "mark:a" ≡ codes "mark:b" =
+    subst (λ (xs : List ℕ). codes "mark:a" ≡ codes "mark:" ++ xs) asks named in
     let last = same_number 97 98 (ap (λ (xs : List ℕ). slice_index_or xs 5 0) same) in omega arith
 what_mark Flush asks named = absurd asks
 
@@ -81,26 +89,31 @@ line_twelve : replayed_line 12 ≡ codes "replayed " ++ (decimal 12 ++ codes "\n
 line_twelve = refl
 
 -- the line of a stop, and how it ends
-line_stop : replay_line (Err (stops.Replay (record { applied = 2; cause = replays.PastEntries }))) ≡ stopped_line 2 refusals.PastEntries
+line_stop : replay_line (Err (stops.Replay (record { applied = 2; cause = replays.PastEntries })))
+    ≡ stopped_line 2 refusals.PastEntries
 line_stop = refl
 
-line_fault : replay_line (Err (stops.Fault (refused_by refusals.File))) ≡ fault_line (refused_by refusals.File)
+line_fault : replay_line (Err (stops.Fault (refused_by refusals.File)))
+    ≡ fault_line (refused_by refusals.File)
 line_fault = refl
 
 line_done : replay_line (Ok 2) ≡ []
 line_done = refl
 
-exit_stop : replay_exit (Err (stops.Replay (record { applied = 2; cause = replays.PastEntries }))) ≡ exits.Refused
+exit_stop : replay_exit (Err (stops.Replay (record { applied = 2; cause = replays.PastEntries })))
+    ≡ exits.Refused
 exit_stop = refl
 
 exit_done : replay_exit (Ok 2) ≡ exits.Done
 exit_done = refl
 
 -- files that hold other bytes, and bytes that are no image
-images_log : (first : List ℕ) (first_file : Option (List ℕ)) → AreImages (Some (1 ∷ [])) first_file (2 ∷ []) first → ⊥
+images_log : (first : List ℕ) (first_file : Option (List ℕ))
+    → AreImages (Some (1 ∷ [])) first_file (2 ∷ []) first → ⊥
 images_log first first_file are = let same = are.log_read in cc
 
-images_first : (log : List ℕ) (log_file : Option (List ℕ)) → AreImages log_file (Some (1 ∷ [])) log (2 ∷ []) → ⊥
+images_first : (log : List ℕ) (log_file : Option (List ℕ))
+    → AreImages log_file (Some (1 ∷ [])) log (2 ∷ []) → ⊥
 images_first log log_file are = let same = are.first_read in cc
 
 images_no_log : (first : List ℕ) → AreImages None None [] first → ⊥
@@ -113,10 +126,13 @@ images_no_first log are = let least = are.first_image.least in omega arith
 replayed_other : (log first image : List ℕ) → IsReplayed log first (Count 1) 2 image → ⊥
 replayed_other log first image told = let same = told.named in omega arith
 
-replayed_past : (log first image : List ℕ) (head : Super) (es : List Entry) (fault : Option LogFault) (n : ℕ) → IsReplayed log first (Count n) n image
+replayed_past : (log first image : List ℕ) (head : Super) (es : List Entry)
+    (fault : Option LogFault) (n : ℕ) → IsReplayed log first (Count n) n image
     → IsReading log head es fault → length es < n → ⊥
 replayed_past log first image head es fault n told reading fewer =
-    let one = same_reading (length log / 512) (sector_of log) head told.head es told.entries fault told.fault reading told.reading in
+    let one =
+    same_reading (length log / 512)
+    (sector_of log) head told.head es told.entries fault told.fault reading told.reading in
     let same : length es ≡ length told.entries = ap length one.1 in
     let all = told.within (omega arith) in omega arith
 
@@ -128,68 +144,93 @@ replayed_none first image told = let begins = told.reading.super_block in cc
 replayed_longer : (log : List ℕ) → IsReplayed log (0 ∷ []) (Count 0) 0 [] → ⊥
 replayed_longer log told = let same = told.size in omega arith
 
-replayed_changed : (log : List ℕ) → IsReplayed log (replicate 512 0) (Count 0) 0 (replicate 512 1) → ⊥
+replayed_changed : (log : List ℕ)
+    → IsReplayed log (replicate 512 0) (Count 0) 0 (replicate 512 1) → ⊥
 replayed_changed log told =
-    let same = same_number 1 0 (ap (λ (xs : List ℕ). slice_index_or xs 0 0) (told.content 0 (omega arith))) in omega arith
+    let same =
+    same_number 1 0 (ap (λ (xs : List ℕ). slice_index_or xs 0 0)
+    (told.content 0 (omega arith))) in
+    omega arith
 
--- a flush, and causes that aren't: too many entries are asked for where they aren't, or after some; none is found, after some, or in a log with a fault; a fault that the log hasn't, or
--- that is behind what is asked for; no entry that reaches past the target; a device that fails
+-- a flush, and causes that aren't: too many entries are asked for where they aren't, or after some;
+-- none is found, after some, or in a log with a fault; a fault that the log hasn't, or that is
+-- behind what is asked for; no entry that reaches past the target; a device that fails
 flush : Entry
 flush = record { sector = 0; nr_sectors = 0; flags = record no_flags { flush = true }; body = [] }
 
-cause_enough : (head : Super) (es : List Entry) → head.count ≡ 2 → HasStopCause (Count 2) head es None 8 0 replays.PastEntries → ⊥
+cause_enough : (head : Super) (es : List Entry) → head.count ≡ 2
+    → HasStopCause (Count 2) head es None 8 0 replays.PastEntries → ⊥
 cause_enough head es two cause = let more = cause.1 in omega arith
 
-cause_many_later : (head : Super) (es : List Entry) → HasStopCause (Count 3) head es None 8 1 replays.PastEntries → ⊥
+cause_many_later : (head : Super) (es : List Entry)
+    → HasStopCause (Count 3) head es None 8 1 replays.PastEntries → ⊥
 cause_many_later head es cause = let none = cause.0 in omega arith
 
-cause_flush_there : (head : Super) → HasStopCause Flush head (flush ∷ []) None 8 0 replays.NoFlush → ⊥
+cause_flush_there : (head : Super)
+    → HasStopCause Flush head (flush ∷ []) None 8 0 replays.NoFlush → ⊥
 unfolding flush
-cause_flush_there head cause = cause.1 0 flush (omega arith) refl (record { flush = refl; no_mark = refl })
+cause_flush_there head cause =
+    cause.1 0 flush (omega arith) refl (record { flush = refl; no_mark = refl })
 
 cause_flush_later : (head : Super) → HasStopCause Flush head [] None 8 1 replays.NoFlush → ⊥
 cause_flush_later head cause = let none = cause.0 in omega arith
 
-cause_flush_fault : (head : Super) → HasStopCause Flush head [] (Some CutShort) 8 0 replays.NoFlush → ⊥
+cause_flush_fault : (head : Super)
+    → HasStopCause Flush head [] (Some CutShort) 8 0 replays.NoFlush → ⊥
 cause_flush_fault head cause = let none = cause.2 in cc
 
-cause_mark_later : (head : Super) (upto : Upto) → HasStopCause upto head [] None 8 1 replays.NoSuchMark → ⊥
+cause_mark_later : (head : Super) (upto : Upto)
+    → HasStopCause upto head [] None 8 1 replays.NoSuchMark → ⊥
 cause_mark_later head upto cause = let none = cause.0 in omega arith
 
-cause_mark_fault : (head : Super) (upto : Upto) → HasStopCause upto head [] (Some CutShort) 8 0 replays.NoSuchMark → ⊥
+cause_mark_fault : (head : Super) (upto : Upto)
+    → HasStopCause upto head [] (Some CutShort) 8 0 replays.NoSuchMark → ⊥
 cause_mark_fault head upto cause = let none = cause.2 in cc
 
-cause_past : (head : Super) (upto : Upto) → HasStopCause upto head [] None 8 0 replays.PastTarget → ⊥
+cause_past : (head : Super) (upto : Upto)
+    → HasStopCause upto head [] None 8 0 replays.PastTarget → ⊥
 cause_past head upto cause = let there = cause.there in cc
 
-cause_no_fault : (head : Super) (upto : Upto) → HasStopCause upto head [] None 8 0 (replays.Log (reads.Log CutShort)) → ⊥
+cause_no_fault : (head : Super) (upto : Upto)
+    → HasStopCause upto head [] None 8 0 (replays.Log (reads.Log CutShort)) → ⊥
 cause_no_fault head upto cause = let some = cause.0 in cc
 
-cause_fault_early : (head : Super) → HasStopCause (Count 2) head (flush ∷ []) (Some CutShort) 8 0 (replays.Log (reads.Log CutShort)) → ⊥
+cause_fault_early : (head : Super)
+    → HasStopCause (Count 2) head (flush ∷ []) (Some CutShort) 8 0
+    (replays.Log (reads.Log CutShort)) → ⊥
 cause_fault_early head cause = let all = cause.1.0 in omega arith
 
-cause_fault_behind : (head : Super) → HasStopCause (Count 1) head (flush ∷ []) (Some CutShort) 8 1 (replays.Log (reads.Log CutShort)) → ⊥
+cause_fault_behind : (head : Super)
+    → HasStopCause (Count 1) head (flush ∷ []) (Some CutShort) 8 1
+    (replays.Log (reads.Log CutShort)) → ⊥
 cause_fault_behind head cause = let fewer = cause.1.1 in omega arith
 
-cause_device : (head : Super) (upto : Upto) → HasStopCause upto head [] None 8 0 (replays.Log reads.Device) → ⊥
+cause_device : (head : Super) (upto : Upto)
+    → HasStopCause upto head [] None 8 0 (replays.Log reads.Device) → ⊥
 cause_device head upto cause = cause
 
-cause_failed : (head : Super) (upto : Upto) → HasStopCause upto head [] None 8 0 (replays.Log reads.Failed) → ⊥
+cause_failed : (head : Super) (upto : Upto)
+    → HasStopCause upto head [] None 8 0 (replays.Log reads.Failed) → ⊥
 cause_failed head upto cause = cause
 
-cause_target : (head : Super) (upto : Upto) → HasStopCause upto head [] None 8 0 (replays.Target Io) → ⊥
+cause_target : (head : Super) (upto : Upto)
+    → HasStopCause upto head [] None 8 0 (replays.Target Io) → ⊥
 cause_target head upto cause = cause
 
 -- more entries are told as applied than a log has
-stops_past : (log first : List ℕ) (upto : Upto) (stop : ReplayFault) (head : Super) (es : List Entry) (fault : Option LogFault) → StopsReplay log first upto stop
+stops_past : (log first : List ℕ) (upto : Upto) (stop : ReplayFault) (head : Super)
+    (es : List Entry) (fault : Option LogFault) → StopsReplay log first upto stop
     → IsReading log head es fault → length es < stop.applied → ⊥
 stops_past log first upto stop head es fault told reading fewer =
-    let one = same_reading (length log / 512) (sector_of log) head told.head es told.entries fault told.fault reading told.reading in
+    let one =
+    same_reading (length log / 512)
+    (sector_of log) head told.head es told.entries fault told.fault reading told.reading in
     let same : length es ≡ length told.entries = ap length one.1 in
     let all = told.within (omega arith) in omega arith
 
 -- what is no log is replayed by no stop
-stops_none : (first : List ℕ) (upto : Upto) (stop : ReplayFault) → StopsReplay [] first upto stop → ⊥
+stops_none : (first : List ℕ) (upto : Upto) (stop : ReplayFault)
+    → StopsReplay [] first upto stop → ⊥
 unfolding super_of
 stops_none first upto stop told = let begins = told.reading.super_block in cc
 
@@ -198,52 +239,67 @@ abbrev told : RunError → Refusal
 told (faults.Refused fault) = fault.refusal
 told (faults.LoggingEnded end) = refusals.File
 
-fails_busy : (log_file first_file : Option (List ℕ)) (upto : Upto) → FailsReplay log_file first_file upto (stops.Fault (refused_by refusals.Busy)) → ⊥
-fails_busy log_file first_file upto (file fault (inl is)) = let same : refusals.Busy ≡ refusals.File = ap told is in cc
-fails_busy log_file first_file upto (file fault (inr is)) = let same : refusals.Busy ≡ refusals.Memory = ap told is in cc
-fails_busy log_file first_file upto (images log first stop are (unopened fault (opens.BadSuper supers.BadMagic, opened, is))) =
+fails_busy : (log_file first_file : Option (List ℕ)) (upto : Upto)
+    → FailsReplay log_file first_file upto (stops.Fault (refused_by refusals.Busy)) → ⊥
+fails_busy log_file first_file upto (file fault (inl is)) =
+    let same : refusals.Busy ≡ refusals.File = ap told is in cc
+fails_busy log_file first_file upto (file fault (inr is)) =
+    let same : refusals.Busy ≡ refusals.Memory = ap told is in cc
+fails_busy log_file first_file upto
+    (images log first stop are (unopened fault (opens.BadSuper supers.BadMagic, opened, is))) =
     let same : refusals.Busy ≡ refusals.BadMagic = ap told is in cc
-fails_busy log_file first_file upto (images log first stop are (unopened fault (opens.BadSuper supers.BadVersion, opened, is))) =
+fails_busy log_file first_file upto
+    (images log first stop are (unopened fault (opens.BadSuper supers.BadVersion, opened, is))) =
     let same : refusals.Busy ≡ refusals.BadVersion = ap told is in cc
-fails_busy log_file first_file upto (images log first stop are (unopened fault (opens.BadSuper supers.BadSectorSize, opened, is))) =
+fails_busy log_file first_file upto
+    (images log first stop are (unopened fault (opens.BadSuper supers.BadSectorSize, opened, is))) =
     let same : refusals.Busy ≡ refusals.BadSectorSize = ap told is in cc
-fails_busy log_file first_file upto (images log first stop are (unopened fault (opens.CutShort, opened, is))) =
+fails_busy log_file first_file upto
+    (images log first stop are (unopened fault (opens.CutShort, opened, is))) =
     let same : refusals.Busy ≡ refusals.CutShort = ap told is in cc
 
 -- a replay that is done and asked for no file, or printed nothing
 a_write : Write
 a_write = record { name = []; bytes = [] }
 
-prints_no_file : (log_file first_file : Option (List ℕ)) (upto : Upto) → PrintsReplay log_file first_file [] upto (Some []) (Some []) None None 0 → ⊥
+prints_no_file : (log_file first_file : Option (List ℕ)) (upto : Upto)
+    → PrintsReplay log_file first_file [] upto (Some []) (Some []) None None 0 → ⊥
 prints_no_file log_file first_file upto told = let asked = told.asked in cc
 
-prints_nothing : (log_file first_file : Option (List ℕ)) (upto : Upto) → PrintsReplay log_file first_file [] upto None None (Some []) (Some []) 0 → ⊥
+prints_nothing : (log_file first_file : Option (List ℕ)) (upto : Upto)
+    → PrintsReplay log_file first_file [] upto None None (Some []) (Some []) 0 → ⊥
 prints_nothing log_file first_file upto told = let printed = told.printed in cc
 
 -- one that stops, and printed something, or asked for a file
 stops_printing : (log_file first_file : Option (List ℕ)) (upto : Upto) (stop : ReplayFault)
-    → Replays log_file first_file [] upto None None (Some []) (Some (1 ∷ [])) (Err (stops.Replay stop)) → ⊥
+    → Replays log_file first_file [] upto None None (Some []) (Some (1 ∷ []))
+    (Err (stops.Replay stop)) → ⊥
 stops_printing log_file first_file upto stop (inl (fails, kept, same)) = cc
 stops_printing log_file first_file upto stop (inr (inl (is, same))) = is
 stops_printing log_file first_file upto stop (inr (inr (is, count, prints))) = is
 
 stops_asking : (log_file first_file : Option (List ℕ)) (upto : Upto) (stop : ReplayFault)
-    → Replays log_file first_file [] upto (Some []) (Some (a_write ∷ [])) None None (Err (stops.Replay stop)) → ⊥
+    → Replays log_file first_file [] upto (Some []) (Some (a_write ∷ [])) None None
+    (Err (stops.Replay stop)) → ⊥
 stops_asking log_file first_file upto stop (inl (fails, kept, same)) = cc
 stops_asking log_file first_file upto stop (inr (inl (is, same))) = is
 stops_asking log_file first_file upto stop (inr (inr (is, count, prints))) = is
 
 -- a file that holds no image holds none that came of a replay
-holds_none : (log_file first_file : Option (List ℕ)) (upto : Upto) → HoldsReplayed log_file first_file upto (Some []) → ⊥
+holds_none : (log_file first_file : Option (List ℕ)) (upto : Upto)
+    → HoldsReplayed log_file first_file upto (Some []) → ⊥
 holds_none log_file first_file upto told =
     let same : length told.image ≡ 0 = ap length told.held in
     let size = told.replayed.replayed.size in
     let least = told.replayed.files.first_image.least in omega arith
 
 -- a command that ends as none does
-ends_usage : (log_file first_file : Option (List ℕ)) (name : List ℕ) (upto : Upto) (t : ErrStream) (ended : Ended)
-    → EndsReplaying log_file first_file name upto None None None None t ended → ended.exit ≡ exits.RuledOut → ⊥
-ends_usage log_file first_file name upto t ended told is = ends told.done (sym told.tells.exits ∙ is)
+ends_usage : (log_file first_file : Option (List ℕ)) (name : List ℕ) (upto : Upto) (t : ErrStream)
+    (ended : Ended)
+    → EndsReplaying log_file first_file name upto None None None None t ended
+    → ended.exit ≡ exits.RuledOut → ⊥
+ends_usage log_file first_file name upto t ended told is =
+    ends told.done (sym told.tells.exits ∙ is)
   where
     ends : (done : Result ℕ Stop) → replay_exit done ≡ exits.RuledOut → ⊥
     ends (Ok count) same = cc

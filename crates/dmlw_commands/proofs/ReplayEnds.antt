@@ -1,5 +1,6 @@
 -- How the replay of the log in a file ends.
-use Rattle.std.proofs.Common.{◌≡◌, ◌∙◌, ◌⊎◌, ℕ, List, Option, Result, Ok, Err, OnErr, OnOk, ap, inl, inr, refl, subst, sym}
+use Rattle.std.proofs.Common.{◌≡◌, ◌∙◌, ◌⊎◌, ℕ, List, Option, Result, Ok, Err, OnErr, OnOk, ap, inl}
+use Rattle.std.proofs.Common.{inr, refl, subst, sym}
 use Rattle.std.specs.Io.KnownBytes.{Appends, Keeps}
 use Rattle.std.specs.Result.{IsErrAnd}
 use Rattle.script_runner.specs.CallLaws.{appends_kept, keeps_same, keeps_twice}
@@ -15,7 +16,10 @@ use Rattle.dmlw_commands.specs.Exits.{IsRefusal, exit_of}
 use Rattle.dmlw_files.specs.Files.{KeepsFiles, MatchesContents, Write, one_more}
 use Rattle.dmlw_commands.specs.declared.replay_log.stop.Stop.{Stop}
 use Rattle.dmlw_commands.specs.declared.replay_log.stop.Stop.TheVariants as stops
-use Rattle.dmlw_commands.specs.Replays.{EndsReplaying, FailsOnImages, FailsReplay, HoldsReplayed, IsFileStop, IsReplayedFrom, PrintsReplay, Replays, file, images, memory, replay_exit, replay_line, replayed_line, stopped, unopened}
+use Rattle.dmlw_commands.specs.Replays.{EndsReplaying, FailsOnImages, FailsReplay, HoldsReplayed}
+use Rattle.dmlw_commands.specs.Replays.{IsFileStop, IsReplayedFrom, PrintsReplay, Replays, file}
+use Rattle.dmlw_commands.specs.Replays.{images, memory, replay_exit, replay_line, replayed_line}
+use Rattle.dmlw_commands.specs.Replays.{stopped, unopened}
 
 -- a file's error is a refusal
 file_refused : (fault : RunError) → IsFileError fault → exit_of fault ≡ Refused
@@ -28,72 +32,103 @@ stop_refused (stops.Fault fault) is = file_refused fault is
 stop_refused (stops.Replay fault) is = absurd is
 
 -- so is each way in which replaying fails on images
-images_refused : (log first : List ℕ) (upto : Upto) (stop : Stop) → FailsOnImages log first upto stop → replay_exit (Err stop) ≡ Refused
+images_refused : (log first : List ℕ) (upto : Upto) (stop : Stop)
+    → FailsOnImages log first upto stop → replay_exit (Err stop) ≡ Refused
 images_refused log first upto stop memory = refl
 images_refused log first upto stop (unopened fault refuses) = ap exit_of refuses.2
 images_refused log first upto stop (stopped fault stops) = refl
 
 -- and on files
-files_refused : (log_file first_file : Option (List ℕ)) (upto : Upto) (stop : Stop) → FailsReplay log_file first_file upto stop
+files_refused : (log_file first_file : Option (List ℕ)) (upto : Upto) (stop : Stop)
+    → FailsReplay log_file first_file upto stop
     → replay_exit (Err stop) ≡ Refused
 files_refused log_file first_file upto stop (file fault is) = file_refused fault is
-files_refused log_file first_file upto stop (images log first same are fails) = images_refused log first upto same fails
+files_refused log_file first_file upto stop (images log first same are fails) =
+    images_refused log first upto same fails
 
 -- a replay is done or refused
-pub done_or_refused : (log_file first_file : Option (List ℕ)) (name : List ℕ) (upto : Upto) (writes_old writes_new : Option (List Write))
-    (old new : Option (List ℕ)) (done : Result ℕ Stop) → Replays log_file first_file name upto writes_old writes_new old new done
+pub done_or_refused : (log_file first_file : Option (List ℕ)) (name : List ℕ) (upto : Upto)
+    (writes_old writes_new : Option (List Write))
+    (old new : Option (List ℕ)) (done : Result ℕ Stop)
+    → Replays log_file first_file name upto writes_old writes_new old new done
     → (replay_exit done ≡ Done) ⊎ (replay_exit done ≡ Refused)
-done_or_refused log_file first_file name upto writes_old writes_new old new (Ok count) prints = inl refl
+done_or_refused log_file first_file name upto writes_old writes_new old new (Ok count) prints =
+    inl refl
 done_or_refused log_file first_file name upto writes_old writes_new old new (Err stop) (inl (fails, none, same)) = inr (files_refused log_file first_file upto stop fails)
 done_or_refused log_file first_file name upto writes_old writes_new old new (Err stop) (inr (inl (is, same))) = inr (stop_refused stop is)
 done_or_refused log_file first_file name upto writes_old writes_new old new (Err stop) (inr (inr (is, count, prints))) = inr (stop_refused stop is)
 
 -- a replay that is refused keeps each file, as what it did kept it, and what came after that
-pub refused_keeps : (old middle new : List ℕ → Option (List ℕ)) (done : Result ℕ Stop) (exit : Exit) → OnErr done (KeepsFiles old middle) → KeepsFiles middle new
+pub refused_keeps : (old middle new : List ℕ → Option (List ℕ)) (done : Result ℕ Stop) (exit : Exit)
+    → OnErr done (KeepsFiles old middle) → KeepsFiles middle new
     → exit ≡ replay_exit done → IsRefusal exit → KeepsFiles old new
 refused_keeps old middle new (Ok count) exit kept same is (inl refused) = absurd (cc (is, refused))
-refused_keeps old middle new (Ok count) exit kept same is (inr (inl refused)) = absurd (cc (is, refused))
-refused_keeps old middle new (Ok count) exit kept same is (inr (inr refused)) = absurd (cc (is, refused))
+refused_keeps old middle new (Ok count) exit kept same is (inr (inl refused)) =
+    absurd (cc (is, refused))
+refused_keeps old middle new (Ok count) exit kept same is (inr (inr refused)) =
+    absurd (cc (is, refused))
 refused_keeps old middle new (Err stop) exit kept same is refused = λ name. same name ∙ kept name
 
 -- what a replay printed is kept
-prints_kept : (log_file first_file : Option (List ℕ)) (name : List ℕ) (upto : Upto) (writes_old writes_new : Option (List Write))
-    (old middle new : Option (List ℕ)) (count : ℕ) → PrintsReplay log_file first_file name upto writes_old writes_new old middle count → Keeps middle new
+prints_kept : (log_file first_file : Option (List ℕ)) (name : List ℕ) (upto : Upto)
+    (writes_old writes_new : Option (List Write))
+    (old middle new : Option (List ℕ)) (count : ℕ)
+    → PrintsReplay log_file first_file name upto writes_old writes_new old middle count
+    → Keeps middle new
     → PrintsReplay log_file first_file name upto writes_old writes_new old new count
-prints_kept log_file first_file name upto writes_old writes_new old middle new count prints kept = record {
-  image = prints.image;
-  replayed = prints.replayed;
-  printed = appends_kept old middle new (replayed_line count) prints.printed kept;
-  asked = prints.asked;
-}
+prints_kept log_file first_file name upto writes_old writes_new old middle new count prints kept =
+    record {
+      image = prints.image;
+      replayed = prints.replayed;
+      printed = appends_kept old middle new (replayed_line count) prints.printed kept;
+      asked = prints.asked;
+    }
 
 -- what replaying came to stays so
-replays_kept : (log_file first_file : Option (List ℕ)) (name : List ℕ) (upto : Upto) (writes_old writes_new : Option (List Write))
-    (old middle new : Option (List ℕ)) (done : Result ℕ Stop) → Replays log_file first_file name upto writes_old writes_new old middle done → Keeps middle new
+replays_kept : (log_file first_file : Option (List ℕ)) (name : List ℕ) (upto : Upto)
+    (writes_old writes_new : Option (List Write))
+    (old middle new : Option (List ℕ)) (done : Result ℕ Stop)
+    → Replays log_file first_file name upto writes_old writes_new old middle done
+    → Keeps middle new
     → Replays log_file first_file name upto writes_old writes_new old new done
-replays_kept log_file first_file name upto writes_old writes_new old middle new (Ok count) prints kept =
+replays_kept log_file first_file name upto writes_old writes_new old middle new
+    (Ok count) prints kept =
     prints_kept log_file first_file name upto writes_old writes_new old middle new count prints kept
-replays_kept log_file first_file name upto writes_old writes_new old middle new (Err stop) (inl (fails, none, same)) kept =
+replays_kept log_file first_file name upto writes_old writes_new old middle new (Err stop)
+    (inl (fails, none, same)) kept =
     inl (fails, keeps_twice old middle new none kept, same)
 replays_kept log_file first_file name upto writes_old writes_new old middle new (Err stop) (inr (inl (is, same))) kept = inr (inl (is, same))
-replays_kept log_file first_file name upto writes_old writes_new old middle new (Err stop) (inr (inr (is, count, prints))) kept =
-    inr (inr (is, count, prints_kept log_file first_file name upto writes_old writes_new old middle new count prints kept))
+replays_kept log_file first_file name upto writes_old writes_new old middle new (Err stop)
+    (inr (inr (is, count, prints))) kept =
+    inr (inr (
+      is,
+      count,
+      prints_kept log_file first_file name upto writes_old writes_new old middle
+          new count prints kept,
+    ))
 
 -- how a replay ends
-pub replaying_ends : (log_file first_file : Option (List ℕ)) (name : List ℕ) (upto : Upto) (writes_old writes_middle writes_new : Option (List Write))
+pub replaying_ends : (log_file first_file : Option (List ℕ)) (name : List ℕ) (upto : Upto)
+    (writes_old writes_middle writes_new : Option (List Write))
     (old middle new : Option (List ℕ)) (t : ErrStream) (done : Result ℕ Stop) (ended : Ended)
-    → Replays log_file first_file name upto writes_old writes_middle old middle done → Keeps middle new → writes_new ≡ writes_middle
-    → TellsLine t (replay_exit done) (replay_line done) ended → EndsReplaying log_file first_file name upto writes_old writes_new old new t ended
+    → Replays log_file first_file name upto writes_old writes_middle old middle done
+    → Keeps middle new → writes_new ≡ writes_middle
+    → TellsLine t (replay_exit done) (replay_line done) ended
+    → EndsReplaying log_file first_file name upto writes_old writes_new old new t ended
 replaying_ends log_file first_file name upto writes_old writes_middle writes_new old middle new t done ended came kept same tells = record {
   done = done;
   replayed = replays_kept log_file first_file name upto writes_old writes_new old middle new done
-      (subst (λ (writes : Option (List Write)). Replays log_file first_file name upto writes_old writes old middle done) (sym same) came) kept;
+      (subst (λ (writes : Option
+      (List Write)). Replays log_file first_file name upto writes_old writes old middle done)
+      (sym same) came) kept;
   tells = tells;
 }
 
 -- a replay was done, and what came of it was handed over
-pub handed_over : (log_file first_file : Option (List ℕ)) (name : List ℕ) (upto : Upto) (writes_old writes_middle writes_new : Option (List Write))
-    (old new : Option (List ℕ)) (count : ℕ) (image : List ℕ) → IsReplayedFrom log_file first_file upto count image → writes_middle ≡ writes_old
+pub handed_over : (log_file first_file : Option (List ℕ)) (name : List ℕ) (upto : Upto)
+    (writes_old writes_middle writes_new : Option (List Write))
+    (old new : Option (List ℕ)) (count : ℕ) (image : List ℕ)
+    → IsReplayedFrom log_file first_file upto count image → writes_middle ≡ writes_old
     → Appends old new (replayed_line count) × (writes_new ≡ one_more writes_middle name image)
     → PrintsReplay log_file first_file name upto writes_old writes_new old new count
 handed_over log_file first_file name upto writes_old writes_middle writes_new old new count image replayed same (printed, asked) = record {
@@ -104,39 +139,59 @@ handed_over log_file first_file name upto writes_old writes_middle writes_new ol
 }
 
 -- a replay was done, and what came of it couldn't be handed over
-pub not_handed_over : (log_file first_file : Option (List ℕ)) (name : List ℕ) (upto : Upto) (writes_old writes_middle writes_new : Option (List Write))
-    (old new : Option (List ℕ)) (count : ℕ) (image : List ℕ) (fault : RunError) → IsReplayedFrom log_file first_file upto count image
+pub not_handed_over : (log_file first_file : Option (List ℕ)) (name : List ℕ) (upto : Upto)
+    (writes_old writes_middle writes_new : Option (List Write))
+    (old new : Option (List ℕ)) (count : ℕ) (image : List ℕ) (fault : RunError)
+    → IsReplayedFrom log_file first_file upto count image
     → writes_middle ≡ writes_old → IsFileError fault
-    → (writes_new ≡ writes_middle) ⊎ (Appends old new (replayed_line count) × (writes_new ≡ one_more writes_middle name image))
+    → (writes_new ≡ writes_middle)
+    ⊎ (Appends old new (replayed_line count) × (writes_new ≡ one_more writes_middle name image))
     → Replays log_file first_file name upto writes_old writes_new old new (Err (stops.Fault fault))
-not_handed_over log_file first_file name upto writes_old writes_middle writes_new old new count image fault replayed same is (inl none) =
+not_handed_over log_file first_file name upto writes_old writes_middle writes_new old new count
+    image fault replayed same is (inl none) =
     inr (inl (is, none ∙ same))
-not_handed_over log_file first_file name upto writes_old writes_middle writes_new old new count image fault replayed same is (inr asked) =
-    inr (inr (is, count, handed_over log_file first_file name upto writes_old writes_middle writes_new old new count image replayed same asked))
+not_handed_over log_file first_file name upto writes_old writes_middle writes_new old new count
+    image fault replayed same is (inr asked) =
+    inr (inr (
+      is,
+      count,
+      handed_over log_file first_file name upto writes_old writes_middle
+          writes_new old new count image replayed same asked,
+    ))
 
 -- a file that can't be used ends a replay
-pub fails_by_file : (log_file first_file : Option (List ℕ)) (upto : Upto) (fault : RunError) (stop : Stop) → IsFileError fault → stop ≡ stops.Fault fault
+pub fails_by_file : (log_file first_file : Option (List ℕ)) (upto : Upto) (fault : RunError)
+    (stop : Stop) → IsFileError fault → stop ≡ stops.Fault fault
     → FailsReplay log_file first_file upto stop
-fails_by_file log_file first_file upto fault stop is same = subst (FailsReplay log_file first_file upto) (sym same) (file fault is)
+fails_by_file log_file first_file upto fault stop is same =
+    subst (FailsReplay log_file first_file upto) (sym same) (file fault is)
 
 -- nothing was printed, and no file asked for, where replaying fails before that
-pub not_replayed : (log_file first_file : Option (List ℕ)) (name : List ℕ) (upto : Upto) (writes_old writes_new : Option (List Write)) (old : Option (List ℕ))
-    (stop : Stop) (r : Result ℕ Stop) → FailsReplay log_file first_file upto stop → writes_new ≡ writes_old → IsErrAnd r (λ e. e ≡ stop)
+pub not_replayed : (log_file first_file : Option (List ℕ)) (name : List ℕ) (upto : Upto)
+    (writes_old writes_new : Option (List Write)) (old : Option (List ℕ))
+    (stop : Stop) (r : Result ℕ Stop) → FailsReplay log_file first_file upto stop
+    → writes_new ≡ writes_old → IsErrAnd r (λ e. e ≡ stop)
     → Replays log_file first_file name upto writes_old writes_new old old r
-not_replayed log_file first_file name upto writes_old writes_new old stop (Ok count) fails same is = absurd is
+not_replayed log_file first_file name upto writes_old writes_new old stop (Ok count) fails same is =
+    absurd is
 not_replayed log_file first_file name upto writes_old writes_new old stop (Err e) fails same is =
     inl (subst (FailsReplay log_file first_file upto) (sym is) fails, keeps_same old, same)
 
 -- what came of a replay is held where it is written
-pub holds_replayed : (log_file first_file written : Option (List ℕ)) (upto : Upto) (count : ℕ) (image : List ℕ) → IsReplayedFrom log_file first_file upto count image
+pub holds_replayed : (log_file first_file written : Option (List ℕ)) (upto : Upto) (count : ℕ)
+    (image : List ℕ) → IsReplayedFrom log_file first_file upto count image
     → MatchesContents written image → HoldsReplayed log_file first_file upto written
-holds_replayed log_file first_file written upto count image replayed held = record { count = count; image = image; replayed = replayed; held = held }
+holds_replayed log_file first_file written upto count image replayed held =
+    record { count = count; image = image; replayed = replayed; held = held }
 
 -- and after a replay that is done it is held still, where each file was kept since
-pub done_holds : (log_file first_file : Option (List ℕ)) (upto : Upto) (middle new : List ℕ → Option (List ℕ)) (name : List ℕ) (done : Result ℕ Stop) (exit : Exit)
-    → OnOk done (HoldsReplayed log_file first_file upto (middle name)) → KeepsFiles middle new → exit ≡ replay_exit done → exit ≡ Done
+pub done_holds : (log_file first_file : Option (List ℕ)) (upto : Upto)
+    (middle new : List ℕ → Option (List ℕ)) (name : List ℕ) (done : Result ℕ Stop) (exit : Exit)
+    → OnOk done (HoldsReplayed log_file first_file upto (middle name)) → KeepsFiles middle new
+    → exit ≡ replay_exit done → exit ≡ Done
     → HoldsReplayed log_file first_file upto (new name)
-done_holds log_file first_file upto middle new name (Ok count) exit held kept same is = subst (HoldsReplayed log_file first_file upto) (sym (kept name)) held
+done_holds log_file first_file upto middle new name (Ok count) exit held kept same is =
+    subst (HoldsReplayed log_file first_file upto) (sym (kept name)) held
 done_holds log_file first_file upto middle new name (Err (stops.Fault (faults.Refused fault))) exit held kept same is = absurd (cc (same, is))
 done_holds log_file first_file upto middle new name (Err (stops.Fault (faults.LoggingEnded end))) exit held kept same is = absurd (cc (same, is))
 done_holds log_file first_file upto middle new name (Err (stops.Replay fault)) exit held kept same is = absurd (cc (same, is))

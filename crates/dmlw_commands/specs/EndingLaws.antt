@@ -6,9 +6,11 @@ use Rattle.dmlw_commands.specs.declared.exit.Exit.{Exit}
 use Rattle.dmlw_commands.specs.Endings.{ErrStream, TellsLine}
 
 -- what is told of how a command ends, where there is more to tell only if it explains itself
-pub ends_told : (t : ErrStream) (more : List ℕ) (exit : Exit) (line : List ℕ) (ended : Ended) → (t.explains ≡ false → more ≡ [])
+pub ends_told : (t : ErrStream) (more : List ℕ) (exit : Exit) (line : List ℕ) (ended : Ended)
+    → (t.explains ≡ false → more ≡ [])
     → ended.exit ≡ exit → (line ≡ [] → more ≡ [] → t.after ≡ t.before)
-    → (ended.err_taken ≡ true → Appends t.before t.after (line ++ more)) → TellsLine t exit line ended
+    → (ended.err_taken ≡ true → Appends t.before t.after (line ++ more))
+    → TellsLine t exit line ended
 ends_told t more exit line ended silent exits quiet told = record {
   exits = exits;
   told = λ yes. (more, silent, told yes);

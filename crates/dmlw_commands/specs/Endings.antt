@@ -19,11 +19,12 @@ pub record ErrStream : Type 0 where
 abbrev pub err_stream : Bool → Option (List ℕ) → Option (List ℕ) → ErrStream
 err_stream explains before after = record { explains = explains; before = before; after = after }
 
--- What a command has told on the error stream that ends so, with this line to tell: that line and, where it explains itself,
--- perhaps more behind it; nothing where there is no line, and it doesn't.
+-- What a command has told on the error stream that ends so, with this line to tell: that line and,
+-- where it explains itself, perhaps more behind it; nothing where there is no line, and it doesn't.
 pub record TellsLine (t : ErrStream) (exit : Exit) (line : List ℕ) (ended : Ended) : Type 0 where
   pub exits : ended.exit ≡ exit
-  pub told : ended.err_taken ≡ true → (more : List ℕ) × (t.explains ≡ false → more ≡ []) × Appends t.before t.after (line ++ more)
+  pub told : ended.err_taken ≡ true
+      → (more : List ℕ) × (t.explains ≡ false → more ≡ []) × Appends t.before t.after (line ++ more)
   pub quiet : t.explains ≡ false → line ≡ [] → t.after ≡ t.before
 
 -- what a command has told that did this: the one line of its fault, or none where it is done
@@ -31,14 +32,17 @@ abbrev pub Tells : ErrStream → Result (Unit {0}) RunError → Ended → Type 0
 Tells t done ended = TellsLine t (exit_by done) (told_line done) ended
 
 -- How the recording of a script in a log of this name ends: as what it did has it.
-pub record EndsRecording (contents : Option (List ℕ)) (log : List ℕ) (writes_old writes_new : Option (List Write)) (old new : Option (List ℕ))
+pub record EndsRecording (contents : Option (List ℕ)) (log : List ℕ)
+    (writes_old writes_new : Option (List Write)) (old new : Option (List ℕ))
     (t : ErrStream) (ended : Ended) : Type 0 where
   pub done : Result Status RunError
   pub recorded : Records contents log writes_old writes_new old new done
   pub tells : TellsLine t (exit_after done) (told_line done) ended
 
--- How a command on the image in a file ends: no file was asked to be written, and it ends as what it did has it.
-pub record EndsShowing (shows : Shows) (contents : Option (List ℕ)) (writes_old writes_new : Option (List Write)) (old new : Option (List ℕ))
+-- How a command on the image in a file ends: no file was
+-- asked to be written, and it ends as what it did has it.
+pub record EndsShowing (shows : Shows) (contents : Option (List ℕ))
+    (writes_old writes_new : Option (List Write)) (old new : Option (List ℕ))
     (t : ErrStream) (ended : Ended) : Type 0 where
   pub unwritten : writes_new ≡ writes_old
   pub done : Result (Unit {0}) RunError

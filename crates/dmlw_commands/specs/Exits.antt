@@ -1,6 +1,7 @@
 -- The exit status of the program, by how a command ends, and the lines that a user is told.
 -- The replay, copy and record commands state their ends with it.
-use Rattle.std.specs.Prelude.{◌⊎◌, ◌≡◌, ℕ, List, [], ◌++◌, None, Option, Result, Ok, Err, Some, codes}
+use Rattle.std.specs.Prelude.{◌⊎◌, ◌≡◌, ℕ, List, [], ◌++◌, None, Option, Result, Ok, Err, Some}
+use Rattle.std.specs.Prelude.{codes}
 use Rattle.std.specs.Fmt.{decimal}
 use Rattle.bio.specs.declared.outcome.End.{End}
 use Rattle.bio.specs.declared.outcome.Status.{Status}
@@ -12,7 +13,8 @@ use Rattle.run_error.specs.declared.run_error.RunError.TheVariants as errors
 use Rattle.run_error.specs.Errors.{error_text}
 use Rattle.dmlw_explain.specs.declared.logs.Stopped.{Stopped}
 use Rattle.dmlw_commands.specs.declared.exit.Exit.{Exit}
-use Rattle.dmlw_commands.specs.declared.exit.Exit.TheVariants.{Done, Refused, Usage, LoggingEnded, RuledOut}
+use Rattle.dmlw_commands.specs.declared.exit.Exit.TheVariants.{Done, Refused, Usage, LoggingEnded}
+use Rattle.dmlw_commands.specs.declared.exit.Exit.TheVariants.{RuledOut}
 
 -- the exit status of the program
 abbrev pub status_of : Exit → ℕ
@@ -62,4 +64,6 @@ told_line (Err fault) = fault_line fault
 
 -- the line that a user is told of a replay or a copy that stopped after so many entries
 abbrev pub stopped_line : ℕ → Refusal → List ℕ
-stopped_line applied refusal = codes "dmlw: " ++ refusal_text refusal ++ codes " after " ++ decimal applied ++ codes " entries\n"
+stopped_line applied refusal =
+    codes "dmlw: " ++ refusal_text refusal ++ codes " after " ++ decimal applied
+    ++ codes " entries\n"

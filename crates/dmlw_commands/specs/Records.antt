@@ -1,5 +1,6 @@
 -- What recording the script in a file comes to.
-use Rattle.std.specs.Prelude.{◌≡◌, ◌⊎◌, ℕ, Bool, ◌&&◌, List, [], ◌++◌, decimal, nat_eq, if◌then◌else◌, Option, Result, Some, MatchResult, Ok, Err, codes}
+use Rattle.std.specs.Prelude.{◌≡◌, ◌⊎◌, ℕ, Bool, ◌&&◌, List, [], ◌++◌, decimal, nat_eq}
+use Rattle.std.specs.Prelude.{if◌then◌else◌, Option, Result, Some, MatchResult, Ok, Err, codes}
 use Rattle.std.specs.Io.KnownBytes.{Appends, Keeps}
 use Rattle.bio.specs.Texts.{status_text}
 use Rattle.bio.specs.declared.outcome.Status.{Status}
@@ -28,15 +29,17 @@ is_honest lies = nat_eq lies.data_disk 0 && nat_eq lies.log_disk 0
 -- the line of the lies, if there are any: those of the data disk's layers, and those of the log's
 abbrev pub lies_line : Lies → List ℕ
 lies_line lies =
-    if is_honest lies then [] else codes "lies " ++ (decimal lies.data_disk ++ (codes " " ++ (decimal lies.log_disk ++ codes "\n")))
+    if is_honest lies then [] else codes "lies "
+    ++ (decimal lies.data_disk ++ (codes " " ++ (decimal lies.log_disk ++ codes "\n")))
 
 -- the lines at the end of a recording
 abbrev pub end_lines : Status → Lies → List ℕ
 end_lines status lies = status_line status ++ lies_line lies
 
--- The script that a file's bytes spell was recorded, its log has come so far, and these are the bytes of the log's disk. Known bytes grew by
--- what its lines print and by the lines at the end.
-pub record IsPrintedLog (contents : Option (List ℕ)) (status : Status) (bytes : List ℕ) (before after : Option (List ℕ)) : Type 0 where
+-- The script that a file's bytes spell was recorded, its log has come so far, and these are the
+-- bytes of the log's disk. Known bytes grew by what its lines print and by the lines at the end.
+pub record IsPrintedLog (contents : Option (List ℕ)) (status : Status) (bytes : List ℕ)
+    (before after : Option (List ℕ)) : Type 0 where
   pub text : List ℕ
   pub script : ScriptValue
   pub lines : List ℕ
@@ -46,44 +49,61 @@ pub record IsPrintedLog (contents : Option (List ℕ)) (status : Status) (bytes 
   pub recorded : IsRecorded script lines status lies bytes
   pub output : Appends before after (lines ++ end_lines status lies)
 
--- one more write was asked for, of the file of this name, which is to hold the log of that script; and what happened was printed
-abbrev pub PrintsLog : Option (List ℕ) → List ℕ → Option (List Write) → Option (List Write) → Option (List ℕ) → Option (List ℕ) → Status → Type 0
+-- one more write was asked for, of the file of this name, which is to hold the log of that script;
+-- and what happened was printed
+abbrev pub PrintsLog : Option (List ℕ) → List ℕ → Option (List Write) → Option (List Write)
+    → Option (List ℕ) → Option (List ℕ) → Status → Type 0
 PrintsLog contents name old new before after status =
-    (bytes : List ℕ) × IsPrintedLog contents status bytes before after × (new ≡ one_more old name bytes)
+    (bytes : List ℕ) × IsPrintedLog contents status bytes before after
+    × (new ≡ one_more old name bytes)
 
--- The script that a file's bytes spell was recorded, which ends so, and what that prints was printed; its log is what another file holds, where that is known.
-pub record HoldsLog (contents : Option (List ℕ)) (exit : Exit) (before after written : Option (List ℕ)) : Type 0 where
+-- The script that a file's bytes spell was recorded, which ends so, and what that prints was
+-- printed; its log is what another file holds, where that is known.
+pub record HoldsLog (contents : Option (List ℕ)) (exit : Exit)
+    (before after written : Option (List ℕ)) : Type 0 where
   pub status : Status
   pub ends : exit ≡ exit_at status.end
   pub bytes : List ℕ
   pub printed : IsPrintedLog contents status bytes before after
   pub held : MatchesContents written bytes
 
--- Where recording a script succeeds it has printed what happened, and asked for its log to be written, and for no other
--- file. Where it fails it has asked for no file; or for the log, which couldn't be written, after all that was printed.
-abbrev pub WritesLog : Option (List ℕ) → List ℕ → Option (List Write) → Option (List Write) → Option (List ℕ) → Option (List ℕ)
+-- Where recording a script succeeds it has printed what happened, and asked for its log to be
+-- written, and for no other file. Where it fails it has asked for no file; or for the log, which
+-- couldn't be written, after all that was printed.
+abbrev pub WritesLog : Option (List ℕ) → List ℕ → Option (List Write) → Option (List Write)
+    → Option (List ℕ) → Option (List ℕ)
     → Result Status RunError → Type 0
 WritesLog contents name old new before after r =
     MatchResult r (PrintsLog contents name old new before after)
-    (λ fault. (new ≡ old) ⊎ (IsFileError fault × (status : Status) × PrintsLog contents name old new before after status))
+    (λ fault. (new ≡ old) ⊎ (IsFileError fault × (status : Status)
+    × PrintsLog contents name old new before after status))
 
 -- the text is no script's
 abbrev pub IsNoScript : List ℕ → Type 0
 IsNoScript text = (script : ScriptValue) → IsTextOf text script → ⊥
 
--- A fault that ends the recording of the script in a file: a file can't be read or written or there is no memory; the
--- file's bytes spell no script, of which the first line at fault is named, and nothing is printed; or recording their
--- script failed.
-pub data FailsRecording (contents : Option (List ℕ)) (before after : Option (List ℕ)) : RunError → Type 0 where
+-- A fault that ends the recording of the script in a file: a file can't be read or written or there
+-- is no memory; the file's bytes spell no script, of which the first line at fault is named, and
+-- nothing is printed; or recording their script failed.
+pub data FailsRecording (contents : Option (List ℕ)) (before after : Option (List ℕ)) : RunError
+    → Type 0 where
   file : (fault : RunError) → IsFileError fault → FailsRecording contents before after fault
-  text : (bytes : List ℕ) (line : ℕ) (refusal : Refusal) → MatchesContents contents bytes → IsNoScript bytes
-      → IsFirstFault (lines_of bytes) line refusal → Keeps before after → FailsRecording contents before after (Refused (record { line = Some line; refusal = refusal }))
-  run : (bytes : List ℕ) (script : ScriptValue) (fault : RunError) → MatchesContents contents bytes → IsTextOf bytes script
+  text : (bytes : List ℕ) (line : ℕ) (refusal : Refusal) → MatchesContents contents bytes
+      → IsNoScript bytes
+      → IsFirstFault (lines_of bytes) line refusal → Keeps before after
+      → FailsRecording contents before after
+      (Refused (record { line = Some line; refusal = refusal }))
+  run : (bytes : List ℕ) (script : ScriptValue) (fault : RunError) → MatchesContents contents bytes
+      → IsTextOf bytes script
       → FailsOnDisks bytes script before after fault → FailsRecording contents before after fault
 
--- What recording a script in a log of this name comes to, from what a writer held to what it holds: where it succeeds
--- it has printed what happened and how far the log has come; where it fails, why, and what happened before that.
-abbrev pub Records : Option (List ℕ) → List ℕ → Option (List Write) → Option (List Write) → Option (List ℕ) → Option (List ℕ) → Result Status RunError → Type 0
-Records contents name writes_old writes_new old new (Ok status) = PrintsLog contents name writes_old writes_new old new status
+-- What recording a script in a log of this name comes to, from what a writer held to what it holds:
+-- where it succeeds it has printed what happened and how far the log has come; where it fails, why,
+-- and what happened before that.
+abbrev pub Records : Option (List ℕ) → List ℕ → Option (List Write) → Option (List Write)
+    → Option (List ℕ) → Option (List ℕ) → Result Status RunError → Type 0
+Records contents name writes_old writes_new old new (Ok status) =
+    PrintsLog contents name writes_old writes_new old new status
 Records contents name writes_old writes_new old new (Err fault) =
-    WritesLog contents name writes_old writes_new old new (Err fault) × FailsRecording contents old new fault
+    WritesLog contents name writes_old writes_new old new (Err fault)
+    × FailsRecording contents old new fault

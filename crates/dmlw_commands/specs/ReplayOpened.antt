@@ -16,7 +16,8 @@ use Rattle.dmlw_commands.specs.declared.replay_log.stop.Stop.TheVariants as stop
 use Rattle.replay.specs.declared.upto.Upto.{Upto}
 use Rattle.replay.specs.Replays.{IsUpto, entries_from}
 
--- the entries of a log up to the one that is named, which are so many, were replayed on a first image, and left this device
+-- the entries of a log up to the one that is named, which are so many, were replayed on a first
+-- image, and left this device
 pub record IsReplayedOn (log first : List ℕ) (upto : Upto) (count : ℕ) (v : View) : Type 0 where
   pub head : Super
   pub entries : List Entry
@@ -25,7 +26,8 @@ pub record IsReplayedOn (log first : List ℕ) (upto : Upto) (count : ℕ) (v : 
   pub named : IsUpto upto entries 0 count
   pub within : 0 < count → count ≤ length entries
   pub size : v.size ≡ length first / 512
-  pub content : AgreeBelow (length first / 512) (replay head.sectorsize (entries_from entries 0 count) (sector_of first)) v.content
+  pub content : AgreeBelow (length first / 512)
+      (replay head.sectorsize (entries_from entries 0 count) (sector_of first)) v.content
 
 -- why a log wasn't replayed that wasn't reopened, or of which the replay stopped
 abbrev pub stop_by : ReopenError → Stop

@@ -1,5 +1,6 @@
 -- What replaying the log in a file on the image in another one comes to.
-use Rattle.std.specs.Prelude.{◌≡◌, ◌⊎◌, ℕ, ◌/◌, ◌<◌, ◌≤◌, List, [], ◌++◌, Option, None, Some, Result, Ok, Err, codes, length}
+use Rattle.std.specs.Prelude.{◌≡◌, ◌⊎◌, ℕ, ◌/◌, ◌<◌, ◌≤◌, List, [], ◌++◌, Option, None, Some}
+use Rattle.std.specs.Prelude.{Result, Ok, Err, codes, length}
 use Rattle.std.specs.Fmt.{decimal}
 use Rattle.std.specs.Io.KnownBytes.{Appends, Keeps}
 use Rattle.sectors.specs.Content.{AgreeBelow, sector_of}
@@ -15,7 +16,8 @@ use Rattle.replay.specs.declared.fault.ReplayError.TheVariants as replays
 use Rattle.replay.specs.declared.fault.ReplayFault.{ReplayFault}
 use Rattle.replay.specs.declared.upto.Upto.{Upto}
 use Rattle.replay.specs.Refusals.{replay_refusal}
-use Rattle.replay.specs.Replays.{AsksTooMany, EndsShort, IsUpto, LacksFlush, LacksMark, ReachesPast, entries_from}
+use Rattle.replay.specs.Replays.{AsksTooMany, EndsShort, IsUpto, LacksFlush, LacksMark, ReachesPast}
+use Rattle.replay.specs.Replays.{entries_from}
 use Rattle.run_error.specs.declared.run_error.RunError.{RunError}
 use Rattle.run_error.specs.Errors.{IsFileError, memory_error}
 use Rattle.dmlw_commands.specs.declared.ending.Ended.{Ended}
@@ -34,14 +36,16 @@ use Rattle.dmlw_commands.specs.declared.replay_log.stop.Stop.TheVariants as stop
 abbrev pub replayed_line : ℕ → List ℕ
 replayed_line count = codes "replayed " ++ (decimal count ++ codes "\n")
 
--- these are the images of a replay: what the file of its log holds, and that of the image which it begins with
+-- these are the images of a replay: what the file of its
+-- log holds, and that of the image which it begins with
 pub record AreImages (log_file first_file : Option (List ℕ)) (log first : List ℕ) : Type 0 where
   pub log_read : MatchesContents log_file log
   pub log_image : IsImage log
   pub first_read : MatchesContents first_file first
   pub first_image : IsImage first
 
--- the entries of a log up to the one that is named, which are so many, were replayed on a first image, and left this one
+-- the entries of a log up to the one that is named, which are so many, were replayed on a first
+-- image, and left this one
 pub record IsReplayed (log first : List ℕ) (upto : Upto) (count : ℕ) (image : List ℕ) : Type 0 where
   pub head : Super
   pub entries : List Entry
@@ -50,16 +54,22 @@ pub record IsReplayed (log first : List ℕ) (upto : Upto) (count : ℕ) (image 
   pub named : IsUpto upto entries 0 count
   pub within : 0 < count → count ≤ length entries
   pub size : length image ≡ length first
-  pub content : AgreeBelow (length first / 512) (replay head.sectorsize (entries_from entries 0 count) (sector_of first)) (sector_of image)
+  pub content : AgreeBelow (length first / 512)
+      (replay head.sectorsize (entries_from entries 0 count) (sector_of first)) (sector_of image)
 
--- the cause by which a replay on an image of so many sectors stopped after so many entries, of a log with this super block, these entries and this fault;
--- its reader has not refused before
+-- the cause by which a replay on an image of so many sectors stopped after so many entries, of a
+-- log with this super block, these entries and this fault; its reader has not refused before
 abbrev pub HasStopCause : Upto → Super → List Entry → Option LogFault → ℕ → ℕ → ReplayError → Type 0
-HasStopCause upto head es fault disk applied replays.PastEntries = (applied ≡ 0) × AsksTooMany upto head.count 0
-HasStopCause upto head es fault disk applied replays.NoSuchMark = (applied ≡ 0) × LacksMark upto es 0 × (fault ≡ None)
-HasStopCause upto head es fault disk applied replays.NoFlush = (applied ≡ 0) × LacksFlush upto es 0 × (fault ≡ None)
-HasStopCause upto head es fault disk applied replays.PastTarget = ReachesPast head.sectorsize es applied disk
-HasStopCause upto head es fault disk applied (replays.Log (reads.Log found)) = (fault ≡ Some found) × EndsShort upto es 0 applied
+HasStopCause upto head es fault disk applied replays.PastEntries =
+    (applied ≡ 0) × AsksTooMany upto head.count 0
+HasStopCause upto head es fault disk applied replays.NoSuchMark =
+    (applied ≡ 0) × LacksMark upto es 0 × (fault ≡ None)
+HasStopCause upto head es fault disk applied replays.NoFlush =
+    (applied ≡ 0) × LacksFlush upto es 0 × (fault ≡ None)
+HasStopCause upto head es fault disk applied replays.PastTarget =
+    ReachesPast head.sectorsize es applied disk
+HasStopCause upto head es fault disk applied (replays.Log (reads.Log found)) =
+    (fault ≡ Some found) × EndsShort upto es 0 applied
 HasStopCause upto head es fault disk applied (replays.Log reads.Memory) = Unit {0}
 HasStopCause upto head es fault disk applied (replays.Target devices.Memory) = Unit {0}
 HasStopCause upto head es fault disk applied other = ⊥
@@ -73,34 +83,45 @@ pub record StopsReplay (log first : List ℕ) (upto : Upto) (stop : ReplayFault)
   pub within : 0 < stop.applied → stop.applied ≤ length entries
   pub cause : HasStopCause upto head entries fault (length first / 512) stop.applied stop.cause
 
--- Why a log isn't replayed on a first image: there is no memory, the image isn't opened as a log, or the replay stops.
+-- Why a log isn't replayed on a first image: there is no
+-- memory, the image isn't opened as a log, or the replay stops.
 pub data FailsOnImages (log first : List ℕ) (upto : Upto) : Stop → Type 0 where
   memory : FailsOnImages log first upto (stops.Fault memory_error)
-  unopened : (fault : RunError) → RefusesImage log fault → FailsOnImages log first upto (stops.Fault fault)
-  stopped : (stop : ReplayFault) → StopsReplay log first upto stop → FailsOnImages log first upto (stops.Replay stop)
+  unopened : (fault : RunError) → RefusesImage log fault
+      → FailsOnImages log first upto (stops.Fault fault)
+  stopped : (stop : ReplayFault) → StopsReplay log first upto stop
+      → FailsOnImages log first upto (stops.Replay stop)
 
--- Why the log in a file isn't replayed: a file can't be used, or there is no memory; or so it is of the images in the files.
+-- Why the log in a file isn't replayed: a file can't be used, or there is no memory; or so it is of
+-- the images in the files.
 pub data FailsReplay (log_file first_file : Option (List ℕ)) (upto : Upto) : Stop → Type 0 where
-  file : (fault : RunError) → IsFileError fault → FailsReplay log_file first_file upto (stops.Fault fault)
-  images : (log first : List ℕ) (stop : Stop) → AreImages log_file first_file log first → FailsOnImages log first upto stop
+  file : (fault : RunError) → IsFileError fault
+      → FailsReplay log_file first_file upto (stops.Fault fault)
+  images : (log first : List ℕ) (stop : Stop) → AreImages log_file first_file log first
+      → FailsOnImages log first upto stop
       → FailsReplay log_file first_file upto stop
 
 -- the log in a file was replayed, and so many entries and this image came of it
-pub record IsReplayedFrom (log_file first_file : Option (List ℕ)) (upto : Upto) (count : ℕ) (image : List ℕ) : Type 0 where
+pub record IsReplayedFrom (log_file first_file : Option (List ℕ)) (upto : Upto) (count : ℕ)
+    (image : List ℕ) : Type 0 where
   pub log : List ℕ
   pub first : List ℕ
   pub files : AreImages log_file first_file log first
   pub replayed : IsReplayed log first upto count image
 
--- the log in a file was replayed, and what came of it is what another file holds, where that is known
-pub record HoldsReplayed (log_file first_file : Option (List ℕ)) (upto : Upto) (written : Option (List ℕ)) : Type 0 where
+-- the log in a file was replayed, and what came of it is
+-- what another file holds, where that is known
+pub record HoldsReplayed (log_file first_file : Option (List ℕ)) (upto : Upto)
+    (written : Option (List ℕ)) : Type 0 where
   pub count : ℕ
   pub image : List ℕ
   pub replayed : IsReplayedFrom log_file first_file upto count image
   pub held : MatchesContents written image
 
--- the log in a file was replayed, how many entries was printed, and one more write was asked for, of the file of this name with the image that came of it
-pub record PrintsReplay (log_file first_file : Option (List ℕ)) (name : List ℕ) (upto : Upto) (writes_old writes_new : Option (List Write))
+-- the log in a file was replayed, how many entries was printed, and one more write was asked for,
+-- of the file of this name with the image that came of it
+pub record PrintsReplay (log_file first_file : Option (List ℕ)) (name : List ℕ) (upto : Upto)
+    (writes_old writes_new : Option (List Write))
     (old new : Option (List ℕ)) (count : ℕ) : Type 0 where
   pub image : List ℕ
   pub replayed : IsReplayedFrom log_file first_file upto count image
@@ -112,15 +133,19 @@ abbrev pub IsFileStop : Stop → Type 0
 IsFileStop (stops.Fault fault) = IsFileError fault
 IsFileStop (stops.Replay fault) = ⊥
 
--- What replaying comes to: it was done; or it fails, nothing was printed, and no file was asked to be written; or the output can't be written, and no
--- file was asked to be; or the image can't be written, after the printing.
-abbrev pub Replays : Option (List ℕ) → Option (List ℕ) → List ℕ → Upto → Option (List Write) → Option (List Write) → Option (List ℕ) → Option (List ℕ)
+-- What replaying comes to: it was done; or it fails, nothing was printed, and no file was asked to
+-- be written; or the output can't be written, and no file was asked to be; or the image can't be
+-- written, after the printing.
+abbrev pub Replays : Option (List ℕ) → Option (List ℕ) → List ℕ → Upto → Option (List Write)
+    → Option (List Write) → Option (List ℕ) → Option (List ℕ)
     → Result ℕ Stop → Type 0
-Replays log_file first_file name upto writes_old writes_new old new (Ok count) = PrintsReplay log_file first_file name upto writes_old writes_new old new count
+Replays log_file first_file name upto writes_old writes_new old new (Ok count) =
+    PrintsReplay log_file first_file name upto writes_old writes_new old new count
 Replays log_file first_file name upto writes_old writes_new old new (Err stop) =
     (FailsReplay log_file first_file upto stop × Keeps old new × (writes_new ≡ writes_old))
     ⊎ (IsFileStop stop × (writes_new ≡ writes_old))
-    ⊎ (IsFileStop stop × (count : ℕ) × PrintsReplay log_file first_file name upto writes_old writes_new old new count)
+    ⊎ (IsFileStop stop × (count : ℕ)
+    × PrintsReplay log_file first_file name upto writes_old writes_new old new count)
 
 -- how a replay ends that came to this
 abbrev pub replay_exit : Result ℕ Stop → Exit
@@ -128,20 +153,25 @@ replay_exit (Ok count) = Done
 replay_exit (Err (stops.Fault fault)) = exit_of fault
 replay_exit (Err (stops.Replay fault)) = Refused
 
--- the line that a user is told of a replay that came to this: of a fault, of a replay that stopped, or none
+-- the line that a user is told of a replay that came to
+-- this: of a fault, of a replay that stopped, or none
 abbrev pub replay_line : Result ℕ Stop → List ℕ
 replay_line (Ok count) = []
 replay_line (Err (stops.Fault fault)) = fault_line fault
 replay_line (Err (stops.Replay fault)) = stopped_line fault.applied (replay_refusal fault.cause)
 
--- what is explained of a replay that came to this: by what it was refused, and after how many entries; nothing where it was done
+-- what is explained of a replay that came to this: by what it was refused, and after how many
+-- entries; nothing where it was done
 abbrev pub replay_explained : Result ℕ Stop → Option Stopped
 replay_explained (Ok count) = None
 replay_explained (Err (stops.Fault fault)) = Some (explained_fault fault)
-replay_explained (Err (stops.Replay fault)) = Some (record { refusal = replay_refusal fault.cause; applied = fault.applied })
+replay_explained (Err (stops.Replay fault)) =
+    Some (record { refusal = replay_refusal fault.cause; applied = fault.applied })
 
--- How the replay of the log in a file ends, of which the image goes into the file of this name: as what it did has it.
-pub record EndsReplaying (log_file first_file : Option (List ℕ)) (name : List ℕ) (upto : Upto) (writes_old writes_new : Option (List Write))
+-- How the replay of the log in a file ends, of which the image
+-- goes into the file of this name: as what it did has it.
+pub record EndsReplaying (log_file first_file : Option (List ℕ)) (name : List ℕ) (upto : Upto)
+    (writes_old writes_new : Option (List Write))
     (old new : Option (List ℕ)) (t : ErrStream) (ended : Ended) : Type 0 where
   pub done : Result ℕ Stop
   pub replayed : Replays log_file first_file name upto writes_old writes_new old new done

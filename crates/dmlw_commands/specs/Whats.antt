@@ -4,9 +4,11 @@ use Rattle.text_words.specs.Words.{IsNumber}
 use Rattle.replay.specs.declared.upto.Upto.{Upto}
 use Rattle.replay.specs.declared.upto.Upto.TheVariants as uptos
 
--- the word names this end of a replay: so many entries, the first mark of a text, or the first flush
+-- the word names this end of a replay: so many entries, the
+-- first mark of a text, or the first flush
 abbrev pub IsWhat : List ℕ → Upto → Type 0
-IsWhat word (uptos.Count n) = (digits : List ℕ) × (word ≡ codes "entries:" ++ digits) × IsNumber digits n
+IsWhat word (uptos.Count n) =
+    (digits : List ℕ) × (word ≡ codes "entries:" ++ digits) × IsNumber digits n
 IsWhat word (uptos.Mark text) = word ≡ codes "mark:" ++ text.now
 IsWhat word uptos.Flush = word ≡ codes "flush"
 

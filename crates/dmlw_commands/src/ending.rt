@@ -2,7 +2,8 @@
 ghost use Rattle.std.specs.Prelude.{◌≡◌, ◌++◌, [], Err, OnOk, true};
 ghost use Rattle.std.specs.Io.KnownBytes.{Appends, Keeps};
 ghost use Rattle.dmlw_commands.specs.declared.exit.Exit.{Exit};
-ghost use Rattle.dmlw_commands.specs.Exits.{exit_after, exit_by, exit_of, explained_fault, fault_line, stopped_line, told_line};
+ghost use Rattle.dmlw_commands.specs.Exits.{exit_after, exit_by, exit_of, explained_fault};
+ghost use Rattle.dmlw_commands.specs.Exits.{fault_line, stopped_line, told_line};
 
 use crate::exit::Exit;
 use bio::Status;
@@ -20,8 +21,8 @@ pub struct Ended {
     pub err_taken: bool,
 }
 
-/// How a command ends that did this. A fault is reported by one line, after what was printed before it, and
-/// `more` stands behind it; where there is no fault and no more, nothing goes to `err`.
+/// How a command ends that did this. A fault is reported by one line, after what was printed before
+/// it, and `more` stands behind it; where there is no fault and no more, nothing goes to `err`.
 pub fn end<O: Write, E: Write>(
     alloc: Global,
     done: Result<(), RunError>,
@@ -32,7 +33,8 @@ pub fn end<O: Write, E: Write>(
     ensures exit { result.exit ≡ exit_by done }
     ensures kept { Keeps (O.contents out.old) (O.contents out.new) }
     ensures quiet { told_line done ≡ [] → more.now ≡ [] → E.contents err.new ≡ E.contents err.old }
-    ensures told { result.err_taken ≡ true → Appends (E.contents err.old) (E.contents err.new) (told_line done ++ more.now) }
+    ensures told { result.err_taken ≡ true
+        → Appends (E.contents err.old) (E.contents err.new) (told_line done ++ more.now) }
 {
     match done {
         Ok(()) => end_well(Exit::Done, more, err),
@@ -43,8 +45,8 @@ pub fn end<O: Write, E: Write>(
     }
 }
 
-/// How a recording ends that came so far, or failed. Where logging ended before its time, the exit says so, and nothing is
-/// reported; a fault is, as by `end`.
+/// How a recording ends that came so far, or failed. Where logging ended before its time, the exit
+/// says so, and nothing is reported; a fault is, as by `end`.
 pub fn end_recording<O: Write, E: Write>(
     alloc: Global,
     done: Result<Status, RunError>,
@@ -55,7 +57,8 @@ pub fn end_recording<O: Write, E: Write>(
     ensures exit { result.exit ≡ exit_after done }
     ensures kept { Keeps (O.contents out.old) (O.contents out.new) }
     ensures quiet { told_line done ≡ [] → more.now ≡ [] → E.contents err.new ≡ E.contents err.old }
-    ensures told { result.err_taken ≡ true → Appends (E.contents err.old) (E.contents err.new) (told_line done ++ more.now) }
+    ensures told { result.err_taken ≡ true
+        → Appends (E.contents err.old) (E.contents err.new) (told_line done ++ more.now) }
 {
     match done {
         Ok(status) => end_well(Exit::from(status.end), more, err),
@@ -67,7 +70,8 @@ pub fn end_recording<O: Write, E: Write>(
 pub fn end_well<E: Write>(exit: Exit, more: &str, err: &mut E) -> Ended
     ensures exit { result.exit ≡ exit }
     ensures quiet { more.now ≡ [] → E.contents err.new ≡ E.contents err.old }
-    ensures told { result.err_taken ≡ true → Appends (E.contents err.old) (E.contents err.new) more.now }
+    ensures told { result.err_taken ≡ true
+        → Appends (E.contents err.old) (E.contents err.new) more.now }
 {
     Ended {
         exit,
@@ -75,10 +79,12 @@ pub fn end_well<E: Write>(exit: Exit, more: &str, err: &mut E) -> Ended
     }
 }
 
-/// Reports a fault, by one line, and `more` behind it, all in one write where there is memory for it.
+/// Reports a fault, by one line, and `more` behind it, all
+/// in one write where there is memory for it.
 pub fn report<E: Write>(alloc: Global, fault: RunError, more: &str, err: &mut E) -> Ended
     ensures exit { result.exit ≡ exit_of fault }
-    ensures told { result.err_taken ≡ true → Appends (E.contents err.old) (E.contents err.new) (fault_line fault ++ more.now) }
+    ensures told { result.err_taken ≡ true
+        → Appends (E.contents err.old) (E.contents err.new) (fault_line fault ++ more.now) }
 {
     Ended {
         exit: Exit::from(fault),
@@ -86,9 +92,11 @@ pub fn report<E: Write>(alloc: Global, fault: RunError, more: &str, err: &mut E)
     }
 }
 
-// Writes the line of a fault and what stands behind it: in parts where there is no memory to make them whole.
+// Writes the line of a fault and what stands behind it: in
+// parts where there is no memory to make them whole.
 fn tell_fault<E: Write>(alloc: Global, fault: RunError, more: &str, err: &mut E) -> io::Result<()>
-    ensures { OnOk result (Appends (E.contents err.old) (E.contents err.new) (fault_line fault ++ more.now)) }
+    ensures { OnOk result (Appends (E.contents err.old) (E.contents err.new)
+        (fault_line fault ++ more.now)) }
 {
     match format!(in alloc; "dmlw: {fault}\n{more}") {
         Ok(text) => tell(&text, err),
@@ -99,8 +107,8 @@ fn tell_fault<E: Write>(alloc: Global, fault: RunError, more: &str, err: &mut E)
     }
 }
 
-/// Reports that a replay or a copy stopped after so many entries, by one line, and `more` behind it, all in one write where there is memory
-/// for it.
+/// Reports that a replay or a copy stopped after so many entries, by one line, and `more` behind
+/// it, all in one write where there is memory for it.
 pub fn report_stopped<E: Write>(
     alloc: Global,
     applied: u64,
@@ -110,7 +118,8 @@ pub fn report_stopped<E: Write>(
 ) -> Ended
     ensures exit { result.exit ≡ Exit.Refused }
     ensures told { result.err_taken ≡ true →
-        Appends (E.contents err.old) (E.contents err.new) (stopped_line applied refusal ++ more.now) }
+        Appends (E.contents err.old) (E.contents err.new)
+        (stopped_line applied refusal ++ more.now) }
 {
     Ended {
         exit: Exit::Refused,
@@ -118,7 +127,8 @@ pub fn report_stopped<E: Write>(
     }
 }
 
-// Writes the line of a replay or a copy that stopped and what stands behind it: in parts where there is no memory to make them whole.
+// Writes the line of a replay or a copy that stopped and what stands behind it: in parts where
+// there is no memory to make them whole.
 fn tell_stopped<E: Write>(
     alloc: Global,
     applied: u64,
@@ -127,7 +137,8 @@ fn tell_stopped<E: Write>(
     err: &mut E,
 ) -> io::Result<()>
     ensures { OnOk result
-        (Appends (E.contents err.old) (E.contents err.new) (stopped_line applied refusal ++ more.now)) }
+        (Appends (E.contents err.old) (E.contents err.new)
+        (stopped_line applied refusal ++ more.now)) }
 {
     match format!(in alloc; "dmlw: {refusal} after {applied} entries\n{more}") {
         Ok(text) => tell(&text, err),

@@ -1,8 +1,9 @@
 //! The commands of dmlw, over files and writers of any kind.
 //!
-//! `record` runs a script by `script_runner`, and asks for its log to be written (`specs/Records`); `list`
-//! and `status` print what is read of an image (`specs/Lists`); `replay` and `copy` make an image of a log
-//! (`specs/Replays`, `specs/CopiesLog`). Each reports its fault and answers how it ended (`specs/Endings`). What a command asks of a file system is `Files` of `dmlw_files`.
+//! `record` runs a script by `script_runner`, and asks for its log to be written (`specs/Records`);
+//! `list` and `status` print what is read of an image (`specs/Lists`); `replay` and `copy` make an
+//! image of a log (`specs/Replays`, `specs/CopiesLog`). Each reports its fault and answers how it
+//! ended (`specs/Endings`). What a command asks of a file system is `Files` of `dmlw_files`.
 #![tactic(auto)]
 
 pub use ending::{Ended, end, end_recording, end_well, report, report_stopped};

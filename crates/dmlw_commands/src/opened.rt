@@ -23,7 +23,8 @@ use std::alloc::Global;
 pub(crate) fn open_image(alloc: Global, image: Vec<u8>) -> Result<LogReader<SectorDisk>, RunError>
     requires { IsImage image.items }
     ensures opened { IfOk result (λ reader. Opens image.items (reader_of reader)) }
-    ensures refused { IfErr result (λ fault. (fault ≡ memory_error) ⊎ RefusesImage image.items fault) }
+    ensures refused { IfErr result
+        (λ fault. (fault ≡ memory_error) ⊎ RefusesImage image.items fault) }
 {
     crashes_leave_whole_sectors::<SectorDisk>();
     let disk = SectorDisk::from_bytes(alloc, image)?;
@@ -33,15 +34,18 @@ pub(crate) fn open_image(alloc: Global, image: Vec<u8>) -> Result<LogReader<Sect
     }
 }
 
-// The entry that comes next in the log of an image, without a write's data; none after the last one.
+// The entry that comes next in the log of an image, without
+// a write's data; none after the last one.
 pub(crate) fn next_of_image(
     reader: &mut LogReader<SectorDisk>,
 ) -> Result<Option<(Placed, Entry)>, RunError>
     requires { (reader_of reader.old).failed ≡ false }
     ensures gives { (es : List Entry) (fault : Option LogFault) →
-        Reads (reader_of reader.old).device.size (reader_of reader.old).device.content (reader_of reader.old).head es fault →
+        Reads (reader_of reader.old).device.size (reader_of reader.old).device.content
+        (reader_of reader.old).head es fault →
         GivesNext es fault (reader_of reader.old) (reader_of reader.new) result }
-    ensures within { GivesWithin (reader_of reader.old).device.size (reader_of reader.old).head.sectorsize result }
+    ensures within { GivesWithin (reader_of reader.old).device.size
+        (reader_of reader.old).head.sectorsize result }
     ensures keeps { Keeps (reader_of reader.old) (reader_of reader.new) }
 {
     match reader.next_head() {

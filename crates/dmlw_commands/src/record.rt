@@ -9,7 +9,8 @@ ghost use Rattle.dmlw_commands.specs.Exits.{IsRefusal, exit_after, exit_at, exit
 ghost use Rattle.std.specs.Result.{IsErrAnd};
 ghost use Rattle.dmlw_files.specs.Files.{AsksFor, IsTooLong, KeepsFiles};
 ghost use Rattle.dmlw_files.specs.Images.{image_of};
-ghost use Rattle.dmlw_commands.specs.Records.{FailsRecording, HoldsLog, IsPrintedLog, WritesLog, end_lines, lies_line, status_line};
+ghost use Rattle.dmlw_commands.specs.Records.{FailsRecording, HoldsLog, IsPrintedLog, WritesLog};
+ghost use Rattle.dmlw_commands.specs.Records.{end_lines, lies_line, status_line};
 
 use crate::ending::{Ended, end_recording};
 use bio::Status;
@@ -22,10 +23,10 @@ use script_runner::{Lies, RunResult};
 use std::alloc::Global;
 use std::io::Write;
 
-/// Does `record SCRIPT LOG`: records the requests of a script in a new log, and answers how it ended.
-/// `script` and `log` are names of files. What there is to print goes to `out` before the log is
-/// written, also where logging ended before its time; a fault is reported to `err`, with what helps where it
-/// `explains`.
+/// Does `record SCRIPT LOG`: records the requests of a script in a new log, and answers how it
+/// ended. `script` and `log` are names of files. What there is to print goes to `out` before the
+/// log is written, also where logging ended before its time; a fault is reported to `err`, with
+/// what helps where it `explains`.
 pub fn record<F: Files, O: Write, E: Write>(
     alloc: Global,
     explains: bool,
@@ -35,21 +36,30 @@ pub fn record<F: Files, O: Write, E: Write>(
     out: &mut O,
     err: &mut E,
 ) -> Ended
-    ensures ends { EndsRecording (F.contents files.old script.now) log.now (F.writes files.old) (F.writes files.new)
-        (O.contents out.old) (O.contents out.new) (err_stream explains (E.contents err.old) (E.contents err.new)) result }
-    // Where it is refused each file holds what it held, and a script isn't written over. So it does where logging ended, unless the log was
-    // asked to be written.
-    ensures kept { IsRefusal result.exit → KeepsFiles (F.contents files.old) (F.contents files.new) }
+    ensures ends { EndsRecording (F.contents files.old script.now) log.now (F.writes files.old)
+        (F.writes files.new)
+        (O.contents out.old) (O.contents out.new)
+        (err_stream explains (E.contents err.old) (E.contents err.new)) result }
+    // Where it is refused each file holds what it held, and a script isn't written over. So it does
+    // where logging ended, unless the log was asked to be written.
+    ensures kept { IsRefusal result.exit
+        → KeepsFiles (F.contents files.old) (F.contents files.new) }
     ensures unmade { result.exit ≡ Exit.LoggingEnded →
-        KeepsFiles (F.contents files.old) (F.contents files.new) ⊎ AsksFor log.now (F.writes files.old) (F.writes files.new) }
-    // Where it is done LOG holds the log; so it does where logging ended, unless each file holds what it held.
+        KeepsFiles (F.contents files.old) (F.contents files.new)
+        ⊎ AsksFor log.now (F.writes files.old) (F.writes files.new) }
+    // Where it is done LOG holds the log; so it does where
+    // logging ended, unless each file holds what it held.
     ensures written { result.exit ≡ Exit.Done →
-        HoldsLog (F.contents files.old script.now) Exit.Done (O.contents out.old) (O.contents out.new) (F.contents files.new log.now) }
-    ensures left { result.exit ≡ Exit.LoggingEnded → KeepsFiles (F.contents files.old) (F.contents files.new)
-        ⊎ HoldsLog (F.contents files.old script.now) Exit.LoggingEnded (O.contents out.old) (O.contents out.new) (F.contents files.new log.now) }
+        HoldsLog (F.contents files.old script.now) Exit.Done (O.contents out.old)
+        (O.contents out.new) (F.contents files.new log.now) }
+    ensures left { result.exit ≡ Exit.LoggingEnded
+        → KeepsFiles (F.contents files.old) (F.contents files.new)
+        ⊎ HoldsLog (F.contents files.old script.now) Exit.LoggingEnded (O.contents out.old)
+        (O.contents out.new) (F.contents files.new log.now) }
     ensures apart { script.now ≡ log.now → F.writes files.new ≡ F.writes files.old }
     // A script whose bytes are known, and too many, is refused as a file, and nothing is printed.
-    ensures within { IsTooLong 4194304 (F.contents files.old script.now) → result.exit ≡ Exit.Refused }
+    ensures within { IsTooLong 4194304 (F.contents files.old script.now)
+        → result.exit ≡ Exit.Refused }
 {
     let recorded = record_script(alloc, script, log, files, out);
     let more = explain_recording(alloc, explains, recorded, script, log, files);
@@ -64,15 +74,20 @@ fn record_script<F: Files, O: Write>(
     files: &mut F,
     out: &mut O,
 ) -> Result<Status, RunError>
-    ensures log { WritesLog (F.contents files.old script.now) log.now (F.writes files.old) (F.writes files.new)
+    ensures log { WritesLog (F.contents files.old script.now) log.now (F.writes files.old)
+        (F.writes files.new)
         (O.contents out.old) (O.contents out.new) result }
-    ensures held { IfOk result (λ status. HoldsLog (F.contents files.old script.now) (exit_at status.end) (O.contents out.old) (O.contents out.new)
+    ensures held { IfOk result
+        (λ status. HoldsLog (F.contents files.old script.now) (exit_at status.end)
+        (O.contents out.old) (O.contents out.new)
         (F.contents files.new log.now)) }
     ensures faults { IfErr result
-        (FailsRecording (F.contents files.old script.now) (O.contents out.old) (O.contents out.new)) }
+        (FailsRecording (F.contents files.old script.now) (O.contents out.old)
+        (O.contents out.new)) }
     ensures kept { OnErr result (KeepsFiles (F.contents files.old) (F.contents files.new)) }
     ensures apart { script.now ≡ log.now → F.writes files.new ≡ F.writes files.old }
-    ensures within { IsTooLong 4194304 (F.contents files.old script.now) → exit_after result ≡ Exit.Refused }
+    ensures within { IsTooLong 4194304 (F.contents files.old script.now)
+        → exit_after result ≡ Exit.Refused }
 {
     if files.is_same(script, log) {
         return Err(RunError::from(Refusal::File));
@@ -89,13 +104,17 @@ fn run_file<F: Files, O: Write>(
     files: &mut F,
     out: &mut O,
 ) -> Result<RunResult, RunError>
-    ensures printed { IfOk result (λ recorded. IsPrintedLog (F.contents files.old script.now) recorded.status (image_of recorded.disk)
+    ensures printed { IfOk result
+        (λ recorded. IsPrintedLog (F.contents files.old script.now) recorded.status
+        (image_of recorded.disk)
         (O.contents out.old) (O.contents out.new)) }
     ensures faults { IfErr result
-        (FailsRecording (F.contents files.old script.now) (O.contents out.old) (O.contents out.new)) }
+        (FailsRecording (F.contents files.old script.now) (O.contents out.old)
+        (O.contents out.new)) }
     ensures kept { KeepsFiles (F.contents files.old) (F.contents files.new) }
     ensures unwritten { F.writes files.new ≡ F.writes files.old }
-    ensures within { IsTooLong 4194304 (F.contents files.old script.now) → IsErrAnd result (λ fault. exit_of fault ≡ Exit.Refused) }
+    ensures within { IsTooLong 4194304 (F.contents files.old script.now)
+        → IsErrAnd result (λ fault. exit_of fault ≡ Exit.Refused) }
 {
     let text = read_text(alloc, script, files)?;
     run_text(alloc, &text, out)
@@ -103,9 +122,11 @@ fn run_file<F: Files, O: Write>(
 
 // Runs the script that a text spells, and prints what happens and how far its log has come.
 fn run_text<O: Write>(alloc: Global, text: &[u8], out: &mut O) -> Result<RunResult, RunError>
-    ensures printed { IfOk result (λ recorded. IsPrintedLog (Some text.now) recorded.status (image_of recorded.disk)
+    ensures printed { IfOk result
+        (λ recorded. IsPrintedLog (Some text.now) recorded.status (image_of recorded.disk)
         (O.contents out.old) (O.contents out.new)) }
-    ensures faults { IfErr result (FailsRecording (Some text.now) (O.contents out.old) (O.contents out.new)) }
+    ensures faults { IfErr result
+        (FailsRecording (Some text.now) (O.contents out.old) (O.contents out.new)) }
 {
     let script = read_script(alloc, text)?;
     run_script(alloc, text, &script, out)
@@ -119,9 +140,11 @@ fn run_script<O: Write>(
     out: &mut O,
 ) -> Result<RunResult, RunError>
     requires { IsTextOf text.now script.now }
-    ensures printed { IfOk result (λ recorded. IsPrintedLog (Some text.now) recorded.status (image_of recorded.disk)
+    ensures printed { IfOk result
+        (λ recorded. IsPrintedLog (Some text.now) recorded.status (image_of recorded.disk)
         (O.contents out.old) (O.contents out.new)) }
-    ensures faults { IfErr result (FailsRecording (Some text.now) (O.contents out.old) (O.contents out.new)) }
+    ensures faults { IfErr result
+        (FailsRecording (Some text.now) (O.contents out.old) (O.contents out.new)) }
 {
     let recorded = script_runner::record(alloc, text, script, out)?;
     print_end(recorded.status, recorded.lies, out)?;
@@ -130,7 +153,8 @@ fn run_script<O: Write>(
 
 /// Prints how far a log has come, and how often the layers lied, if they did.
 pub fn print_end<O: Write>(status: Status, lies: Lies, out: &mut O) -> Result<(), RunError>
-    ensures printed { OnOk result (Appends (O.contents out.old) (O.contents out.new) (end_lines status lies)) }
+    ensures printed { OnOk result
+        (Appends (O.contents out.old) (O.contents out.new) (end_lines status lies)) }
     ensures faults { IfErr result IsFileError }
 {
     print_status(status, out)?;
@@ -141,7 +165,8 @@ pub fn print_end<O: Write>(status: Status, lies: Lies, out: &mut O) -> Result<()
 
 // Prints how far a log has come.
 fn print_status<O: Write>(status: Status, out: &mut O) -> Result<(), RunError>
-    ensures printed { OnOk result (Appends (O.contents out.old) (O.contents out.new) (status_line status)) }
+    ensures printed { OnOk result
+        (Appends (O.contents out.old) (O.contents out.new) (status_line status)) }
     ensures faults { IfErr result IsFileError }
 {
     writeln!(out, "{status}")?;
@@ -150,7 +175,8 @@ fn print_status<O: Write>(status: Status, out: &mut O) -> Result<(), RunError>
 
 // Prints how often the layers of the data disk lied, and those of the log's, where one did.
 fn print_lies<O: Write>(lies: Lies, out: &mut O) -> Result<(), RunError>
-    ensures printed { OnOk result (Appends (O.contents out.old) (O.contents out.new) (lies_line lies)) }
+    ensures printed { OnOk result
+        (Appends (O.contents out.old) (O.contents out.new) (lies_line lies)) }
     ensures faults { IfErr result IsFileError }
 {
     if lies.data_disk == 0 && lies.log_disk == 0 {

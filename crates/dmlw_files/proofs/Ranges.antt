@@ -1,5 +1,6 @@
 -- What the pieces of a disk's image come to.
-use Rattle.std.proofs.Common.{◌≡◌, ◌∙◌, ℕ, zero, suc, ◌+◌, ◌-◌, ◌<◌, ◌≤◌, ◌++◌, List, Option, None, Some, ap, arith, sym}
+use Rattle.std.proofs.Common.{◌≡◌, ◌∙◌, ℕ, zero, suc, ◌+◌, ◌-◌, ◌<◌, ◌≤◌, ◌++◌, List, Option, None}
+use Rattle.std.proofs.Common.{Some, ap, arith, sym}
 use Rattle.std.proofs.lemmas.List.{append_assoc, append-nil}
 use Rattle.std.specs.Io.KnownBytes.{Appends}
 use Rattle.sectors.specs.Content.{Content, HasWholeSectors, gather, moved, sector_of}
@@ -22,26 +23,36 @@ gather_joined c m (suc n) =
     ∙ append_assoc (gather c 0 m) (gather c m n) (c (m + n))
 
 -- what was written of a disk's first sectors, and then a piece of those that come next
-pub written_more : (c d : Content) (a b w : Option (List ℕ)) (piece : List ℕ) (from first count size upto : ℕ) → Appends a b (gather c 0 from) → from ≡ first
-    → first + size ≡ upto → Appends b w piece → piece ≡ gather d first count → d ≡ c → count ≡ size → Appends a w (gather c 0 upto)
-written_more c d None b w piece from first count size upto before begins ends next read same all = tt
+pub written_more : (c d : Content) (a b w : Option (List ℕ)) (piece : List ℕ)
+    (from first count size upto : ℕ) → Appends a b (gather c 0 from) → from ≡ first
+    → first + size ≡ upto → Appends b w piece → piece ≡ gather d first count → d ≡ c → count ≡ size
+    → Appends a w (gather c 0 upto)
+written_more c d None b w piece from first count size upto before begins ends next read same all =
+    tt
 written_more c d (Some a) None w piece from first count size upto before begins ends next read same all = absurd before
 written_more c d (Some a) (Some b) None piece from first count size upto before begins ends next read same all = absurd next
-written_more c d (Some a) (Some b) (Some w) piece from first count size upto before begins ends next read same all =
-    let bytes : piece ≡ gather c first size = read ∙ ap (λ (e : Content). gather e first count) same ∙ ap (gather c first) all in
+written_more c d (Some a) (Some b)
+    (Some w) piece from first count size upto before begins ends next read same all =
+    let bytes : piece ≡ gather c first size =
+    read ∙ ap (λ (e : Content). gather e first count) same ∙ ap (gather c first) all in
     next
     ∙ ap (λ (xs : List ℕ). b ++ xs) bytes
-    ∙ ap (λ (xs : List ℕ). xs ++ gather c first size) (before ∙ ap (λ (n : ℕ). a ++ gather c 0 n) begins)
+    ∙ ap (λ (xs : List ℕ). xs ++ gather c first size)
+    (before ∙ ap (λ (n : ℕ). a ++ gather c 0 n) begins)
     ∙ append_assoc a (gather c 0 first) (gather c first size)
     ∙ ap (λ (xs : List ℕ). a ++ xs) (sym (gather_joined c first size) ∙ ap (gather c 0) ends)
 
 -- a sector of a piece is a sector of its disk
-pub piece_sector : (disk : SectorDisk) (first count sector : ℕ) → first + count ≤ (shown_of disk).size → first ≤ sector → sector < first + count
-    → sector_of (gather (shown_of disk).content first count) (sector - first) ≡ (shown_of disk).content sector
+pub piece_sector : (disk : SectorDisk) (first count sector : ℕ)
+    → first + count ≤ (shown_of disk).size → first ≤ sector → sector < first + count
+    → sector_of (gather (shown_of disk).content first count) (sector - first)
+    ≡ (shown_of disk).content sector
 piece_sector disk first count sector within from to =
     let c = (shown_of disk).content in
-    let same : gather (moved first c) 0 count ≡ gather c first count = gather-shift first c 0 count ∙ ap (λ (n : ℕ). gather c n count) (omega arith) in
-    let whole : HasWholeSectors count (moved first c) = λ s below. content_whole disk (first + s) (omega (arith, within, below)) in
+    let same : gather (moved first c) 0 count ≡ gather c first count =
+    gather-shift first c 0 count ∙ ap (λ (n : ℕ). gather c n count) (omega arith) in
+    let whole : HasWholeSectors count (moved first c) =
+    λ s below. content_whole disk (first + s) (omega (arith, within, below)) in
     ap (λ (bytes : List ℕ). sector_of bytes (sector - first)) (sym same)
     ∙ sector_of-gather count (moved first c) whole (sector - first) (omega arith)
     ∙ ap c (omega arith)

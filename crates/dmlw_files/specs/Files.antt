@@ -1,6 +1,7 @@
 -- What is known of files by their names: which writes were asked for, and what each file holds.
 -- The contracts of the files and of the commands that read or write them cite it.
-use Rattle.std.specs.Prelude.{◌≡◌, ◌≤◌, ◌<◌, ℕ, length, List, [], ◌∷◌, ◌++◌, Option, Some, None, option_map}
+use Rattle.std.specs.Prelude.{◌≡◌, ◌≤◌, ◌<◌, ℕ, length, List, [], ◌∷◌, ◌++◌, Option, Some, None}
+use Rattle.std.specs.Prelude.{option_map}
 
 -- a write that was asked for: the file's name, and the bytes that it is to hold
 pub record Write : Type 0 where
@@ -9,7 +10,8 @@ pub record Write : Type 0 where
 
 -- the known writes, and then this one
 abbrev pub one_more : Option (List Write) → List ℕ → List ℕ → Option (List Write)
-one_more writes name bytes = option_map (λ before. before ++ record { name = name; bytes = bytes } ∷ []) writes
+one_more writes name bytes =
+    option_map (λ before. before ++ record { name = name; bytes = bytes } ∷ []) writes
 
 -- one more write was asked for, of the file of this name
 abbrev pub AsksFor : List ℕ → Option (List Write) → Option (List Write) → Type 0

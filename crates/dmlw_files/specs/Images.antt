@@ -26,6 +26,7 @@ pub image_within : (file : Option (List ℕ)) → HoldsImage file → IsWithin 5
 image_within None is = is
 image_within (Some known) is = is.most
 
-pub image_read : (file : Option (List ℕ)) (bytes : List ℕ) → HoldsImage file → MatchesContents file bytes → IsImage bytes
+pub image_read : (file : Option (List ℕ)) (bytes : List ℕ) → HoldsImage file
+    → MatchesContents file bytes → IsImage bytes
 image_read None bytes is same = absurd is
 image_read (Some known) bytes is same = subst IsImage (sym same) is

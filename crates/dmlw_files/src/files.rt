@@ -1,5 +1,6 @@
 //! The files that a command reads and writes, by their names, and why one isn't read or written.
-ghost use Rattle.std.specs.Prelude.{◌≡◌, ◌≤◌, Bool, IfErr, IfOk, List, OnErr, OnOk, Option, false, is_some, true, vec_len, ℕ};
+ghost use Rattle.std.specs.Prelude.{◌≡◌, ◌≤◌, Bool, IfErr, IfOk, List, OnErr, OnOk, Option, false};
+ghost use Rattle.std.specs.Prelude.{is_some, true, vec_len, ℕ};
 ghost use Rattle.run_error.specs.Errors.{refused_by};
 ghost use Rattle.dmlw_files.specs.Files.{IsWithin, KeepsFiles, MatchesContents, Write, one_more};
 ghost use Rattle.dmlw_files.specs.FileErrors.{file_error, file_refusal};
@@ -58,7 +59,8 @@ impl From<FileError> for RunError {
 pub enum FileFailure {
     /// It can't be read.
     Read(io::Error),
-    /// It is longer than it may be: so many bytes, as the system has it. A pipe or a device has fewer there.
+    /// It is longer than it may be: so many bytes, as the
+    /// system has it. A pipe or a device has fewer there.
     TooLong(u64),
     /// It can't be written.
     Write(io::Error),
@@ -75,19 +77,22 @@ pub trait Files {
     /// Whether there is a reason why the last call failed.
     ghost has_failure: { Self → Bool };
 
-    /// The whole of a file of at most `limit` bytes. A longer file is refused; where a file's bytes are
-    /// known and aren't too many, only memory can refuse it.
+    /// The whole of a file of at most `limit` bytes. A longer file is refused; where a file's bytes
+    /// are known and aren't too many, only memory can refuse it.
     fn read(&mut self, alloc: Global, name: &str, limit: u64) -> Result<Vec<u8>, FileError>
-        ensures contents { IfOk result (λ bytes. MatchesContents (contents self.old name.now) bytes.items) }
+        ensures contents { IfOk result
+            (λ bytes. MatchesContents (contents self.old name.now) bytes.items) }
         ensures within { IfOk result (λ bytes. vec_len bytes ≤ limit) }
-        ensures readable { IsWithin limit (contents self.old name.now) → IfErr result (λ error. error ≡ FileError.Memory) }
+        ensures readable { IsWithin limit (contents self.old name.now)
+            → IfErr result (λ error. error ≡ FileError.Memory) }
         ensures kept { KeepsFiles (contents self.old) (contents self.new) }
         ensures writes { writes self.new ≡ writes self.old }
         // A reason of an earlier call is gone.
         ensures cleared { OnOk result (has_failure self.new ≡ false) };
 
-    /// Makes the file hold the image of a disk and no other bytes, or, where it fails, leaves each file as it was. The disk goes: its bytes
-    /// may be taken out of it piece by piece, so that the image needs not be in memory as a whole.
+    /// Makes the file hold the image of a disk and no other bytes, or, where it fails, leaves each
+    /// file as it was. The disk goes: its bytes may be taken out of it piece by piece, so that the
+    /// image needs not be in memory as a whole.
     fn write(&mut self, alloc: Global, name: &str, disk: SectorDisk) -> Result<(), FileError>
         ensures holds { OnOk result (MatchesContents (contents self.new name.now) (image_of disk)) }
         ensures kept { OnErr result (KeepsFiles (contents self.old) (contents self.new)) }

@@ -17,9 +17,10 @@ const MAX_BESIDE: u32 = 1000;
 
 /// The system's files. No clause knows what they hold.
 ///
-/// A regular file is written whole or not at all: beside it, as `NAME.dmlw-tmp-<n>`, and then renamed over
-/// it. A link stays, and the file that it leads to is replaced. A pipe or a device is written as it is, and so
-/// is, after what it holds, a file that a stream of the process leads to, as `/dev/stdout`.
+/// A regular file is written whole or not at all: beside it, as `NAME.dmlw-tmp-<n>`, and then
+/// renamed over it. A link stays, and the file that it leads to is replaced. A pipe or a device is
+/// written as it is, and so is, after what it holds, a file that a stream of the process leads to,
+/// as `/dev/stdout`.
 #[derive(Drop)]
 pub struct HostFiles<'a, R: std::rt::Files> {
     runtime: &'a R,
@@ -107,7 +108,8 @@ fn read_file<R: std::rt::Files>(
     Ok(Ok(bytes))
 }
 
-// Writes the image of a disk to the file of a name. The buffer for its pieces is there before any file is touched.
+// Writes the image of a disk to the file of a name. The
+// buffer for its pieces is there before any file is touched.
 fn write_file<R: std::rt::Files>(
     runtime: &R,
     alloc: Global,

@@ -14,14 +14,16 @@ use std::alloc::Global;
 pub const MAX_IMAGE_BYTES: u64 = 536_870_912;
 
 /// The image in the file of a name: whole sectors of 512 bytes, at least one. Any other file is
-/// refused with `File`, as is one that can't be read; where a file's bytes are known and are an image, only
-/// memory can refuse it.
+/// refused with `File`, as is one that can't be read; where a file's bytes are known and are an
+/// image, only memory can refuse it.
 #[tactic(auto, using(crate::specs::Images::image_within, crate::specs::Images::image_read))]
 pub fn read_image<F: Files>(alloc: Global, name: &str, files: &mut F) -> Result<Vec<u8>, RunError>
-    ensures contents { IfOk result (λ image. MatchesContents (F.contents files.old name.now) image.items) }
+    ensures contents { IfOk result
+        (λ image. MatchesContents (F.contents files.old name.now) image.items) }
     ensures whole { IfOk result (λ image. IsImage image.items) }
     ensures fault { IfErr result IsFileError }
-    ensures readable { HoldsImage (F.contents files.old name.now) → IfErr result (λ fault. fault ≡ memory_error) }
+    ensures readable { HoldsImage (F.contents files.old name.now)
+        → IfErr result (λ fault. fault ≡ memory_error) }
     ensures kept { KeepsFiles (F.contents files.old) (F.contents files.new) }
     ensures unwritten { F.writes files.new ≡ F.writes files.old }
 {

@@ -1,5 +1,7 @@
-//! How the image of a disk is written, piece by piece in one buffer, so that it is never in memory as a whole.
-ghost use Rattle.std.specs.Prelude.{◌≡◌, ◌≤◌, ◌<◌, ◌/◌, ◌%◌, ◌+◌, IfSome, OnOk, length, replicate, true, unwrap_or, ℕ};
+//! How the image of a disk is written, piece by piece in
+//! one buffer, so that it is never in memory as a whole.
+ghost use Rattle.std.specs.Prelude.{◌≡◌, ◌≤◌, ◌<◌, ◌/◌, ◌%◌, ◌+◌, IfSome, OnOk, length, replicate};
+ghost use Rattle.std.specs.Prelude.{true, unwrap_or, ℕ};
 ghost use Rattle.std.specs.Io.KnownBytes.{Appends};
 ghost use Rattle.sectors.specs.Content.{gather, sector_of};
 ghost use Rattle.sector_disk.specs.Shown.{shown_of};
@@ -45,7 +47,8 @@ fn is_zeroes(piece: &[u8], sector: usize) -> bool
 // How many sectors of a piece stand up to its last one that isn't zeroes.
 fn used_of(piece: &[u8]) -> u64
     ensures within { result ≤ length piece.now / 512 }
-    ensures zeroes { (sector : ℕ) → result ≤ sector → sector < length piece.now / 512 → sector_of piece.now sector ≡ replicate 512 0 }
+    ensures zeroes { (sector : ℕ) → result ≤ sector → sector < length piece.now / 512
+        → sector_of piece.now sector ≡ replicate 512 0 }
 {
     let sectors = piece.len() / SECTOR;
     for behind in 0..sectors {
@@ -57,13 +60,16 @@ fn used_of(piece: &[u8]) -> u64
     0
 }
 
-// How many sectors of a disk stand up to the last one of this piece that isn't zeroes; none where all of the piece are.
+// How many sectors of a disk stand up to the last one of this
+// piece that isn't zeroes; none where all of the piece are.
 fn used_upto(disk: &mut SectorDisk, first: u64, piece: &mut [u8]) -> Option<u64>
     requires some { 0 < length piece.old }
     requires whole { length piece.old % 512 ≡ 0 }
     requires within { first + length piece.old / 512 ≤ (shown_of disk.old).size }
-    ensures within { IfSome result (λ used. (first ≤ used) × (used ≤ first + length piece.old / 512)) }
-    ensures zeroes { (sector : ℕ) → unwrap_or result first ≤ sector → sector < first + length piece.old / 512 →
+    ensures within { IfSome result
+        (λ used. (first ≤ used) × (used ≤ first + length piece.old / 512)) }
+    ensures zeroes { (sector : ℕ) → unwrap_or result first ≤ sector
+        → sector < first + length piece.old / 512 →
         (shown_of disk.old).content sector ≡ replicate 512 0 }
     ensures size { (shown_of disk.new).size ≡ (shown_of disk.old).size }
     ensures content { (shown_of disk.new).content ≡ (shown_of disk.old).content }
@@ -96,7 +102,8 @@ pub(crate) fn used_sectors(disk: &mut SectorDisk, buffer: &mut [u8]) -> u64
     0
 }
 
-/// Writes the image of the first so many sectors of a disk, in pieces that stand in this buffer one after another.
+/// Writes the image of the first so many sectors of a disk,
+/// in pieces that stand in this buffer one after another.
 pub(crate) fn write_sectors<W: Write>(
     disk: &mut SectorDisk,
     sectors: u64,
@@ -105,7 +112,8 @@ pub(crate) fn write_sectors<W: Write>(
 ) -> io::Result<()>
     requires within { sectors ≤ (shown_of disk.old).size }
     requires buffer { length buffer.old ≡ 262144 }
-    ensures { OnOk result (Appends (W.contents out.old) (W.contents out.new) (gather (shown_of disk.old).content 0 sectors)) }
+    ensures { OnOk result (Appends (W.contents out.old) (W.contents out.new)
+        (gather (shown_of disk.old).content 0 sectors)) }
 {
     for number in 0..sectors.div_ceil(PIECE_SECTORS) {
         let first = number * PIECE_SECTORS;

@@ -9,11 +9,14 @@ use std::alloc::Global;
 /// The most bytes of a script.
 pub const MAX_SCRIPT_BYTES: u64 = 4_194_304;
 
-/// The text in a script's file: at most 4,194,304 bytes. Any other file is refused, as is one that can't be read.
+/// The text in a script's file: at most 4,194,304 bytes.
+/// Any other file is refused, as is one that can't be read.
 pub fn read_text<F: Files>(alloc: Global, script: &str, files: &mut F) -> Result<Vec<u8>, FileError>
-    ensures contents { IfOk result (λ text. MatchesContents (F.contents files.old script.now) text.items) }
+    ensures contents { IfOk result
+        (λ text. MatchesContents (F.contents files.old script.now) text.items) }
     ensures within { IfOk result (λ text. length text.items ≤ 4194304) }
-    ensures readable { IsWithin 4194304 (F.contents files.old script.now) → IfErr result (λ error. error ≡ FileError.Memory) }
+    ensures readable { IsWithin 4194304 (F.contents files.old script.now)
+        → IfErr result (λ error. error ≡ FileError.Memory) }
     ensures kept { KeepsFiles (F.contents files.old) (F.contents files.new) }
     ensures unwritten { F.writes files.new ≡ F.writes files.old }
 {

@@ -1,5 +1,6 @@
 -- What answering a question on an image by the script in a file comes to, and what judging it does.
-use Rattle.std.specs.Prelude.{◌≡◌, ◌⊎◌, ◌<◌, ◌≤◌, ◌*◌, ℕ, true, List, ◌++◌, Option, Some, Result, Ok, Err, codes, length, replicate, take}
+use Rattle.std.specs.Prelude.{◌≡◌, ◌⊎◌, ◌<◌, ◌≤◌, ◌*◌, ℕ, true, List, ◌++◌, Option, Some, Result}
+use Rattle.std.specs.Prelude.{Ok, Err, codes, length, replicate, take}
 use Rattle.std.specs.Io.KnownBytes.{Appends, Keeps}
 use Rattle.sectors.specs.Content.{Content, sector_of}
 use Rattle.bio.specs.declared.event.CoreEvent.{CoreEvent}
@@ -35,28 +36,34 @@ blank count = sector_of (replicate count 0)
 
 -- the number is a moment of these events, and the image is one of a device of so many sectors
 abbrev pub CanJudge : ℕ → List CoreEvent → ℕ → List ℕ → Type 0
-CanJudge sectors events moment image = (moment ≤ last_moment events) × (length image ≡ 512 * sectors)
+CanJudge sectors events moment image =
+    (moment ≤ last_moment events) × (length image ≡ 512 * sectors)
 
 -- it isn't: the number is past the last moment, or the image is of another size
 abbrev pub CannotJudge : ℕ → List CoreEvent → ℕ → List ℕ → Type 0
-CannotJudge sectors events moment image = (last_moment events < moment) ⊎ (length image ≡ 512 * sectors → ⊥)
+CannotJudge sectors events moment image =
+    (last_moment events < moment) ⊎ (length image ≡ 512 * sectors → ⊥)
 
--- What a kind of answer comes to: what it says of an image, by the sectors of the device, the events, the content at first and that of the image;
--- what is printed of it; and how it ends the command.
+-- What a kind of answer comes to: what it says of an image, by the
+-- sectors of the device, the events, the content at first and that
+-- of the image; what is printed of it; and how it ends the command.
 pub record Meaning (A : Type 0) : Type 1 where
   pub says : ℕ → List CoreEvent → Content → Content → A → Type 0
   pub printed : A → List ℕ
   pub ends : A → Exit
 
--- The answer on an image, after so many events of a script's run, over zeroes; they are events of a device of the size of the data disk's top, and
--- the requests among them are aligned to the log's sectors.
-pub record IsAnswered {A : Type 0} (meaning : Meaning A) (plan : ScriptValue) (moment : ℕ) (image : List ℕ) (answer : A) : Type 0 where
+-- The answer on an image, after so many events of a script's run, over
+-- zeroes; they are events of a device of the size of the data disk's
+-- top, and the requests among them are aligned to the log's sectors.
+pub record IsAnswered {A : Type 0} (meaning : Meaning A) (plan : ScriptValue) (moment : ℕ)
+    (image : List ℕ) (answer : A) : Type 0 where
   pub events : List CoreEvent
   pub rehearsed : IsRehearsed plan events
   pub lawful : is_lawful (top_of plan.data_disk) events ≡ true
   pub aligned : all_aligned (bytes_of plan.log_size) events ≡ true
   pub can_judge : CanJudge (top_of plan.data_disk) events moment image
-  pub holds : meaning.says (top_of plan.data_disk) (take moment events) (blank (length image)) (sector_of image) answer
+  pub holds : meaning.says (top_of plan.data_disk) (take moment events) (blank (length image))
+      (sector_of image) answer
 
 -- what a script's file and an image's file are known to hold, and the moment
 pub record Question : Type 0 where
@@ -75,7 +82,8 @@ pub record AreRead (asked : Question) (text image : List ℕ) : Type 0 where
   pub whole : IsImage image
 
 -- There is an answer: the script's file spells a script, and this is the answer on the image by it.
-pub record HasAnswer {A : Type 0} (meaning : Meaning A) (asked : Question) (answer : A) : Type 0 where
+pub record HasAnswer {A : Type 0} (meaning : Meaning A) (asked : Question)
+    (answer : A) : Type 0 where
   pub text : List ℕ
   pub image : List ℕ
   pub read : AreRead asked text image
@@ -83,23 +91,31 @@ pub record HasAnswer {A : Type 0} (meaning : Meaning A) (asked : Question) (answ
   pub spelled : IsTextOf text plan
   pub judged : IsAnswered meaning plan asked.moment image answer
 
--- Why there is no answer: a file can't be read, or is too long or no image, or there is no memory; the text is no script's, of
--- which the first line at fault is named; its run fails; or the moment is none of its moments, or the image is of another size.
+-- Why there is no answer: a file can't be read, or is too long or no image, or there is no memory;
+-- the text is no script's, of which the first line at fault is named; its run fails; or the moment
+-- is none of its moments, or the image is of another size.
 pub data HasNoVerdict (asked : Question) : RunError → Type 0 where
   file : (fault : RunError) → IsFileError fault → HasNoVerdict asked fault
-  text : (bytes image : List ℕ) (line : ℕ) (refusal : Refusal) → AreRead asked bytes image → IsNoScript bytes
-      → IsFirstFault (lines_of bytes) line refusal → HasNoVerdict asked (Refused (record { line = Some line; refusal = refusal }))
-  run : (bytes image : List ℕ) (plan : ScriptValue) (fault : RunError) → AreRead asked bytes image → IsTextOf bytes plan
+  text : (bytes image : List ℕ) (line : ℕ) (refusal : Refusal) → AreRead asked bytes image
+      → IsNoScript bytes
+      → IsFirstFault (lines_of bytes) line refusal
+      → HasNoVerdict asked (Refused (record { line = Some line; refusal = refusal }))
+  run : (bytes image : List ℕ) (plan : ScriptValue) (fault : RunError) → AreRead asked bytes image
+      → IsTextOf bytes plan
       → FailsRehearsal bytes plan fault → HasNoVerdict asked fault
-  moment : (bytes image : List ℕ) (plan : ScriptValue) (events : List CoreEvent) → AreRead asked bytes image → IsTextOf bytes plan
+  moment : (bytes image : List ℕ) (plan : ScriptValue) (events : List CoreEvent)
+      → AreRead asked bytes image → IsTextOf bytes plan
       → IsRehearsed plan events → CannotJudge (top_of plan.data_disk) events asked.moment image
       → HasNoVerdict asked (refused_by refusals.BadMoment)
 
--- What a question comes to: the answer, which was printed; or why there is none, and nothing was printed, unless it is the output
--- that can't be written.
-abbrev pub Answers : {A : Type 0} → Meaning A → Question → Option (List ℕ) → Option (List ℕ) → Result A RunError → Type 0
-Answers meaning asked before after (Ok answer) = HasAnswer meaning asked answer × Appends before after (meaning.printed answer)
-Answers meaning asked before after (Err fault) = HasNoVerdict asked fault × (Keeps before after ⊎ IsFileError fault)
+-- What a question comes to: the answer, which was printed; or why there is none, and nothing was
+-- printed, unless it is the output that can't be written.
+abbrev pub Answers : {A : Type 0} → Meaning A → Question → Option (List ℕ) → Option (List ℕ)
+    → Result A RunError → Type 0
+Answers meaning asked before after (Ok answer) =
+    HasAnswer meaning asked answer × Appends before after (meaning.printed answer)
+Answers meaning asked before after (Err fault) =
+    HasNoVerdict asked fault × (Keeps before after ⊎ IsFileError fault)
 
 -- how a question ends the command: as its answer does, and else by its fault
 abbrev pub exit_answered : {A : Type 0} → Meaning A → Result A RunError → Exit
@@ -107,7 +123,8 @@ exit_answered meaning (Ok answer) = meaning.ends answer
 exit_answered meaning (Err fault) = exit_of fault
 
 -- How the command ends: no file was asked to be written, and it ends as what it did has it.
-pub record EndsAnswering {A : Type 0} (meaning : Meaning A) (asked : Question) (writes_old writes_new : Option (List Write)) (old new : Option (List ℕ))
+pub record EndsAnswering {A : Type 0} (meaning : Meaning A) (asked : Question)
+    (writes_old writes_new : Option (List Write)) (old new : Option (List ℕ))
     (t : ErrStream) (ended : Ended) : Type 0 where
   pub unwritten : writes_new ≡ writes_old
   pub done : Result A RunError
@@ -144,5 +161,7 @@ abbrev pub exit_judged : Result Verdict RunError → Exit
 exit_judged done = exit_answered verdict_meaning done
 
 -- how `judge` ends: as what it did has it
-abbrev pub EndsJudging : Question → Option (List Write) → Option (List Write) → Option (List ℕ) → Option (List ℕ) → ErrStream → Ended → Type 0
-EndsJudging asked writes_old writes_new old new t ended = EndsAnswering verdict_meaning asked writes_old writes_new old new t ended
+abbrev pub EndsJudging : Question → Option (List Write) → Option (List Write) → Option (List ℕ)
+    → Option (List ℕ) → ErrStream → Ended → Type 0
+EndsJudging asked writes_old writes_new old new t ended =
+    EndsAnswering verdict_meaning asked writes_old writes_new old new t ended

@@ -1,4 +1,5 @@
--- What `path` answers: a run of the cache machine that leaves an image, or what rules the image out.
+-- What `path` answers: a run of the cache machine that
+-- leaves an image, or what rules the image out.
 use Rattle.std.specs.Prelude.{ℕ, List, ◌++◌, Option, codes}
 use Rattle.std.specs.List.{flat_map}
 use Rattle.judge.specs.declared.verdict.Verdict.{Verdict}
@@ -14,7 +15,8 @@ use Rattle.dmlw_files.specs.Files.{Write}
 use Rattle.world.specs.Findings.{IsFinding}
 use Rattle.world.specs.declared.finding.Finding.{Finding}
 use Rattle.world.specs.declared.finding.Finding.TheVariants.{Run, RuledOut}
-use Rattle.dmlw_judge.specs.Judgements.{EndsAnswering, HasAnswer, IsAnswered, Meaning, Question, verdict_line}
+use Rattle.dmlw_judge.specs.Judgements.{EndsAnswering, HasAnswer, IsAnswered, Meaning, Question}
+use Rattle.dmlw_judge.specs.Judgements.{verdict_line}
 
 -- the verdict that a finding has: yes where there is a run, and else its no
 abbrev pub verdict_of : Finding → Verdict
@@ -48,5 +50,7 @@ abbrev pub HasFinding : Question → Finding → Type 0
 HasFinding asked finding = HasAnswer finding_meaning asked finding
 
 -- how `path` ends: as what it did has it
-abbrev pub EndsFinding : Question → Option (List Write) → Option (List Write) → Option (List ℕ) → Option (List ℕ) → ErrStream → Ended → Type 0
-EndsFinding asked writes_old writes_new old new t ended = EndsAnswering finding_meaning asked writes_old writes_new old new t ended
+abbrev pub EndsFinding : Question → Option (List Write) → Option (List Write) → Option (List ℕ)
+    → Option (List ℕ) → ErrStream → Ended → Type 0
+EndsFinding asked writes_old writes_new old new t ended =
+    EndsAnswering finding_meaning asked writes_old writes_new old new t ended

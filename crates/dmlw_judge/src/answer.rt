@@ -19,9 +19,9 @@ pub(crate) trait Answer: Drop {
     // What an answer says, what is printed of it, and how it ends the command.
     ghost meaning: { Meaning Self };
 
-    // The answer after the first `moment` of the events, where zeroes were on the device before the first event. `events` is a list that
-    // a recorder of the device may have recorded; the image has the device's length in bytes, whole sectors of 512. Want of memory is
-    // the only error.
+    // The answer after the first `moment` of the events, where zeroes were on the device before the
+    // first event. `events` is a list that a recorder of the device may have recorded; the image
+    // has the device's length in bytes, whole sectors of 512. Want of memory is the only error.
     fn on_image(
         alloc: Global,
         events: &[CoreEvent],
@@ -31,13 +31,16 @@ pub(crate) trait Answer: Drop {
         requires whole { length image.now % 512 ≡ 0 }
         requires lawful { is_lawful (length image.now / 512) events.now ≡ true }
         ensures { IfOk result
-            (meaning.says (length image.now / 512) (take moment events.now) (blank (length image.now)) (sector_of image.now)) };
+            (meaning.says (length image.now / 512) (take moment events.now)
+            (blank (length image.now)) (sector_of image.now)) };
 
     // Prints the answer.
     fn print<O: Write>(&self, out: &mut O) -> io::Result<()>
-        ensures { OnOk result (Appends (O.contents out.old) (O.contents out.new) (meaning.printed self.now)) };
+        ensures { OnOk result (Appends (O.contents out.old) (O.contents out.new)
+            (meaning.printed self.now)) };
 
-    // What `--explain` adds behind the answer, by the script in a file: lines that each begin with two spaces. Empty where it isn't asked for.
+    // What `--explain` adds behind the answer, by the script in a file: lines that each begin with
+    // two spaces. Empty where it isn't asked for.
     fn explain<F: Files>(
         &self,
         alloc: Global,

@@ -1,4 +1,5 @@
-//! The form that `judge` and `path` share: a question on an image is answered by the script in a file.
+//! The form that `judge` and `path` share: a question on an
+//! image is answered by the script in a file.
 ghost use Rattle.std.specs.Prelude.{◌≡◌, ◌⊎◌, ◌++◌, IfErr, IfOk, [], false, length, take, true};
 ghost use Rattle.std.specs.String.{string_bytes};
 ghost use Rattle.std.specs.Io.KnownBytes.{Appends, Keeps};
@@ -11,7 +12,9 @@ ghost use Rattle.dmlw_commands.specs.Endings.{err_stream};
 ghost use Rattle.dmlw_commands.specs.Exits.{told_line};
 ghost use Rattle.dmlw_files.specs.Files.{KeepsFiles};
 ghost use Rattle.dmlw_files.specs.Images.{IsImage};
-ghost use Rattle.dmlw_judge.specs.Judgements.{Answers, CanJudge, CannotJudge, EndsAnswering, HasAnswer, HasNoVerdict, blank, exit_answered, question};
+ghost use Rattle.dmlw_judge.specs.Judgements.{Answers, CanJudge, CannotJudge, EndsAnswering};
+ghost use Rattle.dmlw_judge.specs.Judgements.{HasAnswer, HasNoVerdict, blank, exit_answered};
+ghost use Rattle.dmlw_judge.specs.Judgements.{question};
 
 use crate::answer::Answer;
 use crate::moments::{explain_moment, last_moment};
@@ -27,8 +30,9 @@ use sectors::SECTOR_BYTES;
 use std::alloc::Global;
 use std::io::Write;
 
-// Runs the script in a file as `record` does, and prints the answer on the image in another one, after the first `moment` of the
-// recorder's events, where zeroes were on the data disk at first. A fault is reported to `err`, with what helps where it `explains`.
+// Runs the script in a file as `record` does, and prints the answer on the image in another one,
+// after the first `moment` of the recorder's events, where zeroes were on the data disk at first. A
+// fault is reported to `err`, with what helps where it `explains`.
 pub(crate) fn ask<A: Answer, F: Files, O: Write, E: Write>(
     alloc: Global,
     explains: bool,
@@ -39,7 +43,12 @@ pub(crate) fn ask<A: Answer, F: Files, O: Write, E: Write>(
     out: &mut O,
     err: &mut E,
 ) -> Ended
-    ensures ends { EndsAnswering A.meaning (record { script = F.contents files.old script.now; image = F.contents files.old image.now; moment = moment })
+    ensures ends { EndsAnswering A.meaning
+        (record {
+          script = F.contents files.old script.now;
+          image = F.contents files.old image.now;
+          moment = moment;
+        })
         (F.writes files.old) (F.writes files.new) (O.contents out.old) (O.contents out.new)
         (err_stream explains (E.contents err.old) (E.contents err.new)) result }
     ensures kept { KeepsFiles (F.contents files.old) (F.contents files.new) }
@@ -49,7 +58,8 @@ pub(crate) fn ask<A: Answer, F: Files, O: Write, E: Write>(
     end_answering(alloc, &answered, more.as_str(), out, err)
 }
 
-// What `--explain` adds to what a question came to: lines of the answer's own, or what helps against the fault.
+// What `--explain` adds to what a question came to: lines
+// of the answer's own, or what helps against the fault.
 fn explain_answered<A: Answer, F: Files>(
     alloc: Global,
     explains: bool,
@@ -82,8 +92,10 @@ fn end_answering<A: Answer, O: Write, E: Write>(
 ) -> Ended
     ensures exit { result.exit ≡ exit_answered A.meaning answered.now }
     ensures kept { Keeps (O.contents out.old) (O.contents out.new) }
-    ensures quiet { told_line answered.now ≡ [] → more.now ≡ [] → E.contents err.new ≡ E.contents err.old }
-    ensures told { result.err_taken ≡ true → Appends (E.contents err.old) (E.contents err.new) (told_line answered.now ++ more.now) }
+    ensures quiet { told_line answered.now ≡ [] → more.now ≡ []
+        → E.contents err.new ≡ E.contents err.old }
+    ensures told { result.err_taken ≡ true
+        → Appends (E.contents err.old) (E.contents err.new) (told_line answered.now ++ more.now) }
 {
     match answered {
         Ok(answer) => end_well(answer.exit(), more, err),
@@ -100,7 +112,12 @@ fn answer_files<A: Answer, F: Files, O: Write>(
     files: &mut F,
     out: &mut O,
 ) -> Result<A, RunError>
-    ensures judged { Answers A.meaning (record { script = F.contents files.old script.now; image = F.contents files.old image.now; moment = moment })
+    ensures judged { Answers A.meaning
+        (record {
+          script = F.contents files.old script.now;
+          image = F.contents files.old image.now;
+          moment = moment;
+        })
         (O.contents out.old) (O.contents out.new) result }
     ensures kept { KeepsFiles (F.contents files.old) (F.contents files.new) }
     ensures unwritten { F.writes files.new ≡ F.writes files.old }
@@ -115,8 +132,12 @@ fn print_answer<A: Answer, O: Write>(
     answered: Result<A, RunError>,
     out: &mut O,
 ) -> Result<A, RunError>
-    ensures printed { IfOk result (λ answer. (answered ≡ Ok answer) × Appends (O.contents out.old) (O.contents out.new) (A.meaning.printed answer)) }
-    ensures faults { IfErr result (λ fault. IsFileError fault ⊎ ((answered ≡ Err fault) × Keeps (O.contents out.old) (O.contents out.new))) }
+    ensures printed { IfOk result
+        (λ answer. (answered ≡ Ok answer)
+        × Appends (O.contents out.old) (O.contents out.new) (A.meaning.printed answer)) }
+    ensures faults { IfErr result
+        (λ fault. IsFileError fault
+        ⊎ ((answered ≡ Err fault) × Keeps (O.contents out.old) (O.contents out.new))) }
 {
     let answer = answered?;
     answer.print(out)?;
@@ -165,7 +186,8 @@ fn answered_by<D: Drop, A: Answer>(answered: (D, Result<A, RunError>)) -> Result
     answered.1
 }
 
-// The answer on an image, after so many of these events of a device of so many sectors, over zeroes.
+// The answer on an image, after so many of these events of
+// a device of so many sectors, over zeroes.
 fn answer_events<A: Answer>(
     alloc: Global,
     events: &[CoreEvent],
@@ -176,7 +198,8 @@ fn answer_events<A: Answer>(
     requires lawful { is_lawful sectors events.now ≡ true }
     requires whole { IsImage image.now }
     ensures verdict { IfOk result (λ answer. CanJudge sectors events.now moment image.now
-        × A.meaning.says sectors (take moment events.now) (blank (length image.now)) (sector_of image.now) answer) }
+        × A.meaning.says sectors (take moment events.now) (blank (length image.now))
+        (sector_of image.now) answer) }
     ensures faults { IfErr result (λ fault. (fault ≡ memory_error)
         ⊎ ((fault ≡ refused_by BadMoment) × CannotJudge sectors events.now moment image.now)) }
 {

@@ -66,7 +66,8 @@ impl Answer for Finding {
 
 // Prints a run, one step a line.
 fn print_run<O: Write>(run: &[Step], out: &mut O) -> io::Result<()>
-    ensures { OnOk result (Appends (O.contents out.old) (O.contents out.new) (flat_map step_line run.now)) }
+    ensures { OnOk result (Appends (O.contents out.old) (O.contents out.new)
+        (flat_map step_line run.now)) }
 {
     for step in run {
         writeln!(out, "{step}")?;

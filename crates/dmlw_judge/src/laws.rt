@@ -19,28 +19,39 @@ use judge::laws::verdicts_differ;
 use pending::laws::beginnings_are_possible;
 use world::laws::possible_is_exact;
 
-/// What replaying a beginning of a script's log over zeroes leaves is judged possible: each number of entries that belongs to a moment up
-/// to which logging goes on leaves a content on which the verdict at that moment is yes; and whoever judges an image of that content, by
-/// those events and at that moment, gets yes and never no. The log has sectors of any size that a log may have.
+/// What replaying a beginning of a script's log over zeroes leaves is judged possible: each number
+/// of entries that belongs to a moment up to which logging goes on leaves a content on which the
+/// verdict at that moment is yes; and whoever judges an image of that content, by those events and
+/// at that moment, gets yes and never no. The log has sectors of any size that a log may have.
 pub fn replayed_beginnings_are_judged_possible()
-    ensures content { (size : ℕ) (events : List CoreEvent) (moment count bytes : ℕ) → IsTrue (is_sector_size size) →
-        IsTrue (all_aligned size events) → is_well_formed events ≡ true → BeginsLog size events moment count →
-        IsVerdict (bytes / 512) (take moment events) (blank bytes) (replayed_first size events count bytes) Yes }
+    ensures content { (size : ℕ) (events : List CoreEvent) (moment count bytes : ℕ)
+        → IsTrue (is_sector_size size) →
+        IsTrue (all_aligned size events) → is_well_formed events ≡ true
+        → BeginsLog size events moment count →
+        IsVerdict (bytes / 512) (take moment events) (blank bytes)
+        (replayed_first size events count bytes) Yes }
     ensures judged { (plan : ScriptValue) (moment count : ℕ) (image : List ℕ) (verdict : Verdict) →
-        (judged : IsJudged plan moment image verdict) → IsReplayedTo (bytes_of plan.log_size) judged.events moment count image → verdict ≡ Yes }
-    ensures asked { (asked : Question) (count : ℕ) (verdict : Verdict) → (has : HasVerdict asked verdict) →
-        IsReplayedTo (bytes_of has.plan.log_size) has.judged.events asked.moment count has.image → verdict ≡ Yes }
+        (judged : IsJudged plan moment image verdict)
+        → IsReplayedTo (bytes_of plan.log_size) judged.events moment count image → verdict ≡ Yes }
+    ensures asked { (asked : Question) (count : ℕ) (verdict : Verdict)
+        → (has : HasVerdict asked verdict) →
+        IsReplayedTo (bytes_of has.plan.log_size) has.judged.events asked.moment count has.image
+        → verdict ≡ Yes }
 {
     beginnings_are_possible();
 }
 
-/// `path` and `judge` say the same of an image: after the same events there is a run just where the verdict is yes, and where there is none, the
-/// verdict is the no that is printed.
+/// `path` and `judge` say the same of an image: after the same events there is a run just where the
+/// verdict is yes, and where there is none, the verdict is the no that is printed.
 pub fn findings_are_verdicts()
-    ensures content { (sectors : ℕ) (events : List CoreEvent) (first now : Content) (verdict : Verdict) (finding : Finding) →
-        IsVerdict sectors events first now verdict → IsFinding sectors events first now finding → verdict ≡ verdict_of finding }
-    ensures judged { (plan : ScriptValue) (moment : ℕ) (image : List ℕ) (verdict : Verdict) (finding : Finding) →
-        (judged : IsJudged plan moment image verdict) → (found : IsFound plan moment image finding) → judged.events ≡ found.events →
+    ensures content { (sectors : ℕ) (events : List CoreEvent) (first now : Content)
+        (verdict : Verdict) (finding : Finding) →
+        IsVerdict sectors events first now verdict → IsFinding sectors events first now finding
+        → verdict ≡ verdict_of finding }
+    ensures judged { (plan : ScriptValue) (moment : ℕ) (image : List ℕ) (verdict : Verdict)
+        (finding : Finding) →
+        (judged : IsJudged plan moment image verdict) → (found : IsFound plan moment image finding)
+        → judged.events ≡ found.events →
         verdict ≡ verdict_of finding }
 {
     verdicts_differ();

@@ -1,9 +1,11 @@
 //! The commands `judge` and `path`, over files and writers of any kind.
 //!
-//! `judge` rehearses a script, and prints whether an image could have been on its data disk, had power failed after so many of the
-//! recorder's events (`specs/Judgements`); `path` prints a run of the cache machine that leaves the image, where there is one (`specs/Paths`).
-//! Both report their fault and answer how they ended, as the commands of `dmlw_commands` do, and share one form: `answering`, over an `Answer`.
-//! `laws` says that `judge` rules out no beginning of the script's log (`specs/Beginnings`).
+//! `judge` rehearses a script, and prints whether an image could have been on its data disk, had
+//! power failed after so many of the recorder's events (`specs/Judgements`); `path` prints a run of
+//! the cache machine that leaves the image, where there is one (`specs/Paths`). Both report their
+//! fault and answer how they ended, as the commands of `dmlw_commands` do, and share one form:
+//! `answering`, over an `Answer`. `laws` says that `judge` rules out no beginning of the script's
+//! log (`specs/Beginnings`).
 #![tactic(auto)]
 
 pub use judging::judge;

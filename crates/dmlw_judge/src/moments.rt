@@ -1,5 +1,5 @@
-//! The moments of a run that a question may name, and what `--explain` tells of one that it may
-//! not.
+//! The moments of a run that a question may name, and what
+//! `--explain` tells of one that it may not.
 ghost use Rattle.std.specs.Prelude.{◌≡◌, ◌≤◌, [], Some, false, length};
 ghost use Rattle.std.specs.String.{string_bytes};
 ghost use Rattle.bio.specs.Events.{is_stop};
@@ -23,18 +23,11 @@ pub fn last_moment(events: &[CoreEvent]) -> usize
     ensures within { result ≤ length events.now }
 {
     for (place, event) in events.iter().enumerate() {
-        if is_stop(event) {
+        if event.is_stop() {
             return place;
         }
     }
     events.len()
-}
-
-// Whether logging ends at this event.
-fn is_stop(event: &CoreEvent) -> bool
-    ensures { result ≡ is_stop (Some event.now) }
-{
-    matches!(event, CoreEvent::Stop(_))
 }
 
 // How many moments a run has, and why no more.

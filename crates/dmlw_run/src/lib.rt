@@ -1,6 +1,7 @@
 //! The command `run` of dmlw, over files and writers of any kind.
 //!
-//! `run` runs a script of several seats by `seat_runner`, and asks for its log to be written (`specs/RunsLog`).
+//! `run` runs a script of several seats by `seat_runner`,
+//! and asks for its log to be written (`specs/RunsLog`).
 #![tactic(auto)]
 
 pub use running::run;

@@ -9,7 +9,8 @@ ghost use Rattle.dmlw_commands.specs.Exits.{IsRefusal, exit_after, exit_at, exit
 ghost use Rattle.std.specs.Result.{IsErrAnd};
 ghost use Rattle.dmlw_files.specs.Files.{AsksFor, IsTooLong, KeepsFiles};
 ghost use Rattle.dmlw_files.specs.Images.{image_of};
-ghost use Rattle.dmlw_run.specs.RunsLog.{EndsRunning, FailsRunning, HoldsRun, IsPrintedRun, WritesRun, seat_line, seat_lines};
+ghost use Rattle.dmlw_run.specs.RunsLog.{EndsRunning, FailsRunning, HoldsRun, IsPrintedRun};
+ghost use Rattle.dmlw_run.specs.RunsLog.{WritesRun, seat_line, seat_lines};
 
 use bio::Status;
 use dmlw_commands::record::print_end;
@@ -25,9 +26,10 @@ use std::io::Write;
 use std::sync::Wait;
 use std::thread::Threads;
 
-/// Does `run SCRIPT LOG`: runs the seats of a script over a new log, each in a thread of its own, and answers how it ended. `script` and `log` are names of
-/// files. What there is to print goes to `out` before the log is written, also where logging ended before its time; a fault is reported to `err`, with
-/// what helps where it `explains`.
+/// Does `run SCRIPT LOG`: runs the seats of a script over a new log, each in a thread of its own,
+/// and answers how it ended. `script` and `log` are names of files. What there is to print goes to
+/// `out` before the log is written, also where logging ended before its time; a fault is reported
+/// to `err`, with what helps where it `explains`.
 pub fn run<F: Files, O: Write, E: Write, H: Threads + Wait + Sync>(
     rt: &H,
     alloc: Global,
@@ -38,21 +40,30 @@ pub fn run<F: Files, O: Write, E: Write, H: Threads + Wait + Sync>(
     out: &mut O,
     err: &mut E,
 ) -> Ended
-    ensures ends { EndsRunning (F.contents files.old script.now) log.now (F.writes files.old) (F.writes files.new)
-        (O.contents out.old) (O.contents out.new) (err_stream explains (E.contents err.old) (E.contents err.new)) result }
-    // Where it is refused each file holds what it held, and a script isn't written over. So it does where logging ended, unless the log was
-    // asked to be written.
-    ensures kept { IsRefusal result.exit → KeepsFiles (F.contents files.old) (F.contents files.new) }
+    ensures ends { EndsRunning (F.contents files.old script.now) log.now (F.writes files.old)
+        (F.writes files.new)
+        (O.contents out.old) (O.contents out.new)
+        (err_stream explains (E.contents err.old) (E.contents err.new)) result }
+    // Where it is refused each file holds what it held, and a script isn't written over. So it does
+    // where logging ended, unless the log was asked to be written.
+    ensures kept { IsRefusal result.exit
+        → KeepsFiles (F.contents files.old) (F.contents files.new) }
     ensures unmade { result.exit ≡ Exit.LoggingEnded →
-        KeepsFiles (F.contents files.old) (F.contents files.new) ⊎ AsksFor log.now (F.writes files.old) (F.writes files.new) }
-    // Where it is done LOG holds the log; so it does where logging ended, unless each file holds what it held.
+        KeepsFiles (F.contents files.old) (F.contents files.new)
+        ⊎ AsksFor log.now (F.writes files.old) (F.writes files.new) }
+    // Where it is done LOG holds the log; so it does where
+    // logging ended, unless each file holds what it held.
     ensures written { result.exit ≡ Exit.Done →
-        HoldsRun (F.contents files.old script.now) Exit.Done (O.contents out.old) (O.contents out.new) (F.contents files.new log.now) }
-    ensures left { result.exit ≡ Exit.LoggingEnded → KeepsFiles (F.contents files.old) (F.contents files.new)
-        ⊎ HoldsRun (F.contents files.old script.now) Exit.LoggingEnded (O.contents out.old) (O.contents out.new) (F.contents files.new log.now) }
+        HoldsRun (F.contents files.old script.now) Exit.Done (O.contents out.old)
+        (O.contents out.new) (F.contents files.new log.now) }
+    ensures left { result.exit ≡ Exit.LoggingEnded
+        → KeepsFiles (F.contents files.old) (F.contents files.new)
+        ⊎ HoldsRun (F.contents files.old script.now) Exit.LoggingEnded (O.contents out.old)
+        (O.contents out.new) (F.contents files.new log.now) }
     ensures apart { script.now ≡ log.now → F.writes files.new ≡ F.writes files.old }
     // A script whose bytes are known, and too many, is refused as a file, and nothing is printed.
-    ensures within { IsTooLong 4194304 (F.contents files.old script.now) → result.exit ≡ Exit.Refused }
+    ensures within { IsTooLong 4194304 (F.contents files.old script.now)
+        → result.exit ≡ Exit.Refused }
 {
     let done = run_named(rt, alloc, script, log, files, out);
     let more = explain_running(alloc, explains, done, script, log, files);
@@ -68,15 +79,19 @@ fn run_named<F: Files, O: Write, H: Threads + Wait + Sync>(
     files: &mut F,
     out: &mut O,
 ) -> Result<Status, RunError>
-    ensures log { WritesRun (F.contents files.old script.now) log.now (F.writes files.old) (F.writes files.new)
+    ensures log { WritesRun (F.contents files.old script.now) log.now (F.writes files.old)
+        (F.writes files.new)
         (O.contents out.old) (O.contents out.new) result }
-    ensures held { IfOk result (λ status. HoldsRun (F.contents files.old script.now) (exit_at status.end) (O.contents out.old) (O.contents out.new)
+    ensures held { IfOk result
+        (λ status. HoldsRun (F.contents files.old script.now) (exit_at status.end)
+        (O.contents out.old) (O.contents out.new)
         (F.contents files.new log.now)) }
     ensures faults { IfErr result
         (FailsRunning (F.contents files.old script.now) (O.contents out.old) (O.contents out.new)) }
     ensures kept { OnErr result (KeepsFiles (F.contents files.old) (F.contents files.new)) }
     ensures apart { script.now ≡ log.now → F.writes files.new ≡ F.writes files.old }
-    ensures within { IsTooLong 4194304 (F.contents files.old script.now) → exit_after result ≡ Exit.Refused }
+    ensures within { IsTooLong 4194304 (F.contents files.old script.now)
+        → exit_after result ≡ Exit.Refused }
 {
     if files.is_same(script, log) {
         return Err(RunError::from(Refusal::File));
@@ -94,34 +109,40 @@ fn run_file<F: Files, O: Write, H: Threads + Wait + Sync>(
     files: &mut F,
     out: &mut O,
 ) -> Result<Ran, RunError>
-    ensures printed { IfOk result (λ ran. IsPrintedRun (F.contents files.old script.now) ran.status (image_of ran.disk)
+    ensures printed { IfOk result
+        (λ ran. IsPrintedRun (F.contents files.old script.now) ran.status (image_of ran.disk)
         (O.contents out.old) (O.contents out.new)) }
     ensures faults { IfErr result
         (FailsRunning (F.contents files.old script.now) (O.contents out.old) (O.contents out.new)) }
     ensures kept { KeepsFiles (F.contents files.old) (F.contents files.new) }
     ensures unwritten { F.writes files.new ≡ F.writes files.old }
-    ensures within { IsTooLong 4194304 (F.contents files.old script.now) → IsErrAnd result (λ fault. exit_of fault ≡ Exit.Refused) }
+    ensures within { IsTooLong 4194304 (F.contents files.old script.now)
+        → IsErrAnd result (λ fault. exit_of fault ≡ Exit.Refused) }
 {
     let text = read_text(alloc, script, files)?;
     run_text(rt, alloc, &text, out)
 }
 
-// Runs the script that a text spells, and prints what its seats' calls came to and how far its log has come.
+// Runs the script that a text spells, and prints what its
+// seats' calls came to and how far its log has come.
 fn run_text<O: Write, H: Threads + Wait + Sync>(
     rt: &H,
     alloc: Global,
     text: &[u8],
     out: &mut O,
 ) -> Result<Ran, RunError>
-    ensures printed { IfOk result (λ ran. IsPrintedRun (Some text.now) ran.status (image_of ran.disk)
+    ensures printed { IfOk result
+        (λ ran. IsPrintedRun (Some text.now) ran.status (image_of ran.disk)
         (O.contents out.old) (O.contents out.new)) }
-    ensures faults { IfErr result (FailsRunning (Some text.now) (O.contents out.old) (O.contents out.new)) }
+    ensures faults { IfErr result
+        (FailsRunning (Some text.now) (O.contents out.old) (O.contents out.new)) }
 {
     let script = read_run_script(alloc, text)?;
     run_script(rt, alloc, text, &script, out)
 }
 
-// Runs a script, which was read from `text`, and prints what its seats' calls came to and how far its log has come.
+// Runs a script, which was read from `text`, and prints what
+// its seats' calls came to and how far its log has come.
 fn run_script<O: Write, H: Threads + Wait + Sync>(
     rt: &H,
     alloc: Global,
@@ -130,9 +151,11 @@ fn run_script<O: Write, H: Threads + Wait + Sync>(
     out: &mut O,
 ) -> Result<Ran, RunError>
     requires { IsRunText text.now script.now }
-    ensures printed { IfOk result (λ ran. IsPrintedRun (Some text.now) ran.status (image_of ran.disk)
+    ensures printed { IfOk result
+        (λ ran. IsPrintedRun (Some text.now) ran.status (image_of ran.disk)
         (O.contents out.old) (O.contents out.new)) }
-    ensures faults { IfErr result (FailsRunning (Some text.now) (O.contents out.old) (O.contents out.new)) }
+    ensures faults { IfErr result
+        (FailsRunning (Some text.now) (O.contents out.old) (O.contents out.new)) }
 {
     let ran = run_seats(rt, alloc, script)?;
     print_seats(ran.tallies.as_slice(), out)?;
@@ -142,7 +165,8 @@ fn run_script<O: Write, H: Threads + Wait + Sync>(
 
 // Prints a line for each seat, in their order.
 fn print_seats<O: Write>(tallies: &[Tally], out: &mut O) -> Result<(), RunError>
-    ensures printed { OnOk result (Appends (O.contents out.old) (O.contents out.new) (seat_lines 0 tallies.now)) }
+    ensures printed { OnOk result
+        (Appends (O.contents out.old) (O.contents out.new) (seat_lines 0 tallies.now)) }
     ensures faults { IfErr result IsFileError }
 {
     for number in 0..tallies.len() {
@@ -153,7 +177,8 @@ fn print_seats<O: Write>(tallies: &[Tally], out: &mut O) -> Result<(), RunError>
 
 // Prints the line of one seat.
 fn print_seat<O: Write>(number: usize, tally: &Tally, out: &mut O) -> Result<(), RunError>
-    ensures printed { OnOk result (Appends (O.contents out.old) (O.contents out.new) (seat_line number tally.now)) }
+    ensures printed { OnOk result
+        (Appends (O.contents out.old) (O.contents out.new) (seat_line number tally.now)) }
     ensures faults { IfErr result IsFileError }
 {
     writeln!(

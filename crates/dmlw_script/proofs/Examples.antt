@@ -1,5 +1,6 @@
 -- Definitions on texts, each by computation.
-use Rattle.std.proofs.Common.{◌≡◌, ℕ, Bool, true, false, None, Some, List, [], ◌∷◌, Err, Ok, replicate, refl, arith}
+use Rattle.std.proofs.Common.{◌≡◌, ℕ, Bool, true, false, None, Some, List, [], ◌∷◌, Err, Ok}
+use Rattle.std.proofs.Common.{replicate, refl, arith}
 use Rattle.std.specs.Prelude.{◌/◌, ◌≤◌, ◌++◌, codes, decimal}
 use Rattle.table_line.specs.Ranges.{IsLayerSpec}
 use Rattle.table_line.specs.declared.layer_spec.LayerSpec.{LayerSpec}
@@ -17,9 +18,12 @@ use Rattle.dmlw_script.specs.declared.command.Submission.TheVariants as submits
 use Rattle.dmlw_script.specs.declared.command.Step.TheVariants as steps
 use Rattle.dmlw_script.specs.declared.command.WriteOptions.{WriteOptions}
 use Rattle.dmlw_script.specs.CanonicalText.{line_text, step_text}
-use Rattle.dmlw_script.specs.Plans.{head_count, is_log_disk_size, is_within, layer_line, lines_of_script, moment_after, range_test, top_of, Disk, IsInTime, IsPlan, ScriptValue}
+use Rattle.dmlw_script.specs.Plans.{head_count, is_log_disk_size, is_within, layer_line}
+use Rattle.dmlw_script.specs.Plans.{lines_of_script, moment_after, range_test, top_of, Disk}
+use Rattle.dmlw_script.specs.Plans.{IsInTime, IsPlan, ScriptValue}
 use Rattle.table_line.specs.Standing.{CanStand}
-use Rattle.dmlw_script.specs.Reading.{bare, data_due, head_refusal, in_body, in_head, prefix_after, StandsAfter}
+use Rattle.dmlw_script.specs.Reading.{bare, data_due, head_refusal, in_body, in_head, prefix_after}
+use Rattle.dmlw_script.specs.Reading.{StandsAfter}
 use Rattle.dmlw_script.specs.Grammar.{spaced}
 use Rattle.dmlw_script.specs.Words.{byte_text}
 use Rattle.dmlw_script.specs.Ids.{script_id}
@@ -32,7 +36,8 @@ abbrev asks_for : Bool → Bool → Bool → WriteOptions
 asks_for flush fua meta = record { flush = flush; fua = fua; meta = meta }
 
 -- the words of all options, of one, and of none
-all_options : option_words (asks_for true true true) ≡ codes "flush" ∷ codes "fua" ∷ codes "meta" ∷ []
+all_options : option_words (asks_for true true true)
+    ≡ codes "flush" ∷ codes "fua" ∷ codes "meta" ∷ []
 all_options = refl
 
 fua_alone : option_words (asks_for false true false) ≡ codes "fua" ∷ []
@@ -42,12 +47,15 @@ no_option : option_words (asks_for false false false) ≡ []
 no_option = refl
 
 -- the end of a write's line, as it is printed
-write_text : spaced (byte_text 0x41 ∷ option_words (asks_for true false true)) ≡ codes "41 flush meta"
+write_text : spaced (byte_text 0x41 ∷ option_words (asks_for true false true))
+    ≡ codes "41 flush meta"
 write_text = refl
 
 -- each choice of options is read
 says_write : Bool → Bool → Bool → List ℕ → Type 0
-says_write flush fua meta line = parse_line line ≡ Some (submit (script_id (codes "a")) (submits.Write 5 1 0x41 (asks_for flush fua meta)))
+says_write flush fua meta line =
+    parse_line line ≡ Some (submit (script_id (codes "a"))
+    (submits.Write 5 1 0x41 (asks_for flush fua meta)))
 
 reads_no_option : says_write false false false (codes "w a 5 1 41")
 unfolding says_write
@@ -95,14 +103,16 @@ reads_two_spaces : parse_line (codes "w a 5 1 41  fua") ≡ None
 reads_two_spaces = refl
 
 -- a discard
-reads_discard : parse_line (codes "d a 5 2") ≡ Some (submit (script_id (codes "a")) (submits.Discard 5 2))
+reads_discard : parse_line (codes "d a 5 2")
+    ≡ Some (submit (script_id (codes "a")) (submits.Discard 5 2))
 reads_discard = refl
 
 reads_short_discard : parse_line (codes "d a 5") ≡ None
 reads_short_discard = refl
 
 -- a mark's text is all behind one space
-reads_mark : parse_line (codes "mark  two  spaces ") ≡ Some (step (steps.Mark (codes " two  spaces ")))
+reads_mark : parse_line (codes "mark  two  spaces ")
+    ≡ Some (step (steps.Mark (codes " two  spaces ")))
 reads_mark = refl
 
 reads_empty_mark : parse_line (codes "mark ") ≡ Some (step (steps.Mark []))
@@ -118,7 +128,8 @@ mark_text : step_text (steps.Mark (codes "# here")) ≡ codes "mark # here"
 mark_text = refl
 
 -- a message's text is all behind its layer's number and one space
-reads_message : parse_line (codes "message data 007 x  y ") ≡ Some (step (steps.Message disks.Data 7 (codes "x  y ")))
+reads_message : parse_line (codes "message data 007 x  y ")
+    ≡ Some (step (steps.Message disks.Data 7 (codes "x  y ")))
 reads_message = refl
 
 reads_log_message : parse_line (codes "message log 0 ") ≡ Some (step (steps.Message disks.Log 0 []))
@@ -130,10 +141,12 @@ reads_no_text = refl
 reads_no_disk : parse_line (codes "message disk 1 enable") ≡ None
 reads_no_disk = refl
 
-message_text : step_text (steps.Message disks.Log 4 (codes "addbadblock 60")) ≡ codes "message log " ++ (decimal 4 ++ codes " addbadblock 60")
+message_text : step_text (steps.Message disks.Log 4 (codes "addbadblock 60"))
+    ≡ codes "message log " ++ (decimal 4 ++ codes " addbadblock 60")
 message_text = refl
 
--- a text of 600 bytes may stand in a line; one with a line feed, a zero byte or a byte above 127 may not
+-- a text of 600 bytes may stand in a line; one with a line
+-- feed, a zero byte or a byte above 127 may not
 long_text : is_line_text (replicate 600 0x78) ≡ true
 long_text = refl
 
@@ -158,7 +171,15 @@ under layers = record { sectors = 16; layers = layers }
 
 -- a script of two layers over the data disk
 abbrev layered : ScriptValue
-layered = record { data_disk = under (linear 8 8 ∷ linear 7 1 ∷ []); log_disk = bare 32; log_size = sizes.B512; names = []; commands = []; ending = None }
+layered =
+    record {
+      data_disk = under (linear 8 8 ∷ linear 7 1 ∷ []);
+      log_disk = bare 32;
+      log_size = sizes.B512;
+      names = [];
+      commands = [];
+      ending = None;
+    }
 
 -- the sectors of the top: the disk's own, or the uppermost layer's
 bare_top : top_of (bare 16) ≡ 16
@@ -177,8 +198,18 @@ past_end = refl
 -- a layer that fits the disk but not the layer beneath it can't stand
 may_stand : CanStand 16 (linear 8 8 ∷ linear 8 0 ∷ [])
 may_stand =
-    let fine : IsLayerSpec (linear 8 8) = record { sectors = record { some = omega arith; few = omega arith }; place = omega arith; has = tt } in
-    let other : IsLayerSpec (linear 8 0) = record { sectors = record { some = omega arith; few = omega arith }; place = omega arith; has = tt } in
+    let fine : IsLayerSpec (linear 8 8) =
+    record {
+      sectors = record { some = omega arith; few = omega arith };
+      place = omega arith;
+      has = tt;
+    } in
+    let other : IsLayerSpec (linear 8 0) =
+    record {
+      sectors = record { some = omega arith; few = omega arith };
+      place = omega arith;
+      has = tt;
+    } in
     (fine, omega arith, (other, omega arith, tt))
 
 may_not_stand : CanStand 16 (linear 8 8 ∷ linear 8 1 ∷ []) → ⊥
@@ -188,15 +219,19 @@ may_not_stand stand = absurd (let within = stand.2.1 in omega arith)
 four_lines : head_count layered ≡ 4
 four_lines = refl
 
-two_layers : lines_of_script layered ≡ parsed_lines.Head (head_lines.Data 16) ∷ parsed_lines.Head (head_lines.Log 32 sizes.B512) ∷ layer_line disks.Data (linear 8 8)
+two_layers : lines_of_script layered
+    ≡ parsed_lines.Head (head_lines.Data 16) ∷ parsed_lines.Head
+    (head_lines.Log 32 sizes.B512) ∷ layer_line disks.Data (linear 8 8)
     ∷ layer_line disks.Data (linear 7 1) ∷ []
 two_layers = refl
 
 -- their text
-data_layer_text : line_text (layer_line disks.Data (linear 8 4)) ≡ codes "data-layer 0 " ++ (decimal 8 ++ (codes " linear disk " ++ decimal 4))
+data_layer_text : line_text (layer_line disks.Data (linear 8 4))
+    ≡ codes "data-layer 0 " ++ (decimal 8 ++ (codes " linear disk " ++ decimal 4))
 data_layer_text = refl
 
-log_layer_text : line_text (layer_line disks.Log (linear 8 4)) ≡ codes "log-layer 0 " ++ (decimal 8 ++ (codes " linear disk " ++ decimal 4))
+log_layer_text : line_text (layer_line disks.Log (linear 8 4))
+    ≡ codes "log-layer 0 " ++ (decimal 8 ++ (codes " linear disk " ++ decimal 4))
 log_layer_text = refl
 
 reads_no_layer : parse_line (codes "data-layer") ≡ None
@@ -206,7 +241,9 @@ reads_no_layer = refl
 first_moment : moment_after (commands.Step steps.Turn ∷ []) ≡ 0
 first_moment = refl
 
-last_moment : moment_after (commands.Step (steps.At 5) ∷ commands.Step steps.Turn ∷ commands.Step (steps.At 7) ∷ commands.Step steps.Close ∷ []) ≡ 7
+last_moment : moment_after
+    (commands.Step (steps.At 5) ∷ commands.Step steps.Turn ∷ commands.Step
+    (steps.At 7) ∷ commands.Step steps.Close ∷ []) ≡ 7
 last_moment = refl
 
 in_time : IsInTime 5 (steps.At 5)
@@ -225,31 +262,43 @@ reads_no_moment : parse_line (codes "at") ≡ None
 reads_no_moment = refl
 
 -- a head may have more layers until the body begins
-in_the_head : prefix_after data_due (parsed_lines.Head (head_lines.Data 16) ∷ parsed_lines.Head (head_lines.Log 32 sizes.B512) ∷ layer_line disks.Data (linear 8 8) ∷ [])
+in_the_head : prefix_after data_due
+    (parsed_lines.Head (head_lines.Data 16) ∷ parsed_lines.Head
+    (head_lines.Log 32 sizes.B512) ∷ layer_line disks.Data (linear 8 8) ∷ [])
     ≡ in_head (under (linear 8 8 ∷ [])) (bare 32)
 in_the_head = refl
 
-in_the_body : prefix_after data_due (parsed_lines.Head (head_lines.Data 16) ∷ parsed_lines.Head (head_lines.Log 32 sizes.B512) ∷ step (steps.At 5) ∷ step steps.Turn ∷ [])
+in_the_body : prefix_after data_due
+    (parsed_lines.Head (head_lines.Data 16) ∷ parsed_lines.Head
+    (head_lines.Log 32 sizes.B512) ∷ step (steps.At 5) ∷ step steps.Turn ∷ [])
     ≡ in_body (bare 16) (bare 32) 5
 in_the_body = refl
 
-fourth_layer : StandsAfter (in_head (under (linear 8 8 ∷ linear 8 0 ∷ linear 8 0 ∷ [])) (bare 32)) (layer_line disks.Data (linear 8 0))
+fourth_layer : StandsAfter (in_head (under (linear 8 8 ∷ linear 8 0 ∷ linear 8 0 ∷ [])) (bare 32))
+    (layer_line disks.Data (linear 8 0))
 fourth_layer = (omega arith, refl)
 
-no_fifth_layer : StandsAfter (in_head (under (linear 8 8 ∷ linear 8 0 ∷ linear 8 0 ∷ linear 8 0 ∷ [])) (bare 32)) (layer_line disks.Data (linear 8 0)) → ⊥
+no_fifth_layer : StandsAfter
+    (in_head (under (linear 8 8 ∷ linear 8 0 ∷ linear 8 0 ∷ linear 8 0 ∷ [])) (bare 32))
+    (layer_line disks.Data (linear 8 0)) → ⊥
 no_fifth_layer stands = absurd (let few = stands.0 in omega arith)
 
-none_behind_the_logs : StandsAfter (in_head (bare 16) (under (linear 8 8 ∷ []))) (layer_line disks.Data (linear 8 0)) → ⊥
+none_behind_the_logs : StandsAfter (in_head (bare 16) (under (linear 8 8 ∷ [])))
+    (layer_line disks.Data (linear 8 0)) → ⊥
 none_behind_the_logs stands = absurd (let none = stands.1 in cc)
 
-none_in_the_body : StandsAfter (in_body (bare 16) (bare 32) 0) (layer_line disks.Log (linear 8 0)) → ⊥
+none_in_the_body : StandsAfter (in_body (bare 16) (bare 32) 0)
+    (layer_line disks.Log (linear 8 0)) → ⊥
 none_in_the_body stands = stands
 
--- a table line that asks for no layer is refused by its own test, and one past what is beneath as out of range
-bad_table_line : head_refusal layered (head_lines.Layer disks.Log (Err table_errors.BadNumber)) ≡ Some BadNumber
+-- a table line that asks for no layer is refused by its own
+-- test, and one past what is beneath as out of range
+bad_table_line : head_refusal layered (head_lines.Layer disks.Log (Err table_errors.BadNumber))
+    ≡ Some BadNumber
 bad_table_line = refl
 
-past_the_top : head_refusal layered (head_lines.Layer disks.Data (Ok (linear 8 0))) ≡ Some OutOfRange
+past_the_top : head_refusal layered (head_lines.Layer disks.Data (Ok (linear 8 0)))
+    ≡ Some OutOfRange
 past_the_top = refl
 
 on_the_top : head_refusal layered (head_lines.Layer disks.Data (Ok (linear 7 0))) ≡ None
@@ -258,10 +307,12 @@ on_the_top = refl
 -- ---- the size of the log's sectors
 
 -- the log disk's line names 4,096 bytes alone, and in one spelling
-reads_large_log : parse_line (codes "log 0256 4096") ≡ Some (parsed_lines.Head (head_lines.Log 256 sizes.B4096))
+reads_large_log : parse_line (codes "log 0256 4096")
+    ≡ Some (parsed_lines.Head (head_lines.Log 256 sizes.B4096))
 reads_large_log = refl
 
-reads_small_log : parse_line (codes "log 256") ≡ Some (parsed_lines.Head (head_lines.Log 256 sizes.B512))
+reads_small_log : parse_line (codes "log 256")
+    ≡ Some (parsed_lines.Head (head_lines.Log 256 sizes.B512))
 reads_small_log = refl
 
 reads_no_small_word : parse_line (codes "log 256 512") ≡ None
@@ -273,10 +324,12 @@ reads_no_zero_before = refl
 reads_no_word_behind : parse_line (codes "log 256 4096 x") ≡ None
 reads_no_word_behind = refl
 
-large_log_text : line_text (parsed_lines.Head (head_lines.Log 256 sizes.B4096)) ≡ codes "log " ++ (decimal 256 ++ codes " 4096")
+large_log_text : line_text (parsed_lines.Head (head_lines.Log 256 sizes.B4096))
+    ≡ codes "log " ++ (decimal 256 ++ codes " 4096")
 large_log_text = refl
 
-small_log_text : line_text (parsed_lines.Head (head_lines.Log 256 sizes.B512)) ≡ codes "log " ++ decimal 256
+small_log_text : line_text (parsed_lines.Head (head_lines.Log 256 sizes.B512))
+    ≡ codes "log " ++ decimal 256
 small_log_text = refl
 
 -- one of the log's sectors fits on its disk
@@ -304,13 +357,24 @@ any_small_sectors = refl
 
 -- a script with log sectors of 4,096 bytes, whose log disk has 16 sectors under these layers
 abbrev large : List LayerSpec → ScriptValue
-large layers = record { data_disk = bare 16; log_disk = under layers; log_size = sizes.B4096; names = []; commands = []; ending = None }
+large layers =
+    record {
+      data_disk = bare 16;
+      log_disk = under layers;
+      log_size = sizes.B4096;
+      names = [];
+      commands = [];
+      ending = None;
+    }
 
--- a layer of the log disk that is shorter than one of them is refused, unless something else is wrong with it; one of the data disk isn't
-short_log_layer : head_refusal (large []) (head_lines.Layer disks.Log (Ok (linear 7 0))) ≡ Some BadLine
+-- a layer of the log disk that is shorter than one of them is refused, unless something else is
+-- wrong with it; one of the data disk isn't
+short_log_layer : head_refusal (large []) (head_lines.Layer disks.Log (Ok (linear 7 0)))
+    ≡ Some BadLine
 short_log_layer = refl
 
-short_and_past : head_refusal (large []) (head_lines.Layer disks.Log (Ok (linear 7 10))) ≡ Some OutOfRange
+short_and_past : head_refusal (large []) (head_lines.Layer disks.Log (Ok (linear 7 10)))
+    ≡ Some OutOfRange
 short_and_past = refl
 
 long_log_layer : head_refusal (large []) (head_lines.Layer disks.Log (Ok (linear 8 8))) ≡ None
@@ -320,7 +384,8 @@ short_data_layer : head_refusal (large []) (head_lines.Layer disks.Data (Ok (lin
 short_data_layer = refl
 
 -- one fits on a top of 8 sectors, and a script with a top of 7 isn't one
-room_on_top : bytes_of (large (linear 8 8 ∷ [])).log_size / 512 ≤ top_of (large (linear 8 8 ∷ [])).log_disk
+room_on_top : bytes_of (large (linear 8 8 ∷ [])).log_size / 512 ≤ top_of
+    (large (linear 8 8 ∷ [])).log_disk
 room_on_top = omega arith
 
 no_room_on_top : IsPlan (large (linear 8 8 ∷ linear 7 0 ∷ [])) → ⊥

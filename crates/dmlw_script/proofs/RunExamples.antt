@@ -18,7 +18,8 @@ call seat it = Body (record { seat = seat; call = it })
 
 -- a write of one byte with no option
 abbrev write : ℕ → ℕ → ℕ → Call
-write first count byte = Submit (submits.Write first count byte (record { flush = false; fua = false; meta = false }))
+write first count byte =
+    Submit (submits.Write first count byte (record { flush = false; fua = false; meta = false }))
 
 -- the lines of a head
 reads_data : parse_run_line (codes "data 16") ≡ Some (Head (head_lines.Data 16))
@@ -47,11 +48,13 @@ reads_discard : parse_run_line (codes "s1 d 2 8") ≡ Some (call 1 (Submit (subm
 reads_discard = refl
 
 reads_options : parse_run_line (codes "s0 w 1 1 11 flush meta")
-    ≡ Some (call 0 (Submit (submits.Write 1 1 0x11 (record { flush = true; fua = false; meta = true }))))
+    ≡ Some (call 0 (Submit (submits.Write 1 1 0x11
+    (record { flush = true; fua = false; meta = true }))))
 reads_options = refl
 
 -- a mark's text is all behind one space, and may be empty
-reads_mark : parse_run_line (codes "s0 mark  two  spaces ") ≡ Some (call 0 (Mark (codes " two  spaces ")))
+reads_mark : parse_run_line (codes "s0 mark  two  spaces ")
+    ≡ Some (call 0 (Mark (codes " two  spaces ")))
 reads_mark = refl
 
 reads_empty_mark : parse_run_line (codes "s0 mark ") ≡ Some (call 0 (Mark []))

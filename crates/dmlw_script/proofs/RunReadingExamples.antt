@@ -24,7 +24,14 @@ says seat call = record { seat = seat; call = call }
 
 -- a script of two seats over a data disk of 16 sectors and a log disk of 64
 abbrev two_seats : List SeatCall → RunPlan
-two_seats lines = record { data_disk = bare 16; log_disk = bare 64; log_size = sizes.B512; seats = 2; calls = lines }
+two_seats lines =
+    record {
+      data_disk = bare 16;
+      log_disk = bare 64;
+      log_size = sizes.B512;
+      seats = 2;
+      calls = lines;
+    }
 
 -- the line of this number is at fault
 abbrev at : ℕ → Refusal → Result RunPlan Fault
@@ -36,7 +43,8 @@ head = codes "data 16\nlog 64\nseats 2\n"
 
 worked : read_run_text (codes "data 16\nlog 64\nseats 2\ns0 w 1 1 11\ns0 f\ns1 w 2 1 22\n")
     ≡ Ok (two_seats (
-    says 0 (calls.Submit (submits.Write 1 1 0x11 plain)) ∷ says 0 (calls.Submit submits.Flush) ∷ says 1 (calls.Submit (submits.Write 2 1 0x22 plain)) ∷ []
+    says 0 (calls.Submit (submits.Write 1 1 0x11 plain)) ∷ says 0
+    (calls.Submit submits.Flush) ∷ says 1 (calls.Submit (submits.Write 2 1 0x22 plain)) ∷ []
     ))
 worked = refl
 
@@ -65,7 +73,13 @@ too_many_seats : read_run_text (codes "data 16\nlog 64\nseats 65\n") ≡ at 3 Ba
 too_many_seats = refl
 
 most_seats : read_run_text (codes "data 1\nlog 1\nseats 64\n")
-    ≡ Ok (record { data_disk = bare 1; log_disk = bare 1; log_size = sizes.B512; seats = 64; calls = [] })
+    ≡ Ok (record {
+      data_disk = bare 1;
+      log_disk = bare 1;
+      log_size = sizes.B512;
+      seats = 64;
+      calls = [];
+    })
 most_seats = refl
 
 -- a text that ends before it is refused behind its last line
@@ -76,17 +90,20 @@ empty : read_run_text [] ≡ at 1 BadLine
 empty = refl
 
 -- layers and calls stand behind it
-layer_before_seats : read_run_text (codes "data 16\nlog 64\ndata-layer 0 8 linear disk 0\nseats 2\n") ≡ at 3 BadLine
+layer_before_seats : read_run_text
+    (codes "data 16\nlog 64\ndata-layer 0 8 linear disk 0\nseats 2\n") ≡ at 3 BadLine
 layer_before_seats = refl
 
 call_before_seats : read_run_text (codes "data 16\nlog 64\ns0 f\nseats 2\n") ≡ at 3 BadLine
 call_before_seats = refl
 
-layer_behind_a_call : read_run_text (head ++ codes "s0 f\ndata-layer 0 8 linear disk 0\n") ≡ at 5 BadLine
+layer_behind_a_call : read_run_text (head ++ codes "s0 f\ndata-layer 0 8 linear disk 0\n")
+    ≡ at 5 BadLine
 layer_behind_a_call = refl
 
 -- the last seat is one less than their number
-last_seat : read_run_text (head ++ codes "s1 f\n") ≡ Ok (two_seats (says 1 (calls.Submit submits.Flush) ∷ []))
+last_seat : read_run_text (head ++ codes "s1 f\n")
+    ≡ Ok (two_seats (says 1 (calls.Submit submits.Flush) ∷ []))
 last_seat = refl
 
 no_such_seat : read_run_text (head ++ codes "s0 f\ns2 f\n") ≡ at 5 BadLine
@@ -99,7 +116,8 @@ past_end = refl
 no_such_seat_past_end : read_run_text (head ++ codes "s2 w 16 1 11\n") ≡ at 4 BadLine
 no_such_seat_past_end = refl
 
-last_sector : read_run_text (head ++ codes "s0 d 15 1\n") ≡ Ok (two_seats (says 0 (calls.Submit (submits.Discard 15 1)) ∷ []))
+last_sector : read_run_text (head ++ codes "s0 d 15 1\n")
+    ≡ Ok (two_seats (says 0 (calls.Submit (submits.Discard 15 1)) ∷ []))
 last_sector = refl
 
 -- the lines of a recorder's body are none of a run

@@ -1,5 +1,6 @@
 -- The one text of a script.
-use Rattle.std.specs.Prelude.{ℕ, List, [], ◌∷◌, ◌++◌, Option, Some, None, Result, Ok, Err, codes, decimal, flat_map, map}
+use Rattle.std.specs.Prelude.{ℕ, List, [], ◌∷◌, ◌++◌, Option, Some, None, Result, Ok, Err, codes}
+use Rattle.std.specs.Prelude.{decimal, flat_map, map}
 use Rattle.dmlw_script.specs.LineMeaning.{LineMeaning}
 use Rattle.dmlw_script.specs.LineMeaning as parsed_lines
 use Rattle.dmlw_script.specs.declared.line.HeadLine.TheVariants as head_lines
@@ -22,9 +23,11 @@ use Rattle.table_line.specs.declared.table_error.TableError.{TableError}
 -- the line of a submission, with no leading zeroes
 abbrev pub submission_text : ScriptId → Submission → List ℕ
 submission_text name (submits.Write first count byte options) =
-    spaced (codes "w" ∷ letters_of name ∷ decimal first ∷ decimal count ∷ byte_text byte ∷ option_words options)
+    spaced (codes "w" ∷ letters_of name ∷ decimal first ∷ decimal count ∷ byte_text
+    byte ∷ option_words options)
 submission_text name submits.Flush = spaced (codes "f" ∷ letters_of name ∷ [])
-submission_text name (submits.Discard first count) = spaced (codes "d" ∷ letters_of name ∷ decimal first ∷ decimal count ∷ [])
+submission_text name (submits.Discard first count) =
+    spaced (codes "d" ∷ letters_of name ∷ decimal first ∷ decimal count ∷ [])
 
 -- a line that names no request
 abbrev pub step_text : Step → List ℕ
@@ -35,15 +38,18 @@ step_text (steps.Mark text) = codes "mark " ++ text
 step_text (steps.At moment) = spaced (codes "at" ∷ decimal moment ∷ [])
 step_text (steps.Message over layer text) = message_verb over ++ 32 ∷ (decimal layer ++ 32 ∷ text)
 
--- the line of a layer: behind its first word the one spelling of a table line; a line that asks for none is never printed
+-- the line of a layer: behind its first word the one spelling
+-- of a table line; a line that asks for none is never printed
 abbrev pub layer_text : DiskName → Result LayerSpec TableError → List ℕ
 layer_text over (Ok spec) = layer_verb over ++ 32 ∷ table_texts.line_text spec
 layer_text over (Err error) = []
 
 -- the line that says this
 abbrev pub line_text : LineMeaning → List ℕ
-line_text (parsed_lines.Head (head_lines.Data sectors)) = spaced (codes "data" ∷ decimal sectors ∷ [])
-line_text (parsed_lines.Head (head_lines.Log sectors size)) = spaced (codes "log" ∷ decimal sectors ∷ size_words size)
+line_text (parsed_lines.Head (head_lines.Data sectors)) =
+    spaced (codes "data" ∷ decimal sectors ∷ [])
+line_text (parsed_lines.Head (head_lines.Log sectors size)) =
+    spaced (codes "log" ∷ decimal sectors ∷ size_words size)
 line_text (parsed_lines.Head (head_lines.Layer over asked)) = layer_text over asked
 line_text (parsed_lines.Body (body_lines.Submit name submission)) = submission_text name submission
 line_text (parsed_lines.Body (body_lines.Complete name)) = spaced (codes "c" ∷ letters_of name ∷ [])

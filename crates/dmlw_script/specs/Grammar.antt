@@ -1,5 +1,6 @@
 -- The grammar of a recorder's scripts, as a relation between texts and scripts.
-use Rattle.std.specs.Prelude.{◌≡◌, ℕ, ◌<◌, true, ◌+◌, List, [], ◌∷◌, ◌++◌, Result, Ok, Err, Some, codes, length, slice_get}
+use Rattle.std.specs.Prelude.{◌≡◌, ℕ, ◌<◌, true, ◌+◌, List, [], ◌∷◌, ◌++◌, Result, Ok, Err, Some}
+use Rattle.std.specs.Prelude.{codes, length, slice_get}
 use Rattle.std.specs.List.{join_with_byte, AllByRecursion, AllZip}
 use Rattle.bio.specs.declared.sector_size.SectorSize.{SectorSize}
 use Rattle.bio.specs.declared.sector_size.SectorSize.TheVariants as sizes
@@ -16,7 +17,8 @@ use Rattle.dmlw_script.specs.declared.command.WriteOptions.{WriteOptions}
 use Rattle.dmlw_script.specs.Lines.{is_ascii_line, is_line_text, unskipped, lines_of}
 use Rattle.dmlw_script.specs.Ids.{is_id, script_id}
 use Rattle.dmlw_script.specs.Options.{option_words}
-use Rattle.dmlw_script.specs.Plans.{head_count, lines_behind_head, lines_of_script, IsPlan, ScriptValue}
+use Rattle.dmlw_script.specs.Plans.{head_count, lines_behind_head, lines_of_script, IsPlan}
+use Rattle.dmlw_script.specs.Plans.{ScriptValue}
 use Rattle.dmlw_script.specs.Words.{byte_text}
 use Rattle.table_line.specs.declared.layer_spec.LayerSpec.{LayerSpec}
 use Rattle.table_line.specs.declared.table_error.TableError.{TableError}
@@ -55,8 +57,10 @@ pub record ParsesAsId (verb line : List ℕ) (name : ScriptId) : Type 0 where
   pub id : IsId word name
   pub spelled : line ≡ spaced (verb ∷ word ∷ [])
 
--- the line is a write: its id, its first sector, its number of sectors, its byte, and behind these its options in their order
-pub record ParsesAsWrite (line : List ℕ) (name : ScriptId) (first count byte : ℕ) (options : WriteOptions) : Type 0 where
+-- the line is a write: its id, its first sector, its number of sectors, its byte, and behind these
+-- its options in their order
+pub record ParsesAsWrite (line : List ℕ) (name : ScriptId) (first count byte : ℕ)
+    (options : WriteOptions) : Type 0 where
   pub id_word : List ℕ
   pub first_word : List ℕ
   pub count_word : List ℕ
@@ -64,7 +68,8 @@ pub record ParsesAsWrite (line : List ℕ) (name : ScriptId) (first count byte :
   pub first_number : IsNumber first_word first
   pub count_number : IsNumber count_word count
   pub is_byte : byte < 256
-  pub spelled : line ≡ spaced (codes "w" ∷ id_word ∷ first_word ∷ count_word ∷ byte_text byte ∷ option_words options)
+  pub spelled : line ≡ spaced
+      (codes "w" ∷ id_word ∷ first_word ∷ count_word ∷ byte_text byte ∷ option_words options)
 
 -- the line is a discard: its id, its first sector and its number of sectors
 pub record ParsesAsDiscard (line : List ℕ) (name : ScriptId) (first count : ℕ) : Type 0 where
@@ -84,7 +89,8 @@ pub record ParsesAsRead (line : List ℕ) (first count : ℕ) : Type 0 where
   pub count_number : IsNumber count_word count
   pub spelled : line ≡ spaced (codes "r" ∷ first_word ∷ count_word ∷ [])
 
--- the line is a mark: its text is all that stands behind the first word and one space, and may be empty
+-- the line is a mark: its text is all that stands behind
+-- the first word and one space, and may be empty
 pub record ParsesAsMark (line text : List ℕ) : Type 0 where
   pub plain : is_line_text text ≡ true
   pub spelled : line ≡ codes "mark " ++ text
@@ -94,9 +100,10 @@ abbrev pub message_verb : DiskName → List ℕ
 message_verb disks.Data = codes "message data"
 message_verb disks.Log = codes "message log"
 
--- the line is a message: to a layer of this number, and its text is all that stands behind the number and one space, and may
--- be empty
-pub record ParsesAsMessage (over : DiskName) (line : List ℕ) (layer : ℕ) (text : List ℕ) : Type 0 where
+-- the line is a message: to a layer of this number, and its text is all that stands behind the
+-- number and one space, and may be empty
+pub record ParsesAsMessage (over : DiskName) (line : List ℕ) (layer : ℕ)
+    (text : List ℕ) : Type 0 where
   pub layer_word : List ℕ
   pub number : IsNumber layer_word layer
   pub plain : is_line_text text ≡ true
@@ -119,31 +126,39 @@ layer_verb disks.Data = codes "data-layer"
 layer_verb disks.Log = codes "log-layer"
 
 -- the line is a layer's: behind its first word and one space stands a table line
-pub record ParsesAsLayer (over : DiskName) (line : List ℕ) (asked : Result LayerSpec TableError) : Type 0 where
+pub record ParsesAsLayer (over : DiskName) (line : List ℕ)
+    (asked : Result LayerSpec TableError) : Type 0 where
   pub text : List ℕ
   pub asks : AsksFor (words_of text) asked
   pub spelled : line ≡ layer_verb over ++ 32 ∷ text
 
 -- what a line says by its words
 abbrev pub ParsesAs : List ℕ → LineMeaning → Type 0
-ParsesAs line (parsed_lines.Head (head_lines.Data sectors)) = ParsesAsNumber (codes "data") line sectors
+ParsesAs line (parsed_lines.Head (head_lines.Data sectors)) =
+    ParsesAsNumber (codes "data") line sectors
 ParsesAs line (parsed_lines.Head (head_lines.Log sectors size)) = ParsesAsLog line sectors size
 ParsesAs line (parsed_lines.Head (head_lines.Layer over asked)) = ParsesAsLayer over line asked
-ParsesAs line (parsed_lines.Body (body_lines.Submit name (submits.Write first count byte options))) =
+ParsesAs line (parsed_lines.Body
+    (body_lines.Submit name (submits.Write first count byte options))) =
     ParsesAsWrite line name first count byte options
-ParsesAs line (parsed_lines.Body (body_lines.Submit name submits.Flush)) = ParsesAsId (codes "f") line name
-ParsesAs line (parsed_lines.Body (body_lines.Submit name (submits.Discard first count))) = ParsesAsDiscard line name first count
+ParsesAs line (parsed_lines.Body (body_lines.Submit name submits.Flush)) =
+    ParsesAsId (codes "f") line name
+ParsesAs line (parsed_lines.Body (body_lines.Submit name (submits.Discard first count))) =
+    ParsesAsDiscard line name first count
 ParsesAs line (parsed_lines.Body (body_lines.Complete name)) = ParsesAsId (codes "c") line name
 ParsesAs line (parsed_lines.Body (body_lines.Step steps.Close)) = line ≡ codes "close"
-ParsesAs line (parsed_lines.Body (body_lines.Step (steps.Read first count))) = ParsesAsRead line first count
+ParsesAs line (parsed_lines.Body (body_lines.Step (steps.Read first count))) =
+    ParsesAsRead line first count
 ParsesAs line (parsed_lines.Body (body_lines.Step steps.Turn)) = line ≡ codes "turn"
 ParsesAs line (parsed_lines.Body (body_lines.Step (steps.Mark text))) = ParsesAsMark line text
-ParsesAs line (parsed_lines.Body (body_lines.Step (steps.At moment))) = ParsesAsNumber (codes "at") line moment
-ParsesAs line (parsed_lines.Body (body_lines.Step (steps.Message over layer text))) = ParsesAsMessage over line layer text
+ParsesAs line (parsed_lines.Body (body_lines.Step (steps.At moment))) =
+    ParsesAsNumber (codes "at") line moment
+ParsesAs line (parsed_lines.Body (body_lines.Step (steps.Message over layer text))) =
+    ParsesAsMessage over line layer text
 ParsesAs line (parsed_lines.Crash picks) = ParsesAsCrash line picks
 
--- the lines are those of a script of a recorder: plain ones, of which those that aren't skipped say what the script's
--- lines say, one after the other
+-- the lines are those of a script of a recorder: plain ones, of which those that aren't skipped say
+-- what the script's lines say, one after the other
 pub record AreLinesOf (lines : List (List ℕ)) (plan : ScriptValue) : Type 0 where
   pub plain : AllByRecursion (λ line. is_ascii_line line ≡ true) lines
   pub says : AllZip ParsesAs (unskipped lines) (lines_of_script plan)
@@ -153,8 +168,9 @@ pub record AreLinesOf (lines : List (List ℕ)) (plan : ScriptValue) : Type 0 wh
 abbrev pub IsTextOf : List ℕ → ScriptValue → Type 0
 IsTextOf text plan = AreLinesOf (lines_of text) plan
 
--- the line of this number, counted from 1, says what the script's command at this place says, or its crash behind the last
--- command, and stands there among the lines that aren't skipped: after those of the head and those of the commands before it
+-- the line of this number, counted from 1, says what the script's command at this place says, or
+-- its crash behind the last command, and stands there among the lines that aren't skipped: after
+-- those of the head and those of the commands before it
 pub record IsLineOf (lines : List (List ℕ)) (plan : ScriptValue) (place number : ℕ) : Type 0 where
   pub before : List (List ℕ)
   pub line : List ℕ

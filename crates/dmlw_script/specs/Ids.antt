@@ -1,5 +1,6 @@
 -- Ids, and the names that they are kept as.
-use Rattle.std.specs.Prelude.{ℕ, ◌-◌, Bool, ◌&&◌, ◌||◌, List, ◌++◌, Option, Some, None, length, nat_lt, nat_le, replicate, if◌then◌else◌, nat_eq}
+use Rattle.std.specs.Prelude.{ℕ, ◌-◌, Bool, ◌&&◌, ◌||◌, List, ◌++◌, Option, Some, None, length}
+use Rattle.std.specs.Prelude.{nat_lt, nat_le, replicate, if◌then◌else◌, nat_eq}
 use Rattle.std.specs.Char.{is_ascii_digit}
 use Rattle.std.specs.Cmp.Lexicographic.{pointwise}
 use Rattle.std.specs.List.{list_all}

@@ -1,11 +1,13 @@
 -- The lines of a text.
-use Rattle.std.specs.Prelude.{◌≡◌, ℕ, ◌+◌, ◌==◌, Bool, true, not, ◌&&◌, List, [], ◌∷◌, ◌++◌, Option, filter, flat_map, nat_lt, slice_get, if◌then◌else◌}
+use Rattle.std.specs.Prelude.{◌≡◌, ℕ, ◌+◌, ◌==◌, Bool, true, not, ◌&&◌, List, [], ◌∷◌, ◌++◌, Option}
+use Rattle.std.specs.Prelude.{filter, flat_map, nat_lt, slice_get, if◌then◌else◌}
 use Rattle.std.specs.List.{list_all, onto_first}
 
 -- the lines of a text: each ends at a line feed, which the last may lack
 abbrev pub lines_of : List ℕ → List (List ℕ)
 lines_of [] = []
-lines_of (byte ∷ bytes) = if byte == 10 then [] ∷ lines_of bytes else onto_first byte (lines_of bytes)
+lines_of (byte ∷ bytes) =
+    if byte == 10 then [] ∷ lines_of bytes else onto_first byte (lines_of bytes)
 
 -- the bytes of a line are ASCII, and not zero
 abbrev pub is_ascii_line : List ℕ → Bool
@@ -32,7 +34,8 @@ unskipped lines = filter (λ line. not (is_skipped line)) lines
 abbrev pub unskipped_numbers : ℕ → List (List ℕ) → List ℕ
 unskipped_numbers number [] = []
 unskipped_numbers number (line ∷ lines) =
-    if is_skipped line then unskipped_numbers (number + 1) lines else number ∷ unskipped_numbers (number + 1) lines
+    if is_skipped line then unskipped_numbers (number + 1) lines else number ∷ unskipped_numbers
+    (number + 1) lines
 
 -- the number of the line at this place among those that aren't skipped, those of the head included
 abbrev pub command_line : List ℕ → ℕ → Option ℕ

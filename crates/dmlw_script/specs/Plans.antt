@@ -1,5 +1,7 @@
 -- What a script is, apart from any text, and what its lines say.
-use Rattle.std.specs.Prelude.{◌≡◌, ℕ, ◌+◌, ◌/◌, ◌^◌, ◌<◌, ◌≤◌, ◌==◌, nat_le, Bool, true, false, ◌&&◌, List, [], ◌∷◌, ◌++◌, Option, Some, None, is_some, Result, Ok, length, map, position, slice_index_or, count_by, if◌then◌else◌}
+use Rattle.std.specs.Prelude.{◌≡◌, ℕ, ◌+◌, ◌/◌, ◌^◌, ◌<◌, ◌≤◌, ◌==◌, nat_le, Bool, true, false}
+use Rattle.std.specs.Prelude.{◌&&◌, List, [], ◌∷◌, ◌++◌, Option, Some, None, is_some, Result, Ok}
+use Rattle.std.specs.Prelude.{length, map, position, slice_index_or, count_by, if◌then◌else◌}
 use Rattle.std.specs.List.{list_any, AllByRecursion, IsDistinct}
 use Rattle.bio.specs.Check.{check_sized_answer}
 use Rattle.bio.specs.Sizes.{bytes_of}
@@ -30,8 +32,9 @@ pub record Disk : Type 0 where
   pub sectors : ℕ
   pub layers : List LayerSpec
 
--- what a script holds: its disks, the size of its log's sectors, the ids of its requests in the order of their submissions, and
--- the lines of its body, and the picks of the crash of the log disk that ends it, if one does
+-- what a script holds: its disks, the size of its log's sectors, the ids of its requests in the
+-- order of their submissions, and the lines of its body, and the picks of the crash of the log disk
+-- that ends it, if one does
 pub record ScriptValue : Type 0 where
   pub data_disk : Disk
   pub log_disk : Disk
@@ -44,11 +47,13 @@ pub record ScriptValue : Type 0 where
 abbrev pub is_disk_size : ℕ → Bool
 is_disk_size sectors = nat_le 1 sectors && nat_le sectors 1048576
 
--- a disk of so many sectors may be that of a log whose sectors are of so many bytes: one of them fits on it
+-- a disk of so many sectors may be that of a log whose
+-- sectors are of so many bytes: one of them fits on it
 abbrev pub is_log_disk_size : ℕ → ℕ → Bool
 is_log_disk_size bytes sectors = is_disk_size sectors && nat_le (bytes / 512) sectors
 
--- the fewest sectors of a layer over this disk: those that one of the log's sectors takes over the log disk, and one over the data disk
+-- the fewest sectors of a layer over this disk: those that one of the log's sectors takes over the
+-- log disk, and one over the data disk
 abbrev pub least_sectors : DiskName → SectorSize → ℕ
 least_sectors disks.Data size = 1
 least_sectors disks.Log size = bytes_of size / 512
@@ -61,7 +66,8 @@ top_of disk = top_sectors disk.sectors disk.layers
 abbrev pub is_within : LayerSpec → ℕ → Bool
 is_within layer sectors = nat_le (layer.offset + layer.length) sectors
 
--- a disk of the grammar: of a size that a disk may have, with up to four layers that may stand over it
+-- a disk of the grammar: of a size that a disk may have,
+-- with up to four layers that may stand over it
 pub record IsDisk (disk : Disk) : Type 0 where
   pub size : is_disk_size disk.sectors ≡ true
   pub few : length disk.layers ≤ 4
@@ -100,15 +106,16 @@ is_end_of request (commands.Step step) = false
 abbrev pub is_ended : ℕ → List Command → Bool
 is_ended request body = list_any (is_end_of request) body
 
--- what a test answers of `count` sectors from `first` on, for a log of sectors of so many bytes and a data disk of so many
--- sectors: what it answers of a read of them
+-- what a test answers of `count` sectors from `first` on, for a log of sectors of so many bytes and
+-- a data disk of so many sectors: what it answers of a read of them
 abbrev pub range_test : (bytes sectors first count : ℕ) → Result (Unit {0}) BadBio
 range_test bytes sectors first count = check_sized_answer bytes (Read first count) sectors
 
--- what a test of the sectors that a submission covers answers, for a log of sectors of so many bytes and a data disk of so many
--- sectors
+-- what a test of the sectors that a submission covers answers, for a log of sectors of so many
+-- bytes and a data disk of so many sectors
 abbrev pub submission_answer : (bytes sectors : ℕ) → Submission → Result (Unit {0}) BadBio
-submission_answer bytes sectors (submits.Write first count byte options) = range_test bytes sectors first count
+submission_answer bytes sectors (submits.Write first count byte options) =
+    range_test bytes sectors first count
 submission_answer bytes sectors submits.Flush = Ok tt
 submission_answer bytes sectors (submits.Discard first count) = range_test bytes sectors first count
 
@@ -127,8 +134,8 @@ WritesByte (submits.Write first count byte options) = byte < 256
 WritesByte submits.Flush = Unit {0}
 WritesByte (submits.Discard first count) = Unit {0}
 
--- what a line that names no request has may stand in a line: the text of a mark or of a message, and a moment or a message's
--- layer, which 64 bits hold
+-- what a line that names no request has may stand in a line: the text of a mark or of a message,
+-- and a moment or a message's layer, which 64 bits hold
 abbrev pub HasLineText : Step → Type 0
 HasLineText steps.Close = Unit {0}
 HasLineText (steps.Read first count) = Unit {0}
@@ -170,29 +177,34 @@ IsInTime moment (steps.Mark text) = Unit {0}
 IsInTime moment (steps.At later) = moment ≤ later
 IsInTime moment (steps.Message over layer text) = Unit {0}
 
--- the command may come after these, for a log of sectors of so many bytes and a data disk of so many sectors: what it covers
--- passes the test of its sectors, a write writes a byte, the text of a mark or of a message may stand in a line, no moment is
--- less than before, and an end is that of a request that was submitted and hasn't ended
+-- the command may come after these, for a log of sectors of so many bytes and a data disk of so
+-- many sectors: what it covers passes the test of its sectors, a write writes a byte, the text of a
+-- mark or of a message may stand in a line, no moment is less than before, and an end is that of a
+-- request that was submitted and hasn't ended
 abbrev pub CanFollow : (bytes sectors : ℕ) → List Command → Command → Type 0
-CanFollow bytes sectors before (commands.Submit submission) = (submission_answer bytes sectors submission ≡ Ok tt) × WritesByte submission
-CanFollow bytes sectors before (commands.Complete request) = (request < submissions before) × (is_ended request before ≡ false)
+CanFollow bytes sectors before (commands.Submit submission) =
+    (submission_answer bytes sectors submission ≡ Ok tt) × WritesByte submission
+CanFollow bytes sectors before (commands.Complete request) =
+    (request < submissions before) × (is_ended request before ≡ false)
 CanFollow bytes sectors before (commands.Step step) =
-    (step_answer bytes sectors step ≡ Ok tt) × HasLineText step × IsInTime (moment_after before) step
+    (step_answer bytes sectors step ≡ Ok tt) × HasLineText step
+    × IsInTime (moment_after before) step
 
 -- each command may come after those before it
 abbrev pub IsWellFormed : (bytes sectors : ℕ) → List Command → List Command → Type 0
 IsWellFormed bytes sectors before [] = Unit {0}
 IsWellFormed bytes sectors before (command ∷ body) =
-    CanFollow bytes sectors before command × IsWellFormed bytes sectors (before ++ command ∷ []) body
+    CanFollow bytes sectors before command
+    × IsWellFormed bytes sectors (before ++ command ∷ []) body
 
 -- the picks of a crash are numbers of 64 bits
 abbrev pub ArePicks : Option (List ℕ) → Type 0
 ArePicks None = Unit {0}
 ArePicks (Some picks) = AllByRecursion (λ pick. pick < 2 ^ 64) picks
 
--- a script of the grammar: its disks are those of one, a sector of the log fits on the top of the log disk, its ids are ids and
--- differ, each submission has one, its commands come as they may over the top of the data disk, and the picks of its crash are
--- numbers
+-- a script of the grammar: its disks are those of one, a sector of the log fits on the top of the
+-- log disk, its ids are ids and differ, each submission has one, its commands come as they may over
+-- the top of the data disk, and the picks of its crash are numbers
 pub record IsPlan (plan : ScriptValue) : Type 0 where
   pub data_disk : IsDisk plan.data_disk
   pub log_disk : IsDisk plan.log_disk
@@ -207,7 +219,8 @@ pub record IsPlan (plan : ScriptValue) : Type 0 where
 abbrev pub name_at : List ScriptId → ℕ → ScriptId
 name_at names request = slice_index_or names request (script_id [])
 
--- a request that the command submits or ends is one of so many, where so many were submitted before it
+-- a request that the command submits or ends is one of so
+-- many, where so many were submitted before it
 abbrev pub HasName : ℕ → ℕ → Command → Type 0
 HasName requests before (commands.Submit submission) = before < requests
 HasName requests before (commands.Complete request) = request < requests
@@ -215,7 +228,8 @@ HasName requests before (commands.Step step) = Unit {0}
 
 -- what the line of a command says, before which so many requests were submitted
 abbrev pub line_at : List ScriptId → ℕ → Command → BodyLine
-line_at names before (commands.Submit submission) = body_lines.Submit (name_at names before) submission
+line_at names before (commands.Submit submission) =
+    body_lines.Submit (name_at names before) submission
 line_at names before (commands.Complete request) = body_lines.Complete (name_at names request)
 line_at names before (commands.Step step) = body_lines.Step step
 
@@ -229,7 +243,8 @@ count_after_command before (commands.Step step) = before
 abbrev pub lines_of_body : List ScriptId → ℕ → List Command → List LineMeaning
 lines_of_body names before [] = []
 lines_of_body names before (command ∷ body) =
-    parsed_lines.Body (line_at names before command) ∷ lines_of_body names (count_after_command before command) body
+    parsed_lines.Body (line_at names before command) ∷ lines_of_body names
+    (count_after_command before command) body
 
 -- lines, and behind them the crash that ends the script, if one does
 abbrev pub with_ending : Option (List ℕ) → List LineMeaning → List LineMeaning
@@ -256,8 +271,8 @@ data_line sectors = parsed_lines.Head (head_lines.Data sectors)
 abbrev pub log_line : ℕ → SectorSize → LineMeaning
 log_line sectors size = parsed_lines.Head (head_lines.Log sectors size)
 
--- what the lines of a head say: the sectors of the data disk, those of the log disk and the size of the log's sectors, then the
--- layers of the data disk, and then those of the log disk
+-- what the lines of a head say: the sectors of the data disk, those of the log disk and the size of
+-- the log's sectors, then the layers of the data disk, and then those of the log disk
 abbrev pub head_of : Disk → Disk → SectorSize → List LineMeaning
 head_of data_disk log_disk log_size =
     data_line data_disk.sectors ∷ log_line log_disk.sectors log_size

@@ -18,7 +18,8 @@ abbrev pub call_text : Call → List ℕ
 call_text (calls.Submit (submits.Write first count byte options)) =
     spaced (codes "w" ∷ decimal first ∷ decimal count ∷ byte_text byte ∷ option_words options)
 call_text (calls.Submit submits.Flush) = codes "f"
-call_text (calls.Submit (submits.Discard first count)) = spaced (codes "d" ∷ decimal first ∷ decimal count ∷ [])
+call_text (calls.Submit (submits.Discard first count)) =
+    spaced (codes "d" ∷ decimal first ∷ decimal count ∷ [])
 call_text (calls.Mark text) = codes "mark " ++ text
 
 -- the line that says this

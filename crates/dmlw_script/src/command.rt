@@ -16,9 +16,9 @@ pub struct WriteOptions {
 /// What a line of a script submits. Sectors are of 512 bytes.
 #[derive(Clone, Copy, Debug)]
 pub enum Submission {
-    /// A write of `count` sectors of `byte` from sector `first` on. In a script it covers 1 to 2,048
-    /// sectors, all of them within the top of the data disk, and both numbers are multiples of the sectors
-    /// of 512 bytes in one of the log's.
+    /// A write of `count` sectors of `byte` from sector `first` on. In a script it covers 1 to
+    /// 2,048 sectors, all of them within the top of the data disk, and both numbers are multiples
+    /// of the sectors of 512 bytes in one of the log's.
     Write {
         first: u64,
         count: u64,
@@ -39,27 +39,28 @@ pub enum Submission {
 pub enum Step {
     /// Ends the recording.
     Close,
-    /// A read of `count` sectors from sector `first` on. In a script it covers 1 to 2,048 sectors, all
-    /// of them within the top of the data disk, and both numbers are multiples of the sectors of 512
-    /// bytes in one of the log's.
+    /// A read of `count` sectors from sector `first` on. In a script it covers 1 to 2,048 sectors,
+    /// all of them within the top of the data disk, and both numbers are multiples of the sectors
+    /// of 512 bytes in one of the log's.
     Read {
         first: u64,
         count: u64,
     },
     /// One turn of the writer.
     Turn,
-    /// A mark of this text, which may be empty. In a script its bytes are those of a line: ASCII, no
-    /// zero byte and no line feed. They are shared: a clone of them takes no memory.
+    /// A mark of this text, which may be empty. In a script its bytes are those of a line: ASCII,
+    /// no zero byte and no line feed. They are shared: a clone of them takes no memory.
     Mark {
         text: Bytes,
     },
-    /// The moment from here on. In a script it is no less than the one before it, which at first is 0.
+    /// The moment from here on. In a script it is no less
+    /// than the one before it, which at first is 0.
     At {
         moment: Ms,
     },
     /// A message to a layer of this disk, which counts from 1, the lowest: one of the dust target's
-    /// messages. In a script the text's bytes are those of a line: ASCII, no zero byte and no line feed.
-    /// They are shared: a clone of them takes no memory.
+    /// messages. In a script the text's bytes are those of a line: ASCII, no zero byte and no line
+    /// feed. They are shared: a clone of them takes no memory.
     Message {
         over: DiskName,
         layer: u64,

@@ -7,8 +7,8 @@ use std::alloc::{AllocError, Global};
 use std::marker::Model;
 use table_line::LayerSpec;
 
-/// A disk of a script: its sectors of 512 bytes, and the layers over it, from the lowest up. Contracts see it as a `Disk`
-/// (`specs/Plans`).
+/// A disk of a script: its sectors of 512 bytes, and the layers over it, from the lowest up.
+/// Contracts see it as a `Disk` (`specs/Plans`).
 #[derive(Debug, Drop)]
 pub struct DiskSpec {
     sectors: u64,
@@ -41,14 +41,16 @@ impl DiskSpec {
         self.sectors
     }
 
-    /// The layers over it, from the lowest up. In a script at most four, each within what stands beneath it.
+    /// The layers over it, from the lowest up. In a script
+    /// at most four, each within what stands beneath it.
     pub fn layers(&self) -> &[LayerSpec]
         ensures { result.now ≡ self.now.layers }
     {
         self.layers.as_slice()
     }
 
-    /// The sectors of what stands on top: the length of the uppermost layer, or the disk's own sectors.
+    /// The sectors of what stands on top: the length of the
+    /// uppermost layer, or the disk's own sectors.
     pub fn top_sectors(&self) -> u64
         ensures { result ≡ top_of self.now }
     {

@@ -28,7 +28,8 @@ pub(crate) struct BodyReader {
 }
 
 impl BodyReader {
-    ghost use Rattle.dmlw_script.specs.inside.Drafts.{body_of, body_step, with_command, with_name, IsDraft};
+    ghost use Rattle.dmlw_script.specs.inside.Drafts.{body_of, body_step, with_command, with_name};
+    ghost use Rattle.dmlw_script.specs.inside.Drafts.{IsDraft};
     ghost use Rattle.dmlw_script.specs.Plans.{is_end_of, IsPlan};
 
     pub(crate) fn new(alloc: Global) -> BodyReader
@@ -52,7 +53,8 @@ impl BodyReader {
     ) -> Result<(), LineError>
         requires { IsDraft self.old }
         ensures draft { OnOk result (IsDraft self.new) }
-        ensures step { Follows result (body_of self.new) (body_step (bytes_of log_size) sectors (body_of self.old) parsed) }
+        ensures step { Follows result (body_of self.new)
+            (body_step (bytes_of log_size) sectors (body_of self.old) parsed) }
     {
         match parsed {
             BodyLine::Submit { name, submission } => {
@@ -73,7 +75,9 @@ impl BodyReader {
     ) -> Result<(), LineError>
         requires { IsDraft self.old }
         ensures draft { OnOk result (IsDraft self.new) }
-        ensures step { Follows result (body_of self.new) (body_step (bytes_of log_size) sectors (body_of self.old) (BodyLine.Submit name submission)) }
+        ensures step { Follows result (body_of self.new)
+            (body_step (bytes_of log_size) sectors (body_of self.old)
+            (BodyLine.Submit name submission)) }
     {
         self.name_next(name)?;
         check_submission(submission, sectors, log_size)?;
@@ -84,7 +88,8 @@ impl BodyReader {
     fn complete(&mut self, name: ScriptId) -> Result<(), LineError>
         requires { IsDraft self.old }
         ensures draft { OnOk result (IsDraft self.new) }
-        ensures step { Follows result (body_of self.new) (body_step 0 0 (body_of self.old) (BodyLine.Complete name)) }
+        ensures step { Follows result (body_of self.new)
+            (body_step 0 0 (body_of self.old) (BodyLine.Complete name)) }
     {
         let request = self.names.get_index_of(&name).ok_or(Refusal::BadId)?;
         if self.has_ended[request] {
@@ -97,13 +102,15 @@ impl BodyReader {
     fn step(&mut self, step: Step, sectors: u64, log_size: SectorSize) -> Result<(), LineError>
         requires { IsDraft self.old }
         ensures draft { OnOk result (IsDraft self.new) }
-        ensures step { Follows result (body_of self.new) (body_step (bytes_of log_size) sectors (body_of self.old) (BodyLine.Step step)) }
+        ensures step { Follows result (body_of self.new)
+            (body_step (bytes_of log_size) sectors (body_of self.old) (BodyLine.Step step)) }
     {
         check_step(&step, sectors, log_size, self.moment)?;
         self.say(Command::Step(step))
     }
 
-    /// The script over these disks, with a log of such sectors, and the picks of the crash that ends it, if one does.
+    /// The script over these disks, with a log of such sectors,
+    /// and the picks of the crash that ends it, if one does.
     pub(crate) fn into_script(
         self,
         data_disk: DiskSpec,
@@ -111,8 +118,22 @@ impl BodyReader {
         log_size: SectorSize,
         ending: Option<Vec<u64>>,
     ) -> Script
-        requires { IsPlan (record { data_disk = data_disk; log_disk = log_disk; log_size = log_size; names = (body_of self).names; commands = (body_of self).body; ending = option_map (λ picks. picks.items) ending }) }
-        ensures { result ≡ record { data_disk = data_disk; log_disk = log_disk; log_size = log_size; names = (body_of self).names; commands = (body_of self).body; ending = option_map (λ picks. picks.items) ending } }
+        requires { IsPlan (record {
+          data_disk = data_disk;
+          log_disk = log_disk;
+          log_size = log_size;
+          names = (body_of self).names;
+          commands = (body_of self).body;
+          ending = option_map (λ picks. picks.items) ending;
+        }) }
+        ensures { result ≡ record {
+          data_disk = data_disk;
+          log_disk = log_disk;
+          log_size = log_size;
+          names = (body_of self).names;
+          commands = (body_of self).body;
+          ending = option_map (λ picks. picks.items) ending;
+        } }
     {
         let BodyReader {
             names,
@@ -141,7 +162,8 @@ impl BodyReader {
         requires draft { IsDraft self.old }
         requires no_end { (request : ℕ) → is_end_of request command ≡ false }
         ensures draft { OnOk result (IsDraft self.new) }
-        ensures step { Follows result (body_of self.new) (Ok (with_command (body_of self.old) command)) }
+        ensures step { Follows result (body_of self.new)
+            (Ok (with_command (body_of self.old) command)) }
     {
         let moment = moment_after(self.moment, &command);
         self.commands.push(command)?;
@@ -154,7 +176,8 @@ impl BodyReader {
         requires draft { IsDraft self.old }
         requires within { request < length self.old.names.keys }
         ensures draft { OnOk result (IsDraft self.new) }
-        ensures step { Follows result (body_of self.new) (Ok (with_command (body_of self.old) (Command.Complete request))) }
+        ensures step { Follows result (body_of self.new)
+            (Ok (with_command (body_of self.old) (Command.Complete request))) }
     {
         self.commands.push(Command::Complete { request })?;
         self.has_ended[request] = true;
@@ -162,13 +185,15 @@ impl BodyReader {
     }
 }
 
-/// What is asked of the sectors that a submission covers, on a disk of so many, with a log of such sectors.
+/// What is asked of the sectors that a submission covers,
+/// on a disk of so many, with a log of such sectors.
 pub(crate) fn check_submission(
     submission: Submission,
     sectors: u64,
     log_size: SectorSize,
 ) -> Result<(), LineError>
-    ensures { Follows result tt (as_refusal (submission_answer (bytes_of log_size) sectors submission)) }
+    ensures { Follows result tt
+        (as_refusal (submission_answer (bytes_of log_size) sectors submission)) }
 {
     match submission {
         Submission::Write { first, count, .. } | Submission::Discard { first, count } => {
@@ -178,14 +203,16 @@ pub(crate) fn check_submission(
     }
 }
 
-// What is asked of `count` sectors from sector `first` on, on a disk of so many, with a log of such sectors.
+// What is asked of `count` sectors from sector `first` on,
+// on a disk of so many, with a log of such sectors.
 fn check_range(first: u64, count: u64, sectors: u64, log_size: SectorSize) -> Result<(), BadBio>
     ensures { result ≡ range_test (bytes_of log_size) sectors first count }
 {
     check_sized(&Bio::Read { first, count }, sectors, log_size)
 }
 
-// What is asked of a line that names no request, at this moment: no less of an `at`, and the same of sectors.
+// What is asked of a line that names no request, at this
+// moment: no less of an `at`, and the same of sectors.
 fn check_step(step: &Step, sectors: u64, log_size: SectorSize, moment: Ms) -> Result<(), LineError>
     ensures { Follows result tt (step_test (bytes_of log_size) sectors moment step.now) }
 {

@@ -1,7 +1,9 @@
 //! The head of a script: its disks, the size of its log's sectors, and its layers, in their order.
 ghost use Rattle.std.specs.Prelude.{◌≡◌, List, false, ℕ};
 ghost use Rattle.bio.specs.Sizes.{bytes_of};
-ghost use Rattle.dmlw_script.specs.Plans.{is_disk_size as is_a_disk_size, is_log_disk_size as is_a_log_disk_size, is_within as is_within_them};
+ghost use Rattle.dmlw_script.specs.Plans.{is_disk_size as is_a_disk_size};
+ghost use Rattle.dmlw_script.specs.Plans.{is_log_disk_size as is_a_log_disk_size};
+ghost use Rattle.dmlw_script.specs.Plans.{is_within as is_within_them};
 ghost use Rattle.dmlw_script.specs.inside.Drafts.{Follows};
 ghost use Rattle.dmlw_script.specs.inside.Heads.{head_step, layer_in, layer_step, stage_of};
 ghost use Rattle.dmlw_script.specs.inside.Stages as heads;
@@ -63,7 +65,9 @@ impl Head {
         line: HeadLine,
         began: bool,
     ) -> Result<(), LineError>
-        ensures { (picks : List ℕ) → Follows result (stage_of picks self.new) (head_step (stage_of picks self.old) began line) }
+        ensures { (picks : List ℕ)
+            → Follows result (stage_of picks self.new)
+            (head_step (stage_of picks self.old) began line) }
     {
         match (self.part, line) {
             (Part::Nothing, HeadLine::Data { sectors }) if is_disk_size(sectors) => {
@@ -89,7 +93,9 @@ impl Head {
         asked: Result<LayerSpec, TableError>,
     ) -> Result<(), LineError>
         requires { self.old.part ≡ Part.Whole }
-        ensures { (picks : List ℕ) → Follows result (stage_of picks self.new) (layer_in false self.old.data_disk self.old.log_disk self.old.log_size over asked) }
+        ensures { (picks : List ℕ)
+            → Follows result (stage_of picks self.new)
+            (layer_in false self.old.data_disk self.old.log_disk self.old.log_size over asked) }
     {
         match over {
             DiskName::Data if self.log_disk.layers().is_empty() => {

@@ -1,5 +1,6 @@
 //! Laws of the grammar, apart from the code: each function does nothing, and its clause is the law.
-ghost use Rattle.std.specs.Prelude.{◌≡◌, ◌≢◌, ◌^◌, ◌<◌, ◌≤◌, ◌+◌, ◌++◌, ◌∷◌, ◌⊎◌, [], None, Some, decimal, length, true, ℕ, List};
+ghost use Rattle.std.specs.Prelude.{◌≡◌, ◌≢◌, ◌^◌, ◌<◌, ◌≤◌, ◌+◌, ◌++◌, ◌∷◌, ◌⊎◌, [], None, Some};
+ghost use Rattle.std.specs.Prelude.{decimal, length, true, ℕ, List};
 ghost use Rattle.std.specs.List.{AllByRecursion};
 ghost use Rattle.bio.specs.Sizes.{bytes_of};
 ghost use Rattle.refusals.specs.declared.refusal.Refusal.{Refusal};
@@ -7,8 +8,10 @@ ghost use Rattle.dmlw_script.specs.declared.command.Command.{Command};
 ghost use Rattle.dmlw_script.specs.declared.command.Command.TheVariants.{Complete};
 ghost use Rattle.dmlw_script.specs.Grammar.{IsLineOf, IsTextOf, AreLinesOf};
 ghost use Rattle.text_words.specs.Words.{IsNumber};
-ghost use Rattle.dmlw_script.specs.Lines.{command_line, with_line_feeds, is_ascii_line, is_skipped, IsUnbroken, lines_of};
-ghost use Rattle.dmlw_script.specs.Plans.{IsPlan, CanFollow, ScriptValue, count_behind_head, head_count, top_of};
+ghost use Rattle.dmlw_script.specs.Lines.{command_line, with_line_feeds, is_ascii_line, is_skipped};
+ghost use Rattle.dmlw_script.specs.Lines.{IsUnbroken, lines_of};
+ghost use Rattle.dmlw_script.specs.Plans.{IsPlan, CanFollow, ScriptValue, count_behind_head};
+ghost use Rattle.dmlw_script.specs.Plans.{head_count, top_of};
 ghost use Rattle.dmlw_script.specs.Reading.{IsFirstFault};
 ghost use Rattle.dmlw_script.specs.CanonicalText.{canonical_text};
 ghost use Rattle.dmlw_script.specs.RunGrammar.{AreRunLines, IsRunText};
@@ -18,14 +21,17 @@ ghost use Rattle.dmlw_script.specs.RunText.{run_text};
 
 /// Lines make a text by a line feed after each, which the last may lack unless it is empty.
 pub fn lines_make_a_text()
-    ensures with_line_feeds { (lines : List (List ℕ)) → AllByRecursion IsUnbroken lines → lines_of (with_line_feeds lines) ≡ lines }
-    ensures last { (lines : List (List ℕ)) (last : List ℕ) → AllByRecursion IsUnbroken lines → IsUnbroken last → last ≢ [] →
+    ensures with_line_feeds { (lines : List (List ℕ)) → AllByRecursion IsUnbroken lines
+        → lines_of (with_line_feeds lines) ≡ lines }
+    ensures last { (lines : List (List ℕ)) (last : List ℕ) → AllByRecursion IsUnbroken lines
+        → IsUnbroken last → last ≢ [] →
         lines_of (with_line_feeds lines ++ last) ≡ lines ++ last ∷ [] }
 {}
 
 /// A text is one script's at most.
 pub fn one_script()
-    ensures { (text : List ℕ) (plan other : ScriptValue) → IsTextOf text plan → IsTextOf text other → plan ≡ other }
+    ensures { (text : List ℕ) (plan other : ScriptValue) → IsTextOf text plan → IsTextOf text other
+        → plan ≡ other }
 {}
 
 /// Each script has a text: its spelling.
@@ -36,11 +42,12 @@ pub fn each_script_has_a_text()
 /// Scripts that are printed alike are one.
 #[tactic(auto, using(crate::proofs::ScriptLaws::same_from_spelling))]
 pub fn scripts_have_own_texts()
-    ensures { (plan other : ScriptValue) → IsPlan plan → IsPlan other → canonical_text plan ≡ canonical_text other → plan ≡ other }
+    ensures { (plan other : ScriptValue) → IsPlan plan → IsPlan other
+        → canonical_text plan ≡ canonical_text other → plan ≡ other }
 {}
 
-/// An empty line or a comment may be put between any two lines of a script's text, or be left out: the
-/// script stays the same.
+/// An empty line or a comment may be put between any two lines of a script's text, or be left out:
+/// the script stays the same.
 pub fn skipped_lines_say_nothing()
     ensures put_in { (before after : List (List ℕ)) (line : List ℕ) (plan : ScriptValue) →
         is_ascii_line line ≡ true → is_skipped line ≡ true →
@@ -50,14 +57,17 @@ pub fn skipped_lines_say_nothing()
         AreLinesOf (before ++ line ∷ after) plan → AreLinesOf (before ++ after) plan }
 {}
 
-/// The line that is named for a command is the one that says it, after the head and the lines of the
-/// commands before it. Each command has one such line, and so has the crash that ends a script, behind
-/// the last command; after that there is none. Places of commands are counted from 0, those of lines with the head.
+/// The line that is named for a command is the one that says it, after the head and the lines of
+/// the commands before it. Each command has one such line, and so has the crash that ends a script,
+/// behind the last command; after that there is none. Places of commands are counted from 0, those
+/// of lines with the head.
 pub fn lines_are_those_of_commands()
     ensures says { (text : List ℕ) (plan : ScriptValue) (place number : ℕ) → IsTextOf text plan →
-        command_line text (place + head_count plan) ≡ Some number → IsLineOf (lines_of text) plan place number }
+        command_line text (place + head_count plan) ≡ Some number
+        → IsLineOf (lines_of text) plan place number }
     ensures found { (text : List ℕ) (plan : ScriptValue) (place : ℕ) → IsTextOf text plan →
-        place < count_behind_head plan → (number : ℕ) × (command_line text (place + head_count plan) ≡ Some number) }
+        place < count_behind_head plan
+        → (number : ℕ) × (command_line text (place + head_count plan) ≡ Some number) }
     ensures one { (lines : List (List ℕ)) (plan : ScriptValue) (place m n : ℕ) →
         IsLineOf lines plan place m → IsLineOf lines plan place n → m ≡ n }
     ensures none { (text : List ℕ) (plan : ScriptValue) (place : ℕ) → IsTextOf text plan →
@@ -67,15 +77,17 @@ pub fn lines_are_those_of_commands()
 /// Each command of a script may come after those before it, and no request ends twice.
 #[tactic(auto, using(crate::proofs::ScriptLaws::can_follow, crate::proofs::ScriptLaws::ends_once))]
 pub fn requests_end_once()
-    ensures can_follow { (plan : ScriptValue) (before : List Command) (command : Command) (rest : List Command) →
+    ensures can_follow { (plan : ScriptValue) (before : List Command) (command : Command)
+        (rest : List Command) →
         IsPlan plan → plan.commands ≡ before ++ command ∷ rest →
         CanFollow (bytes_of plan.log_size) (top_of plan.data_disk) before command }
-    ensures once { (plan : ScriptValue) (before between rest : List Command) (request : ℕ) → IsPlan plan →
+    ensures once { (plan : ScriptValue) (before between rest : List Command) (request : ℕ)
+        → IsPlan plan →
         plan.commands ≡ before ++ Complete request ∷ (between ++ Complete request ∷ rest) → ⊥ }
 {}
 
-/// A text is a script's or has a first fault: one, its line and its reason. The text of a script has
-/// none.
+/// A text is a script's or has a first fault: one, its line
+/// and its reason. The text of a script has none.
 pub fn texts_have_one_first_fault()
     ensures each { (lines : List (List ℕ)) → ((plan : ScriptValue) × AreLinesOf lines plan)
         ⊎ ((line : ℕ) × (refusal : Refusal) × IsFirstFault lines line refusal) }
@@ -94,13 +106,15 @@ pub fn each_run_script_has_a_text()
 /// A text is one run's script's at most.
 #[tactic(auto, using(crate::proofs::RunTextLaws::one_run_script_of))]
 pub fn one_run_script()
-    ensures { (text : List ℕ) (plan other : RunPlan) → IsRunText text plan → IsRunText text other → plan ≡ other }
+    ensures { (text : List ℕ) (plan other : RunPlan) → IsRunText text plan → IsRunText text other
+        → plan ≡ other }
 {}
 
 /// Scripts of runs that are printed alike are one.
 #[tactic(auto, using(crate::proofs::RunTextLaws::same_from_run_text))]
 pub fn run_scripts_have_own_texts()
-    ensures { (plan other : RunPlan) → IsRunPlan plan → IsRunPlan other → run_text plan ≡ run_text other → plan ≡ other }
+    ensures { (plan other : RunPlan) → IsRunPlan plan → IsRunPlan other
+        → run_text plan ≡ run_text other → plan ≡ other }
 {}
 
 /// The same of a run's texts.

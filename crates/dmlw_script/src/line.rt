@@ -1,8 +1,17 @@
 //! What a line of a script says by its words alone, whatever stands before it.
 ghost use Rattle.std.specs.Prelude.{◌≡◌, option_copied, option_map};
 ghost use Rattle.dmlw_script.specs.LineMeaning.{as_said};
-ghost use Rattle.dmlw_script.specs.Lines.{is_line_byte as is_a_line_byte, is_line_text as is_a_line_text};
-ghost use Rattle.dmlw_script.specs.inside.Parsing.{body_words, discard_of as the_discard, discard_words as the_discard_words, disk_of_word, head_words as the_head, layer_of as the_layer, log_of as the_log, lone_word, message_of as the_message, parse_words, plain_parts, read_of as the_read, sectors_of as the_sectors, size_of as the_size, step, write_of as the_write, write_words as the_write_words};
+ghost use Rattle.dmlw_script.specs.Lines.{is_line_byte as is_a_line_byte};
+ghost use Rattle.dmlw_script.specs.Lines.{is_line_text as is_a_line_text};
+ghost use Rattle.dmlw_script.specs.inside.Parsing.{body_words, discard_of as the_discard};
+ghost use Rattle.dmlw_script.specs.inside.Parsing.{discard_words as the_discard_words};
+ghost use Rattle.dmlw_script.specs.inside.Parsing.{disk_of_word, head_words as the_head};
+ghost use Rattle.dmlw_script.specs.inside.Parsing.{layer_of as the_layer, log_of as the_log};
+ghost use Rattle.dmlw_script.specs.inside.Parsing.{lone_word, message_of as the_message};
+ghost use Rattle.dmlw_script.specs.inside.Parsing.{parse_words, plain_parts, read_of as the_read};
+ghost use Rattle.dmlw_script.specs.inside.Parsing.{sectors_of as the_sectors, size_of as the_size};
+ghost use Rattle.dmlw_script.specs.inside.Parsing.{step, write_of as the_write};
+ghost use Rattle.dmlw_script.specs.inside.Parsing.{write_words as the_write_words};
 
 use crate::command::{Step, Submission};
 use crate::disk_name::DiskName;
@@ -34,7 +43,8 @@ pub(crate) enum HeadLine {
         sectors: u64,
         size: SectorSize,
     },
-    /// `data-layer <table line>`, or `log-layer <table line>`: the layer that is asked for, or why none is
+    /// `data-layer <table line>`, or `log-layer <table line>`:
+    /// the layer that is asked for, or why none is
     Layer {
         over: DiskName,
         asked: Result<LayerSpec, TableError>,
@@ -53,12 +63,13 @@ pub(crate) enum BodyLine {
     Complete {
         name: ScriptId,
     },
-    /// `close`, `r <first> <count>`, `turn`, `mark <text>`, `message data|log <layer> <text>`, or `at <ms>`
+    /// `close`, `r <first> <count>`, `turn`, `mark <text>`,
+    /// `message data|log <layer> <text>`, or `at <ms>`
     Step(Step),
 }
 
-/// What a line of this first word says that is no crash, no mark and no message, whose other words are
-/// these, if it is of the grammar.
+/// What a line of this first word says that is no crash, no mark and no message, whose other words
+/// are these, if it is of the grammar.
 pub(crate) fn parse_parts(verb: &[u8], words: Option<&[u8]>) -> Option<Line>
     ensures { option_map as_said result ≡ plain_parts verb.now (option_copied words.entry) }
 {
@@ -89,7 +100,8 @@ fn parse_words(verb: &[u8], words: &[u8]) -> Option<Line>
     }
 }
 
-/// What a line of the head says, of this first word, whose other words are these, if it is of the grammar.
+/// What a line of the head says, of this first word, whose
+/// other words are these, if it is of the grammar.
 pub(crate) fn head_words(verb: &[u8], words: &[u8]) -> Option<HeadLine>
     ensures { result ≡ the_head verb.now words.now }
 {
@@ -173,7 +185,8 @@ fn write_of(words: &[u8]) -> Option<Line>
     }))
 }
 
-/// The write whose first sector, number of sectors, byte and options these words are, if they are a write's.
+/// The write whose first sector, number of sectors, byte
+/// and options these words are, if they are a write's.
 pub(crate) fn write_words(words: &[u8]) -> Option<Submission>
     ensures { result ≡ the_write_words words.now }
 {
@@ -223,10 +236,11 @@ fn sectors_of(words: &[u8]) -> Option<(u64, u64)>
     Some((number_of(first)?, number_of(count?)?))
 }
 
-/// What a message says, whose other words these are, if it is of the grammar: its disk, its layer and its
-/// text.
+/// What a message says, whose other words these are, if it
+/// is of the grammar: its disk, its layer and its text.
 pub(crate) fn message_of(words: Option<&[u8]>) -> Option<(DiskName, u64, &[u8])>
-    ensures { option_map (λ message. step (Step.Message message.0 message.1 message.2.now)) result ≡ the_message (option_copied words.entry) }
+    ensures { option_map (λ message. step (Step.Message message.0 message.1 message.2.now)) result
+        ≡ the_message (option_copied words.entry) }
 {
     let (disk, rest) = cut(words?, b' ');
     let over = disk_of(disk)?;

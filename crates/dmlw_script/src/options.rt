@@ -1,6 +1,7 @@
 //! The options of a write: flush, fua and meta, in this order.
 ghost use Rattle.std.specs.Prelude.{◌≡◌, option_copied};
-ghost use Rattle.dmlw_script.specs.inside.Parsing.{options_of as the_options, take_word as the_taking};
+ghost use Rattle.dmlw_script.specs.inside.Parsing.{options_of as the_options};
+ghost use Rattle.dmlw_script.specs.inside.Parsing.{take_word as the_taking};
 
 use crate::command::WriteOptions;
 use text_words::cut;

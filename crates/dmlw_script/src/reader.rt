@@ -1,9 +1,13 @@
-//! Reads the text of a recorder's script: `read_script` gives the script, or the first line at fault.
-ghost use Rattle.std.specs.Prelude.{◌≡◌, ◌<◌, ◌≤◌, ◌∷◌, [], None, IfErr, IfOk, MatchOption, OnOk, length, option_copied, option_map};
+//! Reads the text of a recorder's script: `read_script`
+//! gives the script, or the first line at fault.
+ghost use Rattle.std.specs.Prelude.{◌≡◌, ◌<◌, ◌≤◌, ◌∷◌, [], None, IfErr, IfOk, MatchOption, OnOk};
+ghost use Rattle.std.specs.Prelude.{length, option_copied, option_map};
 ghost use Rattle.dmlw_script.specs.LineMeaning.{as_said};
 ghost use Rattle.dmlw_script.specs.LineMeaning as parsed_lines;
-ghost use Rattle.dmlw_script.specs.inside.Parsing.{mark_of, message_of as the_message, parse_parts, picks_of as the_picks, plain_parts};
-ghost use Rattle.dmlw_script.specs.Lines.{command_line, lines_of, is_ascii_line as is_plain_line, is_skipped as is_a_skipped_line};
+ghost use Rattle.dmlw_script.specs.inside.Parsing.{mark_of, message_of as the_message, parse_parts};
+ghost use Rattle.dmlw_script.specs.inside.Parsing.{picks_of as the_picks, plain_parts};
+ghost use Rattle.dmlw_script.specs.Lines.{command_line, lines_of, is_ascii_line as is_plain_line};
+ghost use Rattle.dmlw_script.specs.Lines.{is_skipped as is_a_skipped_line};
 ghost use Rattle.dmlw_script.specs.Grammar.{IsTextOf};
 ghost use Rattle.dmlw_script.specs.Plans.{ScriptValue};
 ghost use Rattle.dmlw_script.specs.Reading.{IsFaultOf, IsReadAs};
@@ -33,7 +37,10 @@ struct Reader {
 
 impl Reader {
     ghost use Rattle.dmlw_script.specs.inside.Drafts.{Follows};
-    ghost use Rattle.dmlw_script.specs.inside.Readers.{body_line, finish_step, has_begun, line_step, nothing, progress_of, parsed_step, step_if_parsed, with_head, Finishes, IsReader};
+    ghost use Rattle.dmlw_script.specs.inside.Readers.{body_line, finish_step, has_begun};
+    ghost use Rattle.dmlw_script.specs.inside.Readers.{line_step, nothing, progress_of};
+    ghost use Rattle.dmlw_script.specs.inside.Readers.{parsed_step, step_if_parsed, with_head};
+    ghost use Rattle.dmlw_script.specs.inside.Readers.{Finishes, IsReader};
     ghost use Rattle.dmlw_script.specs.inside.Heads.{head_step};
     ghost use Rattle.dmlw_script.specs.Plans.{IsPlan};
 
@@ -53,7 +60,8 @@ impl Reader {
     fn read_line(&mut self, line: &[u8]) -> Result<(), LineError>
         requires { IsReader self.old }
         ensures reader { OnOk result (IsReader self.new) }
-        ensures step { Follows result (progress_of self.new) (line_step (progress_of self.old) line.now) }
+        ensures step { Follows result (progress_of self.new)
+            (line_step (progress_of self.old) line.now) }
     {
         if !is_ascii_line(line) {
             return Err(LineError::Refused(Refusal::BadLine));
@@ -65,11 +73,14 @@ impl Reader {
         self.read_words(verb, words)
     }
 
-    // Reads the next line that isn't skipped, of this first word, with its other words, if it has any.
+    // Reads the next line that isn't skipped, of this first
+    // word, with its other words, if it has any.
     fn read_words(&mut self, verb: &[u8], words: Option<&[u8]>) -> Result<(), LineError>
         requires { IsReader self.old }
         ensures reader { OnOk result (IsReader self.new) }
-        ensures step { Follows result (progress_of self.new) (step_if_parsed (progress_of self.old) (parse_parts verb.now (option_copied words.entry))) }
+        ensures step { Follows result (progress_of self.new)
+            (step_if_parsed (progress_of self.old)
+            (parse_parts verb.now (option_copied words.entry))) }
     {
         if verb == b"crash".as_slice() {
             self.read_crash(words)
@@ -86,7 +97,9 @@ impl Reader {
     fn read_plain(&mut self, verb: &[u8], words: Option<&[u8]>) -> Result<(), LineError>
         requires { IsReader self.old }
         ensures reader { OnOk result (IsReader self.new) }
-        ensures step { Follows result (progress_of self.new) (step_if_parsed (progress_of self.old) (plain_parts verb.now (option_copied words.entry))) }
+        ensures step { Follows result (progress_of self.new)
+            (step_if_parsed (progress_of self.old)
+            (plain_parts verb.now (option_copied words.entry))) }
     {
         let parsed = parse_parts(verb, words).ok_or(Refusal::BadLine)?;
         self.read_parsed(parsed)
@@ -96,7 +109,9 @@ impl Reader {
     fn read_crash(&mut self, words: Option<&[u8]>) -> Result<(), LineError>
         requires { IsReader self.old }
         ensures reader { OnOk result (IsReader self.new) }
-        ensures step { Follows result (progress_of self.new) (step_if_parsed (progress_of self.old) (option_map parsed_lines.Crash (the_picks (option_copied words.entry)))) }
+        ensures step { Follows result (progress_of self.new)
+            (step_if_parsed (progress_of self.old)
+            (option_map parsed_lines.Crash (the_picks (option_copied words.entry)))) }
     {
         let picks = picks_of(self.alloc, words)?;
         self.end(picks)
@@ -106,7 +121,8 @@ impl Reader {
     fn end(&mut self, picks: Vec<u64>) -> Result<(), LineError>
         requires { IsReader self.old }
         ensures reader { OnOk result (IsReader self.new) }
-        ensures step { Follows result (progress_of self.new) (parsed_step (progress_of self.old) (parsed_lines.Crash picks.items)) }
+        ensures step { Follows result (progress_of self.new)
+            (parsed_step (progress_of self.old) (parsed_lines.Crash picks.items)) }
     {
         let Part::Whole = self.head.part else {
             return Err(LineError::Refused(Refusal::BadLine));
@@ -120,7 +136,8 @@ impl Reader {
     fn read_mark(&mut self, text: Option<&[u8]>) -> Result<(), LineError>
         requires { IsReader self.old }
         ensures reader { OnOk result (IsReader self.new) }
-        ensures step { Follows result (progress_of self.new) (step_if_parsed (progress_of self.old) (mark_of (option_copied text.entry))) }
+        ensures step { Follows result (progress_of self.new)
+            (step_if_parsed (progress_of self.old) (mark_of (option_copied text.entry))) }
     {
         match text {
             Some(text) if is_line_text(text) => {
@@ -135,7 +152,8 @@ impl Reader {
     fn read_message(&mut self, words: Option<&[u8]>) -> Result<(), LineError>
         requires { IsReader self.old }
         ensures reader { OnOk result (IsReader self.new) }
-        ensures step { Follows result (progress_of self.new) (step_if_parsed (progress_of self.old) (the_message (option_copied words.entry))) }
+        ensures step { Follows result (progress_of self.new)
+            (step_if_parsed (progress_of self.old) (the_message (option_copied words.entry))) }
     {
         let (over, layer, text) = message_of(words).ok_or(Refusal::BadLine)?;
         let shared = shared_text(self.alloc, text)?;
@@ -150,7 +168,8 @@ impl Reader {
     fn read_parsed(&mut self, parsed: Line) -> Result<(), LineError>
         requires { IsReader self.old }
         ensures reader { OnOk result (IsReader self.new) }
-        ensures step { Follows result (progress_of self.new) (parsed_step (progress_of self.old) (as_said parsed)) }
+        ensures step { Follows result (progress_of self.new)
+            (parsed_step (progress_of self.old) (as_said parsed)) }
     {
         match parsed {
             Line::Head(line) => self.read_head(line),
@@ -162,7 +181,10 @@ impl Reader {
     fn read_head(&mut self, line: HeadLine) -> Result<(), LineError>
         requires { IsReader self.old }
         ensures reader { OnOk result (IsReader self.new) }
-        ensures step { Follows result (progress_of self.new) (with_head (progress_of self.old) (head_step (progress_of self.old).head (has_begun (progress_of self.old).body.body) line)) }
+        ensures step { Follows result (progress_of self.new)
+            (with_head (progress_of self.old)
+            (head_step (progress_of self.old).head
+            (has_begun (progress_of self.old).body.body) line)) }
     {
         let began = !self.draft.commands.is_empty();
         self.head.read(self.alloc, line, began)
@@ -172,7 +194,8 @@ impl Reader {
     fn read_body(&mut self, line: BodyLine) -> Result<(), LineError>
         requires { IsReader self.old }
         ensures reader { OnOk result (IsReader self.new) }
-        ensures step { Follows result (progress_of self.new) (body_line (progress_of self.old).head (progress_of self.old) line) }
+        ensures step { Follows result (progress_of self.new)
+            (body_line (progress_of self.old).head (progress_of self.old) line) }
     {
         match self.head.part {
             Part::Whole => {
@@ -211,14 +234,14 @@ impl Reader {
 /// Reads a text, in time linear in its length; nothing is read after a fault.
 ///
 /// A line is refused, in this order, as `BadLine` where it isn't of the grammar at its place (also
-/// in a comment, if a byte is zero or not ASCII; at an `at` that goes back; at a layer's line out of its
-/// place, or a fifth one for its disk; and after the last line, where the head isn't whole), as
-/// `UnknownTarget`, `WrongCount`, `BadNumber`, `BadFeature` or `OutOfRange` where the table line of a layer
-/// asks for none, as `OutOfRange` where a layer isn't within what stands beneath it, as `BadLine` where a layer of
-/// the log disk is shorter than a sector of the log, as `BadId` where an id is submitted again or isn't open at its
-/// end, and as `NotWhole`, `TooLong`, `PastEnd` or `Unaligned` where `bio::check_sized` refuses the sectors of a
-/// write, a discard or a read for the top of the data disk and the log's sector size.
-/// Want of memory is `Memory`, and names no line.
+/// in a comment, if a byte is zero or not ASCII; at an `at` that goes back; at a layer's line out
+/// of its place, or a fifth one for its disk; and after the last line, where the head isn't whole),
+/// as `UnknownTarget`, `WrongCount`, `BadNumber`, `BadFeature` or `OutOfRange` where the table line
+/// of a layer asks for none, as `OutOfRange` where a layer isn't within what stands beneath it, as
+/// `BadLine` where a layer of the log disk is shorter than a sector of the log, as `BadId` where an
+/// id is submitted again or isn't open at its end, and as `NotWhole`, `TooLong`, `PastEnd` or
+/// `Unaligned` where `bio::check_sized` refuses the sectors of a write, a discard or a read for the
+/// top of the data disk and the log's sector size. Want of memory is `Memory`, and names no line.
 pub fn read_script(alloc: Global, text: &[u8]) -> Result<Script, Fault>
     // What is read is a recorder's script, and this is a text of it.
     ensures found { IfOk result (λ script. IsTextOf text.now script) }
@@ -260,7 +283,8 @@ pub(crate) fn shared_text(alloc: Global, text: &[u8]) -> Result<Bytes, AllocErro
 /// The next line and the text after it, if there is a line.
 pub(crate) fn next_line(text: &[u8]) -> Option<(&[u8], &[u8])>
     ensures { MatchOption result (text.now ≡ []) (λ next.
-        (lines_of text.now ≡ next.0.now ∷ lines_of next.1.now) × (length next.1.now < length text.now)) }
+        (lines_of text.now ≡ next.0.now ∷ lines_of next.1.now)
+        × (length next.1.now < length text.now)) }
 {
     if text.is_empty() {
         return None;
@@ -305,10 +329,10 @@ pub(crate) fn is_skipped(line: &[u8]) -> bool
     }
 }
 
-/// The number, counted from 1, of the line at this place among the lines of a text that aren't skipped, those of
-/// the head included, or none where the text has no such line. The line of a script's command stands its `head_lines`
-/// later than the command's own place, and that of its crash behind the last command's. Takes no memory, and one pass over
-/// the text.
+/// The number, counted from 1, of the line at this place among the lines of a text that aren't
+/// skipped, those of the head included, or none where the text has no such line. The line of a
+/// script's command stands its `head_lines` later than the command's own place, and that of its
+/// crash behind the last command's. Takes no memory, and one pass over the text.
 pub fn line_of(text: &[u8], place: usize) -> Option<u64>
     ensures { result ≡ command_line text.now place }
 {

@@ -1,6 +1,10 @@
 //! What a line of a run's script says by its words alone.
 ghost use Rattle.std.specs.Prelude.{◌≡◌, IfErr, IfOk, Some, option_copied};
-ghost use Rattle.dmlw_script.specs.inside.RunParsing.{call_of as the_call, mark_call, parse_run_line, run_head_line, seat_line, seat_of as the_seat, submission_of as the_submission, IsNoRunLine, IsUnread};
+ghost use Rattle.dmlw_script.specs.inside.RunParsing.{call_of as the_call, mark_call};
+ghost use Rattle.dmlw_script.specs.inside.RunParsing.{parse_run_line, run_head_line, seat_line};
+ghost use Rattle.dmlw_script.specs.inside.RunParsing.{seat_of as the_seat};
+ghost use Rattle.dmlw_script.specs.inside.RunParsing.{submission_of as the_submission, IsNoRunLine};
+ghost use Rattle.dmlw_script.specs.inside.RunParsing.{IsUnread};
 
 use crate::command::Submission;
 use crate::line::{HeadLine, discard_words, head_words, is_line_text, write_words};
@@ -18,7 +22,8 @@ pub(crate) enum RunLine {
     Head(HeadLine),
     /// `seats <n>`
     Seats(u64),
-    /// `s<k> w <first> <count> <byte> [flush] [fua] [meta]`, `s<k> f`, `s<k> d <first> <count>`, or `s<k> mark <text>`
+    /// `s<k> w <first> <count> <byte> [flush] [fua] [meta]`,
+    /// `s<k> f`, `s<k> d <first> <count>`, or `s<k> mark <text>`
     Body(SeatCall),
 }
 
@@ -70,7 +75,8 @@ fn seat_of(word: &[u8]) -> Option<u64>
 // What a seat does by this first word, whose other words are these, if there are any.
 fn call_of(alloc: Global, verb: &[u8], words: Option<&[u8]>) -> Result<Call, LineError>
     ensures said { IfOk result (λ call. the_call verb.now (option_copied words.entry) ≡ Some call) }
-    ensures none { IfErr result (λ error. IsUnread error (the_call verb.now (option_copied words.entry))) }
+    ensures none { IfErr result
+        (λ error. IsUnread error (the_call verb.now (option_copied words.entry))) }
 {
     if verb == b"mark".as_slice() {
         return mark_of(alloc, words);
@@ -93,7 +99,8 @@ fn mark_of(alloc: Global, text: Option<&[u8]>) -> Result<Call, LineError>
     }
 }
 
-// The request that a seat submits by this first word, whose other words are these, if there are any.
+// The request that a seat submits by this first word, whose
+// other words are these, if there are any.
 fn submission_of(verb: &[u8], words: Option<&[u8]>) -> Option<Submission>
     ensures { result ≡ the_submission verb.now (option_copied words.entry) }
 {

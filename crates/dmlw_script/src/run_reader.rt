@@ -37,7 +37,9 @@ impl RunReader {
     ghost use Rattle.std.specs.Prelude.{◌≡◌};
     ghost use Rattle.dmlw_script.specs.RunPlans.{IsRunPlan};
     ghost use Rattle.dmlw_script.specs.inside.Readers.{Finishes};
-    ghost use Rattle.dmlw_script.specs.inside.RunReaders.{call_line, nothing_read, run_finish_step, run_head_step, run_line_step, run_progress, said_step, seats_line};
+    ghost use Rattle.dmlw_script.specs.inside.RunReaders.{call_line, nothing_read, run_finish_step};
+    ghost use Rattle.dmlw_script.specs.inside.RunReaders.{run_head_step, run_line_step};
+    ghost use Rattle.dmlw_script.specs.inside.RunReaders.{run_progress, said_step, seats_line};
 
     fn new(alloc: Global) -> RunReader
         ensures { run_progress result ≡ nothing_read }
@@ -52,7 +54,8 @@ impl RunReader {
 
     // Reads the next line.
     fn read_line(&mut self, line: &[u8]) -> Result<(), LineError>
-        ensures { Follows result (run_progress self.new) (run_line_step (run_progress self.old) line.now) }
+        ensures { Follows result (run_progress self.new)
+            (run_line_step (run_progress self.old) line.now) }
     {
         if !is_ascii_line(line) {
             return Err(LineError::Refused(Refusal::BadLine));
@@ -77,7 +80,8 @@ impl RunReader {
 
     // Reads the next line of the head, which isn't that of the seats.
     fn read_head(&mut self, line: HeadLine) -> Result<(), LineError>
-        ensures { Follows result (run_progress self.new) (run_head_step (run_progress self.old) line) }
+        ensures { Follows result (run_progress self.new)
+            (run_head_step (run_progress self.old) line) }
     {
         let closed = self.seats.is_none() || !self.calls.is_empty();
         self.head.read(self.alloc, line, closed)
@@ -85,7 +89,8 @@ impl RunReader {
 
     // Reads the number of seats.
     fn read_seats(&mut self, count: u64) -> Result<(), LineError>
-        ensures { Follows result (run_progress self.new) (seats_line (run_progress self.old).head self.old.seats (run_progress self.old) count) }
+        ensures { Follows result (run_progress self.new)
+            (seats_line (run_progress self.old).head self.old.seats (run_progress self.old) count) }
     {
         match (self.head.part, self.seats) {
             (Part::Whole, None) if 1 <= count && count <= MAX_SEATS => {
@@ -98,7 +103,8 @@ impl RunReader {
 
     // Reads the next line of the body.
     fn read_call(&mut self, line: SeatCall) -> Result<(), LineError>
-        ensures { Follows result (run_progress self.new) (call_line (run_progress self.old).head self.old.seats (run_progress self.old) line) }
+        ensures { Follows result (run_progress self.new)
+            (call_line (run_progress self.old).head self.old.seats (run_progress self.old) line) }
     {
         match (self.head.part, self.seats) {
             (Part::Whole, Some(seats)) if line.seat < seats => {
@@ -143,14 +149,15 @@ impl RunReader {
 /// Reads a run's text, in time linear in its length; nothing is read after a fault.
 ///
 /// A line is refused, in this order, as `BadLine` where it isn't of the grammar at its place (also
-/// in a comment, if a byte is zero or not ASCII; at a number of seats that isn't 1 to 64; at a layer's line before that
-/// of the seats, out of its place, or a fifth one for its disk; at a line of a seat that there isn't; and after the last
-/// line, where the head isn't whole), as
-/// `UnknownTarget`, `WrongCount`, `BadNumber`, `BadFeature` or `OutOfRange` where the table line of a layer
-/// asks for none, as `OutOfRange` where a layer isn't within what stands beneath it, as `BadLine` where a layer of
-/// the log disk is shorter than a sector of the log, and as `NotWhole`, `TooLong`, `PastEnd` or `Unaligned` where
-/// `bio::check_sized` refuses the sectors of a write or a discard for the top of the data disk and the log's sector size.
-/// Want of memory is `Memory`, and names no line.
+/// in a comment, if a byte is zero or not ASCII; at a number of seats that isn't 1 to 64; at a
+/// layer's line before that of the seats, out of its place, or a fifth one for its disk; at a line
+/// of a seat that there isn't; and after the last line, where the head isn't whole), as
+/// `UnknownTarget`, `WrongCount`, `BadNumber`, `BadFeature` or `OutOfRange` where the table line of
+/// a layer asks for none, as `OutOfRange` where a layer isn't within what stands beneath it, as
+/// `BadLine` where a layer of the log disk is shorter than a sector of the log, and as `NotWhole`,
+/// `TooLong`, `PastEnd` or `Unaligned` where `bio::check_sized` refuses the sectors of a write or a
+/// discard for the top of the data disk and the log's sector size. Want of memory is `Memory`, and
+/// names no line.
 pub fn read_run_script(alloc: Global, text: &[u8]) -> Result<RunScript, Fault>
     // What is read is a run's script, and this is a text of it.
     ensures found { IfOk result (λ script. IsRunText text.now script) }
@@ -182,7 +189,8 @@ fn read_run(alloc: Global, text: &[u8]) -> Result<RunScript, Fault>
     }
 }
 
-// What is asked of the sectors that a call covers, on a disk of so many, with a log of such sectors.
+// What is asked of the sectors that a call covers, on a
+// disk of so many, with a log of such sectors.
 fn check_call(call: &Call, sectors: u64, log_size: SectorSize) -> Result<(), LineError>
     ensures { Follows result tt (as_refusal (call_answer (bytes_of log_size) sectors call.now)) }
 {

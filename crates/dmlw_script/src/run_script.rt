@@ -6,7 +6,8 @@ use crate::seat_call::SeatCall;
 use bio::SectorSize;
 use std::marker::Model;
 
-/// A script of `dmlw run`. Contracts see it as a `RunPlan` (`specs/RunPlans`), and each value is one that `IsRunPlan` holds of.
+/// A script of `dmlw run`. Contracts see it as a `RunPlan` (`specs/RunPlans`), and each value is
+/// one that `IsRunPlan` holds of.
 #[derive(Debug, Drop)]
 pub struct RunScript {
     data_disk: DiskSpec,
@@ -21,9 +22,22 @@ impl Model for RunScript {
 
     ghost Value = { RunPlan };
 
-    ghost view = { λ s. record { data_disk = s.data_disk; log_disk = s.log_disk; log_size = s.log_size; seats = s.seats; calls = s.calls.items } };
+    ghost view = { λ s. record {
+      data_disk = s.data_disk;
+      log_disk = s.log_disk;
+      log_size = s.log_size;
+      seats = s.seats;
+      calls = s.calls.items;
+    } };
 
-    ghost invariant = { λ s. IsRunPlan (record { data_disk = s.data_disk; log_disk = s.log_disk; log_size = s.log_size; seats = s.seats; calls = s.calls.items }) };
+    ghost invariant = { λ s. IsRunPlan
+        (record {
+          data_disk = s.data_disk;
+          log_disk = s.log_disk;
+          log_size = s.log_size;
+          seats = s.seats;
+          calls = s.calls.items;
+        }) };
 }
 
 impl RunScript {
@@ -39,8 +53,20 @@ impl RunScript {
         seats: u64,
         calls: Vec<SeatCall>,
     ) -> RunScript
-        requires { IsRunPlan (record { data_disk = data_disk; log_disk = log_disk; log_size = log_size; seats = seats; calls = calls.items }) }
-        ensures { result ≡ record { data_disk = data_disk; log_disk = log_disk; log_size = log_size; seats = seats; calls = calls.items } }
+        requires { IsRunPlan (record {
+          data_disk = data_disk;
+          log_disk = log_disk;
+          log_size = log_size;
+          seats = seats;
+          calls = calls.items;
+        }) }
+        ensures { result ≡ record {
+          data_disk = data_disk;
+          log_disk = log_disk;
+          log_size = log_size;
+          seats = seats;
+          calls = calls.items;
+        } }
     {
         RunScript {
             data_disk,
@@ -59,7 +85,8 @@ impl RunScript {
         &self.data_disk
     }
 
-    /// The log disk, of 1 to 1,048,576 sectors, with up to four layers. Its top has room for one of the log's sectors.
+    /// The log disk, of 1 to 1,048,576 sectors, with up to four
+    /// layers. Its top has room for one of the log's sectors.
     pub fn log(&self) -> &DiskSpec
         ensures disk { result.now ≡ self.now.log_disk }
         ensures script { IsRunPlan self.now }
@@ -67,7 +94,8 @@ impl RunScript {
         &self.log_disk
     }
 
-    /// The size of the log's sectors: 512 bytes, or 4,096. One of them fits on the top of the log disk.
+    /// The size of the log's sectors: 512 bytes, or 4,096.
+    /// One of them fits on the top of the log disk.
     pub fn log_size(&self) -> SectorSize
         ensures size { result ≡ self.now.log_size }
         ensures room { bytes_of result / 512 ≤ top_of self.now.log_disk }

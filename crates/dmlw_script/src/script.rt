@@ -26,9 +26,24 @@ impl Model for Script {
 
     ghost Value = { ScriptValue };
 
-    ghost view = { λ s. record { data_disk = s.data_disk; log_disk = s.log_disk; log_size = s.log_size; names = s.names.keys; commands = s.commands.items; ending = option_map (λ picks. picks.items) s.ending } };
+    ghost view = { λ s. record {
+      data_disk = s.data_disk;
+      log_disk = s.log_disk;
+      log_size = s.log_size;
+      names = s.names.keys;
+      commands = s.commands.items;
+      ending = option_map (λ picks. picks.items) s.ending;
+    } };
 
-    ghost invariant = { λ s. IsPlan (record { data_disk = s.data_disk; log_disk = s.log_disk; log_size = s.log_size; names = s.names.keys; commands = s.commands.items; ending = option_map (λ picks. picks.items) s.ending }) };
+    ghost invariant = { λ s. IsPlan
+        (record {
+          data_disk = s.data_disk;
+          log_disk = s.log_disk;
+          log_size = s.log_size;
+          names = s.names.keys;
+          commands = s.commands.items;
+          ending = option_map (λ picks. picks.items) s.ending;
+        }) };
 }
 
 impl Script {
@@ -44,8 +59,22 @@ impl Script {
         commands: Vec<Command>,
         ending: Option<Vec<u64>>,
     ) -> Script
-        requires { IsPlan (record { data_disk = data_disk; log_disk = log_disk; log_size = log_size; names = names.keys; commands = commands.items; ending = option_map (λ picks. picks.items) ending }) }
-        ensures { result ≡ record { data_disk = data_disk; log_disk = log_disk; log_size = log_size; names = names.keys; commands = commands.items; ending = option_map (λ picks. picks.items) ending } }
+        requires { IsPlan (record {
+          data_disk = data_disk;
+          log_disk = log_disk;
+          log_size = log_size;
+          names = names.keys;
+          commands = commands.items;
+          ending = option_map (λ picks. picks.items) ending;
+        }) }
+        ensures { result ≡ record {
+          data_disk = data_disk;
+          log_disk = log_disk;
+          log_size = log_size;
+          names = names.keys;
+          commands = commands.items;
+          ending = option_map (λ picks. picks.items) ending;
+        } }
     {
         Script {
             data_disk,
@@ -65,7 +94,8 @@ impl Script {
         &self.data_disk
     }
 
-    /// The log disk, of 1 to 1,048,576 sectors, with up to four layers. Its top has room for one of the log's sectors.
+    /// The log disk, of 1 to 1,048,576 sectors, with up to four
+    /// layers. Its top has room for one of the log's sectors.
     pub fn log(&self) -> &DiskSpec
         ensures disk { result.now ≡ self.now.log_disk }
         ensures script { IsPlan self.now }
@@ -73,7 +103,8 @@ impl Script {
         &self.log_disk
     }
 
-    /// The size of the log's sectors: 512 bytes, or 4,096. One of them fits on the top of the log disk.
+    /// The size of the log's sectors: 512 bytes, or 4,096.
+    /// One of them fits on the top of the log disk.
     pub fn log_size(&self) -> SectorSize
         ensures size { result ≡ self.now.log_size }
         ensures room { bytes_of result / 512 ≤ top_of self.now.log_disk }

@@ -1,7 +1,8 @@
 //! The id by which a script's lines name a request.
 ghost use Rattle.std.specs.Prelude.{◌≡◌, ◌≤◌, Some, length};
 ghost use Rattle.std.specs.List.{list_all};
-ghost use Rattle.dmlw_script.specs.Ids.{is_name_byte as is_id_byte, is_id as is_an_id, letters_of, id_of_word, script_id};
+ghost use Rattle.dmlw_script.specs.Ids.{is_name_byte as is_id_byte, is_id as is_an_id, letters_of};
+ghost use Rattle.dmlw_script.specs.Ids.{id_of_word, script_id};
 ghost use Rattle.dmlw_script.specs.Texts.{id_text};
 
 use std::fmt;

@@ -5,10 +5,11 @@ use bio::Bytes;
 /// What a seat does.
 #[derive(Debug, Drop)]
 pub enum Call {
-    /// Submits a request. In a script its sectors are in the same range as in a script of a recorder.
+    /// Submits a request. In a script its sectors are in
+    /// the same range as in a script of a recorder.
     Submit(Submission),
-    /// Marks the log by this text, which may be empty. In a script its bytes are those of a line: ASCII, no zero byte and no
-    /// line feed. They are shared: a clone of them takes no memory.
+    /// Marks the log by this text, which may be empty. In a script its bytes are those of a line:
+    /// ASCII, no zero byte and no line feed. They are shared: a clone of them takes no memory.
     Mark { text: Bytes },
 }
 

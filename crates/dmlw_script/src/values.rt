@@ -11,8 +11,10 @@ use text_words::{cut, number_of};
 
 /// The picks that these words say, if there are any: each a number.
 pub(crate) fn picks_of(alloc: Global, words: Option<&[u8]>) -> Result<Vec<u64>, LineError>
-    ensures picks { IfOk result (λ picks. the_picks (option_copied words.entry) ≡ Some picks.items) }
-    ensures none { IfErr result (λ error. HasNoPicks error (the_picks (option_copied words.entry))) }
+    ensures picks { IfOk result
+        (λ picks. the_picks (option_copied words.entry) ≡ Some picks.items) }
+    ensures none { IfErr result
+        (λ error. HasNoPicks error (the_picks (option_copied words.entry))) }
 {
     let mut picks = Vec::new(alloc);
     let mut rest = words;

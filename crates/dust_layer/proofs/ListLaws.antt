@@ -1,5 +1,6 @@
 -- What calls and messages leave of the list, the mode and the counts, by what is said that they do.
-use Rattle.std.proofs.Common.{◌≡◌, ℕ, ◌+◌, ◌-◌, ◌/◌, ◌*◌, ◌<◌, ◌≤◌, Bool, true, false, Ok, Err, List, length, Some, None, refl, subst, inl, inr, ◌∙◌, arith}
+use Rattle.std.proofs.Common.{◌≡◌, ℕ, ◌+◌, ◌-◌, ◌/◌, ◌*◌, ◌<◌, ◌≤◌, Bool, true, false, Ok, Err}
+use Rattle.std.proofs.Common.{List, length, Some, None, refl, subst, inl, inr, ◌∙◌, arith}
 use Rattle.std.specs.Prelude.{Result, is_some, nat_lt}
 use Rattle.bio.specs.declared.outcome.DevError.{DevError}
 use Rattle.blockdev.specs.Calls.{Call, Reads, Writes}
@@ -25,107 +26,144 @@ abbrev Doing : Type 0 → Type 1
 Doing D = D → Call → ℕ → Result ℕ DevError → D → Type 0
 
 -- in bypass the device beneath does the call, and the list and the own faults stay
-bypass-keeps : {D : Type 0} (does : Doing D) (call : Call) (now : ℕ) (result : Result ℕ DevError) (old new : Dust D) → old.mode ≡ Bypass
+bypass-keeps : {D : Type 0} (does : Doing D) (call : Call) (now : ℕ) (result : Result ℕ DevError)
+    (old new : Dust D) → old.mode ≡ Bypass
     → IsDusted does call now result old new
-    → does old.lower call now result new.lower × IsList (listed new.bad) (listed old.bad) × (new.faults ≡ old.faults)
+    → does old.lower call now result new.lower × IsList (listed new.bad) (listed old.bad)
+    × (new.faults ≡ old.faults)
 bypass-keeps does call now result old new mode dusted =
     let passed : IsPassed does call now result (held old) (held new) =
     subst (λ (m : Mode). IsDoneBy does m old.block call now result (held old) (held new)) mode dusted.done in
     (passed.below, passed.list, passed.faults)
 
 -- no call changes the mode, or the blocks' size
-mode-stays : {D : Type 0} (does : Doing D) (call : Call) (now : ℕ) (result : Result ℕ DevError) (old new : Dust D)
+mode-stays : {D : Type 0} (does : Doing D) (call : Call) (now : ℕ) (result : Result ℕ DevError)
+    (old new : Dust D)
     → IsDusted does call now result old new → (new.mode ≡ old.mode) × (new.block ≡ old.block)
 mode-stays does call now result old new dusted = (dusted.mode, dusted.block)
 
 -- one part is done at the moment at which the call came
-one-part : {D : Type 0} (does : Doing D) (part : ℕ → Call) (begin : ℕ) (old : D) (now : ℕ) (new : D) (end : ℕ) → DoesParts does part begin 1 old now new end
+one-part : {D : Type 0} (does : Doing D) (part : ℕ → Call) (begin : ℕ) (old : D) (now : ℕ) (new : D)
+    (end : ℕ) → DoesParts does part begin 1 old now new end
     → does old (part (begin + 0)) now (Ok end) new
 one-part {D} does part begin old now new end (mid, at, (is, same), last) =
-    subst (λ (d : D). does d (part (begin + 0)) now (Ok end) new) is (subst (λ (m : ℕ). does mid (part (begin + 0)) m (Ok end) new) same last)
+    subst (λ (d : D). does d (part (begin + 0)) now (Ok end) new) is
+    (subst (λ (m : ℕ). does mid (part (begin + 0)) m (Ok end) new) same last)
 
 -- a write that ended well leaves none of its blocks in the list, and a read leaves the list
-write-mends : {D : Type 0} (does : Doing D) (block first : ℕ) (bytes : List ℕ) (fua : Bool) (bad after : Bad) (old : D) (now : ℕ) (new : D) (end place : ℕ)
-    → ByBlock does block (Writes first bytes fua) bad after old now new (Ok end) → IsTouched block first (length bytes / 512) place → after place ≡ None
+write-mends : {D : Type 0} (does : Doing D) (block first : ℕ) (bytes : List ℕ) (fua : Bool)
+    (bad after : Bad) (old : D) (now : ℕ) (new : D) (end place : ℕ)
+    → ByBlock does block (Writes first bytes fua) bad after old now new (Ok end)
+    → IsTouched block first (length bytes / 512) place → after place ≡ None
 write-mends does block first bytes fua bad after old now new end place is touched =
     is.list place ∙ without-in _ _ bad place touched.low (let low = touched.low in let high = touched.high in omega (arith, low, high))
 
-read-leaves : {D : Type 0} (does : Doing D) (block first : ℕ) (before bytes : List ℕ) (bad after : Bad) (old : D) (now : ℕ) (new : D) (end : ℕ)
-    → ByBlock does block (Reads first before bytes) bad after old now new (Ok end) → IsList after bad
+read-leaves : {D : Type 0} (does : Doing D) (block first : ℕ) (before bytes : List ℕ)
+    (bad after : Bad) (old : D) (now : ℕ) (new : D) (end : ℕ)
+    → ByBlock does block (Reads first before bytes) bad after old now new (Ok end)
+    → IsList after bad
 read-leaves does block first before bytes bad after old now new end is = is.list
 
 -- the list without the blocks of a call before the one at which it stopped
 abbrev behind : ℕ → ℕ → Bad → Bad
 behind begin count bad = without begin (begin + count) bad
 
--- a write is stopped by a block with a count above 0, which is then one less; the blocks before it have left the list
-write-stopped : {D : Type 0} (does : Doing D) (block first : ℕ) (bytes : List ℕ) (fua : Bool) (bad after : Bad) (old : D) (now : ℕ) (new : D)
-    → ByBlock does block (Writes first bytes fua) bad after old now new (Err Struck) → (count : ℕ) × (nat_lt 0 (left_at bad (first / block + count)) ≡ true)
-    × IsList after (with_entry (first / block + count) (Some (left_at (behind (first / block) count bad) (first / block + count) - 1)) (behind (first / block) count bad))
+-- a write is stopped by a block with a count above 0, which
+-- is then one less; the blocks before it have left the list
+write-stopped : {D : Type 0} (does : Doing D) (block first : ℕ) (bytes : List ℕ) (fua : Bool)
+    (bad after : Bad) (old : D) (now : ℕ) (new : D)
+    → ByBlock does block (Writes first bytes fua) bad after old now new (Err Struck)
+    → (count : ℕ) × (nat_lt 0 (left_at bad (first / block + count)) ≡ true)
+    × IsList after (with_entry (first / block + count)
+    (Some (left_at (behind (first / block) count bad) (first / block + count) - 1))
+    (behind (first / block) count bad))
 write-stopped does block first bytes fua bad after old now new is = (is.count, is.stopped, is.list)
 
 -- a read is stopped by a listed block, and leaves the list
-read-stopped : {D : Type 0} (does : Doing D) (block first : ℕ) (before bytes : List ℕ) (bad after : Bad) (old : D) (now : ℕ) (new : D)
+read-stopped : {D : Type 0} (does : Doing D) (block first : ℕ) (before bytes : List ℕ)
+    (bad after : Bad) (old : D) (now : ℕ) (new : D)
     → ByBlock does block (Reads first before bytes) bad after old now new (Err Struck)
     → (count : ℕ) × (is_some (bad (first / block + count)) ≡ true) × IsList after bad
-read-stopped does block first before bytes bad after old now new is = (is.count, is.stopped, is.list)
+read-stopped does block first before bytes bad after old now new is =
+    (is.count, is.stopped, is.list)
 
 -- an error beneath comes at a block that doesn't stop the write, which stays listed
-write-failed : {D : Type 0} (does : Doing D) (block first : ℕ) (bytes : List ℕ) (fua : Bool) (bad after : Bad) (old : D) (now : ℕ) (new : D) (error : DevError)
+write-failed : {D : Type 0} (does : Doing D) (block first : ℕ) (bytes : List ℕ) (fua : Bool)
+    (bad after : Bad) (old : D) (now : ℕ) (new : D) (error : DevError)
     → ByBlock does block (Writes first bytes fua) bad after old now new (Err (Below error))
-    → (count : ℕ) × (nat_lt 0 (left_at bad (first / block + count)) ≡ false) × IsList after (behind (first / block) count bad)
-write-failed does block first bytes fua bad after old now new error is = (is.count, is.free, is.list)
+    → (count : ℕ) × (nat_lt 0 (left_at bad (first / block + count)) ≡ false)
+    × IsList after (behind (first / block) count bad)
+write-failed does block first bytes fua bad after old now new error is =
+    (is.count, is.free, is.list)
 
 -- ---- messages
 
 -- a refused order leaves the list and the mode
-refused-stays : (size sectors : ℕ) (order : Order) (error : MessageError) (old : Bad) (was : Bool) (new : Bad) (enabled : Bool)
-    → IsAnswered size sectors order (Err error) old was new enabled → IsList new old × (enabled ≡ was)
+refused-stays : (size sectors : ℕ) (order : Order) (error : MessageError) (old : Bad) (was : Bool)
+    (new : Bad) (enabled : Bool)
+    → IsAnswered size sectors order (Err error) old was new enabled
+    → IsList new old × (enabled ≡ was)
 refused-stays size sectors order error old was new enabled (refused, list, mode) = (list, mode)
 
--- a block is added that is within the layer and isn't listed, and one is removed that is within it and is listed
-added : (size sectors block count : ℕ) (done : Unit {0}) (old : Bad) (was : Bool) (new : Bad) (enabled : Bool)
+-- a block is added that is within the layer and isn't
+-- listed, and one is removed that is within it and is listed
+added : (size sectors block count : ℕ) (done : Unit {0}) (old : Bad) (was : Bool) (new : Bad)
+    (enabled : Bool)
     → IsAnswered size sectors (orders.Add block count) (Ok done) old was new enabled
-    → (block * size < sectors) × (is_some (old block) ≡ false) × IsList new (with_entry block (Some count) old) × (enabled ≡ was)
-added size sectors block count done old was new enabled ((within, fresh), list, mode) = (within, fresh, list, mode)
+    → (block * size < sectors) × (is_some (old block) ≡ false)
+    × IsList new (with_entry block (Some count) old) × (enabled ≡ was)
+added size sectors block count done old was new enabled ((within, fresh), list, mode) =
+    (within, fresh, list, mode)
 
-removed : (size sectors block : ℕ) (done : Unit {0}) (old : Bad) (was : Bool) (new : Bad) (enabled : Bool)
+removed : (size sectors block : ℕ) (done : Unit {0}) (old : Bad) (was : Bool) (new : Bad)
+    (enabled : Bool)
     → IsAnswered size sectors (orders.Remove block) (Ok done) old was new enabled
-    → (block * size < sectors) × (is_some (old block) ≡ true) × IsList new (with_entry block None old) × (enabled ≡ was)
-removed size sectors block done old was new enabled ((within, there), list, mode) = (within, there, list, mode)
+    → (block * size < sectors) × (is_some (old block) ≡ true)
+    × IsList new (with_entry block None old) × (enabled ≡ was)
+removed size sectors block done old was new enabled ((within, there), list, mode) =
+    (within, there, list, mode)
 
 -- memory refuses a block alone that could be added, and one past the end is refused as such
 no-memory : (size sectors block count : ℕ) (old : Bad) (was : Bool) (new : Bad) (enabled : Bool)
-    → IsAnswered size sectors (orders.Add block count) (Err errors.Memory) old was new enabled → (block * size < sectors) × (is_some (old block) ≡ false)
+    → IsAnswered size sectors (orders.Add block count) (Err errors.Memory) old was new enabled
+    → (block * size < sectors) × (is_some (old block) ≡ false)
 no-memory size sectors block count old was new enabled (could, list, mode) = could
 
 past-the-end : (size sectors block count : ℕ) (old : Bad) (was : Bool) (new : Bad) (enabled : Bool)
-    → IsAnswered size sectors (orders.Add block count) (Err errors.BadMessage) old was new enabled → sectors ≤ block * size
+    → IsAnswered size sectors (orders.Add block count) (Err errors.BadMessage) old was new enabled
+    → sectors ≤ block * size
 past-the-end size sectors block count old was new enabled (past, list, mode) = past
 
 already-bad : (size sectors block count : ℕ) (old : Bad) (was : Bool) (new : Bad) (enabled : Bool)
-    → IsAnswered size sectors (orders.Add block count) (Err errors.AlreadyBad) old was new enabled → (block * size < sectors) × (is_some (old block) ≡ true)
+    → IsAnswered size sectors (orders.Add block count) (Err errors.AlreadyBad) old was new enabled
+    → (block * size < sectors) × (is_some (old block) ≡ true)
 already-bad size sectors block count old was new enabled (is, list, mode) = is
 
 not-bad : (size sectors block : ℕ) (old : Bad) (was : Bool) (new : Bad) (enabled : Bool)
-    → IsAnswered size sectors (orders.Remove block) (Err errors.NotBad) old was new enabled → (block * size < sectors) × (is_some (old block) ≡ false)
+    → IsAnswered size sectors (orders.Remove block) (Err errors.NotBad) old was new enabled
+    → (block * size < sectors) × (is_some (old block) ≡ false)
 not-bad size sectors block old was new enabled (is, list, mode) = is
 
 -- what asks for an order isn't told as none
-no-order : {D : Type 0} (text : List ℕ) (result : Result (Unit {0}) MessageError) (old new : Dust D) (order : Order) → AsksFor text order
+no-order : {D : Type 0} (text : List ℕ) (result : Result (Unit {0}) MessageError) (old new : Dust D)
+    (order : Order) → AsksFor text order
     → IsNoOrder 1 text result old new → ⊥
 no-order text result old new order asked is = is.none order refl asked
 
 -- a message to a layer above is refused, and leaves the list and the mode
-to-no-layer : {D : Type 0} (sectors : ℕ) (text : List ℕ) (result : Result (Unit {0}) MessageError) (old new : Dust D)
+to-no-layer : {D : Type 0} (sectors : ℕ) (text : List ℕ) (result : Result (Unit {0}) MessageError)
+    (old new : Dust D)
     → IsMessageDone sectors 2 text result old new
-    → (result ≡ Err errors.BadMessage) × IsList (listed new.bad) (listed old.bad) × (new.mode ≡ old.mode)
+    → (result ≡ Err errors.BadMessage) × IsList (listed new.bad) (listed old.bad)
+    × (new.mode ≡ old.mode)
 to-no-layer sectors text result old new done = elim done.answer [
   | inl obeyed ↦ absurd (let never : 2 ≡ 1 = obeyed.own in omega (arith, never))
   | inr none ↦ (none.refused, none.list, none.mode)
 ]
 
 -- no message changes the device beneath, the blocks' size or the own faults
-rest-stays : {D : Type 0} (sectors layer : ℕ) (text : List ℕ) (result : Result (Unit {0}) MessageError) (old new : Dust D)
-    → IsMessageDone sectors layer text result old new → (new.lower ≡ old.lower) × (new.block ≡ old.block) × (new.faults ≡ old.faults)
+rest-stays : {D : Type 0} (sectors layer : ℕ) (text : List ℕ)
+    (result : Result (Unit {0}) MessageError) (old new : Dust D)
+    → IsMessageDone sectors layer text result old new
+    → (new.lower ≡ old.lower) × (new.block ≡ old.block) × (new.faults ≡ old.faults)
 rest-stays sectors layer text result old new done = (done.lower, done.block, done.faults)

@@ -1,16 +1,20 @@
 -- How far a call got over the blocks of a device.
-use Rattle.std.proofs.Common.{◌≡◌, ℕ, zero, suc, ◌+◌, ◌-◌, ◌*◌, ◌/◌, ◌<◌, ◌≤◌, Bool, true, false, ◌&&◌, ◌++◌, Option, Some, None, Ok, Err, List, length, take, drop, replicate, refl, ap, sym, subst, ◌∙◌, inl, inr, arith}
+use Rattle.std.proofs.Common.{◌≡◌, ℕ, zero, suc, ◌+◌, ◌-◌, ◌*◌, ◌/◌, ◌<◌, ◌≤◌, Bool, true, false}
+use Rattle.std.proofs.Common.{◌&&◌, ◌++◌, Option, Some, None, Ok, Err, List, length, take, drop}
+use Rattle.std.proofs.Common.{replicate, refl, ap, sym, subst, ◌∙◌, inl, inr, arith}
 use Rattle.std.proofs.lemmas.Bool.{cases_lt, lt-ltb, le-ltb, le-leb, leb-true}
 use Rattle.std.proofs.lemmas.Bool.Decides.{nat_tests}
 use Rattle.std.proofs.Math.Bool.{and-false}
-use Rattle.std.proofs.lemmas.List.{append-nil, append_assoc, drop-drop, drop-take, take-take, take_all}
+use Rattle.std.proofs.lemmas.List.{append-nil, append_assoc, drop-drop, drop-take, take-take}
+use Rattle.std.proofs.lemmas.List.{take_all}
 use Rattle.std.proofs.Math.Seq.{take-add}
 use Rattle.std.proofs.lemmas.Nat.{le-div}
 use Rattle.std.proofs.Math.Nat.{div-mul-le_self, lt-div-mul-add, mul-le-mul_right}
 use Rattle.std.specs.Prelude.{◌==◌, Result, is_some, nat_le, nat_lt, unwrap_or, if◌then◌else◌}
 use Rattle.bio.specs.declared.outcome.DevError.{DevError}
 use Rattle.blockdev.specs.Calls.{Call, Discards, Flushes, Reads, Writes}
-use Rattle.blockdev.specs.JoinLaws.{goes_both, goes_cut, goes_next, goes_none, lands_all, lands_first, lands_next, no_lie_parts, stays_both, stays_none}
+use Rattle.blockdev.specs.JoinLaws.{goes_both, goes_cut, goes_next, goes_none, lands_all}
+use Rattle.blockdev.specs.JoinLaws.{lands_first, lands_next, no_lie_parts, stays_both, stays_none}
 use Rattle.blockdev.specs.Law.{DeviceFrame, WriteDone, NoLie, CrashSetKept}
 use Rattle.blockdev.specs.View.{View}
 use Rattle.sectors.specs.Content.{Content, HasNoneBelow, gather, nothing}
@@ -24,7 +28,10 @@ use Rattle.dust_layer.specs.declared.parts.Change.{Change}
 use Rattle.dust_layer.specs.declared.parts.Change.TheVariants as changes
 use Rattle.dust_layer.specs.Bad.{Bad, IsList, left_at, with_entry, without}
 use Rattle.dust_layer.specs.Change.{call_of, fua_of}
-use Rattle.dust_layer.specs.Walk.{DoesParts, IsDone, IsStopped, FailsBelow, Passes, begin_of, block_behind, blocks_of, bytes_within, count_of, first_of, list_passed, list_struck, KeepsRest, part_of, part_within, patch_of, reach, stops}
+use Rattle.dust_layer.specs.Walk.{DoesParts, IsDone, IsStopped, FailsBelow, Passes, begin_of}
+use Rattle.dust_layer.specs.Walk.{block_behind, blocks_of, bytes_within, count_of, first_of}
+use Rattle.dust_layer.specs.Walk.{list_passed, list_struck, KeepsRest, part_of, part_within}
+use Rattle.dust_layer.specs.Walk.{patch_of, reach, stops}
 
 -- ---- blocks
 
@@ -42,7 +49,8 @@ reach_first block first count some =
     omega arith
 
 -- where the last block ends, the call has ended
-reach_last : (block first count : ℕ) → 0 < block → 0 < count → reach block first count (block_behind block first count) ≡ first + count
+reach_last : (block first count : ℕ) → 0 < block → 0 < count
+    → reach block first count (block_behind block first count) ≡ first + count
 reach_last block first count positive some =
     let q = (first + count - 1) / block in
     let high : first + count - 1 < q * block + block = lt-div-mul-add positive in
@@ -52,11 +60,14 @@ reach_last block first count positive some =
     omega (arith, high, step)
 
 -- each block that a call touches has a part of it
-pub reach_more : (block first count place : ℕ) → 0 < block → 0 < count → first / block ≤ place → place < block_behind block first count
+pub reach_more : (block first count place : ℕ) → 0 < block → 0 < count → first / block ≤ place
+    → place < block_behind block first count
     → reach block first count place < reach block first count (suc place)
 reach_more block first count place positive some low high =
-    let begins : (first + count - 1) / block * block ≤ first + count - 1 = div-mul-le_self (first + count - 1) block in
-    let before : place * block ≤ (first + count - 1) / block * block = times-le place ((first + count - 1) / block) block (omega (arith, high)) in
+    let begins : (first + count - 1) / block * block ≤ first + count - 1 =
+    div-mul-le_self (first + count - 1) block in
+    let before : place * block ≤ (first + count - 1) / block * block =
+    times-le place ((first + count - 1) / block) block (omega (arith, high)) in
     let behind : first < first / block * block + block = lt-div-mul-add positive in
     let after : first / block * block ≤ place * block = times-le (first / block) place block low in
     let step : suc place * block ≡ place * block + block = suc-times place block in
@@ -65,34 +76,44 @@ reach_more block first count place positive some low high =
 -- ---- parts of a call
 
 -- a part has the values of its sectors
-pub part-values : (first count from to : ℕ) (change : Change) → count_of (call_of first count change) ≡ count → first ≤ from → from ≤ to → to ≤ first + count
-    → SameValues (patch_of (part_within from to (call_of first count change))) (between from to (patch_of (call_of first count change)))
+pub part-values : (first count from to : ℕ) (change : Change)
+    → count_of (call_of first count change) ≡ count → first ≤ from → from ≤ to → to ≤ first + count
+    → SameValues (patch_of (part_within from to (call_of first count change)))
+    (between from to (patch_of (call_of first count change)))
 part-values first count from to (changes.Write bytes fua) size low order high =
     let k = from - first in
     let n = to - from in
     let start : first + k ≡ from = omega arith in
     let end : first + k + n ≡ to = omega arith in
     let whole : 512 * (k + n) ≤ length bytes.now = omega arith in
-    subst (λ (x : ℕ). SameValues (patch_of (Writes x (take (512 * n) (drop (512 * k) bytes.now)) fua)) (between x to (patch_of (Writes first bytes.now fua)))) start
-    (subst (λ (x : ℕ). SameValues (patch_of (Writes (first + k) (take (512 * n) (drop (512 * k) bytes.now)) fua)) (between (first + k) x (patch_of (Writes first bytes.now fua)))) end
+    subst (λ (x : ℕ). SameValues
+    (patch_of (Writes x (take (512 * n) (drop (512 * k) bytes.now)) fua))
+    (between x to (patch_of (Writes first bytes.now fua)))) start
+    (subst (λ (x : ℕ). SameValues
+    (patch_of (Writes (first + k) (take (512 * n) (drop (512 * k) bytes.now)) fua))
+    (between (first + k) x (patch_of (Writes first bytes.now fua)))) end
     (writes-between first k n bytes.now whole))
 part-values first count from to changes.Discard size low order high =
     let k = from - first in
     let n = to - from in
     let start : first + k ≡ from = omega arith in
     let end : first + k + n ≡ to = omega arith in
-    subst (λ (x : ℕ). SameValues (patch_of (Discards x n)) (between x to (patch_of (Discards first count)))) start
-    (subst (λ (x : ℕ). SameValues (patch_of (Discards (first + k) n)) (between (first + k) x (patch_of (Discards first count)))) end
+    subst (λ (x : ℕ). SameValues (patch_of (Discards x n))
+    (between x to (patch_of (Discards first count)))) start
+    (subst (λ (x : ℕ). SameValues (patch_of (Discards (first + k) n))
+    (between (first + k) x (patch_of (Discards first count)))) end
     (discards-between first count k n (omega arith)))
 
 -- ---- the list
 
-pub without-in : (from to : ℕ) (bad : Bad) (block : ℕ) → from ≤ block → block < to → without from to bad block ≡ None
+pub without-in : (from to : ℕ) (bad : Bad) (block : ℕ) → from ≤ block → block < to
+    → without from to bad block ≡ None
 without-in from to bad block low high =
     ap (λ b. if b && nat_lt block to then None else bad block) (le-leb from block low)
     ∙ ap (λ b. if b then None else bad block) (lt-ltb block to high)
 
-without-before : (from to : ℕ) (bad : Bad) (block : ℕ) → block < from → without from to bad block ≡ bad block
+without-before : (from to : ℕ) (bad : Bad) (block : ℕ) → block < from
+    → without from to bad block ≡ bad block
 without-before from to bad block h =
     ap (λ b. if b && nat_lt block to then None else bad block) (above (nat_le from block) refl)
   where
@@ -100,7 +121,8 @@ without-before from to bad block h =
     above true e = absurd (let within = leb-true from block e in omega arith)
     above false e = refl
 
-pub without-after : (from to : ℕ) (bad : Bad) (block : ℕ) → to ≤ block → without from to bad block ≡ bad block
+pub without-after : (from to : ℕ) (bad : Bad) (block : ℕ) → to ≤ block
+    → without from to bad block ≡ bad block
 without-after from to bad block h =
     ap (λ b. if nat_le from block && b then None else bad block) (le-ltb block to h)
     ∙ ap (λ b. if b then None else bad block) (and-false (nat_le from block))
@@ -112,14 +134,17 @@ without-none begin bad = λ block. elim (cases_lt block begin) [
   | inr from ↦ sym (without-after begin (begin + 0) bad block (omega arith))
 ]
 
-entry-here : (place : ℕ) (entry : Option ℕ) (bad : Bad) (block : ℕ) → block ≡ place → with_entry place entry bad block ≡ entry
+entry-here : (place : ℕ) (entry : Option ℕ) (bad : Bad) (block : ℕ) → block ≡ place
+    → with_entry place entry bad block ≡ entry
 entry-here place entry bad block is = grind (arith, nat_tests)
 
-entry-apart : (place : ℕ) (entry : Option ℕ) (bad : Bad) (block : ℕ) → (block ≡ place → ⊥) → with_entry place entry bad block ≡ bad block
+entry-apart : (place : ℕ) (entry : Option ℕ) (bad : Bad) (block : ℕ) → (block ≡ place → ⊥)
+    → with_entry place entry bad block ≡ bad block
 entry-apart place entry bad block apart = grind (arith, nat_tests)
 
 -- one more leaves it
-pub without-next : (begin count : ℕ) (bad now : Bad) → IsList now (without begin (begin + count) bad)
+pub without-next : (begin count : ℕ) (bad now : Bad)
+    → IsList now (without begin (begin + count) bad)
     → IsList (with_entry (begin + count) None now) (without begin (begin + suc count) bad)
 without-next begin count bad now same = λ block. elim (cases_lt block begin) [
   | inl before ↦
@@ -144,15 +169,18 @@ without-next begin count bad now same = λ block. elim (cases_lt block begin) [
 ]
 
 -- the same list with the same entry
-with_entry-same : (place : ℕ) (entry other : Option ℕ) (bad now : Bad) → entry ≡ other → IsList now bad
+with_entry-same : (place : ℕ) (entry other : Option ℕ) (bad now : Bad) → entry ≡ other
+    → IsList now bad
     → IsList (with_entry place entry now) (with_entry place other bad)
 with_entry-same place entry other bad now is same = λ block.
-    ap (λ (x : Option ℕ). with_entry place x now block) is ∙ ap (λ (x : Option ℕ). if place == block then other else x) (same block)
+    ap (λ (x : Option ℕ). with_entry place x now block) is
+    ∙ ap (λ (x : Option ℕ). if place == block then other else x) (same block)
 
 -- ---- how far a call got
 
 -- After so many blocks of a call: what is done below, and what the list holds.
-pub record HasPassed {D : Type 0} (does : D → Call → ℕ → Result ℕ DevError → D → Type 0) (block : ℕ) (call : Call) (bad now_bad : Bad) (count from : ℕ)
+pub record HasPassed {D : Type 0} (does : D → Call → ℕ → Result ℕ DevError → D → Type 0) (block : ℕ)
+    (call : Call) (bad now_bad : Bad) (count from : ℕ)
     (old : D) (now : ℕ) (new : D) (end : ℕ) : Type 0 where
   pub reached : from ≡ reach block (first_of call) (count_of call) (begin_of block call + count)
   pub passes : Passes does block call bad count old now new end
@@ -166,17 +194,21 @@ none-passed begin (Writes first bytes fua) bad = without-none begin bad
 none-passed begin (Discards first count) bad = without-none begin bad
 none-passed begin Flushes bad = λ place. refl
 
-pub passed_first : {D : Type 0} (does : D → Call → ℕ → Result ℕ DevError → D → Type 0) (block : ℕ) (call : Call) (bad : Bad) (old : D) (now : ℕ)
+pub passed_first : {D : Type 0} (does : D → Call → ℕ → Result ℕ DevError → D → Type 0) (block : ℕ)
+    (call : Call) (bad : Bad) (old : D) (now : ℕ)
     → 0 < count_of call → HasPassed does block call bad bad 0 (first_of call) old now old now
 passed_first does block call bad old now some = record {
-  reached = sym (ap (reach block (first_of call) (count_of call)) (omega arith) ∙ reach_first block (first_of call) (count_of call) some);
+  reached =
+      sym (ap (reach block (first_of call) (count_of call)) (omega arith)
+      ∙ reach_first block (first_of call) (count_of call) some);
   passes = record { free = λ place low high. absurd (omega arith); parts = (refl, refl) };
   list = none-passed (begin_of block call) call bad;
   moment = omega arith;
 }
 
 -- one more
-pub passed_next : {D : Type 0} (does : D → Call → ℕ → Result ℕ DevError → D → Type 0) (block : ℕ) (call : Call) (bad before after : Bad) (count from to : ℕ)
+pub passed_next : {D : Type 0} (does : D → Call → ℕ → Result ℕ DevError → D → Type 0) (block : ℕ)
+    (call : Call) (bad before after : Bad) (count from to : ℕ)
     (old : D) (now : ℕ) (mid : D) (at : ℕ) (new : D) (end : ℕ)
     → HasPassed does block call bad before count from old now mid at
     → stops call bad (begin_of block call + count) ≡ false
@@ -187,15 +219,18 @@ pub passed_next : {D : Type 0} (does : D → Call → ℕ → Result ℕ DevErro
 passed_next does block call bad before after count from to old now mid at new end so_far free is_to done later list = record {
   reached = is_to ∙ ap (reach block (first_of call) (count_of call)) (omega arith);
   passes = record {
-    free = λ place low high. elim (last_or_below (place - begin_of block call) count (omega arith)) [
-      | inl here ↦ subst (λ (p : ℕ). stops call bad p ≡ false) (omega arith) free
-      | inr early ↦ so_far.passes.free place low (omega arith)
-    ];
+    free =
+        λ place low high. elim (last_or_below (place - begin_of block call) count (omega arith)) [
+          | inl here ↦ subst (λ (p : ℕ). stops call bad p ≡ false) (omega arith) free
+          | inr early ↦ so_far.passes.free place low (omega arith)
+        ];
     parts = (
       mid,
       at,
       so_far.passes.parts,
-      subst (λ (p : ℕ). does mid (part_within p (reach block (first_of call) (count_of call) (suc (begin_of block call + count))) call) at (Ok end) new) so_far.reached
+      subst (λ (p : ℕ). does mid
+          (part_within p (reach block (first_of call) (count_of call)
+          (suc (begin_of block call + count))) call) at (Ok end) new) so_far.reached
           (subst (λ (p : ℕ). does mid (part_within from p call) at (Ok end) new) is_to done),
     );
   };
@@ -206,49 +241,66 @@ passed_next does block call bad before after count from to old now mid at new en
 -- ---- a write or a discard
 
 -- it begins where it is asked for
-pub change-first : (first count : ℕ) (change : Change) → first_of (call_of first count change) ≡ first
+pub change-first : (first count : ℕ) (change : Change)
+    → first_of (call_of first count change) ≡ first
 change-first first count (changes.Write bytes fua) = refl
 change-first first count changes.Discard = refl
 
-rest-change : (block first count : ℕ) (change : Change) (n : ℕ) → KeepsRest block (call_of first count change) n
+rest-change : (block first count : ℕ) (change : Change) (n : ℕ)
+    → KeepsRest block (call_of first count change) n
 rest-change block first count (changes.Write bytes fua) n = tt
 rest-change block first count changes.Discard n = tt
 
-pub begin-change : (block first count : ℕ) (change : Change) → begin_of block (call_of first count change) ≡ first / block
+pub begin-change : (block first count : ℕ) (change : Change)
+    → begin_of block (call_of first count change) ≡ first / block
 begin-change block first count change = ap (λ (f : ℕ). f / block) (change-first first count change)
 
-pub blocks-change : (block first count : ℕ) (change : Change) → count_of (call_of first count change) ≡ count
+pub blocks-change : (block first count : ℕ) (change : Change)
+    → count_of (call_of first count change) ≡ count
     → blocks_of block (call_of first count change) ≡ (first + count - 1) / block + 1 - first / block
 blocks-change block first count change size =
-    ap (λ (f : ℕ). suc ((f + count_of (call_of first count change) - 1) / block) - f / block) (change-first first count change)
+    ap (λ (f : ℕ). suc ((f + count_of (call_of first count change) - 1) / block) - f / block)
+    (change-first first count change)
     ∙ ap (λ (n : ℕ). suc ((first + n - 1) / block) - first / block) size
     ∙ let last = (first + count - 1) / block in omega arith
 
 -- it has values for its own sectors alone
-pub none-before : (first count : ℕ) (change : Change) → HasNoneBelow first (patch_of (call_of first count change))
-none-before first count (changes.Write bytes fua) = over-below first first (length bytes.now / 512) (sector_of bytes.now) (omega arith)
-none-before first count changes.Discard = over-below first first count (λ _. replicate 512 0) (omega arith)
+pub none-before : (first count : ℕ) (change : Change)
+    → HasNoneBelow first (patch_of (call_of first count change))
+none-before first count (changes.Write bytes fua) =
+    over-below first first (length bytes.now / 512) (sector_of bytes.now) (omega arith)
+none-before first count changes.Discard =
+    over-below first first count (λ _. replicate 512 0) (omega arith)
 
-pub none-behind : (first count : ℕ) (change : Change) → count_of (call_of first count change) ≡ count
+pub none-behind : (first count : ℕ) (change : Change)
+    → count_of (call_of first count change) ≡ count
     → HasNoneFrom (first + count) (patch_of (call_of first count change))
-none-behind first count (changes.Write bytes fua) size = λ sector h. over-after first (length bytes.now / 512) (sector_of bytes.now) sector (omega arith)
-none-behind first count changes.Discard size = λ sector h. over-after first count (λ _. replicate 512 0) sector h
+none-behind first count (changes.Write bytes fua) size =
+    λ sector h. over-after first (length bytes.now / 512) (sector_of bytes.now) sector (omega arith)
+none-behind first count changes.Discard size =
+    λ sector h. over-after first count (λ _. replicate 512 0) sector h
 
 -- the list at the next block tells whether it stops the call
 pub stops-change : (first count : ℕ) (change : Change) (begin done : ℕ) (bad before : Bad)
     → IsList before (list_passed (call_of first count change) begin done bad)
-    → stops (call_of first count change) bad (begin + done) ≡ nat_lt 0 (left_at before (begin + done))
+    → stops (call_of first count change) bad (begin + done)
+    ≡ nat_lt 0 (left_at before (begin + done))
 stops-change first count (changes.Write bytes fua) begin done bad before same =
-    ap (λ (o : Option ℕ). nat_lt 0 (unwrap_or o 0)) (sym (same (begin + done) ∙ without-after begin (begin + done) bad (begin + done) (omega arith)))
+    ap (λ (o : Option ℕ). nat_lt 0 (unwrap_or o 0))
+    (sym (same (begin + done)
+    ∙ without-after begin (begin + done) bad (begin + done) (omega arith)))
 stops-change first count changes.Discard begin done bad before same =
-    ap (λ (o : Option ℕ). nat_lt 0 (unwrap_or o 0)) (sym (same (begin + done) ∙ without-after begin (begin + done) bad (begin + done) (omega arith)))
+    ap (λ (o : Option ℕ). nat_lt 0 (unwrap_or o 0))
+    (sym (same (begin + done)
+    ∙ without-after begin (begin + done) bad (begin + done) (omega arith)))
 
 -- a block whose part is done leaves the list
 pub list-next : (first count : ℕ) (change : Change) (begin done : ℕ) (bad before struck after : Bad)
     → IsList before (list_passed (call_of first count change) begin done bad) → IsList struck before
     → IsList after (with_entry (begin + done) None struck)
     → IsList after (list_passed (call_of first count change) begin (suc done) bad)
-list-next first count (changes.Write bytes fua) begin done bad before struck after same stays forgets =
+list-next first count (changes.Write bytes fua) begin done bad before struck after same stays
+    forgets =
     λ block. forgets block ∙ without-next begin done bad struck (λ b. stays b ∙ same b) block
 list-next first count changes.Discard begin done bad before struck after same stays forgets =
     λ block. forgets block ∙ without-next begin done bad struck (λ b. stays b ∙ same b) block
@@ -257,56 +309,85 @@ list-next first count changes.Discard begin done bad before struck after same st
 pub list-stop : (first count : ℕ) (change : Change) (begin done : ℕ) (bad before after : Bad)
     → IsList before (list_passed (call_of first count change) begin done bad)
     → IsList after (with_entry (begin + done) (Some (left_at before (begin + done) - 1)) before)
-    → IsList after (list_struck (call_of first count change) (begin + done) (list_passed (call_of first count change) begin done bad))
+    → IsList after (list_struck (call_of first count change) (begin + done)
+    (list_passed (call_of first count change) begin done bad))
 list-stop first count (changes.Write bytes fua) begin done bad before after same falls =
     let list = without begin (begin + done) bad in
-    λ block. falls block ∙ with_entry-same (begin + done) (Some (left_at before (begin + done) - 1)) (Some (left_at list (begin + done) - 1)) list before
+    λ block. falls block ∙ with_entry-same (begin + done) (Some (left_at before (begin + done) - 1))
+    (Some (left_at list (begin + done) - 1)) list before
     (ap (λ (o : Option ℕ). Some (unwrap_or o 0 - 1)) (same (begin + done))) same block
 list-stop first count changes.Discard begin done bad before after same falls =
     let list = without begin (begin + done) bad in
-    λ block. falls block ∙ with_entry-same (begin + done) (Some (left_at before (begin + done) - 1)) (Some (left_at list (begin + done) - 1)) list before
+    λ block. falls block ∙ with_entry-same (begin + done) (Some (left_at before (begin + done) - 1))
+    (Some (left_at list (begin + done) - 1)) list before
     (ap (λ (o : Option ℕ). Some (unwrap_or o 0 - 1)) (same (begin + done))) same block
 
 -- What a write or a discard has done so far.
-pub record Changes {D : Type 0} (does : D → Call → ℕ → Result ℕ DevError → D → Type 0) (shown : D → View) (block : ℕ) (call : Call) (fua : Bool)
+pub record Changes {D : Type 0} (does : D → Call → ℕ → Result ℕ DevError → D → Type 0)
+    (shown : D → View) (block : ℕ) (call : Call) (fua : Bool)
     (bad now_bad : Bad) (count from : ℕ) (old : D) (now : ℕ) (new : D) (end : ℕ) : Type 0 where
   pub passed : HasPassed does block call bad now_bad count from old now new end
   pub goes : DeviceFrame (below from (patch_of call)) (shown old) (shown new)
-  pub lands : NoLie (shown old) (shown new) → WriteDone (below from (patch_of call)) fua (shown old) (shown new)
+  pub lands : NoLie (shown old) (shown new)
+      → WriteDone (below from (patch_of call)) fua (shown old) (shown new)
 
-pub changes_first : {D : Type 0} (does : D → Call → ℕ → Result ℕ DevError → D → Type 0) (shown : D → View) (block first count : ℕ) (change : Change)
+pub changes_first : {D : Type 0} (does : D → Call → ℕ → Result ℕ DevError → D → Type 0)
+    (shown : D → View) (block first count : ℕ) (change : Change)
     (bad : Bad) (old : D) (now : ℕ) → 0 < count → count_of (call_of first count change) ≡ count
-    → Changes does shown block (call_of first count change) (fua_of change) bad bad 0 first old now old now
+    → Changes does shown block (call_of first count change)
+    (fua_of change) bad bad 0 first old now old now
 changes_first does shown block first count change bad old now some size = record {
-  passed = subst (λ (f : ℕ). HasPassed does block (call_of first count change) bad bad 0 f old now old now) (change-first first count change)
-      (passed_first does block (call_of first count change) bad old now (omega (arith, some, size)));
+  passed =
+      subst (λ (f : ℕ). HasPassed does block
+      (call_of first count change) bad bad 0 f old now old now) (change-first first count change)
+      (passed_first does block (call_of first count change) bad old now
+      (omega (arith, some, size)));
   goes = goes_none (below first (patch_of (call_of first count change))) (shown old);
-  lands = λ told. lands_first first (patch_of (call_of first count change)) (fua_of change) (shown old) (none-before first count change);
+  lands =
+      λ told. lands_first first (patch_of (call_of first count change)) (fua_of change) (shown old)
+      (none-before first count change);
 }
 
-pub changes_next : {D : Type 0} (does : D → Call → ℕ → Result ℕ DevError → D → Type 0) (shown : D → View) (block first count : ℕ) (change : Change)
-    (bad before after : Bad) (done from to : ℕ) (old : D) (now : ℕ) (mid : D) (at : ℕ) (new : D) (end : ℕ)
+pub changes_next : {D : Type 0} (does : D → Call → ℕ → Result ℕ DevError → D → Type 0)
+    (shown : D → View) (block first count : ℕ) (change : Change)
+    (bad before after : Bad) (done from to : ℕ) (old : D) (now : ℕ) (mid : D) (at : ℕ) (new : D)
+    (end : ℕ)
     → count_of (call_of first count change) ≡ count → first ≤ from → from ≤ to → to ≤ first + count
-    → Changes does shown block (call_of first count change) (fua_of change) bad before done from old now mid at
+    → Changes does shown block (call_of first count change)
+    (fua_of change) bad before done from old now mid at
     → HasPassed does block (call_of first count change) bad after (suc done) to old now new end
-    → DeviceFrame (patch_of (part_within from to (call_of first count change))) (shown mid) (shown new)
-    → (NoLie (shown mid) (shown new) → WriteDone (patch_of (part_within from to (call_of first count change))) (fua_of change) (shown mid) (shown new))
-    → Changes does shown block (call_of first count change) (fua_of change) bad after (suc done) to old now new end
-changes_next does shown block first count change bad before after done from to old now mid at new end size low order high so_far passed goes lands =
+    → DeviceFrame (patch_of (part_within from to (call_of first count change))) (shown mid)
+    (shown new)
+    → (NoLie (shown mid) (shown new)
+    → WriteDone (patch_of (part_within from to (call_of first count change))) (fua_of change)
+    (shown mid) (shown new))
+    → Changes does shown block (call_of first count change) (fua_of change) bad after
+    (suc done) to old now new end
+changes_next does shown block first count change bad before after done from to old now mid at new
+    end size low order high so_far passed goes lands =
     let call = call_of first count change in
     let piece = patch_of (part_within from to call) in
-    let same : SameValues piece (between from to (patch_of call)) = part-values first count from to change size low order high in record {
+    let same : SameValues piece (between from to (patch_of call)) =
+    part-values first count from to change size low order high in
+    record {
       passed = passed;
-      goes = goes_next from to (patch_of call) piece (shown old) (shown mid) (shown new) order same so_far.goes goes;
+      goes =
+          goes_next from to (patch_of call) piece (shown old) (shown mid)
+          (shown new) order same so_far.goes goes;
       lands = λ told.
-          let both = no_lie_parts (below from (patch_of call)) piece (shown old) (shown mid) (shown new) so_far.goes goes told in
-          lands_next from to (patch_of call) piece (fua_of change) (shown old) (shown mid) (shown new) order same (so_far.lands both.0) (lands both.1);
+          let both =
+          no_lie_parts (below from (patch_of call)) piece (shown old) (shown mid)
+          (shown new) so_far.goes goes told in
+          lands_next from to (patch_of call) piece (fua_of change) (shown old) (shown mid)
+          (shown new) order same (so_far.lands both.0) (lands both.1);
     }
 
 -- so far it went by the whole call
-pub changes_goes : {D : Type 0} (does : D → Call → ℕ → Result ℕ DevError → D → Type 0) (shown : D → View) (block : ℕ) (call : Call) (fua : Bool)
+pub changes_goes : {D : Type 0} (does : D → Call → ℕ → Result ℕ DevError → D → Type 0)
+    (shown : D → View) (block : ℕ) (call : Call) (fua : Bool)
     (bad list : Bad) (done from : ℕ) (old : D) (now : ℕ) (new : D) (end : ℕ)
-    → Changes does shown block call fua bad list done from old now new end → DeviceFrame (patch_of call) (shown old) (shown new)
+    → Changes does shown block call fua bad list done from old now new end
+    → DeviceFrame (patch_of call) (shown old) (shown new)
 changes_goes does shown block call fua bad list done from old now new end so_far =
     goes_cut from (patch_of call) (shown old) (shown new) so_far.goes
 
@@ -317,87 +398,121 @@ pub record IsNextPart (block first count done from to : ℕ) : Type 0 where
   pub order : from < to
   pub high : to ≤ first + count
 
-pub next_part_from : (block first count done from : ℕ) → 0 < block → 0 < count → done < (first + count - 1) / block + 1 - first / block
+pub next_part_from : (block first count done from : ℕ) → 0 < block → 0 < count
+    → done < (first + count - 1) / block + 1 - first / block
     → from ≡ reach block first count (first / block + done)
     → IsNextPart block first count done from (reach block first count (suc (first / block + done)))
 next_part_from block first count done from positive some within begins =
     let last = (first + count - 1) / block in
     let b = first / block in
-    let more = reach_more block first count (first / block + done) positive some (omega arith) (omega (arith, within)) in record {
+    let more =
+    reach_more block first count (first / block + done) positive some (omega arith)
+    (omega (arith, within)) in
+    record {
       begins = begins;
       low = let edge = (first / block + done) * block in omega (arith, begins, some);
       order = omega (arith, begins, more);
       high = let edge = suc (first / block + done) * block in omega arith;
     }
 
-pub next_part : {D : Type 0} (does : D → Call → ℕ → Result ℕ DevError → D → Type 0) (block first count : ℕ) (change : Change) (bad list : Bad)
+pub next_part : {D : Type 0} (does : D → Call → ℕ → Result ℕ DevError → D → Type 0)
+    (block first count : ℕ) (change : Change) (bad list : Bad)
     (done from : ℕ) (old : D) (now : ℕ) (mid : D) (at : ℕ)
-    → 0 < block → 0 < count → count_of (call_of first count change) ≡ count → done < (first + count - 1) / block + 1 - first / block
+    → 0 < block → 0 < count → count_of (call_of first count change) ≡ count
+    → done < (first + count - 1) / block + 1 - first / block
     → HasPassed does block (call_of first count change) bad list done from old now mid at
     → IsNextPart block first count done from (reach block first count (suc (first / block + done)))
-next_part does block first count change bad list done from old now mid at positive some size within so_far =
+next_part does block first count change bad list done from old now mid at positive some size within
+    so_far =
     next_part_from block first count done from positive some within
     (so_far.reached
-    ∙ ap (λ (f : ℕ). reach block f (count_of (call_of first count change)) (f / block + done)) (change-first first count change)
+    ∙ ap (λ (f : ℕ). reach block f (count_of (call_of first count change)) (f / block + done))
+    (change-first first count change)
     ∙ ap (λ (n : ℕ). reach block first n (first / block + done)) size)
 
 -- once a part is done, the call got a block further
-pub changes_step : {D : Type 0} (does : D → Call → ℕ → Result ℕ DevError → D → Type 0) (shown : D → View) (block first count : ℕ) (change : Change)
-    (bad before struck after : Bad) (done from to : ℕ) (old : D) (now : ℕ) (mid : D) (at : ℕ) (new : D) (end : ℕ)
-    → 0 < block → 0 < count → count_of (call_of first count change) ≡ count → done < (first + count - 1) / block + 1 - first / block
+pub changes_step : {D : Type 0} (does : D → Call → ℕ → Result ℕ DevError → D → Type 0)
+    (shown : D → View) (block first count : ℕ) (change : Change)
+    (bad before struck after : Bad) (done from to : ℕ) (old : D) (now : ℕ) (mid : D) (at : ℕ)
+    (new : D) (end : ℕ)
+    → 0 < block → 0 < count → count_of (call_of first count change) ≡ count
+    → done < (first + count - 1) / block + 1 - first / block
     → to ≡ reach block first count (first / block + done + 1)
-    → Changes does shown block (call_of first count change) (fua_of change) bad before done from old now mid at
+    → Changes does shown block (call_of first count change)
+    (fua_of change) bad before done from old now mid at
     → false ≡ nat_lt 0 (left_at before (first / block + done))
     → IsList struck before → IsList after (with_entry (first / block + done) None struck)
-    → DeviceFrame (patch_of (part_within from to (call_of first count change))) (shown mid) (shown new)
-    → (NoLie (shown mid) (shown new) → WriteDone (patch_of (part_within from to (call_of first count change))) (fua_of change) (shown mid) (shown new))
+    → DeviceFrame (patch_of (part_within from to (call_of first count change))) (shown mid)
+    (shown new)
+    → (NoLie (shown mid) (shown new)
+    → WriteDone (patch_of (part_within from to (call_of first count change))) (fua_of change)
+    (shown mid) (shown new))
     → does mid (part_within from to (call_of first count change)) at (Ok end) new → at ≤ end
-    → Changes does shown block (call_of first count change) (fua_of change) bad after (done + 1) to old now new end
-changes_step does shown block first count change bad before struck after done from to old now mid at new end positive some size within is_to so_far free stays forgets goes lands did later =
+    → Changes does shown block (call_of first count change) (fua_of change) bad after
+    (done + 1) to old now new end
+changes_step does shown block first count change bad before struck after done from to old now mid at
+    new end positive some size within is_to so_far free stays forgets goes lands did later =
     let call = call_of first count change in
     let begin : begin_of block call ≡ first / block = begin-change block first count change in
-    let part = next_part does block first count change bad before done from old now mid at positive some size within so_far.passed in
+    let part =
+    next_part does block first count change bad before done from old now mid at positive
+    some size within so_far.passed in
     let ends : to ≡ reach block first count (suc (first / block + done)) = is_to ∙ ap (reach block first count) (let b = first / block in omega arith) in
     let reached : to ≡ reach block (first_of call) (count_of call) (suc (begin_of block call + done)) =
     ends
-    ∙ ap (λ (f : ℕ). reach block f count (suc (f / block + done))) (sym (change-first first count change))
+    ∙ ap (λ (f : ℕ). reach block f count (suc (f / block + done)))
+    (sym (change-first first count change))
     ∙ ap (λ (n : ℕ). reach block (first_of call) n (suc (begin_of block call + done))) (sym size) in
     let list : IsList after (list_passed call (begin_of block call) (suc done) bad) =
-    list-next first count change (begin_of block call) done bad before struck after so_far.passed.list stays
+    list-next first count change
+    (begin_of block call) done bad before struck after so_far.passed.list stays
     (subst (λ (b : ℕ). IsList after (with_entry (b + done) None struck)) (sym begin) forgets) in
     let passes : stops call bad (begin_of block call + done) ≡ false =
     stops-change first count change (begin_of block call) done bad before so_far.passed.list
     ∙ ap (λ (b : ℕ). nat_lt 0 (left_at before (b + done))) begin ∙ sym free in
     let passed : HasPassed does block call bad after (suc done) to old now new end =
     passed_next does block call bad before after done from to old now mid at new end so_far.passed passes reached did later list in
-    subst (λ (n : ℕ). Changes does shown block call (fua_of change) bad after n to old now new end) (omega arith)
-    (changes_next does shown block first count change bad before after done from to old now mid at new end size part.low
+    subst (λ (n : ℕ). Changes does shown block call (fua_of change) bad after n to old now new end)
+    (omega arith)
+    (changes_next does shown block first count change bad before after done from to old now mid at
+    new end size part.low
     (let h = part.order in omega arith) (let h = part.high in omega (arith, ends)) so_far passed goes lands)
 
 -- where a part of it begins and ends, by its block
-part-change : (block first count : ℕ) (change : Change) (done from to : ℕ) → count_of (call_of first count change) ≡ count
-    → from ≡ reach block (first_of (call_of first count change)) (count_of (call_of first count change)) (begin_of block (call_of first count change) + done)
+part-change : (block first count : ℕ) (change : Change) (done from to : ℕ)
+    → count_of (call_of first count change) ≡ count
+    → from ≡ reach block (first_of (call_of first count change))
+    (count_of (call_of first count change)) (begin_of block (call_of first count change) + done)
     → to ≡ reach block first count (first / block + done + 1)
-    → part_within from to (call_of first count change) ≡ part_of block (call_of first count change) (begin_of block (call_of first count change) + done)
+    → part_within from to (call_of first count change)
+    ≡ part_of block (call_of first count change)
+    (begin_of block (call_of first count change) + done)
 part-change block first count change done from to size begins ends =
     let call = call_of first count change in
     let behind : to ≡ reach block (first_of call) (count_of call) (suc (begin_of block call + done)) =
     ends ∙ ap (reach block first count) (let b = first / block in omega arith)
-    ∙ ap (λ (f : ℕ). reach block f count (suc (f / block + done))) (sym (change-first first count change))
+    ∙ ap (λ (f : ℕ). reach block f count (suc (f / block + done)))
+    (sym (change-first first count change))
     ∙ ap (λ (n : ℕ). reach block (first_of call) n (suc (begin_of block call + done))) (sym size) in
     ap (λ (x : ℕ). part_within x to call) begins
-    ∙ ap (λ (y : ℕ). part_within (reach block (first_of call) (count_of call) (begin_of block call + done)) y call) behind
+    ∙ ap (λ (y : ℕ). part_within
+    (reach block (first_of call) (count_of call) (begin_of block call + done)) y call) behind
 
 -- a part that fails below
-pub changes_failed : {D : Type 0} (does : D → Call → ℕ → Result ℕ DevError → D → Type 0) (shown : D → View) (block first count : ℕ) (change : Change)
-    (bad before struck : Bad) (done from to : ℕ) (old : D) (now : ℕ) (mid : D) (at : ℕ) (new : D) (error : DevError)
-    → count_of (call_of first count change) ≡ count → done < (first + count - 1) / block + 1 - first / block
+pub changes_failed : {D : Type 0} (does : D → Call → ℕ → Result ℕ DevError → D → Type 0)
+    (shown : D → View) (block first count : ℕ) (change : Change)
+    (bad before struck : Bad) (done from to : ℕ) (old : D) (now : ℕ) (mid : D) (at : ℕ) (new : D)
+    (error : DevError)
+    → count_of (call_of first count change) ≡ count
+    → done < (first + count - 1) / block + 1 - first / block
     → to ≡ reach block first count (first / block + done + 1)
-    → Changes does shown block (call_of first count change) (fua_of change) bad before done from old now mid at
+    → Changes does shown block (call_of first count change)
+    (fua_of change) bad before done from old now mid at
     → false ≡ nat_lt 0 (left_at before (first / block + done)) → IsList struck before
     → does mid (part_within from to (call_of first count change)) at (Err error) new
     → FailsBelow does block (call_of first count change) bad struck old now new error
-changes_failed does shown block first count change bad before struck done from to old now mid at new error size within is_to so_far free stays did =
+changes_failed does shown block first count change bad before struck done from to old now mid at new
+    error size within is_to so_far free stays did =
     let call = call_of first count change in record {
       count = done;
       mid = mid;
@@ -406,23 +521,32 @@ changes_failed does shown block first count change bad before struck done from t
       within = let n = blocks-change block first count change size in omega (arith, n, within);
       free =
           stops-change first count change (begin_of block call) done bad before so_far.passed.list
-          ∙ ap (λ (b : ℕ). nat_lt 0 (left_at before (b + done))) (begin-change block first count change) ∙ sym free;
-      fails = subst (λ (part : Call). does mid part at (Err error) new) (part-change block first count change done from to size so_far.passed.reached is_to) did;
+          ∙ ap (λ (b : ℕ). nat_lt 0 (left_at before (b + done)))
+          (begin-change block first count change) ∙ sym free;
+      fails =
+          subst (λ (part : Call). does mid part at (Err error) new)
+          (part-change block first count change done from to size so_far.passed.reached is_to) did;
       rest = rest-change block first count change (suc done);
       list = λ b. stays b ∙ so_far.passed.list b;
     }
 
 -- a bad block that stops it
-pub changes_stopped : {D : Type 0} (does : D → Call → ℕ → Result ℕ DevError → D → Type 0) (shown : D → View) (block first count : ℕ) (change : Change)
+pub changes_stopped : {D : Type 0} (does : D → Call → ℕ → Result ℕ DevError → D → Type 0)
+    (shown : D → View) (block first count : ℕ) (change : Change)
     (bad before after : Bad) (done from : ℕ) (old : D) (now : ℕ) (mid : D) (at : ℕ)
-    → count_of (call_of first count change) ≡ count → done < (first + count - 1) / block + 1 - first / block
-    → Changes does shown block (call_of first count change) (fua_of change) bad before done from old now mid at
+    → count_of (call_of first count change) ≡ count
+    → done < (first + count - 1) / block + 1 - first / block
+    → Changes does shown block (call_of first count change)
+    (fua_of change) bad before done from old now mid at
     → true ≡ nat_lt 0 (left_at before (first / block + done))
-    → IsList after (with_entry (first / block + done) (Some (left_at before (first / block + done) - 1)) before)
+    → IsList after (with_entry (first / block + done)
+    (Some (left_at before (first / block + done) - 1)) before)
     → IsStopped does block (call_of first count change) bad after old now mid
-changes_stopped does shown block first count change bad before after done from old now mid at size within so_far hit falls =
+changes_stopped does shown block first count change bad before after done from old now mid at size
+    within so_far hit falls =
     let call = call_of first count change in
-    let begin : begin_of block call ≡ first / block = begin-change block first count change in record {
+    let begin : begin_of block call ≡ first / block = begin-change block first count change in
+    record {
       count = done;
       end = at;
       passes = so_far.passed.passes;
@@ -431,83 +555,118 @@ changes_stopped does shown block first count change bad before after done from o
           stops-change first count change (begin_of block call) done bad before so_far.passed.list
           ∙ ap (λ (b : ℕ). nat_lt 0 (left_at before (b + done))) begin ∙ sym hit;
       rest = rest-change block first count change done;
-      list = list-stop first count change (begin_of block call) done bad before after so_far.passed.list
-          (subst (λ (b : ℕ). IsList after (with_entry (b + done) (Some (left_at before (b + done) - 1)) before)) (sym begin) falls);
+      list =
+          list-stop first count change
+          (begin_of block call) done bad before after so_far.passed.list
+          (subst (λ (b : ℕ). IsList after
+          (with_entry (b + done) (Some (left_at before (b + done) - 1)) before))
+          (sym begin) falls);
     }
 
 -- behind its last block it is done
-pub changes_done : {D : Type 0} (does : D → Call → ℕ → Result ℕ DevError → D → Type 0) (shown : D → View) (block first count : ℕ) (change : Change)
+pub changes_done : {D : Type 0} (does : D → Call → ℕ → Result ℕ DevError → D → Type 0)
+    (shown : D → View) (block first count : ℕ) (change : Change)
     (bad list : Bad) (done from : ℕ) (old : D) (now : ℕ) (new : D) (end : ℕ)
-    → count_of (call_of first count change) ≡ count → done ≡ (first + count - 1) / block + 1 - first / block
-    → Changes does shown block (call_of first count change) (fua_of change) bad list done from old now new end
+    → count_of (call_of first count change) ≡ count
+    → done ≡ (first + count - 1) / block + 1 - first / block
+    → Changes does shown block (call_of first count change)
+    (fua_of change) bad list done from old now new end
     → IsDone does block (call_of first count change) bad list old now new end
 changes_done does shown block first count change bad list done from old now new end size is so_far =
     let call = call_of first count change in
     let all : done ≡ blocks_of block call = is ∙ sym (blocks-change block first count change size) in record {
-      passes = subst (λ (n : ℕ). Passes does block call bad n old now new end) all so_far.passed.passes;
-      list = subst (λ (n : ℕ). IsList list (list_passed call (begin_of block call) n bad)) all so_far.passed.list;
+      passes =
+          subst (λ (n : ℕ). Passes does block call bad n old now new end) all so_far.passed.passes;
+      list =
+          subst (λ (n : ℕ). IsList list
+          (list_passed call (begin_of block call) n bad)) all so_far.passed.list;
     }
 
 -- and has landed
-pub changes_land : {D : Type 0} (does : D → Call → ℕ → Result ℕ DevError → D → Type 0) (shown : D → View) (block first count : ℕ) (change : Change)
+pub changes_land : {D : Type 0} (does : D → Call → ℕ → Result ℕ DevError → D → Type 0)
+    (shown : D → View) (block first count : ℕ) (change : Change)
     (bad list : Bad) (done from : ℕ) (old : D) (now : ℕ) (new : D) (end : ℕ)
-    → 0 < block → 0 < count → count_of (call_of first count change) ≡ count → done ≡ (first + count - 1) / block + 1 - first / block
-    → Changes does shown block (call_of first count change) (fua_of change) bad list done from old now new end
-    → NoLie (shown old) (shown new) → WriteDone (patch_of (call_of first count change)) (fua_of change) (shown old) (shown new)
-changes_land does shown block first count change bad list done from old now new end positive some size is so_far told =
+    → 0 < block → 0 < count → count_of (call_of first count change) ≡ count
+    → done ≡ (first + count - 1) / block + 1 - first / block
+    → Changes does shown block (call_of first count change)
+    (fua_of change) bad list done from old now new end
+    → NoLie (shown old) (shown new)
+    → WriteDone (patch_of (call_of first count change)) (fua_of change) (shown old) (shown new)
+changes_land does shown block first count change bad list done from old now new end positive some
+    size is so_far told =
     let call = call_of first count change in
     let low : first / block * block ≤ first = div-mul-le_self first block in
-    let order : first / block ≤ (first + count - 1) / block = le-div (first / block) (first + count - 1) block positive (omega (arith, low, some)) in
-    let behind : first / block + done ≡ block_behind block first count = let a = first / block in let b = (first + count - 1) / block in omega (arith, order, is) in
+    let order : first / block ≤ (first + count - 1) / block =
+    le-div (first / block) (first + count - 1) block positive (omega (arith, low, some)) in
+    let behind : first / block + done ≡ block_behind block first count = let a = first / block in
+    let b = (first + count - 1) / block in omega (arith, order, is) in
     let ends : from ≡ first + count =
     so_far.passed.reached
-    ∙ ap (λ (f : ℕ). reach block f (count_of call) (f / block + done)) (change-first first count change)
+    ∙ ap (λ (f : ℕ). reach block f (count_of call) (f / block + done))
+    (change-first first count change)
     ∙ ap (λ (n : ℕ). reach block first n (first / block + done)) size
     ∙ ap (reach block first count) behind
     ∙ reach_last block first count positive some in
     lands_all from (patch_of call) (fua_of change) (shown old) (shown new)
-    (subst (λ (e : ℕ). HasNoneFrom e (patch_of call)) (sym ends) (none-behind first count change size)) (so_far.lands told)
+    (subst (λ (e : ℕ). HasNoneFrom e (patch_of call)) (sym ends)
+    (none-behind first count change size)) (so_far.lands told)
 
 -- a part that fails goes by the whole call too
-pub changes_fails : {D : Type 0} (does : D → Call → ℕ → Result ℕ DevError → D → Type 0) (shown : D → View) (block first count : ℕ) (change : Change)
+pub changes_fails : {D : Type 0} (does : D → Call → ℕ → Result ℕ DevError → D → Type 0)
+    (shown : D → View) (block first count : ℕ) (change : Change)
     (bad list : Bad) (done from to : ℕ) (old : D) (now : ℕ) (mid : D) (at : ℕ) (new : D)
-    → 0 < block → 0 < count → count_of (call_of first count change) ≡ count → done < (first + count - 1) / block + 1 - first / block
+    → 0 < block → 0 < count → count_of (call_of first count change) ≡ count
+    → done < (first + count - 1) / block + 1 - first / block
     → to ≡ reach block first count (first / block + done + 1)
-    → Changes does shown block (call_of first count change) (fua_of change) bad list done from old now mid at
-    → DeviceFrame (patch_of (part_within from to (call_of first count change))) (shown mid) (shown new)
+    → Changes does shown block (call_of first count change)
+    (fua_of change) bad list done from old now mid at
+    → DeviceFrame (patch_of (part_within from to (call_of first count change))) (shown mid)
+    (shown new)
     → DeviceFrame (patch_of (call_of first count change)) (shown old) (shown new)
-changes_fails does shown block first count change bad list done from to old now mid at new positive some size within is_to so_far goes =
+changes_fails does shown block first count change bad list done from to old now mid at new positive
+    some size within is_to so_far goes =
     let call = call_of first count change in
-    let part = next_part does block first count change bad list done from old now mid at positive some size within so_far.passed in
+    let part =
+    next_part does block first count change bad list done from old now mid at positive some
+    size within so_far.passed in
     let ends : to ≡ reach block first count (suc (first / block + done)) = is_to ∙ ap (reach block first count) (let b = first / block in omega arith) in
     let order : from ≤ to = let h = part.order in omega (arith, ends) in
     let high : to ≤ first + count = let h = part.high in omega (arith, ends) in
     goes_cut to (patch_of call) (shown old) (shown new)
-    (goes_next from to (patch_of call) (patch_of (part_within from to call)) (shown old) (shown mid) (shown new) order
+    (goes_next from to (patch_of call) (patch_of (part_within from to call)) (shown old) (shown mid)
+    (shown new) order
     (part-values first count from to change size part.low order high) so_far.goes goes)
 
 -- ---- a read
 
 -- parts that are the same calls are done as they are
-parts_same : {D : Type 0} (does : D → Call → ℕ → Result ℕ DevError → D → Type 0) (part other : ℕ → Call) (begin count : ℕ)
-    (old : D) (now : ℕ) (new : D) (end : ℕ) → ((place : ℕ) → begin ≤ place → place < begin + count → part place ≡ other place)
-    → DoesParts does part begin count old now new end → DoesParts does other begin count old now new end
+parts_same : {D : Type 0} (does : D → Call → ℕ → Result ℕ DevError → D → Type 0)
+    (part other : ℕ → Call) (begin count : ℕ)
+    (old : D) (now : ℕ) (new : D) (end : ℕ)
+    → ((place : ℕ) → begin ≤ place → place < begin + count → part place ≡ other place)
+    → DoesParts does part begin count old now new end
+    → DoesParts does other begin count old now new end
 parts_same does part other begin zero old now new end same did = did
 parts_same does part other begin (suc count) old now new end same did = (
   did.0,
   did.1,
-  parts_same does part other begin count old now did.0 did.1 (λ place low high. same place low (omega arith)) did.2,
-  subst (λ (call : Call). does did.0 call did.1 (Ok end) new) (same (begin + count) (omega arith) (omega arith)) did.3,
+  parts_same does part other begin count old now did.0 did.1
+      (λ place low high. same place low (omega arith)) did.2,
+  subst (λ (call : Call). does did.0 call did.1 (Ok end) new)
+      (same (begin + count) (omega arith) (omega arith)) did.3,
 )
 
 -- bytes that are the same up to a place are the same before it
-bytes-same : (a n k : ℕ) (xs ys : List ℕ) → a + n ≤ k → take k xs ≡ take k ys → take n (drop a xs) ≡ take n (drop a ys)
+bytes-same : (a n k : ℕ) (xs ys : List ℕ) → a + n ≤ k → take k xs ≡ take k ys
+    → take n (drop a xs) ≡ take n (drop a ys)
 bytes-same a n k xs ys within same =
     sym (drop-take a n xs)
-    ∙ ap (drop a) (sym (take-take (a + n) k xs within) ∙ ap (take (a + n)) same ∙ take-take (a + n) k ys within)
+    ∙ ap (drop a) (sym (take-take (a + n) k xs within) ∙ ap (take (a + n)) same
+    ∙ take-take (a + n) k ys within)
     ∙ drop-take a n ys
 
-reach-order : (block first count p q : ℕ) → p ≤ q → reach block first count p ≤ reach block first count q
+reach-order : (block first count p q : ℕ) → p ≤ q
+    → reach block first count p ≤ reach block first count q
 reach-order block first count p q order =
     let low : p * block ≤ q * block = times-le p q block order in
     let a = p * block in
@@ -515,40 +674,50 @@ reach-order block first count p q order =
     omega (arith, low)
 
 -- What a read has done so far.
-pub record Reading {D : Type 0} (does : D → Call → ℕ → Result ℕ DevError → D → Type 0) (shown : D → View) (block first : ℕ) (before now_bytes : List ℕ)
+pub record Reading {D : Type 0} (does : D → Call → ℕ → Result ℕ DevError → D → Type 0)
+    (shown : D → View) (block first : ℕ) (before now_bytes : List ℕ)
     (bad : Bad) (done from : ℕ) (old : D) (now : ℕ) (new : D) (end : ℕ) : Type 0 where
   pub passed : HasPassed does block (Reads first before now_bytes) bad bad done from old now new end
-  pub bytes : take (512 * (from - first)) now_bytes ≡ gather (shown old).content first (from - first)
+  pub bytes : take (512 * (from - first)) now_bytes
+      ≡ gather (shown old).content first (from - first)
   -- the buffer's rest is as it was
   pub rest : drop (512 * (from - first)) now_bytes ≡ drop (512 * (from - first)) before
   pub goes : DeviceFrame nothing (shown old) (shown new)
   pub stays : CrashSetKept (shown old) (shown new)
 
 -- what comes into a buffer behind what was read leaves what was read
-passed_read : {D : Type 0} (does : D → Call → ℕ → Result ℕ DevError → D → Type 0) (block first : ℕ) (before xs ys : List ℕ) (bad : Bad) (done from : ℕ)
-    (old : D) (now : ℕ) (new : D) (end : ℕ) → take (512 * (from - first)) xs ≡ take (512 * (from - first)) ys
+passed_read : {D : Type 0} (does : D → Call → ℕ → Result ℕ DevError → D → Type 0) (block first : ℕ)
+    (before xs ys : List ℕ) (bad : Bad) (done from : ℕ)
+    (old : D) (now : ℕ) (new : D) (end : ℕ)
+    → take (512 * (from - first)) xs ≡ take (512 * (from - first)) ys
     → HasPassed does block (Reads first before xs) bad bad done from old now new end
     → HasPassed does block (Reads first before ys) bad bad done from old now new end
 passed_read does block first before xs ys bad done from old now new end same so_far = record {
   reached = so_far.reached;
   passes = record {
     free = so_far.passes.free;
-    parts = parts_same does (part_of block (Reads first before xs)) (part_of block (Reads first before ys)) (first / block) done old now new end
+    parts =
+        parts_same does (part_of block (Reads first before xs))
+        (part_of block (Reads first before ys)) (first / block) done old now new end
         (λ place low high.
         let a = reach block first (length before / 512) place in
         let b = reach block first (length before / 512) (suc place) in
-        let order : a ≤ b = reach-order block first (length before / 512) place (suc place) (omega arith) in
+        let order : a ≤ b =
+        reach-order block first (length before / 512) place (suc place) (omega arith) in
         let begins : first ≤ a = elim (cases_lt place (first / block)) [ inl less ↦ absurd (omega arith) | inr more ↦ let x = place * block in let y = length before / 512 in omega arith ] in
         let ends : b ≤ from = let h = reach-order block first (length before / 512) (suc place) (first / block + done) (omega arith) in let e = so_far.reached in omega (arith, h, e) in
-        ap (λ (bytes : List ℕ). Reads a (take (512 * (b - a)) (drop (512 * (a - first)) before)) bytes)
-        (bytes-same (512 * (a - first)) (512 * (b - a)) (512 * (from - first)) xs ys (omega (arith, order, begins, ends)) same)) so_far.passes.parts;
+        ap (λ (bytes : List ℕ). Reads a
+        (take (512 * (b - a)) (drop (512 * (a - first)) before)) bytes)
+        (bytes-same (512 * (a - first)) (512 * (b - a)) (512 * (from - first)) xs ys
+        (omega (arith, order, begins, ends)) same)) so_far.passes.parts;
   };
   list = so_far.list;
   moment = so_far.moment;
 }
 
 -- a range of sectors is its first part and then the rest
-gather-add : (c : Content) (first k n : ℕ) → gather c first (k + n) ≡ gather c first k ++ gather c (first + k) n
+gather-add : (c : Content) (first k n : ℕ)
+    → gather c first (k + n) ≡ gather c first k ++ gather c (first + k) n
 gather-add c first k zero =
     let none : k + 0 ≡ k = omega arith in
     ap (gather c first) none ∙ sym (append-nil (gather c first k))
@@ -560,8 +729,10 @@ gather-add c first k (suc n) =
     ∙ append_assoc (gather c first k) (gather c (first + k) n) (c (first + (k + n)))
     ∙ ap (λ (s : ℕ). gather c first k ++ (gather c (first + k) n ++ c s)) place
 
-pub reading_first : {D : Type 0} (does : D → Call → ℕ → Result ℕ DevError → D → Type 0) (shown : D → View) (block first : ℕ) (bytes : List ℕ)
-    (bad : Bad) (old : D) (now : ℕ) → 0 < length bytes / 512 → Reading does shown block first bytes bytes bad 0 first old now old now
+pub reading_first : {D : Type 0} (does : D → Call → ℕ → Result ℕ DevError → D → Type 0)
+    (shown : D → View) (block first : ℕ) (bytes : List ℕ)
+    (bad : Bad) (old : D) (now : ℕ) → 0 < length bytes / 512
+    → Reading does shown block first bytes bytes bad 0 first old now old now
 reading_first does shown block first bytes bad old now some = record {
   passed = passed_first does block (Reads first bytes bytes) bad old now some;
   bytes =
@@ -580,21 +751,27 @@ rest-further a b xs ys order same =
     ∙ ap (λ (n : ℕ). drop n ys) (omega arith)
 
 -- where the next part of a read begins and ends
-next_read : {D : Type 0} (does : D → Call → ℕ → Result ℕ DevError → D → Type 0) (shown : D → View) (block first : ℕ) (before xs : List ℕ)
+next_read : {D : Type 0} (does : D → Call → ℕ → Result ℕ DevError → D → Type 0) (shown : D → View)
+    (block first : ℕ) (before xs : List ℕ)
     (bad : Bad) (done from to : ℕ) (old : D) (now : ℕ) (mid : D) (at : ℕ)
-    → 0 < block → 0 < length before / 512 → done < (first + length before / 512 - 1) / block + 1 - first / block
+    → 0 < block → 0 < length before / 512
+    → done < (first + length before / 512 - 1) / block + 1 - first / block
     → to ≡ reach block first (length before / 512) (first / block + done + 1)
     → Reading does shown block first before xs bad done from old now mid at
     → IsNextPart block first (length before / 512) done from to
-next_read does shown block first before xs bad done from to old now mid at positive some within is_to so_far =
+next_read does shown block first before xs bad done from to old now mid at positive some within
+    is_to so_far =
     subst (IsNextPart block first (length before / 512) done from)
     (ap (reach block first (length before / 512)) (let b = first / block in omega arith) ∙ sym is_to)
-    (next_part_from block first (length before / 512) done from positive some within so_far.passed.reached)
+    (next_part_from block first
+    (length before / 512) done from positive some within so_far.passed.reached)
 
 -- once a part is read, the read got a block further
-pub reading_step : {D : Type 0} (does : D → Call → ℕ → Result ℕ DevError → D → Type 0) (shown : D → View) (block first : ℕ) (before xs ys : List ℕ)
+pub reading_step : {D : Type 0} (does : D → Call → ℕ → Result ℕ DevError → D → Type 0)
+    (shown : D → View) (block first : ℕ) (before xs ys : List ℕ)
     (bad : Bad) (done from to : ℕ) (old : D) (now : ℕ) (mid : D) (at : ℕ) (new : D) (end : ℕ)
-    → 0 < block → 0 < length before / 512 → done < (first + length before / 512 - 1) / block + 1 - first / block
+    → 0 < block → 0 < length before / 512
+    → done < (first + length before / 512 - 1) / block + 1 - first / block
     → to ≡ reach block first (length before / 512) (first / block + done + 1)
     → Reading does shown block first before xs bad done from old now mid at
     → is_some (bad (first / block + done)) ≡ false
@@ -602,10 +779,14 @@ pub reading_step : {D : Type 0} (does : D → Call → ℕ → Result ℕ DevErr
     → drop (512 * (to - first)) ys ≡ drop (512 * (to - first)) xs
     → bytes_within first from to ys ≡ gather (shown mid).content from (to - from)
     → DeviceFrame nothing (shown mid) (shown new) → CrashSetKept (shown mid) (shown new)
-    → does mid (Reads from (bytes_within first from to xs) (bytes_within first from to ys)) at (Ok end) new → at ≤ end
+    → does mid (Reads from (bytes_within first from to xs) (bytes_within first from to ys)) at
+    (Ok end) new → at ≤ end
     → Reading does shown block first before ys bad (done + 1) to old now new end
-reading_step does shown block first before xs ys bad done from to old now mid at new end positive some within is_to so_far free same behind read goes stays did later =
-    let part = next_read does shown block first before xs bad done from to old now mid at positive some within is_to so_far in
+reading_step does shown block first before xs ys bad done from to old now mid at new end positive
+    some within is_to so_far free same behind read goes stays did later =
+    let part =
+    next_read does shown block first before xs bad done from to old now mid at positive some
+    within is_to so_far in
     let low = part.low in
     let order = part.order in
     let ends : to ≡ reach block first (length before / 512) (suc (first / block + done)) =
@@ -615,40 +796,54 @@ reading_step does shown block first before xs ys bad done from to old now mid at
     let passed : HasPassed does block (Reads first before ys) bad bad (suc done) to old now new end =
     passed_next does block (Reads first before ys) bad bad bad done from to old now mid at new end
     (passed_read does block first before xs ys bad done from old now mid at (sym same) so_far.passed) free ends asked later (λ place. refl) in
-    let content : (s : ℕ) → (shown mid).content s ≡ (shown old).content s = λ s. patched-none nothing (shown old).content (shown mid).content so_far.goes.content s refl in
+    let content : (s : ℕ) → (shown mid).content s ≡ (shown old).content s =
+    λ s. patched-none nothing (shown old).content
+    (shown mid).content so_far.goes.content s refl in
     let k = from - first in
     let n = to - from in
     let up_to : to - first ≡ k + n = omega (arith, low, order) in
     let bytes_to : 512 * (to - first) ≡ 512 * k + 512 * n = omega (arith, low, order) in
     let there : (s : ℕ) → from + s ≡ first + k + s = λ s. omega (arith, low) in
     record {
-      passed = subst (λ (m : ℕ). HasPassed does block (Reads first before ys) bad bad m to old now new end) (omega arith) passed;
+      passed =
+          subst (λ (m : ℕ). HasPassed does block
+          (Reads first before ys) bad bad m to old now new end) (omega arith) passed;
       bytes =
           ap (λ (m : ℕ). take m ys) bytes_to
           ∙ take-add (512 * k) (512 * n) ys
           ∙ ap (λ (zs : List ℕ). zs ++ take (512 * n) (drop (512 * k) ys)) (same ∙ so_far.bytes)
           ∙ ap (λ (zs : List ℕ). gather (shown old).content first k ++ zs)
-          (read ∙ gather-ext (shown mid).content (shown old).content from (first + k) n (λ s h. content (from + s) ∙ ap (shown old).content (there s)))
+          (read ∙ gather-ext (shown mid).content (shown old).content from (first + k) n
+          (λ s h. content (from + s) ∙ ap (shown old).content (there s)))
           ∙ sym (gather-add (shown old).content first k n)
           ∙ ap (gather (shown old).content first) (sym up_to);
-      rest = behind ∙ rest-further (512 * (from - first)) (512 * (to - first)) xs before (omega (arith, order)) so_far.rest;
+      rest =
+          behind ∙ rest-further (512 * (from - first)) (512 * (to - first)) xs before
+          (omega (arith, order)) so_far.rest;
       goes = goes_both nothing (shown old) (shown mid) (shown new) so_far.goes goes;
       stays = stays_both (shown old) (shown mid) (shown new) so_far.stays stays;
     }
 
 -- a part of it that fails below
-pub reading_failed : {D : Type 0} (does : D → Call → ℕ → Result ℕ DevError → D → Type 0) (shown : D → View) (block first : ℕ) (before xs ys : List ℕ)
-    (bad : Bad) (done from to : ℕ) (old : D) (now : ℕ) (mid : D) (at : ℕ) (new : D) (error : DevError)
-    → 0 < block → 0 < length before / 512 → done < (first + length before / 512 - 1) / block + 1 - first / block
+pub reading_failed : {D : Type 0} (does : D → Call → ℕ → Result ℕ DevError → D → Type 0)
+    (shown : D → View) (block first : ℕ) (before xs ys : List ℕ)
+    (bad : Bad) (done from to : ℕ) (old : D) (now : ℕ) (mid : D) (at : ℕ) (new : D)
+    (error : DevError)
+    → 0 < block → 0 < length before / 512
+    → done < (first + length before / 512 - 1) / block + 1 - first / block
     → to ≡ reach block first (length before / 512) (first / block + done + 1)
     → Reading does shown block first before xs bad done from old now mid at
     → is_some (bad (first / block + done)) ≡ false
     → take (512 * (from - first)) ys ≡ take (512 * (from - first)) xs
     → drop (512 * (to - first)) ys ≡ drop (512 * (to - first)) xs
-    → does mid (Reads from (bytes_within first from to xs) (bytes_within first from to ys)) at (Err error) new
+    → does mid (Reads from (bytes_within first from to xs) (bytes_within first from to ys)) at
+    (Err error) new
     → FailsBelow does block (Reads first before ys) bad bad old now new error
-reading_failed does shown block first before xs ys bad done from to old now mid at new error positive some within is_to so_far free same behind did =
-    let part = next_read does shown block first before xs bad done from to old now mid at positive some within is_to so_far in
+reading_failed does shown block first before xs ys bad done from to old now mid at new error
+    positive some within is_to so_far free same behind did =
+    let part =
+    next_read does shown block first before xs bad done from to old now mid at positive some
+    within is_to so_far in
     let order = part.order in
     let ends_next : to ≡ reach block first (length before / 512) (first / block + suc done) =
     is_to ∙ ap (reach block first (length before / 512)) (let b = first / block in omega arith) in
@@ -659,29 +854,43 @@ reading_failed does shown block first before xs ys bad done from to old now mid 
       count = done;
       mid = mid;
       end = at;
-      passes = (passed_read does block first before xs ys bad done from old now mid at (sym same) so_far.passed).passes;
-      within = let a = first / block in let b = (first + length before / 512 - 1) / block in omega (arith, within);
+      passes =
+          (passed_read does block first before xs ys bad done from old now mid at
+          (sym same) so_far.passed).passes;
+      within =
+          let a = first / block in
+          let b = (first + length before / 512 - 1) / block in omega (arith, within);
       free = free;
       fails =
-          subst (λ (p : ℕ). does mid (part_within p (reach block first (length before / 512) (suc (first / block + done))) (Reads first before ys)) at (Err error) new) so_far.passed.reached
-          (subst (λ (p : ℕ). does mid (part_within from p (Reads first before ys)) at (Err error) new) ends asked);
-      rest = subst (λ (p : ℕ). drop (512 * (p - first)) ys ≡ drop (512 * (p - first)) before) ends_next
-          (behind ∙ rest-further (512 * (from - first)) (512 * (to - first)) xs before (omega (arith, order)) so_far.rest);
+          subst (λ (p : ℕ). does mid
+          (part_within p (reach block first (length before / 512) (suc (first / block + done)))
+          (Reads first before ys)) at (Err error) new) so_far.passed.reached
+          (subst (λ (p : ℕ). does mid (part_within from p (Reads first before ys)) at
+          (Err error) new) ends asked);
+      rest =
+          subst (λ (p : ℕ). drop (512 * (p - first)) ys ≡ drop (512 * (p - first)) before) ends_next
+          (behind ∙ rest-further (512 * (from - first)) (512 * (to - first)) xs before
+          (omega (arith, order)) so_far.rest);
       list = λ place. refl;
     }
 
 -- behind its last block all of it is read
-pub reading_bytes : {D : Type 0} (does : D → Call → ℕ → Result ℕ DevError → D → Type 0) (shown : D → View) (block first : ℕ) (before xs : List ℕ)
+pub reading_bytes : {D : Type 0} (does : D → Call → ℕ → Result ℕ DevError → D → Type 0)
+    (shown : D → View) (block first : ℕ) (before xs : List ℕ)
     (bad : Bad) (done from : ℕ) (old : D) (now : ℕ) (new : D) (end : ℕ)
-    → 0 < block → 0 < length before / 512 → length xs ≡ length before → length before ≡ 512 * (length before / 512)
+    → 0 < block → 0 < length before / 512 → length xs ≡ length before
+    → length before ≡ 512 * (length before / 512)
     → done ≡ (first + length before / 512 - 1) / block + 1 - first / block
     → Reading does shown block first before xs bad done from old now new end
     → xs ≡ gather (shown old).content first (length before / 512)
-reading_bytes does shown block first before xs bad done from old now new end positive some size whole is so_far =
+reading_bytes does shown block first before xs bad done from old now new end positive some size
+    whole is so_far =
     let n = length before / 512 in
     let low : first / block * block ≤ first = div-mul-le_self first block in
-    let order : first / block ≤ (first + n - 1) / block = le-div (first / block) (first + n - 1) block positive (omega (arith, low, some)) in
-    let behind : first / block + done ≡ block_behind block first n = let a = first / block in let b = (first + n - 1) / block in omega (arith, order, is) in
+    let order : first / block ≤ (first + n - 1) / block =
+    le-div (first / block) (first + n - 1) block positive (omega (arith, low, some)) in
+    let behind : first / block + done ≡ block_behind block first n = let a = first / block in
+    let b = (first + n - 1) / block in omega (arith, order, is) in
     let ends : from ≡ first + n =
     so_far.passed.reached ∙ ap (reach block first n) behind ∙ reach_last block first n positive some in
     let all : from - first ≡ n = omega (arith, ends) in

@@ -1,5 +1,5 @@
--- What a device does beneath bad blocks, said of what is made of that device: where each of its calls is carried over, so is a call that
--- goes block by block.
+-- What a device does beneath bad blocks, said of what is made of that device: where each of its
+-- calls is carried over, so is a call that goes block by block.
 use Rattle.std.proofs.Common.{ℕ, zero, suc, ◌+◌, Ok, Err, ap, subst, sym}
 use Rattle.std.specs.Prelude.{Result}
 use Rattle.bio.specs.declared.outcome.DevError.{DevError}
@@ -16,9 +16,11 @@ use Rattle.dust_layer.specs.Walk.{begin_of, blocks_of, part_of, ByBlock, DoesPar
 abbrev pub Doing : Type 0 → Type 1
 Doing D = D → Call → ℕ → Result ℕ DevError → D → Type 0
 
--- each call of a device for which this holds is a call of what f makes of it, and then it holds still
+-- each call of a device for which this holds is a call of
+-- what f makes of it, and then it holds still
 abbrev pub IsCarried : {D E : Type 0} → Doing D → Doing E → (D → Type 0) → (D → E) → Type 0
-IsCarried {D} {E} does other fine f = (old : D) (call : Call) (now : ℕ) (result : Result ℕ DevError) (new : D) → fine old
+IsCarried {D} {E} does other fine f =
+    (old : D) (call : Call) (now : ℕ) (result : Result ℕ DevError) (new : D) → fine old
     → does old call now result new → other (f old) call now result (f new) × fine new
 
 -- what f makes of what a device with bad blocks holds
@@ -26,65 +28,121 @@ abbrev pub held_as : {D E : Type 0} → (D → E) → Held D → Held E
 held_as f it = record { lower = f it.lower; bad = it.bad; faults = it.faults }
 
 -- parts one after another
-parts_carried : {D E : Type 0} (does : Doing D) (other : Doing E) (fine : D → Type 0) (f : D → E) → IsCarried does other fine f
-    → (part : ℕ → Call) (begin count : ℕ) (old : D) (now : ℕ) (new : D) (end : ℕ) → fine old → DoesParts does part begin count old now new end
+parts_carried : {D E : Type 0} (does : Doing D) (other : Doing E) (fine : D → Type 0) (f : D → E)
+    → IsCarried does other fine f
+    → (part : ℕ → Call) (begin count : ℕ) (old : D) (now : ℕ) (new : D) (end : ℕ) → fine old
+    → DoesParts does part begin count old now new end
     → DoesParts other part begin count (f old) now (f new) end × fine new
-parts_carried does other fine f each part begin zero old now new end holds is = ((ap f is.0, is.1), subst fine (sym is.0) holds)
-parts_carried does other fine f each part begin (suc count) old now new end holds (mid, at, before, last) =
+parts_carried does other fine f each part begin zero old now new end holds is =
+    ((ap f is.0, is.1), subst fine (sym is.0) holds)
+parts_carried does other fine f each part begin (suc count) old now new end holds
+    (mid, at, before, last) =
     let first = parts_carried does other fine f each part begin count old now mid at holds before in
     let next = each mid (part (begin + count)) at (Ok end) new first.1 last in
     ((f mid, at, first.0, next.0), next.1)
 
 -- blocks that don't stop a call
-passes_carried : {D E : Type 0} (does : Doing D) (other : Doing E) (fine : D → Type 0) (f : D → E) → IsCarried does other fine f
-    → (block : ℕ) (call : Call) (bad : Bad) (count : ℕ) (old : D) (now : ℕ) (new : D) (end : ℕ) → fine old
-    → Passes does block call bad count old now new end → Passes other block call bad count (f old) now (f new) end × fine new
+passes_carried : {D E : Type 0} (does : Doing D) (other : Doing E) (fine : D → Type 0) (f : D → E)
+    → IsCarried does other fine f
+    → (block : ℕ) (call : Call) (bad : Bad) (count : ℕ) (old : D) (now : ℕ) (new : D) (end : ℕ)
+    → fine old
+    → Passes does block call bad count old now new end
+    → Passes other block call bad count (f old) now (f new) end × fine new
 passes_carried does other fine f each block call bad count old now new end holds is =
-    let parts = parts_carried does other fine f each (part_of block call) (begin_of block call) count old now new end holds is.parts in
+    let parts =
+    parts_carried does other fine f each (part_of block call)
+    (begin_of block call) count old now new end holds is.parts in
     (record { free = is.free; parts = parts.0 }, parts.1)
 
 -- a call that goes block by block
-blocks_carried : {D E : Type 0} (does : Doing D) (other : Doing E) (fine : D → Type 0) (f : D → E) → IsCarried does other fine f
-    → (block : ℕ) (call : Call) (bad after : Bad) (old : D) (now : ℕ) (new : D) (stop : Result ℕ Stop) → fine old
-    → ByBlock does block call bad after old now new stop → ByBlock other block call bad after (f old) now (f new) stop × fine new
+blocks_carried : {D E : Type 0} (does : Doing D) (other : Doing E) (fine : D → Type 0) (f : D → E)
+    → IsCarried does other fine f
+    → (block : ℕ) (call : Call) (bad after : Bad) (old : D) (now : ℕ) (new : D)
+    (stop : Result ℕ Stop) → fine old
+    → ByBlock does block call bad after old now new stop
+    → ByBlock other block call bad after (f old) now (f new) stop × fine new
 blocks_carried does other fine f each block call bad after old now new (Ok end) holds is =
-    let passes = passes_carried does other fine f each block call bad (blocks_of block call) old now new end holds is.passes in
+    let passes =
+    passes_carried does other fine f each block call bad
+    (blocks_of block call) old now new end holds is.passes in
     (record { passes = passes.0; list = is.list }, passes.1)
 blocks_carried does other fine f each block call bad after old now new (Err Struck) holds is =
-    let passes = passes_carried does other fine f each block call bad is.count old now new is.end holds is.passes in
-    (record { count = is.count; end = is.end; passes = passes.0; within = is.within; stopped = is.stopped; rest = is.rest; list = is.list }, passes.1)
-blocks_carried does other fine f each block call bad after old now new (Err (Below error)) holds is =
-    let passes = passes_carried does other fine f each block call bad is.count old now is.mid is.end holds is.passes in
-    let last = each is.mid (part_of block call (begin_of block call + is.count)) is.end (Err error) new passes.1 is.fails in (
-      record { count = is.count; mid = f is.mid; end = is.end; passes = passes.0; within = is.within; free = is.free; fails = last.0; rest = is.rest; list = is.list },
+    let passes =
+    passes_carried does other fine f each block call bad is.count old now new is.end holds
+    is.passes in (
+      record {
+        count = is.count;
+        end = is.end;
+        passes = passes.0;
+        within = is.within;
+        stopped = is.stopped;
+        rest = is.rest;
+        list = is.list;
+      },
+      passes.1,
+    )
+blocks_carried does other fine f each block call bad after old now new
+    (Err (Below error)) holds is =
+    let passes =
+    passes_carried does other fine f each block call bad is.count old now is.mid is.end
+    holds is.passes in
+    let last =
+    each is.mid (part_of block call (begin_of block call + is.count)) is.end
+    (Err error) new passes.1 is.fails in (
+      record {
+        count = is.count;
+        mid = f is.mid;
+        end = is.end;
+        passes = passes.0;
+        within = is.within;
+        free = is.free;
+        fails = last.0;
+        rest = is.rest;
+        list = is.list;
+      },
       last.1,
     )
 
 -- a call that is passed, and one that is checked
-passed_carried : {D E : Type 0} (does : Doing D) (other : Doing E) (fine : D → Type 0) (f : D → E) → IsCarried does other fine f
-    → (call : Call) (now : ℕ) (result : Result ℕ DevError) (old new : Held D) → fine old.lower → IsPassed does call now result old new
+passed_carried : {D E : Type 0} (does : Doing D) (other : Doing E) (fine : D → Type 0) (f : D → E)
+    → IsCarried does other fine f
+    → (call : Call) (now : ℕ) (result : Result ℕ DevError) (old new : Held D) → fine old.lower
+    → IsPassed does call now result old new
     → IsPassed other call now result (held_as f old) (held_as f new) × fine new.lower
 passed_carried does other fine f each call now result old new holds is =
     let below = each old.lower call now result new.lower holds is.below in
     (record { below = below.0; list = is.list; faults = is.faults }, below.1)
 
-checked_carried : {D E : Type 0} (does : Doing D) (other : Doing E) (fine : D → Type 0) (f : D → E) → IsCarried does other fine f
-    → (block : ℕ) (call : Call) (now : ℕ) (result : Result ℕ DevError) (old new : Held D) → fine old.lower → IsChecked does block call now result old new
+checked_carried : {D E : Type 0} (does : Doing D) (other : Doing E) (fine : D → Type 0) (f : D → E)
+    → IsCarried does other fine f
+    → (block : ℕ) (call : Call) (now : ℕ) (result : Result ℕ DevError) (old new : Held D)
+    → fine old.lower → IsChecked does block call now result old new
     → IsChecked other block call now result (held_as f old) (held_as f new) × fine new.lower
 checked_carried does other fine f each block call now result old new holds is =
-    let blocks = blocks_carried does other fine f each block call old.bad new.bad old.lower now new.lower is.stop holds is.blocks in
+    let blocks =
+    blocks_carried does other fine f each block call old.bad new.bad old.lower now new.lower
+    is.stop holds is.blocks in
     (record { stop = is.stop; blocks = blocks.0; answer = is.answer; faults = is.faults }, blocks.1)
 
 -- a call by the mode
-pub done_carried : {D E : Type 0} (does : Doing D) (other : Doing E) (fine : D → Type 0) (f : D → E) → IsCarried does other fine f
-    → (mode : Mode) (block : ℕ) (call : Call) (now : ℕ) (result : Result ℕ DevError) (old new : Held D) → fine old.lower
-    → IsDoneBy does mode block call now result old new → IsDoneBy other mode block call now result (held_as f old) (held_as f new) × fine new.lower
-done_carried does other fine f each Bypass block call now result old new holds is = passed_carried does other fine f each call now result old new holds is
-done_carried does other fine f each FailReadOnBadBlock block (Reads first before after) now result old new holds is =
-    checked_carried does other fine f each block (Reads first before after) now result old new holds is
-done_carried does other fine f each FailReadOnBadBlock block (Writes first bytes fua) now result old new holds is =
-    checked_carried does other fine f each block (Writes first bytes fua) now result old new holds is
-done_carried does other fine f each FailReadOnBadBlock block (Discards first count) now result old new holds is =
+pub done_carried : {D E : Type 0} (does : Doing D) (other : Doing E) (fine : D → Type 0) (f : D → E)
+    → IsCarried does other fine f
+    → (mode : Mode) (block : ℕ) (call : Call) (now : ℕ) (result : Result ℕ DevError)
+    (old new : Held D) → fine old.lower
+    → IsDoneBy does mode block call now result old new
+    → IsDoneBy other mode block call now result (held_as f old) (held_as f new) × fine new.lower
+done_carried does other fine f each Bypass block call now result old new holds is =
+    passed_carried does other fine f each call now result old new holds is
+done_carried does other fine f each FailReadOnBadBlock block
+    (Reads first before after) now result old new holds is =
+    checked_carried does other fine f each block
+    (Reads first before after) now result old new holds is
+done_carried does other fine f each FailReadOnBadBlock block
+    (Writes first bytes fua) now result old new holds is =
+    checked_carried does other fine f each block
+    (Writes first bytes fua) now result old new holds is
+done_carried does other fine f each FailReadOnBadBlock block
+    (Discards first count) now result old new holds is =
     checked_carried does other fine f each block (Discards first count) now result old new holds is
 done_carried does other fine f each FailReadOnBadBlock block Flushes now result old new holds is =
     passed_carried does other fine f each Flushes now result old new holds is

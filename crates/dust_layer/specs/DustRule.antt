@@ -12,7 +12,8 @@ use Rattle.dust_layer.specs.declared.parts.Stop.TheVariants.{Below, Struck}
 use Rattle.dust_layer.specs.Bad.{Bad, IsList, listed}
 use Rattle.dust_layer.specs.Walk.{ByBlock}
 
--- What a device with bad blocks holds: the device beneath, the list, and how often a bad block failed a call.
+-- What a device with bad blocks holds: the device beneath,
+-- the list, and how often a bad block failed a call.
 pub record Held (D : Type 0) : Type 0 where
   pub lower : D
   pub bad : Bad
@@ -22,7 +23,8 @@ abbrev pub held : {D : Type 0} → Dust D → Held D
 held device = record { lower = device.lower; bad = listed device.bad; faults = device.faults }
 
 -- The device beneath did the call, and the list and the own faults stay.
-pub record IsPassed {D : Type 0} (does : D → Call → ℕ → Result ℕ DevError → D → Type 0) (call : Call) (now : ℕ) (result : Result ℕ DevError)
+pub record IsPassed {D : Type 0} (does : D → Call → ℕ → Result ℕ DevError → D → Type 0)
+    (call : Call) (now : ℕ) (result : Result ℕ DevError)
     (old new : Held D) : Type 0 where
   pub below : does old.lower call now result new.lower
   pub list : IsList new.bad old.bad
@@ -41,23 +43,31 @@ faults_after (Err Struck) faults = one_more faults
 faults_after (Err (Below error)) faults = faults
 
 -- The call went block by block, over blocks of so many sectors.
-pub record IsChecked {D : Type 0} (does : D → Call → ℕ → Result ℕ DevError → D → Type 0) (block : ℕ) (call : Call) (now : ℕ) (result : Result ℕ DevError)
+pub record IsChecked {D : Type 0} (does : D → Call → ℕ → Result ℕ DevError → D → Type 0) (block : ℕ)
+    (call : Call) (now : ℕ) (result : Result ℕ DevError)
     (old new : Held D) : Type 0 where
   pub stop : Result ℕ Stop
   pub blocks : ByBlock does block call old.bad new.bad old.lower now new.lower stop
   pub answer : result ≡ answer_of stop
   pub faults : new.faults ≡ faults_after stop old.faults
 
--- in bypass every call is passed; else a flush is, and what reads, writes or discards goes block by block
-abbrev pub IsDoneBy : {D : Type 0} → (D → Call → ℕ → Result ℕ DevError → D → Type 0) → Mode → ℕ → Call → ℕ → Result ℕ DevError → Held D → Held D → Type 0
+-- in bypass every call is passed; else a flush is, and what
+-- reads, writes or discards goes block by block
+abbrev pub IsDoneBy : {D : Type 0} → (D → Call → ℕ → Result ℕ DevError → D → Type 0) → Mode → ℕ
+    → Call → ℕ → Result ℕ DevError → Held D → Held D → Type 0
 IsDoneBy does Bypass block call now result old new = IsPassed does call now result old new
-IsDoneBy does FailReadOnBadBlock block (Reads first before after) now result old new = IsChecked does block (Reads first before after) now result old new
-IsDoneBy does FailReadOnBadBlock block (Writes first bytes fua) now result old new = IsChecked does block (Writes first bytes fua) now result old new
-IsDoneBy does FailReadOnBadBlock block (Discards first count) now result old new = IsChecked does block (Discards first count) now result old new
-IsDoneBy does FailReadOnBadBlock block Flushes now result old new = IsPassed does Flushes now result old new
+IsDoneBy does FailReadOnBadBlock block (Reads first before after) now result old new =
+    IsChecked does block (Reads first before after) now result old new
+IsDoneBy does FailReadOnBadBlock block (Writes first bytes fua) now result old new =
+    IsChecked does block (Writes first bytes fua) now result old new
+IsDoneBy does FailReadOnBadBlock block (Discards first count) now result old new =
+    IsChecked does block (Discards first count) now result old new
+IsDoneBy does FailReadOnBadBlock block Flushes now result old new =
+    IsPassed does Flushes now result old new
 
 -- the call is done by the device's mode, and the mode and the blocks' size stay
-pub record IsDusted {D : Type 0} (does : D → Call → ℕ → Result ℕ DevError → D → Type 0) (call : Call) (now : ℕ) (result : Result ℕ DevError)
+pub record IsDusted {D : Type 0} (does : D → Call → ℕ → Result ℕ DevError → D → Type 0)
+    (call : Call) (now : ℕ) (result : Result ℕ DevError)
     (old new : Dust D) : Type 0 where
   pub done : IsDoneBy does old.mode old.block call now result (held old) (held new)
   pub block : new.block ≡ old.block

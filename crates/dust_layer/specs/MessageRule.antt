@@ -15,21 +15,26 @@ is_enabled Bypass = false
 is_enabled FailReadOnBadBlock = true
 
 -- The message asks for an order, which is answered.
-pub record IsObeyed {D : Type 0} (sectors layer : ℕ) (text : List ℕ) (result : Result (Unit {0}) MessageError) (old new : Dust D) : Type 0 where
+pub record IsObeyed {D : Type 0} (sectors layer : ℕ) (text : List ℕ)
+    (result : Result (Unit {0}) MessageError) (old new : Dust D) : Type 0 where
   pub order : Order
   pub own : layer ≡ 1
   pub asked : AsksFor text order
-  pub answered : IsAnswered old.block sectors order result (listed old.bad) (is_enabled old.mode) (listed new.bad) (is_enabled new.mode)
+  pub answered : IsAnswered old.block sectors order result (listed old.bad) (is_enabled old.mode)
+      (listed new.bad) (is_enabled new.mode)
 
--- The message asks for none, or goes to a layer that there isn't: then it is refused, and all stays.
-pub record IsNoOrder {D : Type 0} (layer : ℕ) (text : List ℕ) (result : Result (Unit {0}) MessageError) (old new : Dust D) : Type 0 where
+-- The message asks for none, or goes to a layer that there
+-- isn't: then it is refused, and all stays.
+pub record IsNoOrder {D : Type 0} (layer : ℕ) (text : List ℕ)
+    (result : Result (Unit {0}) MessageError) (old new : Dust D) : Type 0 where
   pub none : (order : Order) → layer ≡ 1 → AsksFor text order → ⊥
   pub refused : result ≡ Err BadMessage
   pub list : IsList (listed new.bad) (listed old.bad)
   pub mode : new.mode ≡ old.mode
 
 -- One of the two, and all but the list and the mode stays.
-pub record IsMessageDone {D : Type 0} (sectors layer : ℕ) (text : List ℕ) (result : Result (Unit {0}) MessageError) (old new : Dust D) : Type 0 where
+pub record IsMessageDone {D : Type 0} (sectors layer : ℕ) (text : List ℕ)
+    (result : Result (Unit {0}) MessageError) (old new : Dust D) : Type 0 where
   pub answer : IsObeyed sectors layer text result old new ⊎ IsNoOrder layer text result old new
   pub lower : new.lower ≡ old.lower
   pub block : new.block ≡ old.block

@@ -1,5 +1,7 @@
--- The orders that a device with bad blocks takes as messages: which words ask for each, and what each answers and leaves.
-use Rattle.std.specs.Prelude.{◌≡◌, ℕ, ◌*◌, ◌<◌, ◌≤◌, Bool, true, false, List, [], ◌∷◌, Some, None, Result, Ok, Err, codes, is_some}
+-- The orders that a device with bad blocks takes as messages: which words ask for each, and what
+-- each answers and leaves.
+use Rattle.std.specs.Prelude.{◌≡◌, ℕ, ◌*◌, ◌<◌, ◌≤◌, Bool, true, false, List, [], ◌∷◌, Some, None}
+use Rattle.std.specs.Prelude.{Result, Ok, Err, codes, is_some}
 use Rattle.std.specs.List.{join_with_byte}
 use Rattle.text_words.specs.Words.{IsNumber}
 use Rattle.blockdev.specs.declared.message.MessageError.{MessageError}
@@ -57,22 +59,27 @@ IsUnlisted bad block = is_some (bad block) ≡ false
 
 -- nothing refuses an order but memory
 abbrev pub CanBeDone : ℕ → ℕ → Order → Bad → Type 0
-CanBeDone size sectors (orders.Add block count) bad = IsWithin block size sectors × IsUnlisted bad block
+CanBeDone size sectors (orders.Add block count) bad =
+    IsWithin block size sectors × IsUnlisted bad block
 CanBeDone size sectors (orders.Remove block) bad = IsWithin block size sectors × IsListed bad block
 CanBeDone size sectors orders.Clear bad = Unit {0}
 CanBeDone size sectors orders.Enable bad = Unit {0}
 CanBeDone size sectors orders.Disable bad = Unit {0}
 
--- An order is refused by this: a block that isn't within the layer by BadMessage; within it, a listed one can't be added, and one that
--- isn't listed can't be removed; memory refuses only what could be added. No other order is refused.
+-- An order is refused by this: a block that isn't within the layer by BadMessage; within it, a
+-- listed one can't be added, and one that isn't listed can't be removed; memory refuses only what
+-- could be added. No other order is refused.
 abbrev pub IsRefused : ℕ → ℕ → Order → Bad → MessageError → Type 0
 IsRefused size sectors (orders.Add block count) bad errors.BadMessage = sectors ≤ block * size
-IsRefused size sectors (orders.Add block count) bad errors.AlreadyBad = IsWithin block size sectors × IsListed bad block
+IsRefused size sectors (orders.Add block count) bad errors.AlreadyBad =
+    IsWithin block size sectors × IsListed bad block
 IsRefused size sectors (orders.Add block count) bad errors.NotBad = ⊥
-IsRefused size sectors (orders.Add block count) bad errors.Memory = IsWithin block size sectors × IsUnlisted bad block
+IsRefused size sectors (orders.Add block count) bad errors.Memory =
+    IsWithin block size sectors × IsUnlisted bad block
 IsRefused size sectors (orders.Remove block) bad errors.BadMessage = sectors ≤ block * size
 IsRefused size sectors (orders.Remove block) bad errors.AlreadyBad = ⊥
-IsRefused size sectors (orders.Remove block) bad errors.NotBad = IsWithin block size sectors × IsUnlisted bad block
+IsRefused size sectors (orders.Remove block) bad errors.NotBad =
+    IsWithin block size sectors × IsUnlisted bad block
 IsRefused size sectors (orders.Remove block) bad errors.Memory = ⊥
 IsRefused size sectors orders.Clear bad error = ⊥
 IsRefused size sectors orders.Enable bad error = ⊥
@@ -94,10 +101,12 @@ mode_ordered orders.Clear enabled = enabled
 mode_ordered orders.Enable enabled = true
 mode_ordered orders.Disable enabled = false
 
--- What an order answers over blocks of so many sectors in a layer of so many, and what it leaves: what it is for where it is done, and all
--- as it was where it is refused.
-abbrev pub IsAnswered : ℕ → ℕ → Order → Result (Unit {0}) MessageError → Bad → Bool → Bad → Bool → Type 0
+-- What an order answers over blocks of so many sectors in a layer of so many, and what it leaves:
+-- what it is for where it is done, and all as it was where it is refused.
+abbrev pub IsAnswered : ℕ → ℕ → Order → Result (Unit {0}) MessageError → Bad → Bool → Bad → Bool
+    → Type 0
 IsAnswered size sectors order (Ok done) old was new enabled =
-    CanBeDone size sectors order old × IsList new (list_ordered order old) × (enabled ≡ mode_ordered order was)
+    CanBeDone size sectors order old × IsList new (list_ordered order old)
+    × (enabled ≡ mode_ordered order was)
 IsAnswered size sectors order (Err error) old was new enabled =
     IsRefused size sectors order old error × IsList new old × (enabled ≡ was)

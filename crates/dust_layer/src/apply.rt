@@ -16,9 +16,10 @@ pub(crate) fn is_within(block: u64, size: u64, sectors: u64) -> bool
     sectors > 0 && block <= (sectors - 1) / size
 }
 
-/// Does an order over blocks of `size` sectors, in a layer of `sectors`. Refused by BadMessage where its block isn't within the layer; within
-/// it, one to be listed by AlreadyBad where it is listed, and else by Memory; one to be taken from the list by NotBad where it isn't listed.
-/// The list and the mode then stay.
+/// Does an order over blocks of `size` sectors, in a layer of `sectors`. Refused by BadMessage
+/// where its block isn't within the layer; within it, one to be listed by AlreadyBad where it is
+/// listed, and else by Memory; one to be taken from the list by NotBad where it isn't listed. The
+/// list and the mode then stay.
 pub(crate) fn apply(
     bad: &mut BadBlocks,
     enabled: &mut bool,
@@ -27,7 +28,8 @@ pub(crate) fn apply(
     order: Order,
 ) -> Result<(), MessageError>
     requires some { 0 < size }
-    ensures { IsAnswered size sectors order result (listed bad.old) enabled.old (listed bad.new) enabled.new }
+    ensures { IsAnswered size sectors order result (listed bad.old) enabled.old
+        (listed bad.new) enabled.new }
 {
     match order {
         Order::Add { block, count } => {

@@ -1,7 +1,9 @@
 //! The list of bad blocks of a device, each with the count of writes and discards that it fails.
 //! Calls change it block by block (`blocks`), and messages do (`apply`).
-ghost use Rattle.std.specs.Prelude.{◌≡◌, ◌≤◌, ◌-◌, IfErr, Err, Ok, OnErr, OnOk, Some, None, false, is_some, nat_lt, true, ℕ};
-ghost use Rattle.blockdev.specs.declared.message.MessageError.TheVariants.{AlreadyBad, Memory, NotBad};
+ghost use Rattle.std.specs.Prelude.{◌≡◌, ◌≤◌, ◌-◌, IfErr, Err, Ok, OnErr, OnOk, Some, None, false};
+ghost use Rattle.std.specs.Prelude.{is_some, nat_lt, true, ℕ};
+ghost use Rattle.blockdev.specs.declared.message.MessageError.TheVariants.{AlreadyBad, Memory};
+ghost use Rattle.blockdev.specs.declared.message.MessageError.TheVariants.{NotBad};
 ghost use Rattle.dust_layer.specs.Bad.{IsList, IsNoList, left_at, listed, with_entry};
 
 use blockdev::MessageError;
@@ -31,10 +33,13 @@ impl BadBlocks {
         self.counts.contains_key(&block)
     }
 
-    /// Whether a block fails a write or a discard: where it is listed with a count above 0, which is then one less.
+    /// Whether a block fails a write or a discard: where it is
+    /// listed with a count above 0, which is then one less.
     pub(crate) fn strike(&mut self, block: u64) -> bool
         ensures struck { result ≡ nat_lt 0 (left_at (listed self.old) block) }
-        ensures less { result ≡ true → IsList (listed self.new) (with_entry block (Some (left_at (listed self.old) block - 1)) (listed self.old)) }
+        ensures less { result ≡ true
+            → IsList (listed self.new)
+            (with_entry block (Some (left_at (listed self.old) block - 1)) (listed self.old)) }
         ensures same { result ≡ false → IsList (listed self.new) (listed self.old) }
     {
         match self.counts.get_mut(&block) {
@@ -55,7 +60,8 @@ impl BadBlocks {
 
     /// Lists a block with its count. Refused where there is no memory, and the list then stays.
     pub(crate) fn add(&mut self, block: u64, count: u8) -> Result<(), AllocError>
-        ensures added { OnOk result (IsList (listed self.new) (with_entry block (Some count) (listed self.old))) }
+        ensures added { OnOk result
+            (IsList (listed self.new) (with_entry block (Some count) (listed self.old))) }
         ensures same { OnErr result (IsList (listed self.new) (listed self.old)) }
     {
         self.counts.insert(block, count)?;
@@ -69,12 +75,15 @@ impl BadBlocks {
         self.counts.clear();
     }
 
-    /// Lists a block with its count, where it isn't listed yet. Refused by AlreadyBad where it is, and else by Memory; the list then stays.
+    /// Lists a block with its count, where it isn't listed yet. Refused by AlreadyBad where it is,
+    /// and else by Memory; the list then stays.
     pub(crate) fn list(&mut self, block: u64, count: u8) -> Result<(), MessageError>
-        ensures added { OnOk result (IsList (listed self.new) (with_entry block (Some count) (listed self.old))) }
+        ensures added { OnOk result
+            (IsList (listed self.new) (with_entry block (Some count) (listed self.old))) }
         ensures same { OnErr result (IsList (listed self.new) (listed self.old)) }
         ensures already { is_some (listed self.old block) ≡ true → result ≡ Err AlreadyBad }
-        ensures fresh { is_some (listed self.old block) ≡ false → IfErr result (λ error. error ≡ Memory) }
+        ensures fresh { is_some (listed self.old block) ≡ false
+            → IfErr result (λ error. error ≡ Memory) }
     {
         if self.has(block) {
             return Err(MessageError::AlreadyBad);
@@ -85,7 +94,8 @@ impl BadBlocks {
         }
     }
 
-    /// Takes a block from the list. Refused by NotBad where it isn't listed, and the list then stays.
+    /// Takes a block from the list. Refused by NotBad where
+    /// it isn't listed, and the list then stays.
     pub(crate) fn unlist(&mut self, block: u64) -> Result<(), MessageError>
         ensures removed { is_some (listed self.old block) ≡ true →
             (result ≡ Ok tt) × IsList (listed self.new) (with_entry block None (listed self.old)) }

@@ -13,8 +13,9 @@ use crate::parts::{Change, SECTOR, Stop, change_part, reach, read_part};
 use bio::Ms;
 use blockdev::BlockDev;
 
-/// Does a write or a discard block by block, each part from the moment on at which the one before ended. A block with a count above 0 stops
-/// it, and the count is then one less; another listed block leaves the list once its part is done.
+/// Does a write or a discard block by block, each part from the moment on at which the one before
+/// ended. A block with a count above 0 stops it, and the count is then one less; another listed
+/// block leaves the list once its part is done.
 pub(crate) fn change_blocks<D: BlockDev>(
     lower: &mut D,
     bad: &mut BadBlocks,
@@ -28,11 +29,14 @@ pub(crate) fn change_blocks<D: BlockDev>(
     requires few { block ≤ 2097152 }
     requires range { IsRange (D.shown lower.old).size first count }
     requires count { count_of (call_of first count change) ≡ count }
-    ensures goes { DeviceFrame (patch_of (call_of first count change.entry)) (D.shown lower.old) (D.shown lower.new) }
+    ensures goes { DeviceFrame (patch_of (call_of first count change.entry)) (D.shown lower.old)
+        (D.shown lower.new) }
     ensures lands { OnOk result (NoLie (D.shown lower.old) (D.shown lower.new) →
-        WriteDone (patch_of (call_of first count change.entry)) (fua_of change.entry) (D.shown lower.old) (D.shown lower.new)) }
+        WriteDone (patch_of (call_of first count change.entry)) (fua_of change.entry)
+        (D.shown lower.old) (D.shown lower.new)) }
     ensures cause { HasCauseBelow now (D.shown lower.old) (D.shown lower.new) result }
-    ensures blocks { ByBlock D.does block (call_of first count change.entry) (listed bad.old) (listed bad.new) lower.old now lower.new result }
+    ensures blocks { ByBlock D.does block (call_of first count change.entry) (listed bad.old)
+        (listed bad.new) lower.old now lower.new result }
 {
     let begin = first / block;
     let blocks = (first + count - 1) / block + 1 - begin;
@@ -54,7 +58,8 @@ pub(crate) fn change_blocks<D: BlockDev>(
     Ok(end)
 }
 
-/// Does a read block by block, each part from the moment on at which the one before ended. The first listed block stops it; the list stays.
+/// Does a read block by block, each part from the moment on at which the one before ended. The
+/// first listed block stops it; the list stays.
 pub(crate) fn read_blocks<D: BlockDev>(
     lower: &mut D,
     bad: &BadBlocks,
@@ -66,11 +71,13 @@ pub(crate) fn read_blocks<D: BlockDev>(
     requires some { 0 < block }
     requires few { block ≤ 2097152 }
     requires range { IsByteRange (D.shown lower.old).size first (length buffer.old) }
-    ensures bytes { OnOk result (buffer.new ≡ gather (D.shown lower.old).content first (length buffer.old / 512)) }
+    ensures bytes { OnOk result
+        (buffer.new ≡ gather (D.shown lower.old).content first (length buffer.old / 512)) }
     ensures goes { DeviceFrame nothing (D.shown lower.old) (D.shown lower.new) }
     ensures stays { CrashSetKept (D.shown lower.old) (D.shown lower.new) }
     ensures cause { HasCauseBelow now (D.shown lower.old) (D.shown lower.new) result }
-    ensures blocks { ByBlock D.does block (Reads first buffer.old buffer.new) (listed bad.now) (listed bad.now) lower.old now lower.new result }
+    ensures blocks { ByBlock D.does block (Reads first buffer.old buffer.new) (listed bad.now)
+        (listed bad.now) lower.old now lower.new result }
 {
     let count = buffer.len() as u64 / SECTOR;
     let begin = first / block;

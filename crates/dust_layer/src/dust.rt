@@ -33,8 +33,8 @@ impl<D: BlockDev + Drop> Dust<D> {
     ghost use Rattle.dust_layer.specs.DustRule.{answer_of, faults_after};
     ghost use Rattle.dust_layer.specs.declared.mode.Mode.TheVariants.{Bypass};
 
-    /// The device over this one whose blocks have `block_bytes` bytes, a power of two from 512 to 1,073,741,824. It has no bad block, and is
-    /// in bypass.
+    /// The device over this one whose blocks have `block_bytes` bytes, a power of two from 512 to
+    /// 1,073,741,824. It has no bad block, and is in bypass.
     pub fn new(alloc: Global, lower: D, block_bytes: u64) -> Dust<D>
         requires { IsBlockSize block_bytes }
         ensures lower { result.lower ≡ lower }
@@ -160,14 +160,16 @@ impl<D: BlockDev + Drop> BlockDev for Dust<D> {
         self.lower.lies()
     }
 
-    ghost lawful = { λ device. lawful_counted (D.shown device.lower) device.faults 0 false (D.lawful device.lower) };
+    ghost lawful = { λ device. lawful_counted (D.shown device.lower) device.faults 0 false
+        (D.lawful device.lower) };
 }
 
 impl<D: Message + Drop> Dust<D> {
     ghost use Rattle.std.specs.Prelude.{◌≡◌};
     ghost use Rattle.blockdev.specs.Messages.{Unchanged};
 
-    /// Hands a message to the device beneath, whose layers count from 1; its bad blocks stay. Refused as that device refuses it.
+    /// Hands a message to the device beneath, whose layers count from 1; its bad blocks stay.
+    /// Refused as that device refuses it.
     pub fn message_below(&mut self, layer: u64, text: &str) -> Result<(), MessageError>
         ensures same { Unchanged (D.shown self.old.lower) (D.shown self.new.lower) }
         ensures answers { D.answers self.old.lower layer text.now result self.new.lower }
@@ -184,7 +186,8 @@ impl<D: BlockDev + Drop> Message for Dust<D> {
     ghost use Rattle.std.specs.Prelude.{◌≡◌};
     ghost use Rattle.dust_layer.specs.MessageRule.{IsMessageDone};
 
-    ghost answers = { λ old layer text result new. IsMessageDone (D.shown old.lower).size layer text result old new };
+    ghost answers = { λ old layer text result new. IsMessageDone
+        (D.shown old.lower).size layer text result old new };
 
     fn message(&mut self, layer: u64, text: &str) -> Result<(), MessageError> {
         if layer != 1 {

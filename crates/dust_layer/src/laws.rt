@@ -10,17 +10,21 @@ ghost use Rattle.dust_layer.specs.Walk.{IsTouched};
 
 use blockdev::BlockDev;
 
-/// Where bad blocks fail calls, a write or a discard that ends Ok touched no block that had a count above 0, and a read that ends Ok touched no
-/// listed block.
+/// Where bad blocks fail calls, a write or a discard that ends Ok touched no block that had a count
+/// above 0, and a read that ends Ok touched no listed block.
 #[tactic(auto, using(crate::proofs::OnlyGood::good_writes, crate::proofs::OnlyGood::good_discards, crate::proofs::OnlyGood::good_reads))]
 pub fn only_good_blocks_are_passed<D: BlockDev + Drop>()
-    ensures writes { (old new : Dust D) (first : ℕ) (bytes : List ℕ) (fua : Bool) (now end block : ℕ) →
-        old.mode ≡ FailReadOnBadBlock → IsDusted D.does (Writes first bytes fua) now (Ok end) old new →
+    ensures writes { (old new : Dust D) (first : ℕ) (bytes : List ℕ) (fua : Bool)
+        (now end block : ℕ) →
+        old.mode ≡ FailReadOnBadBlock
+        → IsDusted D.does (Writes first bytes fua) now (Ok end) old new →
         IsTouched old.block first (length bytes / 512) block → left_at (listed old.bad) block ≡ 0 }
     ensures discards { (old new : Dust D) (first count now end block : ℕ) →
-        old.mode ≡ FailReadOnBadBlock → IsDusted D.does (Discards first count) now (Ok end) old new →
+        old.mode ≡ FailReadOnBadBlock
+        → IsDusted D.does (Discards first count) now (Ok end) old new →
         IsTouched old.block first count block → left_at (listed old.bad) block ≡ 0 }
     ensures reads { (old new : Dust D) (first : ℕ) (before after : List ℕ) (now end block : ℕ) →
-        old.mode ≡ FailReadOnBadBlock → IsDusted D.does (Reads first before after) now (Ok end) old new →
+        old.mode ≡ FailReadOnBadBlock
+        → IsDusted D.does (Reads first before after) now (Ok end) old new →
         IsTouched old.block first (length before / 512) block → listed old.bad block ≡ None }
 {}

@@ -3,14 +3,18 @@
 ghost use Rattle.std.specs.Prelude.{◌≡◌, ◌↔◌, ◌<◌, Some, option_copied, true};
 ghost use Rattle.dust_layer.specs.declared.order.Order.{Order};
 ghost use Rattle.dust_layer.specs.Orders.{AsksFor};
-ghost use Rattle.dust_layer.specs.inside.OrderReading.{add_of as the_add, count_of as the_count, lone_order as the_lone_order, order_of as the_order, order_with as the_order_with};
+ghost use Rattle.dust_layer.specs.inside.OrderReading.{add_of as the_add, count_of as the_count};
+ghost use Rattle.dust_layer.specs.inside.OrderReading.{lone_order as the_lone_order};
+ghost use Rattle.dust_layer.specs.inside.OrderReading.{order_of as the_order};
+ghost use Rattle.dust_layer.specs.inside.OrderReading.{order_with as the_order_with};
 
 use text_words::{cut, number_of};
 
 /// What a message to a device with bad blocks asks for.
 #[derive(Clone, Copy, Debug, PartialEq, Eq)]
 pub enum Order {
-    /// `addbadblock <block> [<count>]`: lists a block, with the count of writes and discards that it fails before one goes through.
+    /// `addbadblock <block> [<count>]`: lists a block, with the count of writes and discards that
+    /// it fails before one goes through.
     Add { block: u64, count: u8 },
     /// `removebadblock <block>`: takes a block from the list.
     Remove { block: u64 },
@@ -22,8 +26,9 @@ pub enum Order {
     Disable,
 }
 
-/// The order that a message asks for, if it asks for one, as dm-dust's messages do: its words stand behind one space each, numbers have 1 to
-/// 20 decimal digits and are below 2^64, and a count is 0 to 255, or 0 where none is given.
+/// The order that a message asks for, if it asks for one, as dm-dust's messages do: its words stand
+/// behind one space each, numbers have 1 to 20 decimal digits and are below 2^64, and a count is 0
+/// to 255, or 0 where none is given.
 pub fn order_of(text: &[u8]) -> Option<Order>
     ensures { (order : Order) → (result ≡ Some order) ↔ AsksFor text.now order }
 {

@@ -1,6 +1,7 @@
 //! The part of a call that falls on some of its sectors, done on the device beneath.
 //! `blocks` calls it for each block that a write, a discard or a read touches.
-ghost use Rattle.std.specs.Prelude.{◌≡◌, ◌<◌, ◌≤◌, ◌+◌, ◌-◌, ◌*◌, ◌/◌, Err, OnOk, drop, length, take, ℕ};
+ghost use Rattle.std.specs.Prelude.{◌≡◌, ◌<◌, ◌≤◌, ◌+◌, ◌-◌, ◌*◌, ◌/◌, Err, OnOk, drop, length};
+ghost use Rattle.std.specs.Prelude.{take, ℕ};
 ghost use Rattle.blockdev.specs.Calls.{IsByteRange, IsRange, Reads};
 ghost use Rattle.blockdev.specs.Law.{DeviceFrame, HasCause, WriteDone, NoLie, CrashSetKept};
 ghost use Rattle.sectors.specs.Content.{gather, nothing};
@@ -67,11 +68,14 @@ pub(crate) fn change_part<D: BlockDev>(
     requires from { first ≤ from }
     requires order { from < to }
     requires within { to ≤ first + count }
-    ensures goes { DeviceFrame (patch_of (part_within from to (call_of first count change.entry))) (D.shown lower.old) (D.shown lower.new) }
+    ensures goes { DeviceFrame (patch_of (part_within from to (call_of first count change.entry)))
+        (D.shown lower.old) (D.shown lower.new) }
     ensures lands { OnOk result (NoLie (D.shown lower.old) (D.shown lower.new) →
-        WriteDone (patch_of (part_within from to (call_of first count change.entry))) (fua_of change.entry) (D.shown lower.old) (D.shown lower.new)) }
+        WriteDone (patch_of (part_within from to (call_of first count change.entry)))
+        (fua_of change.entry) (D.shown lower.old) (D.shown lower.new)) }
     ensures cause { HasCause now (D.shown lower.old) (D.shown lower.new) result }
-    ensures does { D.does lower.old (part_within from to (call_of first count change.entry)) now result lower.new }
+    ensures does { D.does lower.old
+        (part_within from to (call_of first count change.entry)) now result lower.new }
 {
     match change {
         Change::Write(bytes, fua) => {
@@ -95,13 +99,18 @@ pub(crate) fn read_part<D: BlockDev>(
     requires order { from < to }
     requires within { to ≤ first + length buffer.old / 512 }
     ensures length { length buffer.new ≡ length buffer.old }
-    ensures before { take (512 * (from - first)) buffer.new ≡ take (512 * (from - first)) buffer.old }
+    ensures before { take (512 * (from - first)) buffer.new
+        ≡ take (512 * (from - first)) buffer.old }
     ensures behind { drop (512 * (to - first)) buffer.new ≡ drop (512 * (to - first)) buffer.old }
-    ensures bytes { OnOk result (bytes_within first from to buffer.new ≡ gather (D.shown lower.old).content from (to - from)) }
+    ensures bytes { OnOk result
+        (bytes_within first from to buffer.new
+        ≡ gather (D.shown lower.old).content from (to - from)) }
     ensures goes { DeviceFrame nothing (D.shown lower.old) (D.shown lower.new) }
     ensures stays { CrashSetKept (D.shown lower.old) (D.shown lower.new) }
     ensures cause { HasCause now (D.shown lower.old) (D.shown lower.new) result }
-    ensures does { D.does lower.old (Reads from (bytes_within first from to buffer.old) (bytes_within first from to buffer.new)) now result lower.new }
+    ensures does { D.does lower.old
+        (Reads from (bytes_within first from to buffer.old)
+        (bytes_within first from to buffer.new)) now result lower.new }
 {
     let start = (SECTOR * (from - first)) as usize;
     let size = (SECTOR * (to - from)) as usize;

@@ -62,7 +62,8 @@ always-up : is_up always 5000 ≡ true
 unfolding always
 always-up = refl
 
--- at the last moment, 2^64 - 1, 6.615 seconds of a cycle have gone by; and none where that is the moment of the load
+-- at the last moment, 2^64 - 1, 6.615 seconds of a cycle have
+-- gone by; and none where that is the moment of the load
 last-up : is_up (ten_and_five 0) last ≡ true
 unfolding ten_and_five last
 last-up = refl
@@ -96,7 +97,8 @@ down-writes-read : flakey_verdict (record never { feature = features.ErrorWrites
 unfolding never
 down-writes-read = refl
 
-down-writes-discard : flakey_verdict (record never { feature = features.ErrorWrites }) Discard 7 ≡ Fail
+down-writes-discard : flakey_verdict (record never { feature = features.ErrorWrites }) Discard 7
+    ≡ Fail
 unfolding never
 down-writes-discard = refl
 

@@ -13,9 +13,11 @@ call_from offset Flushes = Flushes
 
 -- one of these contents, seen from its sector `offset` on
 abbrev pub SeenFrom : ℕ → (Content → Type 0) → Content → Type 0
-SeenFrom offset set left = (below : Content) × set below × ((sector : ℕ) → left sector ≡ moved offset below sector)
+SeenFrom offset set left =
+    (below : Content) × set below × ((sector : ℕ) → left sector ≡ moved offset below sector)
 
--- the view of a device's `length` sectors from `offset` on: what it has there, and what a crash leaves there
+-- the view of a device's `length` sectors from `offset` on:
+-- what it has there, and what a crash leaves there
 abbrev pub cut : View → ℕ → ℕ → View
 cut v offset length = record {
   size = length;

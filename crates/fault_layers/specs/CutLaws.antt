@@ -5,7 +5,8 @@ use Rattle.blockdev.specs.Calls.{IsRange}
 use Rattle.blockdev.specs.View.{IsLawful, Place, View}
 use Rattle.blockdev.specs.Law.{AfterPatch, DeviceFrame, WriteDone, NoLie}
 use Rattle.blockdev.specs.Messages.{Unchanged}
-use Rattle.sectors.specs.Content.{Content, Patch, Patched, discards, gather, moved, nothing, put, sector_of, writes}
+use Rattle.sectors.specs.Content.{Content, Patch, Patched, discards, gather, moved, nothing, put}
+use Rattle.sectors.specs.Content.{sector_of, writes}
 use Rattle.sectors.specs.ContentLaws.{over-shift}
 use Rattle.sectors.specs.PlaceLaws.{collect-ext}
 use Rattle.fault_layers.specs.Cut.{SeenFrom, cut}
@@ -15,10 +16,12 @@ abbrev IsShifted : ℕ → Patch → Patch → Type 0
 IsShifted offset below patch = (sector : ℕ) → below (offset + sector) ≡ patch sector
 
 -- so it is with the values of each call
-writes-shifted : (offset first : ℕ) (bytes : List ℕ) → IsShifted offset (writes (offset + first) bytes) (writes first bytes)
+writes-shifted : (offset first : ℕ) (bytes : List ℕ)
+    → IsShifted offset (writes (offset + first) bytes) (writes first bytes)
 writes-shifted offset first bytes = over-shift offset first (length bytes / 512) (sector_of bytes)
 
-discards-shifted : (offset first count : ℕ) → IsShifted offset (discards (offset + first) count) (discards first count)
+discards-shifted : (offset first count : ℕ)
+    → IsShifted offset (discards (offset + first) count) (discards first count)
 discards-shifted offset first count = over-shift offset first count (λ _. replicate 512 0)
 
 -- what is put beneath is put in the range
@@ -28,16 +31,20 @@ put-shifted offset below patch content shifted sector =
     ap (λ (o : Option (List ℕ)). unwrap_or o (content (offset + sector))) (shifted sector)
 
 -- what is patched beneath is patched in the range
-patched-shifted : (offset : ℕ) (below patch : Patch) (old new : Content) → IsShifted offset below patch → Patched below old new
+patched-shifted : (offset : ℕ) (below patch : Patch) (old new : Content)
+    → IsShifted offset below patch → Patched below old new
     → Patched patch (moved offset old) (moved offset new)
-patched-shifted offset below patch old new shifted patched = λ sector. elim (patched (offset + sector)) [
-  | inl same ↦ inl same
-  | inr has ↦ inr (has ∙ put-shifted offset below patch old shifted sector)
-]
+patched-shifted offset below patch old new shifted patched =
+    λ sector. elim (patched (offset + sector)) [
+      | inl same ↦ inl same
+      | inr has ↦ inr (has ∙ put-shifted offset below patch old shifted sector)
+    ]
 
 -- so it is with what a crash leaves
-after-shifted : (offset : ℕ) (below patch : Patch) (set : Content → Type 0) (left low : Content) → IsShifted offset below patch
-    → ((sector : ℕ) → left sector ≡ moved offset low sector) → AfterPatch below set low → AfterPatch patch (SeenFrom offset set) left
+after-shifted : (offset : ℕ) (below patch : Patch) (set : Content → Type 0) (left low : Content)
+    → IsShifted offset below patch
+    → ((sector : ℕ) → left sector ≡ moved offset low sector) → AfterPatch below set low
+    → AfterPatch patch (SeenFrom offset set) left
 after-shifted offset below patch set left low shifted seen after = (
   moved offset after.0,
   (after.0, after.1, λ sector. refl),
@@ -48,10 +55,15 @@ after-shifted offset below patch set left low shifted seen after = (
 )
 
 -- where nothing is changed beneath, nothing is in a range
-pub unchanged_cut : (v w : View) (offset length : ℕ) → Unchanged v w → Unchanged (cut v offset length) (cut w offset length)
+pub unchanged_cut : (v w : View) (offset length : ℕ) → Unchanged v w
+    → Unchanged (cut v offset length) (cut w offset length)
 unchanged_cut v w offset length same = record {
   size = refl;
-  place = ap (λ (place : Place). record { origin = place.origin + offset; disk = place.disk }) same.place;
+  place =
+      ap (λ (place : Place). record {
+        origin = place.origin + offset;
+        disk = place.disk;
+      }) same.place;
   content = ap (λ (content : Content). moved offset content) same.content;
   crash = λ left may. (may.0, same.crash may.0 may.1, may.2);
   crash_before = λ left may. (may.0, same.crash_before may.0 may.1, may.2);
@@ -64,7 +76,8 @@ unchanged_cut v w offset length same = record {
 }
 
 -- a range of a lawful device is lawful
-pub lawful_cut : (v : View) (offset length : ℕ) → IsRange v.size offset length → IsLawful v → IsLawful (cut v offset length)
+pub lawful_cut : (v : View) (offset length : ℕ) → IsRange v.size offset length → IsLawful v
+    → IsLawful (cut v offset length)
 lawful_cut v offset length fits lawful = record {
   some_sectors = fits.some;
   few_sectors = let a = fits.within in let b = lawful.few_sectors in omega arith;
@@ -79,13 +92,16 @@ lawful_cut v offset length fits lawful = record {
 }
 
 -- where the device beneath goes by the shifted call, the range goes by the call
-goes_cut : (offset length : ℕ) (below patch : Patch) (v w : View) → IsShifted offset below patch → DeviceFrame below v w
+goes_cut : (offset length : ℕ) (below patch : Patch) (v w : View) → IsShifted offset below patch
+    → DeviceFrame below v w
     → DeviceFrame patch (cut v offset length) (cut w offset length)
 goes_cut offset length below patch v w shifted goes = record {
   size = refl;
   place = ap (λ (p : Place). record { origin = p.origin + offset; disk = p.disk }) goes.place;
   content = patched-shifted offset below patch v.content w.content shifted goes.content;
-  crash = λ left may. after-shifted offset below patch v.crash left may.0 shifted may.2 (goes.crash may.0 may.1);
+  crash =
+      λ left may. after-shifted offset below patch v.crash left may.0 shifted may.2
+      (goes.crash may.0 may.1);
   moment = goes.moment;
   gains = λ moment left h may. elim (goes.gains moment may.0 h may.1) [
     | inl before ↦ inl (may.0, before, may.2)
@@ -99,48 +115,64 @@ goes_cut offset length below patch v w shifted goes = record {
 }
 
 -- what lands beneath lands in the range
-lands_cut : (offset length : ℕ) (below patch : Patch) (fua : Bool) (v w : View) → IsShifted offset below patch
-    → (NoLie v w → WriteDone below fua v w) → NoLie (cut v offset length) (cut w offset length) → WriteDone patch fua (cut v offset length) (cut w offset length)
+lands_cut : (offset length : ℕ) (below patch : Patch) (fua : Bool) (v w : View)
+    → IsShifted offset below patch
+    → (NoLie v w → WriteDone below fua v w) → NoLie (cut v offset length) (cut w offset length)
+    → WriteDone patch fua (cut v offset length) (cut w offset length)
 lands_cut offset length below patch fua v w shifted lands told =
     let landed = lands (record { same = told.same; counted = told.counted }) in
     record {
-      content = λ sector. landed.content (offset + sector) ∙ put-shifted offset below patch v.content shifted sector;
+      content =
+          λ sector. landed.content (offset + sector)
+          ∙ put-shifted offset below patch v.content shifted sector;
       durable = λ is left may.
           let old = landed.durable is may.0 may.1 in (
             moved offset old.0,
             (old.0, old.1, λ sector. refl),
-            λ sector. may.2 sector ∙ old.2 (offset + sector) ∙ put-shifted offset below patch old.0 shifted sector,
+            λ sector. may.2 sector ∙ old.2 (offset + sector)
+                ∙ put-shifted offset below patch old.0 shifted sector,
           );
     }
 
 -- so it is for each kind of call
-pub goes_cut_nothing : (offset length : ℕ) (v w : View) → DeviceFrame nothing v w → DeviceFrame nothing (cut v offset length) (cut w offset length)
+pub goes_cut_nothing : (offset length : ℕ) (v w : View) → DeviceFrame nothing v w
+    → DeviceFrame nothing (cut v offset length) (cut w offset length)
 goes_cut_nothing offset length v w = goes_cut offset length nothing nothing v w (λ sector. refl)
 
-pub goes_cut_writes : (offset length first : ℕ) (bytes : List ℕ) (v w : View) → DeviceFrame (writes (offset + first) bytes) v w
+pub goes_cut_writes : (offset length first : ℕ) (bytes : List ℕ) (v w : View)
+    → DeviceFrame (writes (offset + first) bytes) v w
     → DeviceFrame (writes first bytes) (cut v offset length) (cut w offset length)
 goes_cut_writes offset length first bytes v w =
-    goes_cut offset length (writes (offset + first) bytes) (writes first bytes) v w (writes-shifted offset first bytes)
+    goes_cut offset length (writes (offset + first) bytes) (writes first bytes) v w
+    (writes-shifted offset first bytes)
 
-pub goes_cut_discards : (offset length first count : ℕ) (v w : View) → DeviceFrame (discards (offset + first) count) v w
+pub goes_cut_discards : (offset length first count : ℕ) (v w : View)
+    → DeviceFrame (discards (offset + first) count) v w
     → DeviceFrame (discards first count) (cut v offset length) (cut w offset length)
 goes_cut_discards offset length first count v w =
-    goes_cut offset length (discards (offset + first) count) (discards first count) v w (discards-shifted offset first count)
+    goes_cut offset length (discards (offset + first) count) (discards first count) v w
+    (discards-shifted offset first count)
 
 pub lands_cut_writes : (offset length first : ℕ) (bytes : List ℕ) (fua : Bool) (v w : View)
-    → (NoLie v w → WriteDone (writes (offset + first) bytes) fua v w) → NoLie (cut v offset length) (cut w offset length)
+    → (NoLie v w → WriteDone (writes (offset + first) bytes) fua v w)
+    → NoLie (cut v offset length) (cut w offset length)
     → WriteDone (writes first bytes) fua (cut v offset length) (cut w offset length)
 lands_cut_writes offset length first bytes fua v w =
-    lands_cut offset length (writes (offset + first) bytes) (writes first bytes) fua v w (writes-shifted offset first bytes)
+    lands_cut offset length (writes (offset + first) bytes) (writes first bytes) fua v w
+    (writes-shifted offset first bytes)
 
 pub lands_cut_discards : (offset length first count : ℕ) (fua : Bool) (v w : View)
-    → (NoLie v w → WriteDone (discards (offset + first) count) fua v w) → NoLie (cut v offset length) (cut w offset length)
+    → (NoLie v w → WriteDone (discards (offset + first) count) fua v w)
+    → NoLie (cut v offset length) (cut w offset length)
     → WriteDone (discards first count) fua (cut v offset length) (cut w offset length)
 lands_cut_discards offset length first count fua v w =
-    lands_cut offset length (discards (offset + first) count) (discards first count) fua v w (discards-shifted offset first count)
+    lands_cut offset length (discards (offset + first) count) (discards first count) fua v w
+    (discards-shifted offset first count)
 
 -- the bytes of some sectors of the range are those beneath
-gather-cut : (offset first count : ℕ) (content : Content) → gather content (offset + first) count ≡ gather (moved offset content) first count
+gather-cut : (offset first count : ℕ) (content : Content)
+    → gather content (offset + first) count ≡ gather (moved offset content) first count
 gather-cut offset first count content =
-    collect-ext (λ place. content (offset + first + place)) (λ place. moved offset content (first + place)) count
+    collect-ext (λ place. content (offset + first + place))
+    (λ place. moved offset content (first + place)) count
     (λ place h. ap content (omega arith))

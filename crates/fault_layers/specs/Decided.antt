@@ -26,14 +26,21 @@ KeepsBuffer (calls.Writes first bytes fua) = Unit {0}
 KeepsBuffer (calls.Discards first count) = Unit {0}
 KeepsBuffer calls.Flushes = Unit {0}
 
--- What becomes of a call by its verdict. `below` says of a moment that the device beneath did it from then on, with this answer.
-pub record IsDecided {D G : Type 0} (verdict : Verdict) (below : ℕ → Type 0) (call : Call) (now : ℕ) (result : Result ℕ DevError) (old new : Gated D G) : Type 0 where
+-- What becomes of a call by its verdict. `below` says of a moment that the device beneath did it
+-- from then on, with this answer.
+pub record IsDecided {D G : Type 0} (verdict : Verdict) (below : ℕ → Type 0) (call : Call) (now : ℕ)
+    (result : Result ℕ DevError) (old new : Gated D G) : Type 0 where
   -- it is passed: the device beneath did it, and the counts stay
   pub passes : verdict ≡ Pass → below now × (new.faults ≡ old.faults) × (new.lies ≡ old.lies)
   -- it is delayed: so it does, from the later moment on, and an Ok ends at that moment or later
   pub delays : (by : ℕ) → verdict ≡ Delay by
-      → below (later_by now by) × (new.faults ≡ old.faults) × (new.lies ≡ old.lies) × ((end : ℕ) → result ≡ Ok end → later_by now by ≤ end)
+      → below (later_by now by) × (new.faults ≡ old.faults) × (new.lies ≡ old.lies)
+      × ((end : ℕ) → result ≡ Ok end → later_by now by ≤ end)
   -- it fails: that is one fault more, and nothing else is changed
-  pub fails : verdict ≡ Fail → (result ≡ Err Io) × (new.faults ≡ one_more old.faults) × (new.lies ≡ old.lies) × (new.lower ≡ old.lower) × KeepsBuffer call
+  pub fails : verdict ≡ Fail
+      → (result ≡ Err Io) × (new.faults ≡ one_more old.faults) × (new.lies ≡ old.lies)
+      × (new.lower ≡ old.lower) × KeepsBuffer call
   -- it is dropped: that is one lie more, and nothing else is changed
-  pub drops : verdict ≡ Drop → (result ≡ Ok now) × (new.faults ≡ old.faults) × (new.lies ≡ one_more old.lies) × (new.lower ≡ old.lower)
+  pub drops : verdict ≡ Drop
+      → (result ≡ Ok now) × (new.faults ≡ old.faults) × (new.lies ≡ one_more old.lies)
+      × (new.lower ≡ old.lower)

@@ -24,7 +24,8 @@ abbrev pub delay_verdict : DelayGate → Kind → ℕ → Verdict
 delay_verdict delays kind now = Delay (delay_of delays kind)
 
 -- a call of a disk in memory that ends well ends at once
-pub ends_at_once : (old new : SectorDisk) (call : Call) (now end : ℕ) → Does old call now (Ok end) new → end ≡ now
+pub ends_at_once : (old new : SectorDisk) (call : Call) (now end : ℕ)
+    → Does old call now (Ok end) new → end ≡ now
 ends_at_once old new (Reads first before after) now end (same, past, read) = cc
 ends_at_once old new (Writes first bytes fua) now end (same, past) = same
 ends_at_once old new (Discards first count) now end (same, past) = same
@@ -32,7 +33,9 @@ ends_at_once old new Flushes now end (same, past) = cc
 
 -- so one that begins so much later ends so much later
 pub ends_later : (old new : Gated SectorDisk DelayGate) (call : Call) (now end : ℕ)
-    → IsDecided (delay_verdict old.gate (kind_of call) now) (λ begun. Does old.lower call begun (Ok end) new.lower) call now (Ok end) old new
+    → IsDecided (delay_verdict old.gate (kind_of call) now)
+    (λ begun. Does old.lower call begun (Ok end) new.lower) call now (Ok end) old new
     → end ≡ later_by now (delay_of old.gate (kind_of call))
 ends_later old new call now end is =
-    ends_at_once old.lower new.lower call _ end (is.delays (delay_of old.gate (kind_of call)) refl).0
+    ends_at_once old.lower new.lower call _ end
+    (is.delays (delay_of old.gate (kind_of call)) refl).0

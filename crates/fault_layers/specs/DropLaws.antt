@@ -19,7 +19,8 @@ error_honest kind now none is = cc
 pub error_stays : (gate : ErrorGate) (kind : Kind) (now : ℕ) → false ≡ false
 error_stays gate kind now = refl
 
-pub delay_honest : (delays : DelayGate) (kind : Kind) (now : ℕ) → false ≡ false → delay_verdict delays kind now ≡ Drop → ⊥
+pub delay_honest : (delays : DelayGate) (kind : Kind) (now : ℕ) → false ≡ false
+    → delay_verdict delays kind now ≡ Drop → ⊥
 delay_honest delays kind now none is = cc
 
 pub delay_stays : (delays : DelayGate) (kind : Kind) (now : ℕ) → false ≡ false
@@ -29,7 +30,8 @@ while_honest : (calls : ℕ) → while_left calls ≡ Drop → ⊥
 while_honest zero is = cc
 while_honest (suc calls) is = cc
 
-pub fuse_honest : (calls : ℕ) (kind : Kind) (now : ℕ) → false ≡ false → fuse_verdict calls kind now ≡ Drop → ⊥
+pub fuse_honest : (calls : ℕ) (kind : Kind) (now : ℕ) → false ≡ false
+    → fuse_verdict calls kind now ≡ Drop → ⊥
 fuse_honest calls Read now none is = cc
 fuse_honest calls Write now none is = while_honest calls is
 fuse_honest calls Discard now none is = while_honest calls is
@@ -38,7 +40,8 @@ fuse_honest calls Flush now none is = while_honest calls is
 pub fuse_stays : (calls : ℕ) (kind : Kind) (now : ℕ) → false ≡ false
 fuse_stays calls kind now = refl
 
-pub flakey_honest : (cycle : Cycle) (kind : Kind) (now : ℕ) → is_drop_writes cycle.feature ≡ false → flakey_verdict cycle kind now ≡ Drop → ⊥
+pub flakey_honest : (cycle : Cycle) (kind : Kind) (now : ℕ) → is_drop_writes cycle.feature ≡ false
+    → flakey_verdict cycle kind now ≡ Drop → ⊥
 flakey_honest cycle kind now = at (is_up cycle now) cycle.feature kind
   where
     errs : (kind : Kind) → down_verdict features.ErrorReads kind ≡ Drop → ⊥
@@ -53,12 +56,14 @@ flakey_honest cycle kind now = at (is_up cycle now) cycle.feature kind
     refuses Discard is = cc
     refuses Flush is = cc
 
-    at : (up : Bool) (feature : Feature) (kind : Kind) → is_drop_writes feature ≡ false → verdict_if up feature kind ≡ Drop → ⊥
+    at : (up : Bool) (feature : Feature) (kind : Kind) → is_drop_writes feature ≡ false
+        → verdict_if up feature kind ≡ Drop → ⊥
     at true feature kind none is = cc
     at false features.None kind none is = cc
     at false features.ErrorReads kind none is = errs kind is
     at false features.ErrorWrites kind none is = refuses kind is
     at false features.DropWrites kind none is = absurd (cc)
 
-pub flakey_stays : (cycle : Cycle) (kind : Kind) (now : ℕ) → is_drop_writes cycle.feature ≡ is_drop_writes cycle.feature
+pub flakey_stays : (cycle : Cycle) (kind : Kind) (now : ℕ)
+    → is_drop_writes cycle.feature ≡ is_drop_writes cycle.feature
 flakey_stays cycle kind now = refl

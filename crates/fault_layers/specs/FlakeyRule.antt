@@ -7,14 +7,16 @@ use Rattle.fault_layers.specs.declared.gate.Kind.TheVariants.{Discard, Flush, Re
 use Rattle.fault_layers.specs.declared.gate.Verdict.{Verdict}
 use Rattle.fault_layers.specs.declared.gate.Verdict.TheVariants.{Drop, Fail, Pass}
 
--- what a flakey device looks at: seconds up and down, what it does while down, and the moment of its load
+-- what a flakey device looks at: seconds up and down, what
+-- it does while down, and the moment of its load
 pub record Cycle : Type 0 where
   pub up : ℕ
   pub down : ℕ
   pub feature : Feature
   pub load : ℕ
 
--- it is up for the first seconds of each cycle since its load; a moment before the load counts as the load
+-- it is up for the first seconds of each cycle since its
+-- load; a moment before the load counts as the load
 abbrev pub is_up : Cycle → ℕ → Bool
 is_up cycle now = nat_lt ((now - cycle.load) % (1000 * (cycle.up + cycle.down))) (1000 * cycle.up)
 

@@ -5,7 +5,8 @@ use crate::gated::Gated;
 use bio::Ms;
 use blockdev::BlockDev;
 
-/// The gate that passes every call, later: a read, a write or discard, and a flush, each so many milliseconds.
+/// The gate that passes every call, later: a read, a write
+/// or discard, and a flush, each so many milliseconds.
 #[derive(Clone, Copy, Debug, Drop, PartialEq, Eq)]
 pub struct DelayGate {
     read: Ms,
@@ -57,8 +58,8 @@ pub type Delay<D> = Gated<D, DelayGate>;
 impl<D: BlockDev + Drop> Delay<D> {
     ghost use Rattle.std.specs.Prelude.{◌≡◌};
 
-    /// The device over this one whose reads begin `read` later, its writes and discards `write` later, and its flushes `flush`
-    /// later, in milliseconds; a moment past 2^64 - 1 is 2^64 - 1.
+    /// The device over this one whose reads begin `read` later, its writes and discards `write`
+    /// later, and its flushes `flush` later, in milliseconds; a moment past 2^64 - 1 is 2^64 - 1.
     pub fn new(lower: D, read: Ms, write: Ms, flush: Ms) -> Delay<D>
         ensures lower { result.lower ≡ lower }
         ensures delays { result.gate ≡ record { read = read; write = write; flush = flush } }

@@ -10,8 +10,8 @@ use blockdev::BlockDev;
 use std::marker::Model;
 use table_line::Feature;
 
-/// The gate that is up for some seconds, then down for some, and so on. What it does while it is down its feature says.
-/// Contracts see its `Cycle`.
+/// The gate that is up for some seconds, then down for some, and so on. What it does while it is
+/// down its feature says. Contracts see its `Cycle`.
 #[derive(Clone, Copy, Debug, Drop, PartialEq, Eq)]
 pub struct FlakeyGate {
     // Seconds.
@@ -24,9 +24,19 @@ pub struct FlakeyGate {
 impl Model for FlakeyGate {
     ghost Value = { Cycle };
 
-    ghost view = { λ gate. record { up = gate.up; down = gate.down; feature = gate.feature; load = gate.load } };
+    ghost view = { λ gate. record {
+      up = gate.up;
+      down = gate.down;
+      feature = gate.feature;
+      load = gate.load;
+    } };
 
-    ghost inverse = { λ cycle. record { up = cycle.up; down = cycle.down; feature = cycle.feature; load = cycle.load } };
+    ghost inverse = { λ cycle. record {
+      up = cycle.up;
+      down = cycle.down;
+      feature = cycle.feature;
+      load = cycle.load;
+    } };
 
     ghost invariant = { λ gate. IsCycle gate.up gate.down };
 }
@@ -35,8 +45,9 @@ impl FlakeyGate {
     ghost use Rattle.std.specs.Prelude.{◌≡◌};
     ghost use Rattle.fault_layers.specs.FlakeyRule.{is_up};
 
-    /// The gate that is up for `up` seconds from the moment `load` on, then down for `down` seconds, and so on; a moment before
-    /// the load counts as the load. The two come to 1 to 4294967295 seconds.
+    /// The gate that is up for `up` seconds from the moment `load` on,
+    /// then down for `down` seconds, and so on; a moment before the load
+    /// counts as the load. The two come to 1 to 4294967295 seconds.
     pub fn new(up: u64, down: u64, feature: Feature, load: Ms) -> FlakeyGate
         requires { IsCycle up down }
         ensures { result ≡ record { up = up; down = down; feature = feature; load = load } }
@@ -98,12 +109,14 @@ pub type Flakey<D> = Gated<D, FlakeyGate>;
 impl<D: BlockDev + Drop> Flakey<D> {
     ghost use Rattle.std.specs.Prelude.{◌≡◌};
 
-    /// The device over this one that is up for `up` seconds from the moment `load` on, then down for `down` seconds, and so
-    /// on; a moment before the load counts as the load. The two come to 1 to 4294967295 seconds.
+    /// The device over this one that is up for `up` seconds from the moment `load` on, then down
+    /// for `down` seconds, and so on; a moment before the load counts as the load. The two come to
+    /// 1 to 4294967295 seconds.
     pub fn new(lower: D, up: u64, down: u64, feature: Feature, load: Ms) -> Flakey<D>
         requires { IsCycle up down }
         ensures lower { result.lower ≡ lower }
-        ensures cycle { result.gate ≡ record { up = up; down = down; feature = feature; load = load } }
+        ensures cycle { result.gate
+            ≡ record { up = up; down = down; feature = feature; load = load } }
         ensures faults { result.faults ≡ 0 }
         ensures lies { result.lies ≡ 0 }
     {

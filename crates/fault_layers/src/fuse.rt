@@ -6,8 +6,8 @@ use bio::Ms;
 use blockdev::BlockDev;
 use std::marker::Model;
 
-/// The gate that passes so many writes, discards and flushes, and fails each later one. Reads pass, and aren't counted.
-/// Contracts see how many it passes yet.
+/// The gate that passes so many writes, discards and flushes, and fails each later one. Reads pass,
+/// and aren't counted. Contracts see how many it passes yet.
 #[derive(Clone, Copy, Debug, Drop, PartialEq, Eq)]
 pub struct FuseGate {
     calls: u64,
@@ -64,7 +64,8 @@ impl Gate for FuseGate {
     ghost stays = { fuse_stays };
 }
 
-/// A device that fails after so many calls: a target of this project's own, which the kernel doesn't have.
+/// A device that fails after so many calls: a target of
+/// this project's own, which the kernel doesn't have.
 pub type Fuse<D> = Gated<D, FuseGate>;
 
 impl<D: BlockDev + Drop> Fuse<D> {

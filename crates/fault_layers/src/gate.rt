@@ -50,8 +50,10 @@ pub trait Gate {
     ghost keeps_reads: { (gate : Self) (now : ℕ) → verdict gate Read now ≡ verdicts.Drop → ⊥ };
 
     /// A gate that may not drop calls drops none.
-    ghost honest: { (gate : Self) (kind : Kind) (now : ℕ) → may_drop gate ≡ false → verdict gate kind now ≡ verdicts.Drop → ⊥ };
+    ghost honest: { (gate : Self) (kind : Kind) (now : ℕ) → may_drop gate ≡ false
+        → verdict gate kind now ≡ verdicts.Drop → ⊥ };
 
     /// Whether it may stays as it is.
-    ghost stays: { (gate : Self) (kind : Kind) (now : ℕ) → may_drop (after gate kind now) ≡ may_drop gate };
+    ghost stays: { (gate : Self) (kind : Kind) (now : ℕ)
+        → may_drop (after gate kind now) ≡ may_drop gate };
 }

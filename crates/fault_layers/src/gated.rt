@@ -71,11 +71,13 @@ impl<D: BlockDev + Drop, G: Gate + Drop> BlockDev for Gated<D, G> {
     ghost use Rattle.std.specs.Prelude.{◌≡◌};
     ghost use Rattle.fault_layers.specs.Decided.{IsDecided, kind_of};
 
-    ghost shown = { λ device. counted (D.shown device.lower) device.faults device.lies (G.may_drop device.gate) };
+    ghost shown = { λ device. counted (D.shown device.lower) device.faults device.lies
+        (G.may_drop device.gate) };
 
     // What the gate decides about the call, and the gate after it.
     ghost does = { λ old call now result new.
-        IsDecided (G.verdict old.gate (kind_of call) now) (λ begun. D.does old.lower call begun result new.lower) call now result old new
+        IsDecided (G.verdict old.gate (kind_of call) now)
+        (λ begun. D.does old.lower call begun result new.lower) call now result old new
         × (new.gate ≡ G.after old.gate (kind_of call) now) };
 
     fn sectors(&self) -> u64 {
@@ -126,7 +128,8 @@ impl<D: BlockDev + Drop, G: Gate + Drop> BlockDev for Gated<D, G> {
     }
 
     ghost lawful = { λ device.
-        lawful_counted (D.shown device.lower) device.faults device.lies (G.may_drop device.gate) (D.lawful device.lower) };
+        lawful_counted (D.shown device.lower) device.faults device.lies (G.may_drop device.gate)
+        (D.lawful device.lower) };
 }
 
 impl<D: Message + Drop, G: Gate + Drop> Message for Gated<D, G> {
@@ -135,7 +138,8 @@ impl<D: Message + Drop, G: Gate + Drop> Message for Gated<D, G> {
 
     // What the device beneath answers, and the gate and its counts stay.
     ghost answers = { λ old layer text result new.
-        D.answers old.lower layer text result new.lower × (new.gate ≡ old.gate) × (new.faults ≡ old.faults) × (new.lies ≡ old.lies) };
+        D.answers old.lower layer text result new.lower × (new.gate ≡ old.gate)
+        × (new.faults ≡ old.faults) × (new.lies ≡ old.lies) };
 
     fn message(&mut self, layer: u64, text: &str) -> Result<(), MessageError> {
         self.lower.message(layer, text)

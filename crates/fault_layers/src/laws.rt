@@ -9,10 +9,12 @@ ghost use Rattle.sector_disk.specs.Shown.{Does};
 use crate::{DelayGate, Gated};
 use sector_disk::SectorDisk;
 
-/// A disk in memory ends each call at once, so over it a delayed call that ends well ends just as much later as its kind is delayed.
+/// A disk in memory ends each call at once, so over it a delayed call that ends well ends just as
+/// much later as its kind is delayed.
 #[tactic(auto, using(crate::specs::DelayRule::ends_later))]
 pub fn delayed_calls_of_a_disk_end_just_later()
     ensures { (old new : Gated SectorDisk DelayGate) (call : Call) (now end : ℕ) →
-        IsDecided (delay_verdict old.gate (kind_of call) now) (λ begun. Does old.lower call begun (Ok end) new.lower) call now (Ok end) old new →
+        IsDecided (delay_verdict old.gate (kind_of call) now)
+        (λ begun. Does old.lower call begun (Ok end) new.lower) call now (Ok end) old new →
         end ≡ later_by now (delay_of old.gate (kind_of call)) }
 {}

@@ -6,8 +6,8 @@ ghost use Rattle.blockdev.specs.Calls.{IsRange};
 use bio::{DevError, Ms};
 use blockdev::{BlockDev, Message, MessageError};
 
-/// A range of another device's sectors, as a device of its own: its sector 0 is the sector `offset` beneath (Linux's
-/// Documentation/admin-guide/device-mapper/linear.rst).
+/// A range of another device's sectors, as a device of its own: its sector 0 is the sector `offset`
+/// beneath (Linux's Documentation/admin-guide/device-mapper/linear.rst).
 #[derive(Drop)]
 pub struct Linear<D: BlockDev + Drop> {
     lower: D,
@@ -20,7 +20,8 @@ pub struct Linear<D: BlockDev + Drop> {
 impl<D: BlockDev + Drop> Linear<D> {
     ghost use Rattle.std.specs.Prelude.{◌≡◌};
 
-    /// The `length` sectors from `offset` on, at least one, and all of them within the lower device.
+    /// The `length` sectors from `offset` on, at least one,
+    /// and all of them within the lower device.
     pub fn new(lower: D, offset: u64, length: u64) -> Linear<D>
         requires { IsRange (D.shown lower).size offset length }
         ensures lower { result.lower ≡ lower }
@@ -85,7 +86,8 @@ impl<D: BlockDev + Drop> BlockDev for Linear<D> {
     }
 
     ghost lawful = { λ device.
-        lawful_cut (D.shown device.lower) device.offset device.length device.fits (D.lawful device.lower) };
+        lawful_cut (D.shown device.lower) device.offset device.length device.fits
+        (D.lawful device.lower) };
 }
 
 impl<D: Message + Drop> Message for Linear<D> {
@@ -93,7 +95,8 @@ impl<D: Message + Drop> Message for Linear<D> {
 
     // What the device beneath answers, and the range stays.
     ghost answers = { λ old layer text result new.
-        D.answers old.lower layer text result new.lower × (new.offset ≡ old.offset) × (new.length ≡ old.length) };
+        D.answers old.lower layer text result new.lower × (new.offset ≡ old.offset)
+        × (new.length ≡ old.length) };
 
     #[tactic(auto, using(crate::specs::CutLaws::unchanged_cut))]
     fn message(&mut self, layer: u64, text: &str) -> Result<(), MessageError> {

@@ -1,5 +1,6 @@
 -- The rule of a keeper and its holders, and what each step does to what a pass knows.
-use Rattle.std.specs.Prelude.{◌≡◌, ℕ, List, [], ◌∷◌, ◌++◌, length, Option, Some, None, slice_get, slice_set, true, false}
+use Rattle.std.specs.Prelude.{◌≡◌, ℕ, List, [], ◌∷◌, ◌++◌, length, Option, Some, None, slice_get}
+use Rattle.std.specs.Prelude.{slice_set, true, false}
 use mathlib.Core.Option.{some}
 use lib.ListN.{get_elem?}
 use Rattle.atomic_table.specs.Table.{Step, Me}
@@ -8,7 +9,16 @@ use Rattle.holders.specs.declared.rule.Knows.{Knows}
 
 -- the name of no table
 abbrev pub no_table : TableId
-no_table = record { words = 0; slots = 0; views_name = 0; atom = 0; block = 0; offset = 0; slot_names = [] }
+no_table =
+    record {
+      words = 0;
+      slots = 0;
+      views_name = 0;
+      atom = 0;
+      block = 0;
+      offset = 0;
+      slot_names = [];
+    }
 
 -- what contracts see of a holder: its number, and what it holds
 pub record Grip : Type 0 where
@@ -21,11 +31,13 @@ keeper_of all = record { keeps = true; all = all; holds = false; number = 0; hel
 
 -- the pass of a holder, that knows its number and what it holds
 abbrev pub holder_of : ℕ → Option ℕ → Knows
-holder_of number held = record { keeps = false; all = []; holds = true; number = number; held = held }
+holder_of number held =
+    record { keeps = false; all = []; holds = true; number = number; held = held }
 
 -- the pass of a keeper that has a holder's beside it
 abbrev pub both_of : List (Option ℕ) → ℕ → Option ℕ → Knows
-both_of all number held = record { keeps = true; all = all; holds = true; number = number; held = held }
+both_of all number held =
+    record { keeps = true; all = all; holds = true; number = number; held = held }
 
 -- a pass that knows nothing
 abbrev pub nobody : Knows
@@ -37,11 +49,19 @@ without pass = record { keeps = pass.keeps; all = pass.all; holds = false; numbe
 
 -- the holder's part of a pass
 abbrev pub part_of : Knows → Knows
-part_of pass = record { keeps = false; all = []; holds = pass.holds; number = pass.number; held = pass.held }
+part_of pass =
+    record { keeps = false; all = []; holds = pass.holds; number = pass.number; held = pass.held }
 
 -- a pass, and a holder's part that came to it
 abbrev pub beside : Knows → Knows → Knows
-beside pass part = record { keeps = pass.keeps; all = pass.all; holds = part.holds; number = part.number; held = part.held }
+beside pass part =
+    record {
+      keeps = pass.keeps;
+      all = pass.all;
+      holds = part.holds;
+      number = part.number;
+      held = part.held;
+    }
 
 -- a keeper and the holder that it has beside it agree on what the holder holds
 abbrev pub Agree : Knows → Type 0
@@ -65,10 +85,13 @@ Finishes step before found after = Sets before.0 None after
 
 -- the two agree, and nothing changes
 abbrev pub Agrees : Step (Unit {0}) → Me (Unit {0}) Knows → ℕ → Me (Unit {0}) Knows → Type 0
-Agrees step before found after = Agree before.0 × (after ≡ (both_of before.0.all before.0.number before.0.held, []))
+Agrees step before found after =
+    Agree before.0 × (after ≡ (both_of before.0.all before.0.number before.0.held, []))
 
--- What the rule says of one pass, where the keeper's stands at this place, each number's holder at a place of its own, and this is what all hold.
-pub record Fits (place : ℕ) (owner : ℕ → ℕ) (all : List (Option ℕ)) (by : ℕ) (pass : Knows) : Type 0 where
+-- What the rule says of one pass, where the keeper's stands at this place, each number's holder at
+-- a place of its own, and this is what all hold.
+pub record Fits (place : ℕ) (owner : ℕ → ℕ) (all : List (Option ℕ)) (by : ℕ)
+    (pass : Knows) : Type 0 where
   -- only one pass is the keeper's, and it knows what all hold
   pub kept : pass.keeps ≡ true → (by ≡ place) × (pass.all ≡ all)
   -- only one pass is the holder's of its number, and it holds what stands there
@@ -79,4 +102,5 @@ pub record IsKept (passes : List Knows) : Type 0 where
   pub place : ℕ
   pub owner : ℕ → ℕ
   pub all : List (Option ℕ)
-  pub fits : (by : ℕ) (pass : Knows) → get_elem? passes by ≡ some pass → Fits place owner all by pass
+  pub fits : (by : ℕ) (pass : Knows) → get_elem? passes by ≡ some pass
+      → Fits place owner all by pass

@@ -1,11 +1,14 @@
 //! A keeper and its holders, who provably agree on what each holder holds.
 //!
-//! The keeper lies inside a value that a lock guards; each thread has a holder of its own. When a thread takes the lock, nothing is known of what
-//! lies under it but its invariant. A call with both at hand shows that the keeper's list has, at the holder's number, just what the holder holds:
-//! so a fact that the invariant states of the keeper's list is known of what the thread itself holds. No call waits, and only the first takes memory.
+//! The keeper lies inside a value that a lock guards; each thread has a holder of its own. When a
+//! thread takes the lock, nothing is known of what lies under it but its invariant. A call with
+//! both at hand shows that the keeper's list has, at the holder's number, just what the holder
+//! holds: so a fact that the invariant states of the keeper's list is known of what the thread
+//! itself holds. No call waits, and only the first takes memory.
 #![tactic(auto)]
 
-ghost use Rattle.std.specs.Prelude.{◌≡◌, ℕ, List, [], ◌∷◌, ◌++◌, length, Option, None, Some, slice_get, slice_set, true, false};
+ghost use Rattle.std.specs.Prelude.{◌≡◌, ℕ, List, [], ◌∷◌, ◌++◌, length, Option, None, Some};
+ghost use Rattle.std.specs.Prelude.{slice_get, slice_set, true, false};
 ghost use Rattle.atomic_table.specs.Seated.{TableId};
 ghost use Rattle.holders.specs.Rules.{Grip, keeper_of, holder_of};
 
@@ -16,7 +19,8 @@ use atomic_table::Seat;
 use std::alloc::{AllocError, Global};
 use std::marker::{Brand, Model, PhantomData};
 
-/// Names the table on which a keeper and its holders agree. Each keeper has a table of its own, so a holder of another keeper is refused by its type.
+/// Names the table on which a keeper and its holders agree. Each keeper has a table of its own, so
+/// a holder of another keeper is refused by its type.
 pub trait Whose {
     ghost use Rattle.atomic_table.specs.Seated.{TableId};
 
@@ -47,7 +51,8 @@ impl Model for Fresh {
 
     ghost view = { λ f. f.board.shared.table_id };
 
-    ghost invariant = { λ f. (f.pass.table_id ≡ f.board.shared.table_id) × (f.board.shared.table_id.words ≡ 1) × (f.pass.me ≡ (keeper_of [], [])) };
+    ghost invariant = { λ f. (f.pass.table_id ≡ f.board.shared.table_id)
+        × (f.board.shared.table_id.words ≡ 1) × (f.pass.me ≡ (keeper_of [], [])) };
 }
 
 /// Knows of each holder, by its number, what it holds. Contracts see it as the list of that.
@@ -66,11 +71,13 @@ impl<W: Whose> Model for Keeper<W> {
 
     ghost view = { λ k. k.pass.me.0.all };
 
-    ghost invariant = { λ k. (k.board.shared.table_id ≡ W.table) × (k.pass.table_id ≡ W.table) × (k.board.shared.table_id.words ≡ 1)
+    ghost invariant = { λ k. (k.board.shared.table_id ≡ W.table) × (k.pass.table_id ≡ W.table)
+        × (k.board.shared.table_id.words ≡ 1)
         × (k.pass.me ≡ (keeper_of k.pass.me.0.all, [])) };
 }
 
-/// Holds a number, or nothing. It has no bytes. Contracts see it as its own number among the holders and what it holds.
+/// Holds a number, or nothing. It has no bytes. Contracts see it as its own number among the
+/// holders and what it holds.
 #[derive(Drop)]
 pub struct Holder<W: Whose> {
     pass: Seat<(), Knows>,
@@ -85,7 +92,8 @@ impl<W: Whose> Model for Holder<W> {
 
     ghost view = { λ h. record { number = h.pass.me.0.number; held = h.pass.me.0.held } };
 
-    ghost invariant = { λ h. (h.pass.table_id ≡ W.table) × (h.pass.me ≡ (holder_of h.pass.me.0.number h.pass.me.0.held, [])) };
+    ghost invariant = { λ h. (h.pass.table_id ≡ W.table)
+        × (h.pass.me ≡ (holder_of h.pass.me.0.number h.pass.me.0.held, [])) };
 }
 
 impl Fresh {
@@ -143,7 +151,8 @@ impl<W: Whose> Keeper<W> {
         mine.pass = board.shared.split_seat::<Part>(pass);
     }
 
-    /// The holder holds this number from now on, in place of what it held. Both learn of it in one step.
+    /// The holder holds this number from now on, in place
+    /// of what it held. Both learn of it in one step.
     pub fn begin(&mut self, mine: &mut Holder<W>, number: u64)
         ensures knew { slice_get self.old mine.old.number ≡ Some mine.old.held }
         ensures keeper { self.new ≡ slice_set self.old mine.old.number (Some number) }

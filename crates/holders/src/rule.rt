@@ -5,7 +5,8 @@ use atomic_table::{Join, Play, Split, Table, TableRule};
 use std::alloc::Global;
 use std::collections::LinkedList;
 
-// What a pass knows: a keeper what all holders hold, a holder its number and what it holds. No value of it is made.
+// What a pass knows: a keeper what all holders hold, a holder
+// its number and what it holds. No value of it is made.
 pub struct Knows {
     pub keeps: bool,
     pub all: LinkedList<Option<u64>>,

@@ -1,5 +1,7 @@
 -- Verdicts by computation: two writes of sector 3, both ended, and a flush after them.
-use Rattle.std.proofs.Common.{◌≡◌, ℕ, zero, suc, true, false, None, Some, List, [], ◌∷◌, length, take, get_or, slice_get, replicate, refl, ap, sym, ◌∙◌, inl, inr, arith}
+use Rattle.std.proofs.Common.{◌≡◌, ℕ, zero, suc, true, false, None, Some, List, [], ◌∷◌, length}
+use Rattle.std.proofs.Common.{take, get_or, slice_get, replicate, refl, ap, sym, ◌∙◌, inl, inr}
+use Rattle.std.proofs.Common.{arith}
 use Rattle.std.specs.Prelude.{◌≤◌, ◌<◌, ◌++◌, ◌==◌, ◌&&◌, if◌then◌else◌, nat_lt, unwrap_or}
 use Rattle.sectors.specs.PlaceLaws.{none_first_below}
 use Rattle.std.proofs.lemmas.Bool.{and_parts, le-ltb}
@@ -18,10 +20,12 @@ use Rattle.judge.specs.declared.first.First.{First}
 use Rattle.judge.specs.declared.first.First.TheVariants.{Zeroes}
 use Rattle.judge.specs.Firsts.{IsFirstOf, first_bytes}
 
--- the writes have the bytes 1 and 2; the flush is submitted at the fourth moment and has ended at the sixth
+-- the writes have the bytes 1 and 2; the flush is submitted
+-- at the fourth moment and has ended at the sixth
 abbrev events : List CoreEvent
 events =
-    Submit (Write 3 (replicate 512 1) false false false) ∷ Submit (Write 3 (replicate 512 2) false false false)
+    Submit (Write 3 (replicate 512 1) false false false) ∷ Submit
+    (Write 3 (replicate 512 2) false false false)
     ∷ Complete 0 true ∷ Complete 1 true ∷ Submit Flush ∷ Complete 4 true ∷ []
 
 -- sector 3 has this byte, and the others are zeroes
@@ -106,7 +110,13 @@ below-first (suc (suc (suc lower))) below = absurd (omega arith)
 
 -- so an image of zeroes fails at sector 3
 failing : FailsAt events (holding 0) (holding 0) 16 3 (Some 1)
-failing = record { within = omega arith; fails = gone-first; lowest = below-first; ruled_out = kept-newer }
+failing =
+    record {
+      within = omega arith;
+      fails = gone-first;
+      lowest = below-first;
+      ruled_out = kept-newer;
+    }
 
 -- not past its end, not where it is possible, not by an earlier request, and not by none
 failing-outside : FailsAt events (holding 0) (holding 0) 3 3 (Some 1) → ⊥
@@ -128,8 +138,10 @@ other sector = replicate 512 (if sector == 4 then 9 else 0)
 failing-higher : FailsAt events (holding 0) other 16 4 None → ⊥
 failing-higher told = gone-first (told.lowest 3 (omega arith))
 
--- the flush is the last one that ended with success; a write is none, one that hasn't ended isn't, and one before another isn't
-last-flush : (later : ℕ) → is_flush_submit (slice_get events later) ≡ true → ended_ok events later ≡ true → later ≤ 4
+-- the flush is the last one that ended with success; a write is none, one that hasn't ended isn't,
+-- and one before another isn't
+last-flush : (later : ℕ) → is_flush_submit (slice_get events later) ≡ true
+    → ended_ok events later ≡ true → later ≤ 4
 last-flush zero flush ended = cc
 last-flush (suc zero) flush ended = cc
 last-flush (suc (suc zero)) flush ended = cc
@@ -162,7 +174,8 @@ held-other = refl
 -- a value that is gone isn't held
 abbrev replaced : List CoreEvent
 replaced =
-    Submit (Write 3 (replicate 512 1) false false false) ∷ Complete 0 true ∷ Submit (Write 3 (replicate 512 2) false true false) ∷ Complete 2 true ∷ []
+    Submit (Write 3 (replicate 512 1) false false false) ∷ Complete 0 true ∷ Submit
+    (Write 3 (replicate 512 2) false true false) ∷ Complete 2 true ∷ []
 
 held-gone : is_held_from replaced (holding 1) 3 0 ≡ false
 unfolding contents.over
@@ -179,9 +192,11 @@ place-within = refl
 place-past : place_at (None ∷ Some 7 ∷ []) 2 ≡ None
 place-past = refl
 
--- an account names each request's end, and for each sector the last durable request and the last one whose value it has
+-- an account names each request's end, and for each sector the
+-- last durable request and the last one whose value it has
 account-newer : (account : Account) → account.ends.items ≡ Some 1 ∷ None ∷ Some 3 ∷ None ∷ []
-    → account.last.items ≡ None ∷ None ∷ None ∷ Some 2 ∷ [] → account.held.items ≡ None ∷ None ∷ None ∷ Some 2 ∷ []
+    → account.last.items ≡ None ∷ None ∷ None ∷ Some 2 ∷ []
+    → account.held.items ≡ None ∷ None ∷ None ∷ Some 2 ∷ []
     → IsAccount replaced (holding 2) 4 account
 unfolding contents.over
 account-newer account ends last held = record {
@@ -202,41 +217,54 @@ account-newer account ends last held = record {
         sym (none_first_below (λ k. nat_lt past k && is_end_of past (slice_get replaced k)) 4
         (λ k h. ap (λ b. b && is_end_of past (slice_get replaced k)) (le-ltb past k (omega arith))))
 
-    kept_is : (sector : ℕ) → sector < 4 → place_at (None ∷ None ∷ None ∷ Some 2 ∷ []) sector ≡ last_below (is_kept replaced sector) 4
+    kept_is : (sector : ℕ) → sector < 4
+        → place_at (None ∷ None ∷ None ∷ Some 2 ∷ []) sector
+        ≡ last_below (is_kept replaced sector) 4
     kept_is zero within = refl
     kept_is (suc zero) within = refl
     kept_is (suc (suc zero)) within = refl
     kept_is (suc (suc (suc zero))) within = refl
     kept_is (suc (suc (suc (suc sector)))) within = absurd (omega arith)
 
-    held_is : (sector : ℕ) → sector < 4 → place_at (None ∷ None ∷ None ∷ Some 2 ∷ []) sector ≡ last_below (is_held_from replaced (holding 2) sector) 4
+    held_is : (sector : ℕ) → sector < 4
+        → place_at (None ∷ None ∷ None ∷ Some 2 ∷ []) sector
+        ≡ last_below (is_held_from replaced (holding 2) sector) 4
     held_is zero within = refl
     held_is (suc zero) within = refl
     held_is (suc (suc zero)) within = refl
     held_is (suc (suc (suc zero))) within = refl
     held_is (suc (suc (suc (suc sector)))) within = absurd (omega arith)
 
--- not one that has no request for a sector that has a request's value, nor one with no ends, nor with no durable requests
+-- not one that has no request for a sector that has a request's value, nor one with no ends, nor
+-- with no durable requests
 none_some : (place : ℕ) → None ≡ Some place → ⊥
 none_some place same = cc
 
-account-held : (account : Account) → account.held.items ≡ [] → IsAccount replaced (holding 2) 4 account → ⊥
+account-held : (account : Account) → account.held.items ≡ []
+    → IsAccount replaced (holding 2) 4 account → ⊥
 unfolding contents.over
-account-held account held told = none_some 2 (sym (ap (λ places. place_at places 3) held) ∙ told.held 3 (omega arith))
+account-held account held told =
+    none_some 2 (sym (ap (λ places. place_at places 3) held) ∙ told.held 3 (omega arith))
 
-account-ends : (account : Account) → account.ends.items ≡ [] → IsAccount replaced (holding 2) 4 account → ⊥
-account-ends account ends told = none_some 1 (sym (ap (λ places. place_at places 0) ends) ∙ told.ends 0)
+account-ends : (account : Account) → account.ends.items ≡ []
+    → IsAccount replaced (holding 2) 4 account → ⊥
+account-ends account ends told =
+    none_some 1 (sym (ap (λ places. place_at places 0) ends) ∙ told.ends 0)
 
-account-last : (account : Account) → account.last.items ≡ [] → IsAccount replaced (holding 2) 4 account → ⊥
-account-last account last told = none_some 2 (sym (ap (λ places. place_at places 3) last) ∙ told.last 3 (omega arith))
+account-last : (account : Account) → account.last.items ≡ []
+    → IsAccount replaced (holding 2) 4 account → ⊥
+account-last account last told =
+    none_some 2 (sym (ap (λ places. place_at places 3) last) ∙ told.last 3 (omega arith))
 
 -- nor one of more or fewer sectors, though no request covers any
-account-shorter : (account : Account) → account.last.items ≡ [] → IsAccount [] (holding 0) 1 account → ⊥
+account-shorter : (account : Account) → account.last.items ≡ []
+    → IsAccount [] (holding 0) 1 account → ⊥
 account-shorter account last told =
     let none = ap length last in
     absurd (let contra : 0 ≡ 1 = sym none ∙ told.last_size in cc)
 
-account-held-shorter : (account : Account) → account.held.items ≡ [] → IsAccount [] (holding 0) 1 account → ⊥
+account-held-shorter : (account : Account) → account.held.items ≡ []
+    → IsAccount [] (holding 0) 1 account → ⊥
 account-held-shorter account held told =
     let none = ap length held in
     absurd (let contra : 0 ≡ 1 = sym none ∙ told.held_size in cc)

@@ -1,5 +1,6 @@
 -- Noting the requests whose value a sector has and could hold.
-use Rattle.std.proofs.Common.{◌≡◌, ℕ, suc, ◌<◌, ◌≤◌, Bool, true, false, not, ◌&&◌, Option, Some, None, List, length, set, refl, ap, sym, ◌∙◌, inl, inr, arith}
+use Rattle.std.proofs.Common.{◌≡◌, ℕ, suc, ◌<◌, ◌≤◌, Bool, true, false, not, ◌&&◌, Option, Some}
+use Rattle.std.proofs.Common.{None, List, length, set, refl, ap, sym, ◌∙◌, inl, inr, arith}
 use Rattle.std.proofs.lemmas.List.{length-set, get_or-set_same, get_or-set_other}
 use Rattle.std.specs.Prelude.{slice_get, if◌then◌else◌}
 use Rattle.sectors.specs.Content.{Content}
@@ -14,76 +15,105 @@ use Rattle.judge.specs.inside.Last.{AreCovered, AreLastKept, is_below_last}
 use Rattle.judge.proofs.Last.{covered_in, covered_out, replaced_last}
 
 -- one more sector of the range, whose value fits
-pub fit_here : (event : Option CoreEvent) (end : Option ℕ) (last : List (Option ℕ)) (now : Content) (place from sector : ℕ) (old held : List (Option ℕ))
+pub fit_here : (event : Option CoreEvent) (end : Option ℕ) (last : List (Option ℕ)) (now : Content)
+    (place from sector : ℕ) (old held : List (Option ℕ))
     → sector < length held → is_fit event end last now sector ≡ true
-    → from ≤ sector → AreFit event end last now place from sector old held → AreFit event end last now place from (suc sector) old (set held sector (Some place))
+    → from ≤ sector → AreFit event end last now place from sector old held
+    → AreFit event end last now place from (suc sector) old (set held sector (Some place))
 fit_here event end last now place from sector old held within fits low before = record {
   size = length-set held sector (Some place) ∙ before.size;
   within = λ k h above below. elim (last_or_below k sector below) [
     | inl same ↦
         ap (place_at (set held sector (Some place))) same
         ∙ get_or-set_same held sector (Some place) None within
-        ∙ sym (ap (λ b. if b then Some place else place_at old k) (ap (is_fit event end last now) same ∙ fits))
-    | inr earlier ↦ get_or-set_other held sector k (Some place) None (λ e. omega arith) ∙ before.within k h above earlier
+        ∙ sym (ap (λ b. if b then Some place else place_at old k)
+        (ap (is_fit event end last now) same ∙ fits))
+    | inr earlier ↦
+        get_or-set_other held sector k (Some place) None (λ e. omega arith)
+        ∙ before.within k h above earlier
   ];
   outside = λ k outside. elim outside [
-    | inl less ↦ get_or-set_other held sector k (Some place) None (λ e. omega arith) ∙ before.outside k (inl less)
-    | inr more ↦ get_or-set_other held sector k (Some place) None (λ e. omega arith) ∙ before.outside k (inr (omega arith))
+    | inl less ↦
+        get_or-set_other held sector k (Some place) None (λ e. omega arith)
+        ∙ before.outside k (inl less)
+    | inr more ↦
+        get_or-set_other held sector k (Some place) None (λ e. omega arith)
+        ∙ before.outside k (inr (omega arith))
   ];
 }
 
 -- and one whose value doesn't
-pub fit_not : (event : Option CoreEvent) (end : Option ℕ) (last : List (Option ℕ)) (now : Content) (place from sector : ℕ) (old held : List (Option ℕ))
+pub fit_not : (event : Option CoreEvent) (end : Option ℕ) (last : List (Option ℕ)) (now : Content)
+    (place from sector : ℕ) (old held : List (Option ℕ))
     → is_fit event end last now sector ≡ false
-    → from ≤ sector → AreFit event end last now place from sector old held → AreFit event end last now place from (suc sector) old held
+    → from ≤ sector → AreFit event end last now place from sector old held
+    → AreFit event end last now place from (suc sector) old held
 fit_not event end last now place from sector old held fails low before = record {
   size = before.size;
   within = λ k h above below. elim (last_or_below k sector below) [
     | inl same ↦
         before.outside k (inr (omega arith))
-        ∙ sym (ap (λ b. if b then Some place else place_at old k) (ap (is_fit event end last now) same ∙ fails))
+        ∙ sym (ap (λ b. if b then Some place else place_at old k)
+        (ap (is_fit event end last now) same ∙ fails))
     | inr earlier ↦ before.within k h above earlier
   ];
   outside = λ k outside. elim outside [ inl less ↦ before.outside k (inl less) | inr more ↦ before.outside k (inr (omega arith)) ];
 }
 
 -- the sectors outside an event's range don't fit, so that all that do have its place
-pub fit_all : (event : Option CoreEvent) (end : Option ℕ) (last : List (Option ℕ)) (now : Content) (place from to : ℕ) (old new : List (Option ℕ))
+pub fit_all : (event : Option CoreEvent) (end : Option ℕ) (last : List (Option ℕ)) (now : Content)
+    (place from to : ℕ) (old new : List (Option ℕ))
     → AreCovered event (length old) from to → AreFit event end last now place from to old new
-    → (sector : ℕ) → sector < length old → place_at new sector ≡ (if is_fit event end last now sector then Some place else place_at old sector)
-fit_all event end last now place from to old new covered fit sector within = elim (bool_cases (covers_at sector event)) [
-  | inl covers ↦
-      let range = covered_in event (length old) from to sector covered within covers in
-      fit.within sector within range.0 range.1
-  | inr passes ↦
-      fit.outside sector (covered_out event (length old) from to sector covered within passes)
-      ∙ sym (ap (λ b. if b then Some place else place_at old sector) (
-      ap (λ value. not (is_below_last end (place_at last sector)) && is_value value (now sector)) (uncovered_value event sector passes)
-      ∙ and_false (not (is_below_last end (place_at last sector)))))
-]
+    → (sector : ℕ) → sector < length old
+    → place_at new sector ≡ (if is_fit event end last now sector then Some place else place_at old
+    sector)
+fit_all event end last now place from to old new covered fit sector within =
+    elim (bool_cases (covers_at sector event)) [
+      | inl covers ↦
+          let range = covered_in event (length old) from to sector covered within covers in
+          fit.within sector within range.0 range.1
+      | inr passes ↦
+          fit.outside sector (covered_out event (length old) from to sector covered within passes)
+          ∙ sym (ap (λ b. if b then Some place else place_at old sector) (
+          ap (λ value. not (is_below_last end (place_at last sector))
+          && is_value value (now sector))
+          (uncovered_value event sector passes)
+          ∙ and_false (not (is_below_last end (place_at last sector)))))
+    ]
   where
     and_false : (a : Bool) → (a && false) ≡ false
     and_false true = refl
     and_false false = refl
 
 -- the places for one more event
-pub held_next : (events : List CoreEvent) (event : CoreEvent) (now : Content) (sectors place : ℕ) (end : Option ℕ) (last : List (Option ℕ)) (old new : List (Option ℕ))
-    → slice_get events place ≡ Some event → end ≡ end_of events place → AreLastKept events sectors (length events) last
+pub held_next : (events : List CoreEvent) (event : CoreEvent) (now : Content) (sectors place : ℕ)
+    (end : Option ℕ) (last : List (Option ℕ)) (old new : List (Option ℕ))
+    → slice_get events place ≡ Some event → end ≡ end_of events place
+    → AreLastKept events sectors (length events) last
     → length new ≡ length old
-    → ((sector : ℕ) → sector < length old → place_at new sector ≡ (if is_fit (Some event) end last now sector then Some place else place_at old sector))
+    → ((sector : ℕ) → sector < length old
+    → place_at new sector ≡ (if is_fit
+    (Some event) end last now sector then Some place else place_at old sector))
     → AreHeld events now sectors place old → AreHeld events now sectors (suc place) new
 held_next events event now sectors place end last old new is ends kept size fit before = record {
   size = size ∙ before.size;
   each = λ sector within.
       let long = before.size in
       fit sector (omega arith)
-      ∙ ap (λ (o : Option ℕ). if is_fit (Some event) end last now sector then Some place else o) (before.each sector within)
-      ∙ ap (λ b. if b then Some place else last_below (is_held_from events now sector) place) (same sector within);
+      ∙ ap (λ (o : Option ℕ). if is_fit (Some event) end last now sector then Some place else o)
+      (before.each sector within)
+      ∙ ap (λ b. if b then Some place else last_below (is_held_from events now sector) place)
+      (same sector within);
 }
   where
-    same : (sector : ℕ) → sector < sectors → is_fit (Some event) end last now sector ≡ is_held_from events now sector place
+    same : (sector : ℕ) → sector < sectors
+        → is_fit (Some event) end last now sector ≡ is_held_from events now sector place
     same sector within =
-        ap (λ e. not (is_below_last e (place_at last sector)) && is_value (values_at (Some event) sector) (now sector)) ends
-        ∙ ap (λ p. not (is_below_last (end_of events place) p) && is_value (values_at (Some event) sector) (now sector)) (kept.each sector within)
-        ∙ ap (λ b. not b && is_value (values_at (Some event) sector) (now sector)) (sym (replaced_last events sector place))
-        ∙ ap (λ e. not (is_replaced events sector place) && is_value (values_at e sector) (now sector)) (sym is)
+        ap (λ e. not (is_below_last e (place_at last sector))
+        && is_value (values_at (Some event) sector) (now sector)) ends
+        ∙ ap (λ p. not (is_below_last (end_of events place) p)
+        && is_value (values_at (Some event) sector) (now sector)) (kept.each sector within)
+        ∙ ap (λ b. not b && is_value (values_at (Some event) sector) (now sector))
+        (sym (replaced_last events sector place))
+        ∙ ap (λ e. not (is_replaced events sector place)
+        && is_value (values_at e sector) (now sector)) (sym is)

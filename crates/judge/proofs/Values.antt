@@ -1,5 +1,6 @@
 -- The values that requests have for a sector.
-use Rattle.std.proofs.Common.{◌≡◌, ℕ, ◌+◌, ◌-◌, ◌*◌, ◌/◌, ◌<◌, ◌≤◌, false, List, take, drop, replicate, ap, sym, ◌∙◌, inl, inr, arith}
+use Rattle.std.proofs.Common.{◌≡◌, ℕ, ◌+◌, ◌-◌, ◌*◌, ◌/◌, ◌<◌, ◌≤◌, false, List, take, drop}
+use Rattle.std.proofs.Common.{replicate, ap, sym, ◌∙◌, inl, inr, arith}
 use Rattle.std.proofs.lemmas.List.{drop-replicate, take-replicate}
 use Rattle.std.specs.Prelude.{◌⊎◌}
 use Rattle.std.specs.Str.{bytes_eq}
@@ -13,10 +14,12 @@ pub part_is_sector : (image : List ℕ) (sector : ℕ)
 part_is_sector image sector =
     let size : sector * 512 + 512 - sector * 512 ≡ 512 = omega arith in
     let from : sector * 512 ≡ 512 * sector = omega arith in
-    ap (λ (n : ℕ). take n (drop (sector * 512) image)) size ∙ ap (λ (n : ℕ). take 512 (drop n image)) from
+    ap (λ (n : ℕ). take n (drop (sector * 512) image)) size
+    ∙ ap (λ (n : ℕ). take 512 (drop n image)) from
 
 -- a sector outside a range has no value of it
-pub no_value : (first count sector : ℕ) (part : ℕ → List ℕ) (value : List ℕ) → (sector < first) ⊎ (first + count ≤ sector)
+pub no_value : (first count sector : ℕ) (part : ℕ → List ℕ) (value : List ℕ)
+    → (sector < first) ⊎ (first + count ≤ sector)
     → false ≡ is_value (over first count part sector) value
 no_value first count sector part value outside = elim outside [
   | inl before ↦ sym (ap (λ o. is_value o value) (over-before first count part sector before))
@@ -24,13 +27,17 @@ no_value first count sector part value outside = elim outside [
 ]
 
 -- a sector of a range has its value
-pub some_value : (first count sector place : ℕ) (part : ℕ → List ℕ) (value bytes : List ℕ) → sector ≡ first + place → place < count
+pub some_value : (first count sector place : ℕ) (part : ℕ → List ℕ) (value bytes : List ℕ)
+    → sector ≡ first + place → place < count
     → bytes ≡ part place → bytes_eq bytes value ≡ is_value (over first count part sector) value
 some_value first count sector place part value bytes is within same =
     ap (λ (xs : List ℕ). bytes_eq xs value) same
-    ∙ sym (ap (λ (s : ℕ). is_value (over first count part s) value) is ∙ ap (λ o. is_value o value) (over-in first count part place within))
+    ∙ sym (ap (λ (s : ℕ). is_value (over first count part s) value) is
+    ∙ ap (λ o. is_value o value) (over-in first count part place within))
 
 -- a sector of zeroes is zeroes
-pub zero_sector : (count sector : ℕ) → sector < count / 512 → sector_of (replicate count 0) sector ≡ replicate 512 0
+pub zero_sector : (count sector : ℕ) → sector < count / 512
+    → sector_of (replicate count 0) sector ≡ replicate 512 0
 zero_sector count sector within =
-    ap (λ (bytes : List ℕ). take 512 bytes) (drop-replicate (512 * sector) count 0) ∙ take-replicate 512 (count - 512 * sector) 0 (omega (arith, within))
+    ap (λ (bytes : List ℕ). take 512 bytes) (drop-replicate (512 * sector) count 0)
+    ∙ take-replicate 512 (count - 512 * sector) 0 (omega (arith, within))

@@ -1,5 +1,6 @@
 -- That an image has one verdict, and that the last submissions decide.
-use Rattle.std.proofs.Common.{◌≡◌, ℕ, ◌<◌, ◌≤◌, Bool, true, false, ◌&&◌, ◌||◌, Option, Some, None, List, length, refl, ap, sym, ◌∙◌, subst, inl, inr, arith}
+use Rattle.std.proofs.Common.{◌≡◌, ℕ, ◌<◌, ◌≤◌, Bool, true, false, ◌&&◌, ◌||◌, Option, Some, None}
+use Rattle.std.proofs.Common.{List, length, refl, ap, sym, ◌∙◌, subst, inl, inr, arith}
 use Rattle.std.proofs.lemmas.Bool.{and_parts, cases_lt}
 use Rattle.std.specs.Prelude.{slice_get}
 use Rattle.sectors.specs.Content.{Content}
@@ -18,7 +19,8 @@ use Rattle.judge.specs.Laws.{kept_within, last_below-found, none_passes}
 use Rattle.judge.proofs.Last.{flushed_last, replaced_last}
 
 -- a place that passes, with none after it, is the last one below n
-pub last_is : (test : ℕ → Bool) (n p : ℕ) → p < n → test p ≡ true → ((k : ℕ) → test k ≡ true → k ≤ p) → last_below test n ≡ Some p
+pub last_is : (test : ℕ → Bool) (n p : ℕ) → p < n → test p ≡ true
+    → ((k : ℕ) → test k ≡ true → k ≤ p) → last_below test n ≡ Some p
 last_is test n p within here last = elim (option_cases (last_below test n)) [
   | inl none ↦
       let found = any_below-at test n p within here in
@@ -32,7 +34,8 @@ last_is test n p within here last = elim (option_cases (last_below test n)) [
 ]
 
 -- what rules a sector out is one
-one_cause : (events : List CoreEvent) (sector : ℕ) (by other : Option ℕ) → IsRuledOutBy events sector by → IsRuledOutBy events sector other → by ≡ other
+one_cause : (events : List CoreEvent) (sector : ℕ) (by other : Option ℕ)
+    → IsRuledOutBy events sector by → IsRuledOutBy events sector other → by ≡ other
 one_cause events sector None None a b = refl
 one_cause events sector None (Some id) a b =
     absurd (let contra : true ≡ false = sym (any_below-at (is_kept events sector) (length events) id (kept_within events sector id b.kept) b.kept) ∙ a in cc)
@@ -45,26 +48,33 @@ one_cause events sector (Some id) (Some later) a b =
     ap (λ (k : ℕ). Some k) same
 
 -- the lowest sector that fails is one
-one_sector : (sectors : ℕ) (events : List CoreEvent) (first now : Content) (sector other : ℕ) (by cause : Option ℕ)
-    → FailsAt events first now sectors sector by → FailsAt events first now sectors other cause → sector ≡ other
+one_sector : (sectors : ℕ) (events : List CoreEvent) (first now : Content) (sector other : ℕ)
+    (by cause : Option ℕ)
+    → FailsAt events first now sectors sector by → FailsAt events first now sectors other cause
+    → sector ≡ other
 one_sector sectors events first now sector other by cause a b = elim (cases_lt sector other) [
   | inl less ↦ absurd (a.fails (b.lowest sector less))
   | inr from ↦ elim (cases_lt other sector) [ inl less ↦ absurd (b.fails (a.lowest other less)) | inr upto ↦ omega arith ]
 ]
 
 -- a verdict is one
-pub one_verdict : (sectors : ℕ) (events : List CoreEvent) (first now : Content) (verdict other : Verdict)
-    → IsVerdict sectors events first now verdict → IsVerdict sectors events first now other → verdict ≡ other
+pub one_verdict : (sectors : ℕ) (events : List CoreEvent) (first now : Content)
+    (verdict other : Verdict)
+    → IsVerdict sectors events first now verdict → IsVerdict sectors events first now other
+    → verdict ≡ other
 one_verdict sectors events first now Yes Yes a b = refl
 one_verdict sectors events first now Yes (No sector by) a b = absurd (b.fails (a sector))
 one_verdict sectors events first now (No sector by) Yes a b = absurd (a.fails (b sector))
 one_verdict sectors events first now (No sector by) (No other cause) a b =
     let same = one_sector sectors events first now sector other by cause a b in
-    let causes = one_cause events other by cause (subst (λ (s : ℕ). IsRuledOutBy events s by) same a.ruled_out) b.ruled_out in
+    let causes =
+    one_cause events other by cause
+    (subst (λ (s : ℕ). IsRuledOutBy events s by) same a.ruled_out) b.ruled_out in
     ap (λ (s : ℕ). No s by) same ∙ ap (λ (c : Option ℕ). No other c) causes
 
 -- a flush stands among the events
-flush_within : (events : List CoreEvent) (id : ℕ) → is_flush_submit (slice_get events id) ≡ true → id < length events
+flush_within : (events : List CoreEvent) (id : ℕ) → is_flush_submit (slice_get events id) ≡ true
+    → id < length events
 flush_within events id flush = elim (option_cases (slice_get events id)) [
   | inl none ↦ absurd (let contra : false ≡ true = sym (ap is_flush_submit none) ∙ flush in cc)
   | inr some ↦ slice_get-within events id some.0 some.1
@@ -72,15 +82,22 @@ flush_within events id flush = elim (option_cases (slice_get events id)) [
 
 -- the last flush that ended with success decides what is durable
 pub durable_by_last : (events : List CoreEvent) (flush id : ℕ) → IsLastFlush events flush
-    → is_durable events id ≡ (ended_ok events id && (submits has_fua (slice_get events id) || is_before events id flush))
+    → is_durable events id ≡
+    (ended_ok events id && (submits has_fua (slice_get events id) || is_before events id flush))
 durable_by_last events flush id last =
-    let found = last_is (is_sure_flush events) (length events) flush (flush_within events flush last.flush)
+    let found =
+    last_is (is_sure_flush events) (length events) flush
+    (flush_within events flush last.flush)
     (ap (λ b. b && ended_ok events flush) last.flush ∙ last.ended)
     (λ later sure. let parts = and_parts (is_flush_submit (slice_get events later)) (ended_ok events later) sure in last.last later parts.0 parts.1) in
-    ap (λ b. ended_ok events id && (submits has_fua (slice_get events id) || b)) (flushed_last events id ∙ ap (is_below_last (end_of events id)) found)
+    ap (λ b. ended_ok events id && (submits has_fua (slice_get events id) || b))
+    (flushed_last events id ∙ ap (is_below_last (end_of events id)) found)
 
 -- the last durable request over a sector decides which values are gone from it
-pub replaced_by_last : (events : List CoreEvent) (sector last id : ℕ) → IsLastKept events sector last → is_replaced events sector id ≡ is_before events id last
+pub replaced_by_last : (events : List CoreEvent) (sector last id : ℕ)
+    → IsLastKept events sector last → is_replaced events sector id ≡ is_before events id last
 replaced_by_last events sector last id kept =
     replaced_last events sector id
-    ∙ ap (is_below_last (end_of events id)) (last_is (is_kept events sector) (length events) last (kept_within events sector last kept.kept) kept.kept kept.last)
+    ∙ ap (is_below_last (end_of events id))
+    (last_is (is_kept events sector) (length events) last
+    (kept_within events sector last kept.kept) kept.kept kept.last)

@@ -1,5 +1,6 @@
 -- What a list of events and an image come to, sector by sector.
-use Rattle.std.specs.Prelude.{◌≡◌, ℕ, zero, suc, ◌<◌, Bool, false, not, ◌&&◌, Option, Some, None, List, length, get_or, slice_get, if◌then◌else◌}
+use Rattle.std.specs.Prelude.{◌≡◌, ℕ, zero, suc, ◌<◌, Bool, false, not, ◌&&◌, Option, Some, None}
+use Rattle.std.specs.Prelude.{List, length, get_or, slice_get, if◌then◌else◌}
 use Rattle.std.specs.Str.{bytes_eq}
 use Rattle.sectors.specs.Content.{Content}
 use Rattle.bio.specs.declared.event.CoreEvent.{CoreEvent}
@@ -26,9 +27,10 @@ abbrev pub is_held_from : List CoreEvent → Content → ℕ → ℕ → Bool
 is_held_from events now sector id =
     not (is_replaced events sector id) && is_value (values_at (slice_get events id) sector) (now sector)
 
--- the account of a content of so many sectors after these events: where each request ended, and for each sector the last durable
--- request over it and the last one whose value it has and could hold
-pub record IsAccount (events : List CoreEvent) (now : Content) (sectors : ℕ) (account : Account) : Type 0 where
+-- the account of a content of so many sectors after these events: where each request ended, and for
+-- each sector the last durable request over it and the last one whose value it has and could hold
+pub record IsAccount (events : List CoreEvent) (now : Content) (sectors : ℕ)
+    (account : Account) : Type 0 where
   pub last_size : length account.last.items ≡ sectors
   pub held_size : length account.held.items ≡ sectors
   pub ends : (id : ℕ) → place_at account.ends.items id ≡ end_of events id

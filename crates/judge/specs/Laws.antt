@@ -1,12 +1,15 @@
--- Laws of the last place that passes a test, and of the durable request over a sector that was submitted last.
-use Rattle.std.proofs.Common.{◌≡◌, ℕ, zero, suc, ◌<◌, ◌≤◌, Bool, true, false, not, ◌&&◌, ◌||◌, Option, Some, None, List, length, refl, ap, sym, ◌∙◌, inl, inr, arith}
+-- Laws of the last place that passes a test, and of the
+-- durable request over a sector that was submitted last.
+use Rattle.std.proofs.Common.{◌≡◌, ℕ, zero, suc, ◌<◌, ◌≤◌, Bool, true, false, not, ◌&&◌, ◌||◌}
+use Rattle.std.proofs.Common.{Option, Some, None, List, length, refl, ap, sym, ◌∙◌, inl, inr, arith}
 use Rattle.std.proofs.lemmas.Bool.{and_parts}
 use Rattle.std.specs.Prelude.{slice_get, is_some, if◌then◌else◌}
 use Rattle.std.proofs.lemmas.Slice.Eq.{bytes_eq-Decides}
 use Rattle.std.specs.Str.{bytes_eq}
 use Rattle.sectors.specs.Content.{Content}
 use Rattle.sectors.specs.Places.{any_below}
-use Rattle.sectors.specs.PlaceLaws.{any_below-at, bool_cases, last_or_below, option_cases, or_second, slice_get-within}
+use Rattle.sectors.specs.PlaceLaws.{any_below-at, bool_cases, last_or_below, option_cases}
+use Rattle.sectors.specs.PlaceLaws.{or_second, slice_get-within}
 use Rattle.bio.specs.declared.event.CoreEvent.{CoreEvent}
 use Rattle.bio.specs.Possible.{covers_at, has_kept, is_durable, is_kept, is_replaced, values_at}
 use Rattle.judge.specs.Accounts.{is_held_from, is_value, last_below}
@@ -16,7 +19,8 @@ pub any_below-last : (test : ℕ → Bool) (n : ℕ) → any_below test n ≡ is
 any_below-last test zero = refl
 any_below-last test (suc n) = elim (bool_cases (test n)) [
   | inl here ↦
-      or_second (any_below test n) (test n) here ∙ sym (ap (λ b. is_some (if b then Some n else last_below test n)) here)
+      or_second (any_below test n) (test n) here
+      ∙ sym (ap (λ b. is_some (if b then Some n else last_below test n)) here)
   | inr other ↦
       ap (λ b. any_below test n || b) other
       ∙ or_false (any_below test n)
@@ -46,12 +50,15 @@ last_below-found test (suc n) p e = elim (bool_cases (test n)) [
         last = λ k h passes. omega arith;
       }
   | inr other ↦
-      let before = last_below-found test n p (sym (ap (λ b. if b then Some n else last_below test n) other) ∙ e) in
+      let before =
+      last_below-found test n p
+      (sym (ap (λ b. if b then Some n else last_below test n) other) ∙ e) in
       record {
         within = let h = before.within in omega arith;
         here = before.here;
         last = λ k h passes. elim (last_or_below k n h) [
-          | inl same ↦ absurd (let contra : true ≡ false = sym passes ∙ (ap test same ∙ other) in cc)
+          | inl same ↦
+              absurd (let contra : true ≡ false = sym passes ∙ (ap test same ∙ other) in cc)
           | inr below ↦ before.last k below passes
         ];
       }
@@ -62,11 +69,13 @@ pub none_passes : (test : ℕ → Bool) (n : ℕ) → last_below test n ≡ None
 none_passes test n none = any_below-last test n ∙ ap is_some none
 
 -- some durable request covers the sector just where there is a last one
-pub kept_last : (events : List CoreEvent) (sector : ℕ) → has_kept events sector ≡ is_some (last_below (is_kept events sector) (length events))
+pub kept_last : (events : List CoreEvent) (sector : ℕ)
+    → has_kept events sector ≡ is_some (last_below (is_kept events sector) (length events))
 kept_last events sector = any_below-last (is_kept events sector) (length events)
 
 -- a durable request over a sector stands among the events
-pub kept_within : (events : List CoreEvent) (sector id : ℕ) → is_kept events sector id ≡ true → id < length events
+pub kept_within : (events : List CoreEvent) (sector id : ℕ) → is_kept events sector id ≡ true
+    → id < length events
 kept_within events sector id kept = elim (option_cases (slice_get events id)) [
   | inl none ↦
       absurd (let contra : false ≡ true = sym (ap (covers_at sector) none) ∙ (and_parts (is_durable events id) (covers_at sector (slice_get events id)) kept).1 in cc)
@@ -82,12 +91,14 @@ pub same_bytes : (xs ys : List ℕ) → xs ≡ ys → bytes_eq xs ys ≡ true
 same_bytes xs ys e = (bytes_eq-Decides xs ys).1 e
 
 -- a value that is found equal is the value
-pub value_is : (value : Option (List ℕ)) (bytes : List ℕ) → is_value value bytes ≡ true → value ≡ Some bytes
+pub value_is : (value : Option (List ℕ)) (bytes : List ℕ) → is_value value bytes ≡ true
+    → value ≡ Some bytes
 value_is None bytes e = cc
 value_is (Some value) bytes e = ap (λ (xs : List ℕ). Some xs) (equal_bytes value bytes e)
 
 -- and it is found equal
-pub is_value_found : (value : Option (List ℕ)) (bytes : List ℕ) → value ≡ Some bytes → is_value value bytes ≡ true
+pub is_value_found : (value : Option (List ℕ)) (bytes : List ℕ) → value ≡ Some bytes
+    → is_value value bytes ≡ true
 is_value_found value bytes e = ap (λ v. is_value v bytes) e ∙ same_bytes bytes bytes refl
 
 -- what isn't so
@@ -96,29 +107,42 @@ not_true true e = cc
 not_true false e = refl
 
 -- a request that has a value stands among the events
-pub stands_within : (events : List CoreEvent) (sector id : ℕ) (value : List ℕ) → values_at (slice_get events id) sector ≡ Some value → id < length events
+pub stands_within : (events : List CoreEvent) (sector id : ℕ) (value : List ℕ)
+    → values_at (slice_get events id) sector ≡ Some value → id < length events
 stands_within events sector id value is = elim (option_cases (slice_get events id)) [
-  | inl none ↦ absurd (let contra : None ≡ Some value = sym (ap (λ e. values_at e sector) none) ∙ is in cc)
+  | inl none ↦
+      absurd (let contra : None ≡ Some value = sym (ap (λ e. values_at e sector) none) ∙ is in cc)
   | inr some ↦ slice_get-within events id some.0 some.1
 ]
 
--- where a sector has a request's value, and could hold it, that is its value, and the request isn't replaced
-pub held-parts : (events : List CoreEvent) (now : Content) (sector id : ℕ) → is_held_from events now sector id ≡ true
-    → (values_at (slice_get events id) sector ≡ Some (now sector)) × (is_replaced events sector id ≡ false)
+-- where a sector has a request's value, and could hold it,
+-- that is its value, and the request isn't replaced
+pub held-parts : (events : List CoreEvent) (now : Content) (sector id : ℕ)
+    → is_held_from events now sector id ≡ true
+    → (values_at (slice_get events id) sector ≡ Some (now sector))
+    × (is_replaced events sector id ≡ false)
 held-parts events now sector id held =
-    let parts = and_parts (not (is_replaced events sector id)) (is_value (values_at (slice_get events id) sector) (now sector)) held in
-    (value_is (values_at (slice_get events id) sector) (now sector) parts.1, not_true (is_replaced events sector id) parts.0)
+    let parts =
+    and_parts (not (is_replaced events sector id))
+    (is_value (values_at (slice_get events id) sector) (now sector)) held in (
+      value_is (values_at (slice_get events id) sector) (now sector) parts.1,
+      not_true (is_replaced events sector id) parts.0,
+    )
 
 -- and the other way round
-pub parts-held : (events : List CoreEvent) (now : Content) (sector id : ℕ) → values_at (slice_get events id) sector ≡ Some (now sector)
+pub parts-held : (events : List CoreEvent) (now : Content) (sector id : ℕ)
+    → values_at (slice_get events id) sector ≡ Some (now sector)
     → is_replaced events sector id ≡ false → is_held_from events now sector id ≡ true
 parts-held events now sector id value stays =
     ap (λ b. not b && is_value (values_at (slice_get events id) sector) (now sector)) stays
     ∙ is_value_found (values_at (slice_get events id) sector) (now sector) value
 
 -- some request has its value held by the sector just where a last one is found
-pub held_somewhere : (events : List CoreEvent) (now : Content) (sector id : ℕ) → values_at (slice_get events id) sector ≡ Some (now sector)
-    → is_replaced events sector id ≡ false → any_below (is_held_from events now sector) (length events) ≡ true
+pub held_somewhere : (events : List CoreEvent) (now : Content) (sector id : ℕ)
+    → values_at (slice_get events id) sector ≡ Some (now sector)
+    → is_replaced events sector id ≡ false
+    → any_below (is_held_from events now sector) (length events) ≡ true
 held_somewhere events now sector id value stays =
-    any_below-at (is_held_from events now sector) (length events) id (stands_within events sector id (now sector) value)
+    any_below-at (is_held_from events now sector) (length events) id
+    (stands_within events sector id (now sector) value)
     (parts-held events now sector id value stays)

@@ -11,13 +11,15 @@ pub record IsLastKept (events : List CoreEvent) (sector id : ℕ) : Type 0 where
   pub kept : is_kept events sector id ≡ true
   pub last : (later : ℕ) → is_kept events sector later ≡ true → later ≤ id
 
--- what rules the sector's value out: the durable request over it that was submitted last; none where no durable request covers it
+-- what rules the sector's value out: the durable request over it that was submitted last; none
+-- where no durable request covers it
 abbrev pub IsRuledOutBy : List CoreEvent → ℕ → Option ℕ → Type 0
 IsRuledOutBy events sector None = has_kept events sector ≡ false
 IsRuledOutBy events sector (Some id) = IsLastKept events sector id
 
 -- the sector is the lowest whose value the device could not hold, and that is what rules it out
-pub record FailsAt (events : List CoreEvent) (first now : Content) (sectors sector : ℕ) (by : Option ℕ) : Type 0 where
+pub record FailsAt (events : List CoreEvent) (first now : Content) (sectors sector : ℕ)
+    (by : Option ℕ) : Type 0 where
   pub within : sector < sectors
   pub fails : PossibleAt events first now sector → ⊥
   pub lowest : (lower : ℕ) → lower < sector → PossibleAt events first now lower

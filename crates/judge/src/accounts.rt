@@ -25,16 +25,18 @@ pub struct Account {
     pub ends: Vec<Option<usize>>,
     /// For each sector the durable request over it that was submitted last.
     pub last: Vec<Option<usize>>,
-    /// For each sector the request, of those whose value it has and could still hold, that was submitted last.
+    /// For each sector the request, of those whose value it
+    /// has and could still hold, that was submitted last.
     pub held: Vec<Option<usize>>,
 }
 
 impl Account {
-    /// The account of an image, had power failed after these events. Takes memory of 32 bytes for each sector of the
-    /// image and 16 for each event, and time by the sum of the sectors that the requests cover. Want of memory is
-    /// the only error.
+    /// The account of an image, had power failed after these events. Takes memory of 32 bytes for
+    /// each sector of the image and 16 for each event, and time by the sum of the sectors that the
+    /// requests cover. Want of memory is the only error.
     pub fn of(alloc: Global, events: &[CoreEvent], image: &[u8]) -> Result<Account, AllocError>
-        ensures { IfOk result (IsAccount events.now (sector_of image.now) (length image.now / 512)) }
+        ensures { IfOk result (IsAccount events.now (sector_of image.now)
+            (length image.now / 512)) }
     {
         let ends = ends_of(alloc, events)?;
         let last = last_kept(alloc, events, &ends, image.len() / SECTOR)?;
@@ -42,14 +44,15 @@ impl Account {
         Ok(Account { ends, last, held })
     }
 
-    /// The verdict on the image that this is the account of, where `first` was on the device before the first event.
-    /// The image is whole sectors of 512 bytes, and `first` has as many.
+    /// The verdict on the image that this is the account of, where `first` was on the device before
+    /// the first event. The image is whole sectors of 512 bytes, and `first` has as many.
     pub fn verdict(&self, first: First, image: &[u8]) -> Verdict
         requires whole { length image.now % 512 ≡ 0 }
         requires same { IsFirstOf (length image.now) first }
         ensures { (events : List CoreEvent) → is_lawful (length image.now / 512) events ≡ true →
             IsAccount events (sector_of image.now) (length image.now / 512) self.now →
-            IsVerdict (length image.now / 512) events (first_on first.entry (length image.now)) (sector_of image.now) result }
+            IsVerdict (length image.now / 512) events (first_on first.entry (length image.now))
+            (sector_of image.now) result }
     {
         lowest_failing(&self.held, &self.last, first, image)
     }
@@ -81,7 +84,8 @@ impl Account {
 fn has_first(first: First, image: &[u8], sector: usize) -> bool
     requires within { sector < length image.now / 512 }
     requires same { IsFirstOf (length image.now) first }
-    ensures { result ≡ bytes_eq (sector_of image.now sector) (first_on first.entry (length image.now) sector) }
+    ensures { result ≡ bytes_eq (sector_of image.now sector)
+        (first_on first.entry (length image.now) sector) }
 {
     let bytes = sector_bytes(image, sector);
     match first {
@@ -94,12 +98,14 @@ fn has_first(first: First, image: &[u8], sector: usize) -> bool
 fn is_at_first(last: &[Option<usize>], first: First, image: &[u8], sector: usize) -> bool
     requires within { sector < length image.now / 512 }
     requires same { IsFirstOf (length image.now) first }
-    ensures { result ≡ is_at_first last.now (first_on first.entry (length image.now)) (sector_of image.now) sector }
+    ensures { result ≡ is_at_first last.now (first_on first.entry (length image.now))
+        (sector_of image.now) sector }
 {
     end_at(last, sector).is_none() && has_first(first, image, sector)
 }
 
-// Whether the sector holds the value of a request, or has its first value and no durable request covers it.
+// Whether the sector holds the value of a request, or has
+// its first value and no durable request covers it.
 fn is_fine(
     held: &[Option<usize>],
     last: &[Option<usize>],
@@ -109,7 +115,8 @@ fn is_fine(
 ) -> bool
     requires within { sector < length image.now / 512 }
     requires same { IsFirstOf (length image.now) first }
-    ensures { result ≡ is_fine held.now last.now (first_on first.entry (length image.now)) (sector_of image.now) sector }
+    ensures { result ≡ is_fine held.now last.now (first_on first.entry (length image.now))
+        (sector_of image.now) sector }
 {
     end_at(held, sector).is_some() || is_at_first(last, first, image, sector)
 }
@@ -132,7 +139,8 @@ fn lowest_failing(
     image: &[u8],
 ) -> Verdict
     requires same { IsFirstOf (length image.now) first }
-    ensures { IsFound held.now last.now (first_on first.entry (length image.now)) (sector_of image.now) (length image.now / 512) result }
+    ensures { IsFound held.now last.now (first_on first.entry (length image.now))
+        (sector_of image.now) (length image.now / 512) result }
 {
     for sector in 0..image.len() / SECTOR {
         if !is_fine(held, last, first, image, sector) {

@@ -27,7 +27,8 @@ fn note_event(ends: &mut Vec<Option<usize>>, event: &CoreEvent, place: usize)
     requires { place ≤ length ends.old.items }
     ensures size { length ends.new.items ≡ length ends.old.items }
     ensures noted { (other : ℕ) → place_at ends.new.items other
-        ≡ or_here (place_at ends.old.items other) (nat_lt other place && is_end_of other (Some event.now)) place }
+        ≡ or_here (place_at ends.old.items other)
+        (nat_lt other place && is_end_of other (Some event.now)) place }
 {
     if let CoreEvent::Complete { id, .. } = event {
         note_end(ends, id.place(), place);

@@ -1,6 +1,8 @@
 //! For each sector of an image, the latest request whose value it has and could
 //! still hold. `Account::of` ends with it.
-ghost use Rattle.std.specs.Prelude.{◌≡◌, ◌&&◌, ◌<◌, ◌≤◌, ◌⊎◌, ◌+◌, ◌*◌, ◌/◌, ◌%◌, IfOk, List, MatchOption, Option, Some, if◌then◌else◌, length, nat_le, nat_lt, not, slice_get, ℕ};
+ghost use Rattle.std.specs.Prelude.{◌≡◌, ◌&&◌, ◌<◌, ◌≤◌, ◌⊎◌, ◌+◌, ◌*◌, ◌/◌, ◌%◌, IfOk, List};
+ghost use Rattle.std.specs.Prelude.{MatchOption, Option, Some, if◌then◌else◌, length, nat_le};
+ghost use Rattle.std.specs.Prelude.{nat_lt, not, slice_get, ℕ};
 ghost use Rattle.std.specs.Str.{bytes_eq};
 ghost use Rattle.bio.specs.declared.event.CoreEvent.TheVariants.{Submit};
 ghost use Rattle.bio.specs.Possible.{covers_at, values_at, values_of};
@@ -83,8 +85,8 @@ fn has_value(event: &CoreEvent, sector: usize, value: &[u8]) -> bool
     }
 }
 
-// Whether the sector could hold the value that the event's request put there, where the request ended at this
-// place and this is the last durable request over the sector.
+// Whether the sector could hold the value that the event's request put there, where the request
+// ended at this place and this is the last durable request over the sector.
 fn fits(
     event: &CoreEvent,
     end: Option<usize>,
@@ -112,7 +114,8 @@ fn hold_range(
     requires order { range.0 ≤ range.1 }
     requires within { range.1 ≤ length held.old.items }
     requires image { length held.old.items ≤ length image.now / 512 }
-    ensures { AreFit (Some event.now) end last.now (sector_of image.now) place range.0 range.1 held.old.items held.new.items }
+    ensures { AreFit (Some event.now) end last.now
+        (sector_of image.now) place range.0 range.1 held.old.items held.new.items }
 {
     let (from, to) = range;
     for sector in from..to {
@@ -122,7 +125,8 @@ fn hold_range(
     }
 }
 
-// Gives each sector that could hold the value that the event's request put there the place of the event.
+// Gives each sector that could hold the value that the
+// event's request put there the place of the event.
 fn hold_values(
     held: &mut Vec<Option<usize>>,
     place: usize,
@@ -134,14 +138,15 @@ fn hold_values(
     requires image { length held.old.items ≤ length image.now / 512 }
     ensures size { length held.new.items ≡ length held.old.items }
     ensures held { (sector : ℕ) → sector < length held.old.items → place_at held.new.items sector
-        ≡ (if is_fit (Some event.now) end last.now (sector_of image.now) sector then Some place else place_at held.old.items sector) }
+        ≡ (if is_fit (Some event.now) end last.now
+        (sector_of image.now) sector then Some place else place_at held.old.items sector) }
 {
     let range = covered(event, held.len());
     hold_range(held, place, event, end, last, image, range);
 }
 
-/// For each sector of the image the latest request that put the value there that it has, and whose value the device
-/// could still hold.
+/// For each sector of the image the latest request that put the value there that it has, and whose
+/// value the device could still hold.
 pub fn held_values(
     alloc: Global,
     events: &[CoreEvent],
@@ -152,7 +157,8 @@ pub fn held_values(
     requires ends { AreEnds events.now (length events.now) ends.now }
     requires last { AreLastKept events.now (length image.now / 512) (length events.now) last.now }
     ensures { IfOk result (λ held.
-        AreHeld events.now (sector_of image.now) (length image.now / 512) (length events.now) held.items) }
+        AreHeld events.now (sector_of image.now) (length image.now / 512)
+        (length events.now) held.items) }
 {
     let mut held = vec![in alloc; None; last.len()]?;
     for (place, event) in events.iter().enumerate() {

@@ -12,16 +12,17 @@ use bio::CoreEvent;
 use std::alloc::{AllocError, Global};
 use std::cmp;
 
-/// Whether a device could have held the image, had power failed after the first `moment` of the events, where `first`
-/// was on it before the first event. `events` is a list that a recorder of the device may have recorded
-/// (`is_lawful`), a later moment than its last counts as all of them; the image has the device's length
-/// in bytes, whole sectors of 512.
+/// Whether a device could have held the image, had power failed after the first `moment` of the
+/// events, where `first` was on it before the first event. `events` is a list that a recorder of
+/// the device may have recorded (`is_lawful`), a later moment than its last counts as all of them;
+/// the image has the device's length in bytes, whole sectors of 512.
 ///
-/// A sector could hold its first value where no durable request covers it, and the value of a request that
-/// was submitted, unless that ended before the submission of a durable one over the sector. A request is durable
-/// where it ended with success, and has FUA or ended before the submission of a flush that ended with success. Takes
-/// memory of 32 bytes for each sector and 16 for each event, and time by the sum of the sectors that the
-/// requests cover. Want of memory is the only error.
+/// A sector could hold its first value where no durable request covers it, and the value of a
+/// request that was submitted, unless that ended before the submission of a durable one over the
+/// sector. A request is durable where it ended with success, and has FUA or ended before the
+/// submission of a flush that ended with success. Takes memory of 32 bytes for each sector and 16
+/// for each event, and time by the sum of the sectors that the requests cover. Want of memory is
+/// the only error.
 pub fn could_hold(
     alloc: Global,
     events: &[CoreEvent],
@@ -33,7 +34,8 @@ pub fn could_hold(
     requires same { IsFirstOf (length image.now) first }
     requires lawful { is_lawful (length image.now / 512) events.now ≡ true }
     ensures { IfOk result
-        (IsVerdict (length image.now / 512) (take moment events.now) (first_on first.entry (length image.now)) (sector_of image.now)) }
+        (IsVerdict (length image.now / 512) (take moment events.now)
+        (first_on first.entry (length image.now)) (sector_of image.now)) }
 {
     let events = beginning(events, moment);
     Ok(Account::of(alloc, events, image)?.verdict(first, image))

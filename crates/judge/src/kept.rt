@@ -1,5 +1,6 @@
 //! For each sector, the durable request over it that was submitted last: it rules out older values.
-ghost use Rattle.std.specs.Prelude.{◌≡◌, ◌&&◌, ◌<◌, ◌≤◌, ◌/◌, ◌%◌, IfOk, Some, false, true, length, nat_le, nat_lt, slice_get, ℕ};
+ghost use Rattle.std.specs.Prelude.{◌≡◌, ◌&&◌, ◌<◌, ◌≤◌, ◌/◌, ◌%◌, IfOk, Some, false, true, length};
+ghost use Rattle.std.specs.Prelude.{nat_le, nat_lt, slice_get, ℕ};
 ghost use Rattle.bio.specs.declared.event.CoreEvent.TheVariants.{Submit};
 ghost use Rattle.bio.specs.Events.{is_flush_submit, submits};
 ghost use Rattle.bio.specs.Possible.{covers_at, is_durable};
@@ -12,26 +13,6 @@ use bio::{Bio, CoreEvent};
 use std::alloc::{AllocError, Global};
 use std::cmp;
 
-// Whether the event submits a flush, or a write that has one.
-fn is_flush(event: &CoreEvent) -> bool
-    ensures { result ≡ is_flush_submit (Some event.now) }
-{
-    match event {
-        CoreEvent::Submit(bio) => bio.has_flush(),
-        _ => false,
-    }
-}
-
-// Whether the event submits a write with FUA.
-fn is_fua(event: &CoreEvent) -> bool
-    ensures { result ≡ submits has_fua (Some event.now) }
-{
-    match event {
-        CoreEvent::Submit(bio) => bio.has_fua(),
-        _ => false,
-    }
-}
-
 // The latest submission of a flush that ended with success.
 fn last_flush(events: &[CoreEvent], ends: &[Option<usize>]) -> Option<usize>
     requires { AreEnds events.now (length events.now) ends.now }
@@ -39,15 +20,15 @@ fn last_flush(events: &[CoreEvent], ends: &[Option<usize>]) -> Option<usize>
 {
     let mut last = None;
     for (place, event) in events.iter().enumerate() {
-        if is_flush(event) && ended_ok(events, ends, place) {
+        if event.submits_flush() && ended_ok(events, ends, place) {
             last = Some(place);
         }
     }
     last
 }
 
-// Whether the request that this event submits is durable: it ended with success, and has FUA or ended before
-// the latest submission of a flush that ended with success.
+// Whether the request that this event submits is durable: it ended with success, and has FUA or
+// ended before the latest submission of a flush that ended with success.
 #[tactic(auto, using(crate::proofs::Last::flushed_last))]
 fn is_durable(
     events: &[CoreEvent],
@@ -61,10 +42,11 @@ fn is_durable(
     requires event { slice_get events.now place ≡ Some event.now }
     ensures { result ≡ is_durable events.now place }
 {
-    ended_ok(events, ends, place) && (is_fua(event) || is_before(end_at(ends, place), flush))
+    ended_ok(events, ends, place) && (event.submits_fua() || is_before(end_at(ends, place), flush))
 }
 
-/// The sectors that the event puts a value in, of the first so many: from the one to before the other.
+/// The sectors that the event puts a value in, of the first
+/// so many: from the one to before the other.
 pub fn covered(event: &CoreEvent, sectors: usize) -> (usize, usize)
     ensures { AreCovered (Some event.now) sectors result.0 result.1 }
 {
@@ -111,9 +93,11 @@ pub fn last_kept(
 #[tactic(auto, using(crate::proofs::Last::covered_in, crate::proofs::Last::covered_out))]
 fn note_kept(last: &mut Vec<Option<usize>>, event: &CoreEvent, place: usize)
     ensures size { length last.new.items ≡ length last.old.items }
-    ensures covered { (sector : ℕ) → sector < length last.old.items → covers_at sector (Some event.now) ≡ true →
+    ensures covered { (sector : ℕ) → sector < length last.old.items
+        → covers_at sector (Some event.now) ≡ true →
         place_at last.new.items sector ≡ Some place }
-    ensures other { (sector : ℕ) → sector < length last.old.items → covers_at sector (Some event.now) ≡ false →
+    ensures other { (sector : ℕ) → sector < length last.old.items
+        → covers_at sector (Some event.now) ≡ false →
         place_at last.new.items sector ≡ place_at last.old.items sector }
 {
     let (from, to) = covered(event, last.len());

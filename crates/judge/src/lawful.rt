@@ -2,13 +2,14 @@
 //! which `could_hold` requires.
 ghost use Rattle.std.specs.Prelude.{◌≡◌, ◌<◌, Some, is_none, length, slice_get, ℕ};
 ghost use Rattle.bio.specs.Events.{end_of, is_close, is_end_of, is_open_at, is_request, is_stop};
-ghost use Rattle.bio.specs.Lawful.{can_follow, has_no_close, has_no_stop, is_lawful, is_recording, is_text, is_well_formed, is_within, none_open};
+ghost use Rattle.bio.specs.Lawful.{can_follow, has_no_close, has_no_stop, is_lawful, is_recording};
+ghost use Rattle.bio.specs.Lawful.{is_text, is_well_formed, is_within, none_open};
 ghost use Rattle.sectors.specs.Places.{all_below};
 
 use bio::{CoreEvent, check};
 
-/// Whether the events are a list that a recorder of a device of so many sectors of 512 bytes may have recorded.
-/// Takes no memory, so that its time grows with the square of the list's length.
+/// Whether the events are a list that a recorder of a device of so many sectors of 512 bytes may
+/// have recorded. Takes no memory, so that its time grows with the square of the list's length.
 pub fn is_lawful(events: &[CoreEvent], sectors: u64) -> bool
     ensures { result ≡ is_lawful sectors events.now }
 {
@@ -54,7 +55,7 @@ fn has_no_stop(events: &[CoreEvent]) -> bool
     ensures { result ≡ has_no_stop events.now }
 {
     for event in events {
-        if is_stop(event) {
+        if event.is_stop() {
             return false;
         }
     }
@@ -66,25 +67,11 @@ fn has_no_close(events: &[CoreEvent]) -> bool
     ensures { result ≡ has_no_close events.now }
 {
     for event in events {
-        if is_close(event) {
+        if event.is_close() {
             return false;
         }
     }
     true
-}
-
-// Whether logging ends at this event.
-fn is_stop(event: &CoreEvent) -> bool
-    ensures { result ≡ is_stop (Some event.now) }
-{
-    matches!(event, CoreEvent::Stop(_))
-}
-
-// Whether recording ends at this event.
-fn is_close(event: &CoreEvent) -> bool
-    ensures { result ≡ is_close (Some event.now) }
-{
-    matches!(event, CoreEvent::Close)
 }
 
 // Whether the event is the end of the request that was submitted at this place.
@@ -151,7 +138,8 @@ fn is_text(text: &[u8]) -> bool
 
 // Whether each request passed `check` for a device of so many sectors.
 fn are_within(events: &[CoreEvent], sectors: u64) -> bool
-    ensures { result ≡ all_below (λ place. is_within sectors (slice_get events.now place)) (length events.now) }
+    ensures { result ≡ all_below (λ place. is_within sectors (slice_get events.now place))
+        (length events.now) }
 {
     for event in events {
         if !is_within(event, sectors) {

@@ -6,14 +6,15 @@ ghost use Rattle.judge.specs.Texts.{reason_text, verdict_text};
 use bio::Id;
 use std::fmt;
 
-/// Whether an image could have been on a device, had power failed at some moment. It is shown as `yes`, as
-/// `no sector <sector> ruled out by event <place>`, or as `no sector <sector> holds no submitted value`.
+/// Whether an image could have been on a device, had power failed at some moment. It is shown as
+/// `yes`, as `no sector <sector> ruled out by event <place>`, or as
+/// `no sector <sector> holds no submitted value`.
 #[derive(Clone, Copy, Debug, PartialEq, Eq)]
 pub enum Verdict {
     /// Each of its sectors holds a value that the device could hold then.
     Yes,
-    /// The lowest sector that holds another value; and, of the durable requests that cover the sector,
-    /// the one that was submitted last, none where no durable request covers it.
+    /// The lowest sector that holds another value; and, of the durable requests that cover the
+    /// sector, the one that was submitted last, none where no durable request covers it.
     No { sector: u64, by: Option<Id> },
 }
 

@@ -1,5 +1,7 @@
--- For each clause of what a stack shows and of what becomes of a call at a layer, what breaks it and nothing else, and is refused by it.
-use Rattle.std.proofs.Common.{◌≡◌, ◌⊎◌, ℕ, ◌+◌, true, false, List, [], ◌∷◌, Ok, Err, replicate, slice_index_or, refl, sym, ap, ◌∙◌, inr, arith}
+-- For each clause of what a stack shows and of what becomes of a call at a layer, what breaks it
+-- and nothing else, and is refused by it.
+use Rattle.std.proofs.Common.{◌≡◌, ◌⊎◌, ℕ, ◌+◌, true, false, List, [], ◌∷◌, Ok, Err, replicate}
+use Rattle.std.proofs.Common.{slice_index_or, refl, sym, ap, ◌∙◌, inr, arith}
 use Rattle.bio.specs.declared.outcome.DevError.TheVariants.{Io}
 use Rattle.blockdev.specs.Calls.{Flushes, Reads}
 use Rattle.blockdev.specs.View.{Place, View}
@@ -34,10 +36,32 @@ two left = let same = one_value 2 0 (left 0) in omega arith
 
 -- a device of 8 sectors of zeroes, and the four of them from the third one on
 still : View
-still = record { size = 8; place = record { origin = 0; disk = 8 }; content = all 0; crash = Zeroes; moment = 1; since = λ moment. Zeroes; faults = 1; lies = 1; can_lie = false }
+still =
+    record {
+      size = 8;
+      place = record { origin = 0; disk = 8 };
+      content = all 0;
+      crash = Zeroes;
+      moment = 1;
+      since = λ moment. Zeroes;
+      faults = 1;
+      lies = 1;
+      can_lie = false;
+    }
 
 top : View
-top = record { size = 4; place = record { origin = 2; disk = 8 }; content = all 0; crash = Zeroes; moment = 1; since = λ moment. Zeroes; faults = 1; lies = 1; can_lie = false }
+top =
+    record {
+      size = 4;
+      place = record { origin = 2; disk = 8 };
+      content = all 0;
+      crash = Zeroes;
+      moment = 1;
+      since = λ moment. Zeroes;
+      faults = 1;
+      lies = 1;
+      can_lie = false;
+    }
 
 -- ---- what shows the same
 
@@ -107,11 +131,13 @@ put_size : IsPut (four_on targets.Linear) still (record top { size = 6 }) → �
 unfolding still top
 put_size put = let is = put.size in omega arith
 
-put_origin : IsPut (four_on targets.Linear) still (record top { place = record { origin = 0; disk = 8 } }) → ⊥
+put_origin : IsPut (four_on targets.Linear) still
+    (record top { place = record { origin = 0; disk = 8 } }) → ⊥
 unfolding still top
 put_origin put = let is = ap (λ (p : Place). p.origin) put.place in omega arith
 
-put_disk : IsPut (four_on targets.Linear) still (record top { place = record { origin = 2; disk = 4 } }) → ⊥
+put_disk : IsPut (four_on targets.Linear) still
+    (record top { place = record { origin = 2; disk = 4 } }) → ⊥
 unfolding still top
 put_disk put = let is = ap (λ (p : Place). p.disk) put.place in omega arith
 
@@ -144,13 +170,22 @@ put_drops put = let is = put.can_lie in cc
 
 over : AreOver (four_on targets.Linear ∷ []) still top
 unfolding still top
-over = record { size = refl; place = refl; moment = refl; faults = refl; lies = refl; can_lie = λ none. refl }
+over =
+    record {
+      size = refl;
+      place = refl;
+      moment = refl;
+      faults = refl;
+      lies = refl;
+      can_lie = λ none. refl;
+    }
 
 over_size : AreOver (four_on targets.Linear ∷ []) still (record top { size = 8 }) → ⊥
 unfolding still top
 over_size put = let is = put.size in omega arith
 
-over_place : AreOver (four_on targets.Linear ∷ []) still (record top { place = record { origin = 4; disk = 8 } }) → ⊥
+over_place : AreOver (four_on targets.Linear ∷ []) still
+    (record top { place = record { origin = 4; disk = 8 } }) → ⊥
 unfolding still top
 over_place put = let is = ap (λ (p : Place). p.origin) put.place in omega arith
 
@@ -205,12 +240,15 @@ part_crash is =
 
 -- a layer that failed so often, and dropped so many calls
 layer : ℕ → ℕ → Layer
-layer faults lies = record { offset = 0; length = 8; rule = Deciding Open; faults = faults; lies = lies }
+layer faults lies =
+    record { offset = 0; length = 8; rule = Deciding Open; faults = faults; lies = lies }
 
-pass_below : Decides Pass (λ begun. begun ≡ 6) (Unit {0}) Flushes 5 (Ok 5) (layer 0 0) (layer 0 0) → ⊥
+pass_below : Decides Pass (λ begun. begun ≡ 6) (Unit {0}) Flushes 5 (Ok 5) (layer 0 0)
+    (layer 0 0) → ⊥
 pass_below told = let same = (told.passes refl).0 in omega arith
 
-pass_faults : Decides Pass (λ begun. Unit {0}) (Unit {0}) Flushes 5 (Ok 5) (layer 0 0) (layer 1 0) → ⊥
+pass_faults : Decides Pass (λ begun. Unit {0}) (Unit {0}) Flushes 5 (Ok 5) (layer 0 0)
+    (layer 1 0) → ⊥
 unfolding layer
 pass_faults told = let same = (told.passes refl).1 in omega arith
 
@@ -218,44 +256,57 @@ pass_lies : Decides Pass (λ begun. Unit {0}) (Unit {0}) Flushes 5 (Ok 5) (layer
 unfolding layer
 pass_lies told = let same = (told.passes refl).2 in omega arith
 
--- a delayed call that begins at once, that is a fault, that is a lie, and that ends before it begins
-delay_begins : Decides (Delay 2) (λ begun. begun ≡ 5) (Unit {0}) Flushes 5 (Ok 7) (layer 0 0) (layer 0 0) → ⊥
+-- a delayed call that begins at once, that is a fault, that
+-- is a lie, and that ends before it begins
+delay_begins : Decides (Delay 2) (λ begun. begun ≡ 5) (Unit {0}) Flushes 5 (Ok 7) (layer 0 0)
+    (layer 0 0) → ⊥
 delay_begins told = let same = (told.delays 2 refl).0 in omega arith
 
-delay_faults : Decides (Delay 2) (λ begun. Unit {0}) (Unit {0}) Flushes 5 (Ok 7) (layer 0 0) (layer 1 0) → ⊥
+delay_faults : Decides (Delay 2) (λ begun. Unit {0}) (Unit {0}) Flushes 5 (Ok 7) (layer 0 0)
+    (layer 1 0) → ⊥
 unfolding layer
 delay_faults told = let same = (told.delays 2 refl).1 in omega arith
 
-delay_lies : Decides (Delay 2) (λ begun. Unit {0}) (Unit {0}) Flushes 5 (Ok 7) (layer 0 0) (layer 0 1) → ⊥
+delay_lies : Decides (Delay 2) (λ begun. Unit {0}) (Unit {0}) Flushes 5 (Ok 7) (layer 0 0)
+    (layer 0 1) → ⊥
 unfolding layer
 delay_lies told = let same = (told.delays 2 refl).2 in omega arith
 
-delay_ends : Decides (Delay 2) (λ begun. Unit {0}) (Unit {0}) Flushes 5 (Ok 6) (layer 0 0) (layer 0 0) → ⊥
+delay_ends : Decides (Delay 2) (λ begun. Unit {0}) (Unit {0}) Flushes 5 (Ok 6) (layer 0 0)
+    (layer 0 0) → ⊥
 delay_ends told = let h = (told.delays 2 refl).3 6 refl in omega arith
 
--- a call that fails and ends well, that is no fault, that is a lie, that changes what is beneath, and a read that clears its buffer
+-- a call that fails and ends well, that is no fault, that is a lie, that changes what is beneath,
+-- and a read that clears its buffer
 fail_ends : Decides Fail (λ begun. Unit {0}) (Unit {0}) Flushes 5 (Ok 5) (layer 0 0) (layer 1 0) → ⊥
 fail_ends told = let answer = (told.fails refl).0 in cc
 
-fail_faults : Decides Fail (λ begun. Unit {0}) (Unit {0}) Flushes 5 (Err Io) (layer 0 0) (layer 0 0) → ⊥
+fail_faults : Decides Fail (λ begun. Unit {0}) (Unit {0}) Flushes 5 (Err Io) (layer 0 0)
+    (layer 0 0) → ⊥
 unfolding layer
 fail_faults told = let same = (told.fails refl).1 in omega arith
 
-fail_lies : Decides Fail (λ begun. Unit {0}) (Unit {0}) Flushes 5 (Err Io) (layer 0 0) (layer 1 1) → ⊥
+fail_lies : Decides Fail (λ begun. Unit {0}) (Unit {0}) Flushes 5 (Err Io) (layer 0 0)
+    (layer 1 1) → ⊥
 unfolding layer
 fail_lies told = let same = (told.fails refl).2 in omega arith
 
 fail_below : Decides Fail (λ begun. Unit {0}) ⊥ Flushes 5 (Err Io) (layer 0 0) (layer 1 0) → ⊥
 fail_below told = (told.fails refl).3
 
-fail_buffer : Decides Fail (λ begun. Unit {0}) (Unit {0}) (Reads 0 (7 ∷ []) (0 ∷ [])) 5 (Err Io) (layer 0 0) (layer 1 0) → ⊥
-fail_buffer told = let same = ap (λ (xs : List ℕ). slice_index_or xs 0 9) (told.fails refl).4 in omega arith
+fail_buffer : Decides Fail (λ begun. Unit {0}) (Unit {0}) (Reads 0 (7 ∷ []) (0 ∷ [])) 5 (Err Io)
+    (layer 0 0) (layer 1 0) → ⊥
+fail_buffer told =
+    let same = ap (λ (xs : List ℕ). slice_index_or xs 0 9) (told.fails refl).4 in omega arith
 
--- a call that is dropped and fails, that is a fault, that is no lie, and that changes what is beneath
-drop_fails : Decides Drop (λ begun. Unit {0}) (Unit {0}) Flushes 5 (Err Io) (layer 0 0) (layer 0 1) → ⊥
+-- a call that is dropped and fails, that is a fault, that
+-- is no lie, and that changes what is beneath
+drop_fails : Decides Drop (λ begun. Unit {0}) (Unit {0}) Flushes 5 (Err Io) (layer 0 0)
+    (layer 0 1) → ⊥
 drop_fails told = let answer = (told.drops refl).0 in cc
 
-drop_faults : Decides Drop (λ begun. Unit {0}) (Unit {0}) Flushes 5 (Ok 5) (layer 0 0) (layer 1 1) → ⊥
+drop_faults : Decides Drop (λ begun. Unit {0}) (Unit {0}) Flushes 5 (Ok 5) (layer 0 0)
+    (layer 1 1) → ⊥
 unfolding layer
 drop_faults told = let same = (told.drops refl).1 in omega arith
 

@@ -10,7 +10,8 @@ use Rattle.table_line.specs.declared.layer_spec.LayerSpec.{LayerSpec}
 use Rattle.table_line.specs.declared.layer_spec.Target.{Target}
 use Rattle.table_line.specs.Standing.{some_drops}
 use Rattle.layer_table.specs.declared.any_gate.AnyGate.{AnyGate}
-use Rattle.layer_table.specs.declared.any_gate.AnyGate.TheVariants.{Delay, Error, Flakey, Fuse, Open}
+use Rattle.layer_table.specs.declared.any_gate.AnyGate.TheVariants.{Delay, Error, Flakey, Fuse}
+use Rattle.layer_table.specs.declared.any_gate.AnyGate.TheVariants.{Open}
 use Rattle.layer_table.specs.AnyRule.{any_after, any_may_drop, any_verdict}
 use Rattle.layer_table.specs.Layers.{gate_asked, layer_asked, layers_over, Deciding, Layer}
 use Rattle.layer_table.specs.Slots.{has_no_gap}
@@ -48,23 +49,34 @@ fails = refl
 
 -- ---- what a line asks for
 
-asked : layer_asked (record { length = 8; offset = 4; target = targets.Fuse 3 }) 7 ≡ record { offset = 4; length = 8; rule = Deciding (Fuse 3); faults = 0; lies = 0 }
+asked : layer_asked (record { length = 8; offset = 4; target = targets.Fuse 3 }) 7
+    ≡ record { offset = 4; length = 8; rule = Deciding (Fuse 3); faults = 0; lies = 0 }
 asked = refl
 
 open-asked : gate_asked targets.Linear 7 ≡ Open
 open-asked = refl
 
-asked-later : layer_asked (record { length = 8; offset = 4; target = targets.Delay 1 2 3 }) 7 ≡ record { offset = 4; length = 8; rule = Deciding (Delay (record { read = 1; write = 2; flush = 3 })); faults = 0; lies = 0 }
+asked-later : layer_asked (record { length = 8; offset = 4; target = targets.Delay 1 2 3 }) 7
+    ≡ record {
+      offset = 4;
+      length = 8;
+      rule = Deciding (Delay (record { read = 1; write = 2; flush = 3 }));
+      faults = 0;
+      lies = 0;
+    }
 asked-later = refl
 
 -- a discard is delayed as a write is, and a gate that passes all or passes all later stays
-discarded-later : any_verdict (Delay (record { read = 1; write = 2; flush = 3 })) kinds.Discard 7 ≡ verdicts.Delay 2
+discarded-later : any_verdict (Delay (record { read = 1; write = 2; flush = 3 })) kinds.Discard 7
+    ≡ verdicts.Delay 2
 discarded-later = refl
 
-flushed-later : any_verdict (Delay (record { read = 1; write = 2; flush = 3 })) kinds.Flush 7 ≡ verdicts.Delay 3
+flushed-later : any_verdict (Delay (record { read = 1; write = 2; flush = 3 })) kinds.Flush 7
+    ≡ verdicts.Delay 3
 flushed-later = refl
 
-delays-stay : any_after (Delay (record { read = 1; write = 2; flush = 3 })) kinds.Flush 7 ≡ Delay (record { read = 1; write = 2; flush = 3 })
+delays-stay : any_after (Delay (record { read = 1; write = 2; flush = 3 })) kinds.Flush 7
+    ≡ Delay (record { read = 1; write = 2; flush = 3 })
 delays-stay = refl
 
 all-passes : any_verdict Open kinds.Write 7 ≡ Pass
@@ -84,10 +96,12 @@ fuse-may-not = refl
 abbrev over_eight : Target → LayerSpec
 over_eight target = record { length = 8; offset = 0; target = target }
 
-one-drops : some_drops (over_eight targets.Linear ∷ over_eight (targets.Flakey 0 5 features.DropWrites) ∷ []) ≡ true
+one-drops : some_drops (over_eight targets.Linear ∷ over_eight
+    (targets.Flakey 0 5 features.DropWrites) ∷ []) ≡ true
 one-drops = refl
 
-none-drops : some_drops (over_eight targets.Error ∷ over_eight (targets.Flakey 0 5 features.ErrorWrites) ∷ over_eight (targets.Fuse 0) ∷ []) ≡ false
+none-drops : some_drops (over_eight targets.Error ∷ over_eight
+    (targets.Flakey 0 5 features.ErrorWrites) ∷ over_eight (targets.Fuse 0) ∷ []) ≡ false
 none-drops = refl
 
 -- ---- which slots have a layer
@@ -109,7 +123,8 @@ four-on = record { offset = 4; length = 8; rule = Deciding Open; faults = 0; lie
 abbrev two-on : Layer
 two-on = record { offset = 2; length = 3; rule = Deciding (Fuse 3); faults = 5; lies = 0 }
 
--- the top's sector 1 is sector 7 of what is shown beneath; its size is its own, and its faults are its own and those beneath
+-- the top's sector 1 is sector 7 of what is shown beneath; its size is its own, and its faults are
+-- its own and those beneath
 top-sector : (v : View) → (layers_over (two-on ∷ four-on ∷ []) v).content 1 ≡ v.content 7
 top-sector v = refl
 

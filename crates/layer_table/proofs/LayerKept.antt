@@ -1,4 +1,5 @@
--- What messages leave of a stack's layers, and what a layer that was put shows, by what is said of them.
+-- What messages leave of a stack's layers, and what a layer
+-- that was put shows, by what is said of them.
 use Rattle.std.proofs.Common.{◌≡◌, ℕ, ◌+◌, ◌≤◌, List, [], Ok, refl, inl, inr, arith}
 use Rattle.std.specs.Prelude.{◌↔◌, Result}
 use Rattle.blockdev.specs.Calls.{Call}
@@ -20,18 +21,22 @@ use Rattle.layer_table.specs.ThreeLevel.{three_answers}
 -- ---- messages
 
 -- there is no layer 0, and no layer 5
-no-layer-0 : (old new : Stack) (text : List ℕ) (result : Result (Unit {0}) MessageError) → StackAnswers old 0 text result new → IsNoMessage result old new
+no-layer-0 : (old new : Stack) (text : List ℕ) (result : Result (Unit {0}) MessageError)
+    → StackAnswers old 0 text result new → IsNoMessage result old new
 no-layer-0 old new text result is = is.outside (inl refl)
 
-no-layer-5 : (old new : Stack) (text : List ℕ) (result : Result (Unit {0}) MessageError) → StackAnswers old 5 text result new → IsNoMessage result old new
+no-layer-5 : (old new : Stack) (text : List ℕ) (result : Result (Unit {0}) MessageError)
+    → StackAnswers old 5 text result new → IsNoMessage result old new
 no-layer-5 old new text result is = is.outside (inr (omega arith))
 
 -- layer 4 is the top slot, and layer 3 the one beneath it
-layer-4 : (old new : Stack) (text : List ℕ) (result : Result (Unit {0}) MessageError) → StackAnswers old 4 text result new
+layer-4 : (old new : Stack) (text : List ℕ) (result : Result (Unit {0}) MessageError)
+    → StackAnswers old 4 text result new
     → AnswersItself old.top text result new.top
 layer-4 old new text result is = (is.within (omega arith) (omega arith)).own refl
 
-layer-3 : (old new : Stack) (text : List ℕ) (result : Result (Unit {0}) MessageError) → StackAnswers old 3 text result new
+layer-3 : (old new : Stack) (text : List ℕ) (result : Result (Unit {0}) MessageError)
+    → StackAnswers old 3 text result new
     → AnswersBelow three_answers old.top 1 text result new.top
 layer-3 old new text result is = (is.within (omega arith) (omega arith)).others (omega arith)
 
@@ -39,25 +44,32 @@ layer-3 old new text result is = (is.within (omega arith) (omega arith)).others 
 abbrev alone : {D : Type 0} {g : Ghosts D} → Slot D g → List Layer
 alone slot = layers_with (λ device. []) slot
 
-layer-stays : {D : Type 0} {g : Ghosts D} (below : D → ℕ → List ℕ → Result (Unit {0}) MessageError → D → Type 0) (slot : Slot D g) (layer : ℕ) (text : List ℕ)
-    (result : Result (Unit {0}) MessageError) (after : Slot D g) → AnswersBelow below slot layer text result after → alone after ≡ alone slot
+layer-stays : {D : Type 0} {g : Ghosts D}
+    (below : D → ℕ → List ℕ → Result (Unit {0}) MessageError → D → Type 0) (slot : Slot D g)
+    (layer : ℕ) (text : List ℕ)
+    (result : Result (Unit {0}) MessageError) (after : Slot D g)
+    → AnswersBelow below slot layer text result after → alone after ≡ alone slot
 layer-stays below (slots.Bare it) layer text result (slots.Bare after) is = refl
 layer-stays below (slots.Bare it) layer text result (slots.Decided after) is = absurd is
 layer-stays below (slots.Bare it) layer text result (slots.Dusted after) is = absurd is
 layer-stays below (slots.Decided it) layer text result (slots.Bare after) is = absurd is
-layer-stays below (slots.Decided it) layer text result (slots.Decided after) is = rw (is.0.1, is.0.2, is.1, is.2, is.3) refl
+layer-stays below (slots.Decided it) layer text result (slots.Decided after) is =
+    rw (is.0.1, is.0.2, is.1, is.2, is.3) refl
 layer-stays below (slots.Decided it) layer text result (slots.Dusted after) is = absurd is
 layer-stays below (slots.Dusted it) layer text result (slots.Bare after) is = absurd is
 layer-stays below (slots.Dusted it) layer text result (slots.Decided after) is = absurd is
-layer-stays below (slots.Dusted it) layer text result (slots.Dusted after) is = rw (is.0.1, is.0.2, is.1, is.2, is.3, is.4) refl
+layer-stays below (slots.Dusted it) layer text result (slots.Dusted after) is =
+    rw (is.0.1, is.0.2, is.1, is.2, is.3, is.4) refl
 
 -- ---- layers
 
 -- a layer that was put shows what is beneath from its offset on, now and at each moment before
-put-shows : (spec : LayerSpec) (v w : View) → IsPut spec v w → (sector : ℕ) → w.content sector ≡ v.content (spec.offset + sector)
+put-shows : (spec : LayerSpec) (v w : View) → IsPut spec v w → (sector : ℕ)
+    → w.content sector ≡ v.content (spec.offset + sector)
 put-shows spec v w put = put.content
 
-put-crash : (spec : LayerSpec) (v w : View) → IsPut spec v w → (left : Content) → w.crash left ↔ SeenFrom spec.offset v.crash left
+put-crash : (spec : LayerSpec) (v w : View) → IsPut spec v w → (left : Content)
+    → w.crash left ↔ SeenFrom spec.offset v.crash left
 put-crash spec v w put = put.crash
 
 put-since : (spec : LayerSpec) (v w : View) → IsPut spec v w → (moment : ℕ) (left : Content)
@@ -65,6 +77,7 @@ put-since : (spec : LayerSpec) (v w : View) → IsPut spec v w → (moment : ℕ
 put-since spec v w put = put.since
 
 -- a call that was begun later doesn't end before that
-ends-later : (begun : ℕ) (layer : Layer) (layers : List Layer) (old : SectorDisk) (call : Call) (end : ℕ) (after : List Layer) (new : SectorDisk)
+ends-later : (begun : ℕ) (layer : Layer) (layers : List Layer) (old : SectorDisk) (call : Call)
+    (end : ℕ) (after : List Layer) (new : SectorDisk)
     → FollowsLater begun layer layers old call (Ok end) after new → begun ≤ end
 ends-later begun layer layers old call end after new is = is.ends end refl

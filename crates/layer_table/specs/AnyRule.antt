@@ -9,7 +9,8 @@ use Rattle.fault_layers.specs.FlakeyRule.{flakey_verdict}
 use Rattle.fault_layers.specs.FuseRule.{fuse_after, fuse_verdict}
 use Rattle.table_line.specs.Standing.{is_drop_writes}
 use Rattle.layer_table.specs.declared.any_gate.AnyGate.{AnyGate}
-use Rattle.layer_table.specs.declared.any_gate.AnyGate.TheVariants.{Delay, Error, Flakey, Fuse, Open}
+use Rattle.layer_table.specs.declared.any_gate.AnyGate.TheVariants.{Delay, Error, Flakey, Fuse}
+use Rattle.layer_table.specs.declared.any_gate.AnyGate.TheVariants.{Open}
 
 -- what becomes of a call
 abbrev pub any_verdict : AnyGate → Kind → ℕ → Verdict

@@ -1,5 +1,6 @@
 -- The layers of a stack, and the disk beneath them.
-use Rattle.std.specs.Prelude.{◌≡◌, ◌↔◌, ℕ, zero, suc, length, ◌⊎◌, ◌+◌, ◌/◌, ◌<◌, ◌≤◌, ◌||◌, false, List, [], ◌∷◌, ◌++◌, None, Result, Err, Ok}
+use Rattle.std.specs.Prelude.{◌≡◌, ◌↔◌, ℕ, zero, suc, length, ◌⊎◌, ◌+◌, ◌/◌, ◌<◌, ◌≤◌, ◌||◌, false}
+use Rattle.std.specs.Prelude.{List, [], ◌∷◌, ◌++◌, None, Result, Err, Ok}
 use Rattle.bio.specs.declared.outcome.DevError.{DevError}
 use Rattle.bio.specs.declared.outcome.DevError.TheVariants.{Io}
 use Rattle.bio.specs.Moments.{later_by}
@@ -34,12 +35,14 @@ use Rattle.layer_table.specs.AnyRule.{any_after, any_may_drop, any_verdict}
 use Rattle.layer_table.specs.Levels.{disk_three}
 use Rattle.layer_table.specs.Slots.{device_of, slot_does, slot_shown}
 
--- What a layer does with its calls: a gate decides about them, or they go block by block over a list of bad blocks, of so many sectors each.
+-- What a layer does with its calls: a gate decides about them, or they go block by block over a
+-- list of bad blocks, of so many sectors each.
 pub data Rule : Type 0 where
   Deciding : (gate : AnyGate) → Rule
   Dusting : (block : ℕ) (bad : Bad) (mode : Mode) → Rule
 
--- A layer: the range that it is of what stands beneath, its rule, and how often it failed a call, and dropped one, itself.
+-- A layer: the range that it is of what stands beneath, its rule, and how often it failed a call,
+-- and dropped one, itself.
 pub record Layer : Type 0 where
   pub offset : ℕ
   pub length : ℕ
@@ -51,9 +54,21 @@ pub record Layer : Type 0 where
 abbrev pub layers_with : {D : Type 0} {g : Ghosts D} → (D → List Layer) → Slot D g → List Layer
 layers_with {D} {g} beneath (slots.Bare device) = beneath device
 layers_with {D} {g} beneath (slots.Decided layer) =
-    record { offset = layer.lower.offset; length = layer.lower.length; rule = Deciding layer.gate; faults = layer.faults; lies = layer.lies } ∷ beneath layer.lower.lower
+    record {
+      offset = layer.lower.offset;
+      length = layer.lower.length;
+      rule = Deciding layer.gate;
+      faults = layer.faults;
+      lies = layer.lies;
+    } ∷ beneath layer.lower.lower
 layers_with {D} {g} beneath (slots.Dusted layer) =
-    record { offset = layer.lower.offset; length = layer.lower.length; rule = Dusting layer.block (listed layer.bad) layer.mode; faults = layer.faults; lies = 0 } ∷ beneath layer.lower.lower
+    record {
+      offset = layer.lower.offset;
+      length = layer.lower.length;
+      rule = Dusting layer.block (listed layer.bad) layer.mode;
+      faults = layer.faults;
+      lies = 0;
+    } ∷ beneath layer.lower.lower
 
 -- the layers of the lowest slot, of the two lowest and of the three lowest, the top first
 abbrev pub layers_one : One → List Layer
@@ -72,15 +87,17 @@ layers_of stack = layers_with layers_three stack.top
 abbrev pub disk_of : Stack → SectorDisk
 disk_of stack = disk_three (device_of stack.top)
 
--- the gate of a target: that of a linear one is open, and so is that of one with bad blocks, which goes block by block; a flakey device's
--- moments count from its load
+-- the gate of a target: that of a linear one is open, and so is that of one with bad blocks, which
+-- goes block by block; a flakey device's moments count from its load
 abbrev pub gate_asked : Target → ℕ → AnyGate
 gate_asked targets.Linear load = gates.Open
 gate_asked targets.Error load = gates.Error (record {})
-gate_asked (targets.Flakey up down feature) load = gates.Flakey (record { up = up; down = down; feature = feature; load = load })
+gate_asked (targets.Flakey up down feature) load =
+    gates.Flakey (record { up = up; down = down; feature = feature; load = load })
 gate_asked (targets.Fuse calls) load = gates.Fuse calls
 gate_asked (targets.Dust bytes) load = gates.Open
-gate_asked (targets.Delay read write flush) load = gates.Delay (record { read = read; write = write; flush = flush })
+gate_asked (targets.Delay read write flush) load =
+    gates.Delay (record { read = read; write = write; flush = flush })
 
 -- the rule of a target; blocks are sectors of 512 bytes, none is bad at first, and calls pass
 abbrev pub rule_asked : Target → ℕ → Rule
@@ -89,7 +106,14 @@ rule_asked target load = Deciding (gate_asked target load)
 
 -- the layer that a line asks for
 abbrev pub layer_asked : LayerSpec → ℕ → Layer
-layer_asked spec load = record { offset = spec.offset; length = spec.length; rule = rule_asked spec.target load; faults = 0; lies = 0 }
+layer_asked spec load =
+    record {
+      offset = spec.offset;
+      length = spec.length;
+      rule = rule_asked spec.target load;
+      faults = 0;
+      lies = 0;
+    }
 
 -- layers over others, the top first, where these lines ask for them, the lowest first
 abbrev pub layers_under : List LayerSpec → ℕ → List Layer → List Layer
@@ -102,10 +126,13 @@ layers_under (spec ∷ specs) load layers = layers_under specs load (layer_asked
 abbrev pub stack_shown : Stack → View
 stack_shown stack = slot_shown stack.top
 
--- a layer over what shows this: the range, with a gate's own faults and lies, or with bad blocks' own faults
+-- a layer over what shows this: the range, with a gate's
+-- own faults and lies, or with bad blocks' own faults
 abbrev pub layer_over : Rule → Layer → View → View
-layer_over (Dusting block bad mode) layer v = counted (cut v layer.offset layer.length) layer.faults 0 false
-layer_over (Deciding gate) layer v = counted (cut v layer.offset layer.length) layer.faults layer.lies (any_may_drop gate)
+layer_over (Dusting block bad mode) layer v =
+    counted (cut v layer.offset layer.length) layer.faults 0 false
+layer_over (Deciding gate) layer v =
+    counted (cut v layer.offset layer.length) layer.faults layer.lies (any_may_drop gate)
 
 -- layers over what shows this
 abbrev pub layers_over : List Layer → View → View
@@ -131,13 +158,15 @@ pub record IsPut (spec : LayerSpec) (v w : View) : Type 0 where
   pub content : (sector : ℕ) → w.content sector ≡ v.content (spec.offset + sector)
   pub crash : (left : Content) → w.crash left ↔ SeenFrom spec.offset v.crash left
   pub moment : w.moment ≡ v.moment
-  pub since : (moment : ℕ) (left : Content) → w.since moment left ↔ SeenFrom spec.offset (v.since moment) left
+  pub since : (moment : ℕ) (left : Content)
+      → w.since moment left ↔ SeenFrom spec.offset (v.since moment) left
   pub faults : w.faults ≡ v.faults
   pub lies : w.lies ≡ v.lies
   -- it can lie where what is beneath can, or where it may drop writes itself
   pub can_lie : w.can_lie ≡ v.can_lie || drops_writes spec.target
 
--- what layers that were just put over what shows v show: none of them has failed or dropped a call yet
+-- what layers that were just put over what shows v show:
+-- none of them has failed or dropped a call yet
 pub record AreOver (specs : List LayerSpec) (v w : View) : Type 0 where
   pub size : w.size ≡ top_sectors v.size specs
   pub place : w.place ≡ record { origin = top_origin v.place.origin specs; disk = v.place.disk }
@@ -147,7 +176,8 @@ pub record AreOver (specs : List LayerSpec) (v w : View) : Type 0 where
   -- where none of them may drop writes, they lie no more than what is beneath
   pub can_lie : some_drops specs ≡ false → w.can_lie ≡ v.can_lie
 
--- some of these layers stand over a stack, from the first on, and the next one doesn't: what is handed back where that one is refused
+-- some of these layers stand over a stack, from the first on, and the next one doesn't: what is
+-- handed back where that one is refused
 pub record IsPartlyUnder (specs : List LayerSpec) (load : ℕ) (old back : Stack) : Type 0 where
   pub put : List LayerSpec
   pub next : LayerSpec
@@ -156,14 +186,18 @@ pub record IsPartlyUnder (specs : List LayerSpec) (load : ℕ) (old back : Stack
   pub layers : layers_of back ≡ layers_under put load (layers_of old)
   pub disk : disk_of back ≡ disk_of old
   -- the next one doesn't fit there, or four layers stand
-  pub refused : ((stack_shown back).size < next.offset + next.length) ⊎ (length (layers_of back) ≡ 4)
+  pub refused : ((stack_shown back).size < next.offset + next.length)
+      ⊎ (length (layers_of back) ≡ 4)
 
--- What shows w is a part of the disk that shows v: the sectors at its place. Whatever a crash leaves of the disk, is left of it too, as seen from there.
+-- What shows w is a part of the disk that shows v: the sectors at its place. Whatever a crash
+-- leaves of the disk, is left of it too, as seen from there.
 pub record IsPartOf (v w : View) : Type 0 where
   pub disk : w.place.disk ≡ v.size
   pub within : w.place.origin + w.size ≤ v.size
   pub content : (sector : ℕ) → w.content sector ≡ v.content (w.place.origin + sector)
-  pub crash : (left : Content) → v.crash left → (seen : Content) × w.crash seen × ((sector : ℕ) → seen sector ≡ left (w.place.origin + sector))
+  pub crash : (left : Content) → v.crash left
+      → (seen : Content) × w.crash seen
+      × ((sector : ℕ) → seen sector ≡ left (w.place.origin + sector))
 
 -- ---- what calls do
 
@@ -175,14 +209,21 @@ stack_does old call now result new = slot_does old.top call now result new.top
 abbrev pub on_stack : Ghosts Stack
 on_stack = record { shown = stack_shown; does = stack_does }
 
--- What becomes of a call at a layer by its gate's verdict. `below` says of a moment that what stands beneath did it from then on, with this
--- answer, and `same` that it was left as it was.
-pub record Decides (verdict : Verdict) (below : ℕ → Type 0) (same : Type 0) (call : Call) (now : ℕ) (result : Result ℕ DevError) (layer after : Layer) : Type 0 where
-  pub passes : verdict ≡ Pass → below now × (after.faults ≡ layer.faults) × (after.lies ≡ layer.lies)
+-- What becomes of a call at a layer by its gate's verdict. `below` says of a moment that what
+-- stands beneath did it from then on, with this answer, and `same` that it was left as it was.
+pub record Decides (verdict : Verdict) (below : ℕ → Type 0) (same : Type 0) (call : Call) (now : ℕ)
+    (result : Result ℕ DevError) (layer after : Layer) : Type 0 where
+  pub passes : verdict ≡ Pass
+      → below now × (after.faults ≡ layer.faults) × (after.lies ≡ layer.lies)
   pub delays : (by : ℕ) → verdict ≡ Delay by
-      → below (later_by now by) × (after.faults ≡ layer.faults) × (after.lies ≡ layer.lies) × ((end : ℕ) → result ≡ Ok end → later_by now by ≤ end)
-  pub fails : verdict ≡ Fail → (result ≡ Err Io) × (after.faults ≡ one_more layer.faults) × (after.lies ≡ layer.lies) × same × KeepsBuffer call
-  pub drops : verdict ≡ Drop → (result ≡ Ok now) × (after.faults ≡ layer.faults) × (after.lies ≡ one_more layer.lies) × same
+      → below (later_by now by) × (after.faults ≡ layer.faults) × (after.lies ≡ layer.lies)
+      × ((end : ℕ) → result ≡ Ok end → later_by now by ≤ end)
+  pub fails : verdict ≡ Fail
+      → (result ≡ Err Io) × (after.faults ≡ one_more layer.faults) × (after.lies ≡ layer.lies)
+      × same × KeepsBuffer call
+  pub drops : verdict ≡ Drop
+      → (result ≡ Ok now) × (after.faults ≡ layer.faults) × (after.lies ≡ one_more layer.lies)
+      × same
 
 -- Layers, the top first, and the disk beneath them.
 pub record Under : Type 0 where
@@ -190,58 +231,84 @@ pub record Under : Type 0 where
   pub disk : SectorDisk
 
 -- what what stands beneath does, so many sectors further on
-abbrev pub shifted : (Under → Call → ℕ → Result ℕ DevError → Under → Type 0) → ℕ → Under → Call → ℕ → Result ℕ DevError → Under → Type 0
+abbrev pub shifted : (Under → Call → ℕ → Result ℕ DevError → Under → Type 0) → ℕ → Under → Call → ℕ
+    → Result ℕ DevError → Under → Type 0
 shifted does offset old call now result new = does old (call_from offset call) now result new
 
 -- What a call comes to that goes block by block, from one list of bad blocks to another.
-pub record Dusts (does : Under → Call → ℕ → Result ℕ DevError → Under → Type 0) (block : ℕ) (bad : Bad) (mode : Mode) (old : Under) (call : Call) (now : ℕ)
+pub record Dusts (does : Under → Call → ℕ → Result ℕ DevError → Under → Type 0) (block : ℕ)
+    (bad : Bad) (mode : Mode) (old : Under) (call : Call) (now : ℕ)
     (result : Result ℕ DevError)
     (new : Under) (layer after : Layer) : Type 0 where
   pub list : Bad
   pub rule : after.rule ≡ Dusting block list mode
-  pub done : IsDoneBy does mode block call now result (record { lower = old; bad = bad; faults = layer.faults }) (record { lower = new; bad = list; faults = after.faults })
+  pub done : IsDoneBy does mode block call now result
+      (record { lower = old; bad = bad; faults = layer.faults })
+      (record { lower = new; bad = list; faults = after.faults })
   pub lies : after.lies ≡ layer.lies
 
 -- what becomes of a call at a layer by its rule; `does` says what stands beneath does
-abbrev pub DoesAt : (Under → Call → ℕ → Result ℕ DevError → Under → Type 0) → Rule → Under → Call → ℕ → Result ℕ DevError → Under → Layer → Layer → Type 0
+abbrev pub DoesAt : (Under → Call → ℕ → Result ℕ DevError → Under → Type 0) → Rule → Under → Call
+    → ℕ → Result ℕ DevError → Under → Layer → Layer → Type 0
 DoesAt does (Deciding gate) old call now result new layer after =
-    Decides (any_verdict gate (kind_of call) now) (λ begun. shifted does layer.offset old call begun result new) (new ≡ old) call now result layer after
+    Decides (any_verdict gate (kind_of call) now)
+    (λ begun. shifted does layer.offset old call begun result new)
+    (new ≡ old) call now result layer after
     × (after.rule ≡ Deciding (any_after gate (kind_of call) now))
-DoesAt does (Dusting block bad mode) old call now result new layer after = Dusts (shifted does layer.offset) block bad mode old call now result new layer after
+DoesAt does (Dusting block bad mode) old call now result new layer after =
+    Dusts (shifted does layer.offset) block bad mode old call now result new layer after
 
 -- what a call does at the top of layers, one of which stands there; its range stays
-abbrev pub DoesAtTop : (Under → Call → ℕ → Result ℕ DevError → Under → Type 0) → List Layer → SectorDisk → Call → ℕ → Result ℕ DevError → List Layer
+abbrev pub DoesAtTop : (Under → Call → ℕ → Result ℕ DevError → Under → Type 0) → List Layer
+    → SectorDisk → Call → ℕ → Result ℕ DevError → List Layer
     → SectorDisk → Type 0
 DoesAtTop does [] disk call now result after new = ⊥
 DoesAtTop does (layer ∷ layers) disk call now result [] new = ⊥
 DoesAtTop does (layer ∷ layers) disk call now result (after ∷ others) new =
-    DoesAt does layer.rule (record { layers = layers; disk = disk }) call now result (record { layers = others; disk = new }) layer after
+    DoesAt does layer.rule (record { layers = layers; disk = disk }) call now result
+    (record { layers = others; disk = new }) layer after
     × (after.offset ≡ layer.offset) × (after.length ≡ layer.length)
 
--- What a call does to so many layers over a disk: at the top, then beneath it so many sectors further on, and so down to the disk.
+-- What a call does to so many layers over a disk: at the top, then beneath it so many sectors
+-- further on, and so down to the disk.
 abbrev pub SoManyDo : ℕ → Under → Call → ℕ → Result ℕ DevError → Under → Type 0
-SoManyDo zero old call now result new = (old.layers ≡ []) × (new.layers ≡ []) × Does old.disk call now result new.disk
-SoManyDo (suc count) old call now result new = DoesAtTop (SoManyDo count) old.layers old.disk call now result new.layers new.disk
+SoManyDo zero old call now result new =
+    (old.layers ≡ []) × (new.layers ≡ []) × Does old.disk call now result new.disk
+SoManyDo (suc count) old call now result new =
+    DoesAtTop (SoManyDo count) old.layers old.disk call now result new.layers new.disk
 
-abbrev pub LayersDo : List Layer → SectorDisk → Call → ℕ → Result ℕ DevError → List Layer → SectorDisk → Type 0
+abbrev pub LayersDo : List Layer → SectorDisk → Call → ℕ → Result ℕ DevError → List Layer
+    → SectorDisk → Type 0
 LayersDo layers disk call now result after new =
-    SoManyDo (length layers) (record { layers = layers; disk = disk }) call now result (record { layers = after; disk = new })
+    SoManyDo (length layers) (record { layers = layers; disk = disk }) call now result
+    (record { layers = after; disk = new })
 
--- What becomes of a call by a verdict about it at the top of layers over a disk. `next` is the top after it, but for its counts.
-pub record Follows (verdict : Verdict) (next : Layer) (layers : List Layer) (old : SectorDisk) (call : Call) (now : ℕ) (result : Result ℕ DevError)
+-- What becomes of a call by a verdict about it at the top of layers over a disk. `next` is the top
+-- after it, but for its counts.
+pub record Follows (verdict : Verdict) (next : Layer) (layers : List Layer) (old : SectorDisk)
+    (call : Call) (now : ℕ) (result : Result ℕ DevError)
     (after : List Layer) (new : SectorDisk) : Type 0 where
   -- the layers beneath did it, so many sectors further on
-  pub passes : verdict ≡ Pass → (others : List Layer) × (after ≡ next ∷ others) × LayersDo layers old (call_from next.offset call) now result others new
+  pub passes : verdict ≡ Pass
+      → (others : List Layer) × (after ≡ next ∷ others)
+      × LayersDo layers old (call_from next.offset call) now result others new
   -- so they did, from the later moment on, and an Ok ends at that moment or later
   pub delays : (by : ℕ) → verdict ≡ Delay by → (others : List Layer) × (after ≡ next ∷ others)
-      × LayersDo layers old (call_from next.offset call) (later_by now by) result others new × ((end : ℕ) → result ≡ Ok end → later_by now by ≤ end)
+      × LayersDo layers old (call_from next.offset call) (later_by now by) result others new
+      × ((end : ℕ) → result ≡ Ok end → later_by now by ≤ end)
   -- it failed, and nothing beneath was called
-  pub fails : verdict ≡ Fail → (result ≡ Err Io) × (after ≡ record next { faults = one_more next.faults } ∷ layers) × (new ≡ old) × KeepsBuffer call
+  pub fails : verdict ≡ Fail
+      → (result ≡ Err Io) × (after ≡ record next { faults = one_more next.faults } ∷ layers)
+      × (new ≡ old) × KeepsBuffer call
   -- it was dropped, and nothing beneath was called
-  pub drops : verdict ≡ Drop → (result ≡ Ok now) × (after ≡ record next { lies = one_more next.lies } ∷ layers) × (new ≡ old)
+  pub drops : verdict ≡ Drop
+      → (result ≡ Ok now) × (after ≡ record next { lies = one_more next.lies } ∷ layers)
+      × (new ≡ old)
 
--- What becomes of a call at the top of layers that begins it later: the layers beneath did it from that moment on, and the top stays.
-pub record FollowsLater (begun : ℕ) (layer : Layer) (layers : List Layer) (old : SectorDisk) (call : Call) (result : Result ℕ DevError)
+-- What becomes of a call at the top of layers that begins it later: the layers beneath did it from
+-- that moment on, and the top stays.
+pub record FollowsLater (begun : ℕ) (layer : Layer) (layers : List Layer) (old : SectorDisk)
+    (call : Call) (result : Result ℕ DevError)
     (after : List Layer) (new : SectorDisk) : Type 0 where
   pub others : List Layer
   pub stays : after ≡ layer ∷ others
@@ -249,9 +316,10 @@ pub record FollowsLater (begun : ℕ) (layer : Layer) (layers : List Layer) (old
   -- an Ok ends at that moment or later
   pub ends : (end : ℕ) → result ≡ Ok end → begun ≤ end
 
--- What becomes of a call at the top of layers that goes block by block: only the list and the count of faults change at the top, and what is
--- done beneath is done so many sectors further on.
-pub record FollowsBlocks (block : ℕ) (bad : Bad) (mode : Mode) (layer : Layer) (layers : List Layer) (old : SectorDisk) (call : Call) (now : ℕ)
+-- What becomes of a call at the top of layers that goes block by block: only the list and the count
+-- of faults change at the top, and what is done beneath is done so many sectors further on.
+pub record FollowsBlocks (block : ℕ) (bad : Bad) (mode : Mode) (layer : Layer) (layers : List Layer)
+    (old : SectorDisk) (call : Call) (now : ℕ)
     (result : Result ℕ DevError) (after : List Layer) (new : SectorDisk) : Type 0 where
   pub others : List Layer
   pub list : Bad

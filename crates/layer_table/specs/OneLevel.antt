@@ -25,7 +25,8 @@ pub one_lawful : (level : One) → IsLawful (one_shown level)
 one_lawful level = slot_lawful disk_lawful level.top
 
 -- a disk takes no message
-abbrev pub DiskAnswers : SectorDisk → ℕ → List ℕ → Result (Unit {0}) MessageError → SectorDisk → Type 0
+abbrev pub DiskAnswers : SectorDisk → ℕ → List ℕ → Result (Unit {0}) MessageError → SectorDisk
+    → Type 0
 DiskAnswers old layer text result new = (result ≡ Err BadMessage) × (new ≡ old)
 
 -- what it answers to a message

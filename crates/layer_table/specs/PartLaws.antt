@@ -22,23 +22,34 @@ disk_part disk = record {
 }
 
 -- a range of a part is a part
-cut_part : (v w : View) (offset length : ℕ) → IsRange w.size offset length → IsPartOf v w → IsPartOf v (cut w offset length)
+cut_part : (v w : View) (offset length : ℕ) → IsRange w.size offset length → IsPartOf v w
+    → IsPartOf v (cut w offset length)
 cut_part v w offset length fits is = record {
   disk = is.disk;
   within = let a = fits.within in let b = is.within in omega arith;
   content = λ sector. is.content (offset + sector) ∙ ap v.content (omega arith);
   crash = λ left may.
-      let below = is.crash left may in
-      (moved offset below.0, (below.0, below.1, λ sector. refl), λ sector. below.2 (offset + sector) ∙ ap left (omega arith));
+      let below = is.crash left may in (
+        moved offset below.0,
+        (below.0, below.1, λ sector. refl),
+        λ sector. below.2 (offset + sector) ∙ ap left (omega arith),
+      );
 }
 
 -- what stands in a slot is a part where what is beneath is one
-pub part_with : {D : Type 0} {g : Ghosts D} (disk : D → View) → ((device : D) → IsPartOf (disk device) (g.shown device))
+pub part_with : {D : Type 0} {g : Ghosts D} (disk : D → View)
+    → ((device : D) → IsPartOf (disk device) (g.shown device))
     → (slot : Slot D g) → IsPartOf (disk (device_of slot)) (slot_shown slot)
 part_with {D} {g} disk below (slots.Bare device) = below device
 part_with {D} {g} disk below (slots.Dusted layer) =
-    let is = cut_part (disk layer.lower.lower) (g.shown layer.lower.lower) layer.lower.offset layer.lower.length layer.lower.fits (below layer.lower.lower) in
+    let is =
+    cut_part (disk layer.lower.lower)
+    (g.shown layer.lower.lower) layer.lower.offset layer.lower.length layer.lower.fits
+    (below layer.lower.lower) in
     record { disk = is.disk; within = is.within; content = is.content; crash = is.crash }
 part_with {D} {g} disk below (slots.Decided layer) =
-    let is = cut_part (disk layer.lower.lower) (g.shown layer.lower.lower) layer.lower.offset layer.lower.length layer.lower.fits (below layer.lower.lower) in
+    let is =
+    cut_part (disk layer.lower.lower)
+    (g.shown layer.lower.lower) layer.lower.offset layer.lower.length layer.lower.fits
+    (below layer.lower.lower) in
     record { disk = is.disk; within = is.within; content = is.content; crash = is.crash }

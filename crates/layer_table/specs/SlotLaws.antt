@@ -20,60 +20,83 @@ use Rattle.layer_table.specs.declared.any_gate.AnyGate.{AnyGate}
 use Rattle.layer_table.specs.declared.slot.Slot.{Slot}
 use Rattle.layer_table.specs.declared.slot.Slot.TheVariants as slots
 use Rattle.layer_table.specs.AnyRule.{any_may_drop, any_verdict}
-use Rattle.layer_table.specs.Slots.{device_of, has_layer, shape_with, slot_does, slot_shown, IsShifted}
+use Rattle.layer_table.specs.Slots.{device_of, has_layer, shape_with, slot_does, slot_shown}
+use Rattle.layer_table.specs.Slots.{IsShifted}
 
-pub slot_lawful : {D : Type 0} {g : Ghosts D} → ((device : D) → IsLawful (g.shown device)) → (slot : Slot D g) → IsLawful (slot_shown slot)
+pub slot_lawful : {D : Type 0} {g : Ghosts D} → ((device : D) → IsLawful (g.shown device))
+    → (slot : Slot D g) → IsLawful (slot_shown slot)
 slot_lawful {D} {g} lawful (slots.Bare device) = lawful device
 slot_lawful {D} {g} lawful (slots.Decided layer) =
-    lawful_counted (cut (g.shown layer.lower.lower) layer.lower.offset layer.lower.length) layer.faults layer.lies (any_may_drop layer.gate)
-    (lawful_cut (g.shown layer.lower.lower) layer.lower.offset layer.lower.length layer.lower.fits (lawful layer.lower.lower))
+    lawful_counted (cut (g.shown layer.lower.lower) layer.lower.offset layer.lower.length)
+    layer.faults layer.lies (any_may_drop layer.gate)
+    (lawful_cut (g.shown layer.lower.lower) layer.lower.offset layer.lower.length layer.lower.fits
+    (lawful layer.lower.lower))
 slot_lawful {D} {g} lawful (slots.Dusted layer) =
-    lawful_counted (cut (g.shown layer.lower.lower) layer.lower.offset layer.lower.length) layer.faults 0 false
-    (lawful_cut (g.shown layer.lower.lower) layer.lower.offset layer.lower.length layer.lower.fits (lawful layer.lower.lower))
+    lawful_counted (cut (g.shown layer.lower.lower) layer.lower.offset layer.lower.length)
+    layer.faults 0 false
+    (lawful_cut (g.shown layer.lower.lower) layer.lower.offset layer.lower.length layer.lower.fits
+    (lawful layer.lower.lower))
 
 -- each call of a device keeps what f says of it
 abbrev pub IsKept : {D A : Type 0} → Ghosts D → (D → A) → Type 0
 IsKept {D} {A} g f =
-    (device : D) (call : Call) (now : ℕ) (result : Result ℕ DevError) (after : D) → g.does device call now result after → f after ≡ f device
+    (device : D) (call : Call) (now : ℕ) (result : Result ℕ DevError) (after : D)
+    → g.does device call now result after → f after ≡ f device
 
 -- a layer that decides keeps what f says of its range
-pub decided_keeps : {D A : Type 0} {g : Ghosts D} (f : Linear D g → A) (verdict : Verdict) (below : ℕ → Type 0) (call : Call) (now : ℕ)
+pub decided_keeps : {D A : Type 0} {g : Ghosts D} (f : Linear D g → A) (verdict : Verdict)
+    (below : ℕ → Type 0) (call : Call) (now : ℕ)
     (result : Result ℕ DevError)
     (layer after : Gated (Linear D g) AnyGate) → IsDecided verdict below call now result layer after
     → ((begun : ℕ) → below begun → f after.lower ≡ f layer.lower) → f after.lower ≡ f layer.lower
 decided_keeps f Pass below call now result layer after is passed = passed now (is.passes refl).0
-decided_keeps f (Delay by) below call now result layer after is passed = passed (later_by now by) (is.delays by refl).0
+decided_keeps f (Delay by) below call now result layer after is passed =
+    passed (later_by now by) (is.delays by refl).0
 decided_keeps f Fail below call now result layer after is passed = ap f (is.fails refl).3
 decided_keeps f Drop below call now result layer after is passed = ap f (is.drops refl).3
 
 -- a layer with bad blocks keeps what f says of its range, where each call of the range does
 pub dusted_keeps : {D A : Type 0} {g : Ghosts D} (f : Linear D g → A)
-    → ((range : Linear D g) (call : Call) (now : ℕ) (result : Result ℕ DevError) (after : Linear D g) → IsShifted range call now result after
-    → f after ≡ f range) → (call : Call) (now : ℕ) (result : Result ℕ DevError) (layer after : Dust (Linear D g))
+    → ((range : Linear D g) (call : Call) (now : ℕ) (result : Result ℕ DevError)
+    (after : Linear D g) → IsShifted range call now result after
+    → f after ≡ f range) → (call : Call) (now : ℕ) (result : Result ℕ DevError)
+    (layer after : Dust (Linear D g))
     → IsDusted IsShifted call now result layer after → f after.lower ≡ f layer.lower
 dusted_keeps {D} {A} {g} f kept call now result layer after is =
-    (done_carried IsShifted (λ (old : Unit {0}) call now result new. Unit {0}) (λ range. f range ≡ f layer.lower) (λ range. tt)
+    (done_carried IsShifted (λ (old : Unit {0}) call now result new. Unit {0})
+    (λ range. f range ≡ f layer.lower) (λ range. tt)
     (λ old call now result new holds does. (tt, kept old call now result new does ∙ holds))
     layer.mode layer.block call now result (held layer) (held after) refl is.done).1
 
--- a call of a slot keeps what each call of the device beneath keeps, and whether a layer stands there
-pub slot_kept : {D A : Type 0} {g : Ghosts D} (f : D → A) → IsKept g f → (slot : Slot D g) (call : Call) (now : ℕ) (result : Result ℕ DevError)
-    (after : Slot D g) → slot_does slot call now result after → (f (device_of after) ≡ f (device_of slot)) × (has_layer after ≡ has_layer slot)
+-- a call of a slot keeps what each call of the device
+-- beneath keeps, and whether a layer stands there
+pub slot_kept : {D A : Type 0} {g : Ghosts D} (f : D → A) → IsKept g f
+    → (slot : Slot D g) (call : Call) (now : ℕ) (result : Result ℕ DevError)
+    (after : Slot D g) → slot_does slot call now result after
+    → (f (device_of after) ≡ f (device_of slot)) × (has_layer after ≡ has_layer slot)
 slot_kept {D} {A} {g} f kept (slots.Bare device) call now result (slots.Bare after) does =
     (kept device call now result after does, refl)
-slot_kept {D} {A} {g} f kept (slots.Bare device) call now result (slots.Decided after) does = absurd does
-slot_kept {D} {A} {g} f kept (slots.Bare device) call now result (slots.Dusted after) does = absurd does
-slot_kept {D} {A} {g} f kept (slots.Decided layer) call now result (slots.Bare after) does = absurd does
+slot_kept {D} {A} {g} f kept (slots.Bare device) call now result (slots.Decided after) does =
+    absurd does
+slot_kept {D} {A} {g} f kept (slots.Bare device) call now result (slots.Dusted after) does =
+    absurd does
+slot_kept {D} {A} {g} f kept (slots.Decided layer) call now result (slots.Bare after) does =
+    absurd does
 slot_kept {D} {A} {g} f kept (slots.Decided layer) call now result (slots.Decided after) does = (
-  decided_keeps (λ (range : Linear D g). f range.lower) (any_verdict layer.gate (kind_of call) now) _ call now result layer after does.0
+  decided_keeps (λ (range : Linear D g). f range.lower)
+      (any_verdict layer.gate (kind_of call) now) _ call now result layer after does.0
       (λ begun below. kept layer.lower.lower _ begun result after.lower.lower below.0),
   refl,
 )
-slot_kept {D} {A} {g} f kept (slots.Decided layer) call now result (slots.Dusted after) does = absurd does
-slot_kept {D} {A} {g} f kept (slots.Dusted layer) call now result (slots.Bare after) does = absurd does
-slot_kept {D} {A} {g} f kept (slots.Dusted layer) call now result (slots.Decided after) does = absurd does
+slot_kept {D} {A} {g} f kept (slots.Decided layer) call now result (slots.Dusted after) does =
+    absurd does
+slot_kept {D} {A} {g} f kept (slots.Dusted layer) call now result (slots.Bare after) does =
+    absurd does
+slot_kept {D} {A} {g} f kept (slots.Dusted layer) call now result (slots.Decided after) does =
+    absurd does
 slot_kept {D} {A} {g} f kept (slots.Dusted layer) call now result (slots.Dusted after) does = (
-  dusted_keeps (λ (range : Linear D g). f range.lower) (λ range call now result next below. kept range.lower _ now result next.lower below.0)
+  dusted_keeps (λ (range : Linear D g). f range.lower)
+      (λ range call now result next below. kept range.lower _ now result next.lower below.0)
       call now result layer after does,
   refl,
 )
@@ -81,7 +104,9 @@ slot_kept {D} {A} {g} f kept (slots.Dusted layer) call now result (slots.Dusted 
 -- a slot keeps its shape
 pub shape_kept : {D : Type 0} {g : Ghosts D} (f : D → List Bool) → IsKept g f
     → (slot : Slot D g) (call : Call) (now : ℕ) (result : Result ℕ DevError)
-    (after : Slot D g) → slot_does slot call now result after → shape_with f after ≡ shape_with f slot
+    (after : Slot D g) → slot_does slot call now result after
+    → shape_with f after ≡ shape_with f slot
 shape_kept f kept slot call now result after does =
     let same = slot_kept f kept slot call now result after does in
-    ap (λ (has : Bool). has ∷ f (device_of after)) same.1 ∙ ap (λ (shape : List Bool). has_layer slot ∷ shape) same.0
+    ap (λ (has : Bool). has ∷ f (device_of after)) same.1
+    ∙ ap (λ (shape : List Bool). has_layer slot ∷ shape) same.0

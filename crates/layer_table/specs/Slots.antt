@@ -14,25 +14,35 @@ use Rattle.layer_table.specs.declared.slot.Slot.{Slot}
 use Rattle.layer_table.specs.declared.slot.Slot.TheVariants as slots
 use Rattle.layer_table.specs.AnyRule.{any_after, any_may_drop, any_verdict}
 
--- a layer is seen as the device beneath from its offset on, one with a gate with faults and lies of its own, and one with bad blocks with
--- faults of its own
+-- a layer is seen as the device beneath from its offset on, one with a gate with faults and lies of
+-- its own, and one with bad blocks with faults of its own
 abbrev pub slot_shown : {D : Type 0} {g : Ghosts D} → Slot D g → View
 slot_shown {D} {g} (slots.Bare device) = g.shown device
-slot_shown {D} {g} (slots.Dusted layer) = counted (cut (g.shown layer.lower.lower) layer.lower.offset layer.lower.length) layer.faults 0 false
-slot_shown {D} {g} (slots.Decided layer) = counted (cut (g.shown layer.lower.lower) layer.lower.offset layer.lower.length) layer.faults layer.lies (any_may_drop layer.gate)
+slot_shown {D} {g} (slots.Dusted layer) =
+    counted (cut (g.shown layer.lower.lower) layer.lower.offset layer.lower.length) layer.faults 0
+    false
+slot_shown {D} {g} (slots.Decided layer) =
+    counted (cut (g.shown layer.lower.lower) layer.lower.offset layer.lower.length) layer.faults
+    layer.lies (any_may_drop layer.gate)
 
 -- a range does what the device beneath does at the shifted call, and stays
-abbrev pub IsShifted : {D : Type 0} {g : Ghosts D} → Linear D g → Call → ℕ → Result ℕ DevError → Linear D g → Type 0
+abbrev pub IsShifted : {D : Type 0} {g : Ghosts D} → Linear D g → Call → ℕ → Result ℕ DevError
+    → Linear D g → Type 0
 IsShifted {D} {g} range call now result after =
-    g.does range.lower (call_from range.offset call) now result after.lower × (after.offset ≡ range.offset) × (after.length ≡ range.length)
+    g.does range.lower (call_from range.offset call) now result after.lower
+    × (after.offset ≡ range.offset) × (after.length ≡ range.length)
 
 -- the device beneath does a call, or a range of it as its gate decides, or block by block
-abbrev pub slot_does : {D : Type 0} {g : Ghosts D} → Slot D g → Call → ℕ → Result ℕ DevError → Slot D g → Type 0
-slot_does {D} {g} (slots.Bare device) call now result (slots.Bare after) = g.does device call now result after
+abbrev pub slot_does : {D : Type 0} {g : Ghosts D} → Slot D g → Call → ℕ → Result ℕ DevError
+    → Slot D g → Type 0
+slot_does {D} {g} (slots.Bare device) call now result (slots.Bare after) =
+    g.does device call now result after
 slot_does {D} {g} (slots.Decided layer) call now result (slots.Decided after) =
-    IsDecided (any_verdict layer.gate (kind_of call) now) (λ begun. IsShifted layer.lower call begun result after.lower) call now result layer after
+    IsDecided (any_verdict layer.gate (kind_of call) now)
+    (λ begun. IsShifted layer.lower call begun result after.lower) call now result layer after
     × (after.gate ≡ any_after layer.gate (kind_of call) now)
-slot_does {D} {g} (slots.Dusted layer) call now result (slots.Dusted after) = IsDusted IsShifted call now result layer after
+slot_does {D} {g} (slots.Dusted layer) call now result (slots.Dusted after) =
+    IsDusted IsShifted call now result layer after
 slot_does {D} {g} slot call now result after = ⊥
 
 -- whether a layer stands there

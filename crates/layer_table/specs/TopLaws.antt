@@ -13,90 +13,135 @@ use Rattle.sector_disk.specs.declared.disk.SectorDisk.{SectorDisk}
 use Rattle.layer_table.specs.declared.any_gate.AnyGate.{AnyGate}
 use Rattle.layer_table.specs.declared.any_gate.AnyGate.TheVariants.{Delay, Open}
 use Rattle.layer_table.specs.AnyRule.{any_after, any_verdict}
-use Rattle.layer_table.specs.Layers.{Deciding, DoesAt, Dusting, Follows, FollowsBlocks, FollowsLater, Layer, LayersDo, Rule, SoManyDo, Under}
+use Rattle.layer_table.specs.Layers.{Deciding, DoesAt, Dusting, Follows, FollowsBlocks}
+use Rattle.layer_table.specs.Layers.{FollowsLater, Layer, LayersDo, Rule, SoManyDo, Under}
 
 -- layers with the same in each field are one
 same_values : (o p l m : ℕ) (g h : Rule) (f e i k : ℕ) → o ≡ p → l ≡ m → g ≡ h → f ≡ e → i ≡ k
     → ◌≡◌ {A = Layer} (record { offset = o; length = l; rule = g; faults = f; lies = i })
     (record { offset = p; length = m; rule = h; faults = e; lies = k })
-same_values o p l m g h f e i k offset length rule faults lies = rw (offset, length, rule, faults, lies) refl
+same_values o p l m g h f e i k offset length rule faults lies =
+    rw (offset, length, rule, faults, lies) refl
 
-same_layer : (a b : Layer) → a.offset ≡ b.offset → a.length ≡ b.length → a.rule ≡ b.rule → a.faults ≡ b.faults → a.lies ≡ b.lies → a ≡ b
+same_layer : (a b : Layer) → a.offset ≡ b.offset → a.length ≡ b.length → a.rule ≡ b.rule
+    → a.faults ≡ b.faults → a.lies ≡ b.lies → a ≡ b
 same_layer a b offset length rule faults lies =
-    same_values a.offset b.offset a.length b.length a.rule b.rule a.faults b.faults a.lies b.lies offset length rule faults lies
+    same_values a.offset b.offset a.length b.length a.rule b.rule a.faults b.faults a.lies b.lies
+    offset length rule faults lies
 
 -- the same list, with this top
-same_top : (a b : Layer) (layers others : List Layer) → a ≡ b → layers ≡ others → a ∷ layers ≡ b ∷ others
-same_top a b layers others top rest = ap (λ (layer : Layer). layer ∷ layers) top ∙ ap (λ (xs : List Layer). b ∷ xs) rest
+same_top : (a b : Layer) (layers others : List Layer) → a ≡ b → layers ≡ others
+    → a ∷ layers ≡ b ∷ others
+same_top a b layers others top rest =
+    ap (λ (layer : Layer). layer ∷ layers) top ∙ ap (λ (xs : List Layer). b ∷ xs) rest
 
 -- where the top's rule is this, this becomes of a call there
-at_top : (layer : Layer) (layers : List Layer) (old : SectorDisk) (call : Call) (now : ℕ) (result : Result ℕ DevError) (top : Layer)
-    (others : List Layer) (new : SectorDisk) (rule : Rule) → layer.rule ≡ rule → LayersDo (layer ∷ layers) old call now result (top ∷ others) new
-    → DoesAt (SoManyDo (length layers)) rule (record { layers = layers; disk = old }) call now result (record { layers = others; disk = new }) layer top
+at_top : (layer : Layer) (layers : List Layer) (old : SectorDisk) (call : Call) (now : ℕ)
+    (result : Result ℕ DevError) (top : Layer)
+    (others : List Layer) (new : SectorDisk) (rule : Rule) → layer.rule ≡ rule
+    → LayersDo (layer ∷ layers) old call now result (top ∷ others) new
+    → DoesAt (SoManyDo (length layers)) rule
+    (record { layers = layers; disk = old }) call now result
+    (record { layers = others; disk = new }) layer top
 at_top layer layers old call now result top others new rule is does =
-    subst (λ (it : Rule). DoesAt (SoManyDo (length layers)) it (record { layers = layers; disk = old }) call now result (record { layers = others; disk = new }) layer top)
+    subst (λ (it : Rule). DoesAt (SoManyDo (length layers)) it
+    (record { layers = layers; disk = old }) call now result
+    (record { layers = others; disk = new }) layer top)
     is does.0
 
 -- a layer with a gate
-pub gate_top : (layer : Layer) (layers : List Layer) (old : SectorDisk) (call : Call) (now : ℕ) (result : Result ℕ DevError) (after : List Layer)
+pub gate_top : (layer : Layer) (layers : List Layer) (old : SectorDisk) (call : Call) (now : ℕ)
+    (result : Result ℕ DevError) (after : List Layer)
     (new : SectorDisk)
-    (gate : AnyGate) → layer.rule ≡ Deciding gate → LayersDo (layer ∷ layers) old call now result after new
+    (gate : AnyGate) → layer.rule ≡ Deciding gate
+    → LayersDo (layer ∷ layers) old call now result after new
     → Follows (any_verdict gate (kind_of call) now)
-    (record layer { rule = Deciding (any_after gate (kind_of call) now) }) layers old call now result after new
+    (record layer {
+      rule = Deciding
+          (any_after gate (kind_of call) now);
+    }) layers old call now result after new
 gate_top layer layers old call now result [] new gate is does = absurd does
 gate_top layer layers old call now result (top ∷ others) new gate is does =
     let done = at_top layer layers old call now result top others new (Deciding gate) is does in
     record {
       passes = λ pass.
-          let did = done.0.passes pass in
-          (others, same_top top _ others others (same_layer top _ does.1 does.2 done.1 did.1 did.2) refl, did.0);
+          let did = done.0.passes pass in (
+            others,
+            same_top top _ others others
+                (same_layer top _ does.1 does.2 done.1 did.1 did.2) refl,
+            did.0,
+          );
       delays = λ by delay.
-          let did = done.0.delays by delay in
-          (others, same_top top _ others others (same_layer top _ does.1 does.2 done.1 did.1 did.2) refl, did.0, did.3);
+          let did = done.0.delays by delay in (
+            others,
+            same_top top _ others others
+                (same_layer top _ does.1 does.2 done.1 did.1 did.2) refl,
+            did.0,
+            did.3,
+          );
       fails = λ fail.
           let did = done.0.fails fail in (
             did.0,
-            same_top top _ others layers (same_layer top _ does.1 does.2 done.1 did.1 did.2) (ap (λ (it : Under). it.layers) did.3),
+            same_top top _ others layers (same_layer top _ does.1 does.2 done.1 did.1 did.2)
+                (ap (λ (it : Under). it.layers) did.3),
             ap (λ (it : Under). it.disk) did.3,
             did.4,
           );
       drops = λ drop.
           let did = done.0.drops drop in (
             did.0,
-            same_top top _ others layers (same_layer top _ does.1 does.2 done.1 did.1 did.2) (ap (λ (it : Under). it.layers) did.3),
+            same_top top _ others layers (same_layer top _ does.1 does.2 done.1 did.1 did.2)
+                (ap (λ (it : Under). it.layers) did.3),
             ap (λ (it : Under). it.disk) did.3,
           );
     }
 
 -- where the gate stays, so does the layer
-pub gate_stays : (layer : Layer) (layers : List Layer) (old : SectorDisk) (call : Call) (now : ℕ) (result : Result ℕ DevError) (after : List Layer)
+pub gate_stays : (layer : Layer) (layers : List Layer) (old : SectorDisk) (call : Call) (now : ℕ)
+    (result : Result ℕ DevError) (after : List Layer)
     (new : SectorDisk)
-    (gate : AnyGate) → layer.rule ≡ Deciding gate → any_after gate (kind_of call) now ≡ gate → LayersDo (layer ∷ layers) old call now result after new
+    (gate : AnyGate) → layer.rule ≡ Deciding gate → any_after gate (kind_of call) now ≡ gate
+    → LayersDo (layer ∷ layers) old call now result after new
     → Follows (any_verdict gate (kind_of call) now) layer layers old call now result after new
 gate_stays layer layers old call now result after new gate is stays does =
-    subst (λ (next : Layer). Follows (any_verdict gate (kind_of call) now) next layers old call now result after new)
-    (same_layer (record layer { rule = Deciding (any_after gate (kind_of call) now) }) layer refl refl (ap Deciding stays ∙ sym is) refl refl)
+    subst (λ (next : Layer). Follows
+    (any_verdict gate (kind_of call) now) next layers old call now result after new)
+    (same_layer (record layer {
+      rule = Deciding
+          (any_after gate (kind_of call) now);
+    }) layer refl refl
+    (ap Deciding stays ∙ sym is) refl refl)
     (gate_top layer layers old call now result after new gate is does)
 
 -- one that passes all
-pub linear_top : (layer : Layer) (layers : List Layer) (old : SectorDisk) (call : Call) (now : ℕ) (result : Result ℕ DevError) (after : List Layer)
+pub linear_top : (layer : Layer) (layers : List Layer) (old : SectorDisk) (call : Call) (now : ℕ)
+    (result : Result ℕ DevError) (after : List Layer)
     (new : SectorDisk)
-    → layer.rule ≡ Deciding Open → LayersDo (layer ∷ layers) old call now result after new → Follows Pass layer layers old call now result after new
-linear_top layer layers old call now result after new is does = gate_stays layer layers old call now result after new Open is refl does
+    → layer.rule ≡ Deciding Open → LayersDo (layer ∷ layers) old call now result after new
+    → Follows Pass layer layers old call now result after new
+linear_top layer layers old call now result after new is does =
+    gate_stays layer layers old call now result after new Open is refl does
 
 -- one whose calls begin later
-pub delay_top : (layer : Layer) (layers : List Layer) (old : SectorDisk) (call : Call) (now : ℕ) (result : Result ℕ DevError) (after : List Layer)
+pub delay_top : (layer : Layer) (layers : List Layer) (old : SectorDisk) (call : Call) (now : ℕ)
+    (result : Result ℕ DevError) (after : List Layer)
     (new : SectorDisk)
-    (delays : DelayGate) → layer.rule ≡ Deciding (Delay delays) → LayersDo (layer ∷ layers) old call now result after new
-    → FollowsLater (later_by now (delay_of delays (kind_of call))) layer layers old call result after new
+    (delays : DelayGate) → layer.rule ≡ Deciding (Delay delays)
+    → LayersDo (layer ∷ layers) old call now result after new
+    → FollowsLater (later_by now
+    (delay_of delays (kind_of call))) layer layers old call result after new
 delay_top layer layers old call now result after new delays is does =
-    let done = (gate_stays layer layers old call now result after new (Delay delays) is refl does).delays (delay_of delays (kind_of call)) refl in
+    let done =
+    (gate_stays layer layers old call now result after new
+    (Delay delays) is refl does).delays (delay_of delays (kind_of call)) refl in
     record { others = done.0; stays = done.1; below = done.2; ends = done.3 }
 
 -- a layer with bad blocks
-pub dust_top : (layer : Layer) (layers : List Layer) (old : SectorDisk) (call : Call) (now : ℕ) (result : Result ℕ DevError) (after : List Layer)
+pub dust_top : (layer : Layer) (layers : List Layer) (old : SectorDisk) (call : Call) (now : ℕ)
+    (result : Result ℕ DevError) (after : List Layer)
     (new : SectorDisk)
-    (block : ℕ) (bad : Bad) (mode : Mode) → layer.rule ≡ Dusting block bad mode → LayersDo (layer ∷ layers) old call now result after new
+    (block : ℕ) (bad : Bad) (mode : Mode) → layer.rule ≡ Dusting block bad mode
+    → LayersDo (layer ∷ layers) old call now result after new
     → FollowsBlocks block bad mode layer layers old call now result after new
 dust_top layer layers old call now result [] new block bad mode is does = absurd does
 dust_top layer layers old call now result (top ∷ others) new block bad mode is does =
@@ -105,6 +150,8 @@ dust_top layer layers old call now result (top ∷ others) new block bad mode is
       others = others;
       list = done.list;
       faults = top.faults;
-      stays = same_top top _ others others (same_layer top _ does.1 does.2 done.rule refl done.lies) refl;
+      stays =
+          same_top top _ others others
+          (same_layer top _ does.1 does.2 done.rule refl done.lies) refl;
       done = done.done;
     }

@@ -24,7 +24,8 @@ impl AnyGate {
     ghost use Rattle.table_line.specs.Ranges.{IsTargetInRange};
     ghost use Rattle.layer_table.specs.Layers.{gate_asked};
 
-    /// The gate of a target, which is open where the target decides about no call; a flakey device's moments count from `load`, in milliseconds.
+    /// The gate of a target, which is open where the target decides about no call; a flakey
+    /// device's moments count from `load`, in milliseconds.
     pub fn of(offset: u64, target: Target, load: Ms) -> AnyGate
         requires { IsTargetInRange offset target }
         ensures { result ≡ gate_asked target load }

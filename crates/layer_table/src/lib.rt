@@ -1,8 +1,9 @@
 //! Stacks of layers over a disk in memory, as the lines of a table ask for them.
 //!
-//! A `Slot` is a device or one layer over it; a `Stack` is four slots, each over the next, over a disk, and a device
-//! itself. Contracts see the layers of a stack as a list, the top first (`specs/Layers`): what a stack shows and what its calls do
-//! follows from that list and the disk beneath (`laws`).
+//! A `Slot` is a device or one layer over it; a `Stack` is four slots, each over the next, over a
+//! disk, and a device itself. Contracts see the layers of a stack as a list, the top first
+//! (`specs/Layers`): what a stack shows and what its calls do follows from that list and the disk
+//! beneath (`laws`).
 #![tactic(auto)]
 
 pub use any_gate::AnyGate;

@@ -142,7 +142,8 @@ impl<D: Message + Drop> Message for Slot<D> {
     ghost use Rattle.layer_table.specs.SlotMessages.{SlotAnswers};
 
     // The slot is layer 1 of its own, and what stands beneath follows it.
-    ghost answers = { λ old layer text result new. SlotAnswers D.answers old layer text result new };
+    ghost answers = { λ old layer text result new. SlotAnswers D.answers old layer text result
+        new };
 
     fn message(&mut self, layer: u64, text: &str) -> Result<(), MessageError> {
         match layer {

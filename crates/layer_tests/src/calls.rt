@@ -1,4 +1,5 @@
-// Calls of a device, and what each tells: the harness of all these tests. A call stands in a row, in words, or in a line of words, in letters.
+// Calls of a device, and what each tells: the harness of all these tests. A call stands in a row,
+// in words, or in a line of words, in letters.
 use bio::{DevError, Ms};
 use blockdev::{BlockDev, Message};
 use fault_layers::Kind;
@@ -106,7 +107,8 @@ pub fn byte_of(sector: &[u8]) -> u8 {
     }
 }
 
-/// What calls on a device give, and then what becomes of the device. Only here is a device held that may be of many parts, and here it may be of any.
+/// What calls on a device give, and then what becomes of the device. Only here is a device held
+/// that may be of many parts, and here it may be of any.
 pub fn asked<D, T, U, F, G>(device: D, calls: F, end: G) -> Result<(T, U), Fail>
 where
     D: Drop,
@@ -142,7 +144,8 @@ fn numbers_of(text: &str) -> [u64; 3] {
     ]
 }
 
-// The call of these words: `w 5 4 1` writes 1s to 4 sectors from sector 5 on, `F` does with FUA, `d 5 4` discards them, `f` flushes, and `r 5 4` reads them.
+// The call of these words: `w 5 4 1` writes 1s to 4 sectors from sector 5 on, `F` does with FUA,
+// `d 5 4` discards them, `f` flushes, and `r 5 4` reads them.
 fn call_of(words: &str) -> Call {
     let (kind, rest) = words.split_once(' ').unwrap_or((words, ""));
     let [first, count, byte] = numbers_of(rest);
@@ -160,7 +163,8 @@ fn call_of(words: &str) -> Call {
     }
 }
 
-// What a call tells: its end, and where a read ended Ok the byte of each sector. `#` tells the faults and the lies.
+// What a call tells: its end, and where a read ended Ok the
+// byte of each sector. `#` tells the faults and the lies.
 fn told<D: BlockDev + Drop>(
     rt: &impl Abort,
     alloc: Global,
@@ -225,7 +229,8 @@ fn message_row<D: Message + Drop>(
     Ok(())
 }
 
-/// Makes the calls of these rows, one after another: a moment in milliseconds, the call, and behind `|` what it tells.
+/// Makes the calls of these rows, one after another: a moment
+/// in milliseconds, the call, and behind `|` what it tells.
 pub fn calls<D: BlockDev + Drop>(
     rt: &(impl Abort + Print),
     alloc: Global,
@@ -238,7 +243,8 @@ pub fn calls<D: BlockDev + Drop>(
     Ok(())
 }
 
-/// Makes calls and puts messages, one after another: a row of a message has `m`, a layer, the message, and behind `|` its answer.
+/// Makes calls and puts messages, one after another: a row of a message has `m`, a layer, the
+/// message, and behind `|` its answer.
 pub fn talk<D: Message + Drop>(
     rt: &(impl Abort + Print),
     alloc: Global,
@@ -260,8 +266,9 @@ fn digit(byte: u8) -> u8 {
     byte.saturating_sub(48) % 10
 }
 
-// The call of a word: `w31` writes 1s to sector 3, `F31` does with FUA, `d32` discards 2 sectors from sector 3 on, `f` flushes, `r31` reads 1s from
-// sector 3, and `r3` reads none. No other word is a call.
+// The call of a word: `w31` writes 1s to sector 3, `F31` does with FUA,
+// `d32` discards 2 sectors from sector 3 on, `f` flushes, `r31` reads
+// 1s from sector 3, and `r3` reads none. No other word is a call.
 fn call_in(word: &[u8]) -> Option<Call> {
     let (kind, first, count, byte) = match word {
         [b'w' | b'F', first, byte] => (Kind::Write, digit(*first), 1, digit(*byte)),
@@ -280,7 +287,8 @@ fn call_in(word: &[u8]) -> Option<Call> {
     })
 }
 
-/// Makes the call of a word: it ends at this moment, or fails by Io where the word has `-` behind it. `#21` says that there were 2 faults and 1 lie.
+/// Makes the call of a word: it ends at this moment, or fails by Io where the word has `-` behind
+/// it. `#21` says that there were 2 faults and 1 lie.
 pub fn step<D: BlockDev + Drop>(
     rt: &(impl Abort + Print),
     device: &mut D,
@@ -304,7 +312,8 @@ pub fn step<D: BlockDev + Drop>(
     }
 }
 
-/// Makes the calls of a line's words, one after another, the first at the moment 0. `@12` is the moment from there on, in milliseconds.
+/// Makes the calls of a line's words, one after another, the first at the moment 0. `@12` is the
+/// moment from there on, in milliseconds.
 pub fn play<D: BlockDev + Drop>(rt: &(impl Abort + Print), device: D, line: &str) -> D {
     let mut device = device;
     let mut now = Ms::new(0);
@@ -317,8 +326,8 @@ pub fn play<D: BlockDev + Drop>(rt: &(impl Abort + Print), device: D, line: &str
     device
 }
 
-/// Fails the power of a disk, and looks at its sectors: `c12` fails it with the picks 1 and 2, `=` says what each sector holds, and `!` what each holds once it
-/// failed with no picks.
+/// Fails the power of a disk, and looks at its sectors: `c12` fails it with the picks 1 and 2, `=`
+/// says what each sector holds, and `!` what each holds once it failed with no picks.
 pub fn look(rt: &(impl Abort + Print), disk: &mut SectorDisk, word: &str, line: &str) {
     let bytes = word.as_bytes();
     if let [b'c', digits @ ..] = bytes {

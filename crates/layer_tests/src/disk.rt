@@ -9,7 +9,8 @@ use std::process::Abort;
 use std::test::Fail;
 use test_devices::{Failing, Lying, holds, is_same};
 
-// DeviceFrame through the words of a line: `w31` writes 1s to sector 3, `F31` does with FUA, `d32` discards 2 sectors from sector 3 on, `c12` crashes with the picks 1 and 2.
+// DeviceFrame through the words of a line: `w31` writes 1s to sector 3, `F31` does with FUA, `d32`
+// discards 2 sectors from sector 3 on, `c12` crashes with the picks 1 and 2.
 fn go(rt: &(impl Abort + Print), disk: &mut SectorDisk, line: &str) {
     for word in line.split(' ') {
         step(rt, disk, Ms::new(5), word, line);
@@ -129,7 +130,8 @@ fn check_round(rt: &impl Abort, disk: &mut SectorDisk, round: u64) {
     }
 }
 
-// 256,000 calls are kept, each of them as fast as the first: a disk that walks over its calls at each call takes far more than a test may.
+// 256,000 calls are kept, each of them as fast as the first: a disk that walks over its calls at
+// each call takes far more than a test may.
 #[test]
 fn thousands_of_calls_are_kept(rt: HostRuntime) -> Result<(), Fail> {
     let mut disk = SectorDisk::new(rt.alloc(), 64)?;

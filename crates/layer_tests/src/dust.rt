@@ -40,7 +40,8 @@ fn disk_of_16(alloc: Global) -> Result<SectorDisk, Fail> {
     Ok(SectorDisk::new(alloc, 16)?)
 }
 
-// The write of four sectors over blocks of two: its bad block stops it once, and leaves the list the next time.
+// The write of four sectors over blocks of two: its bad
+// block stops it once, and leaves the list the next time.
 const ONCE: &str = "m 1 addbadblock 3 1|ok
 m 1 enable|ok
 0 w 5 4 7|Io

@@ -9,10 +9,11 @@ use std::process::Abort;
 use std::test::Fail;
 use table_line::Feature;
 
-// Layers over a disk of 8 sectors of zeroes, a line each: the layer, then its calls. `@12` is the moment from here on, in
-// milliseconds. `w31+` writes 1s to sector 3, `F31+` does with FUA, `d32+` discards 2 sectors from sector 3 on, `f+` flushes and
-// `r31+` reads 1s from sector 3: `+` is an Ok at that moment, and `-` is Io. `#21` is 2 faults and 1 lie. `=` says what the
-// disk beneath holds after it all, and `!` what it holds after a crash with no picks.
+// Layers over a disk of 8 sectors of zeroes, a line each: the layer, then its calls. `@12` is the
+// moment from here on, in milliseconds. `w31+` writes 1s to sector 3, `F31+` does with FUA, `d32+`
+// discards 2 sectors from sector 3 on, `f+` flushes and `r31+` reads 1s from sector 3: `+` is an Ok
+// at that moment, and `-` is Io. `#21` is 2 faults and 1 lie. `=` says what the disk beneath holds
+// after it all, and `!` what it holds after a crash with no picks.
 const CALLS: &str = "error w31- F31- d32- r3- f- #50 =00000000
 fuse0 r30+ w31- d31- f- r30+ #30 =00000000
 fuse1 r30+ F31+ r31+ w32- r31+ d31- f- #30 =00010000 !00010000
@@ -114,7 +115,8 @@ fn layers_do_what_their_rules_say(rt: HostRuntime) -> Result<(), Fail> {
     Ok(())
 }
 
-// A delay of reads, of writes and discards, and of flushes; then one of flushes alone, over a flakey layer.
+// A delay of reads, of writes and discards, and of flushes;
+// then one of flushes alone, over a flakey layer.
 const DELAYED: &str = "100 w 0 1 1|120
 100 r 0 1|110 1
 100 d 0 1|120

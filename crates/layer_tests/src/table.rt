@@ -21,8 +21,8 @@ use test_devices::is_same;
 
 mod plain;
 
-// Lines for the lower layer over a disk of 16 sectors, which count from the moment 0 on, and for the upper one, which counts
-// from 3000 on.
+// Lines for the lower layer over a disk of 16 sectors, which count from the moment 0 on, and for
+// the upper one, which counts from 3000 on.
 const LOWER: &str = "0 12 linear disk 2
 0 12 error
 0 12 flakey disk 1 10 5
@@ -76,7 +76,8 @@ fn either<D: Drop>(put: Result<D, (D, Refusal)>) -> (D, Option<Refusal>) {
     }
 }
 
-// The disk under the layers of these lines, the lowest first, each loaded at its moment. A line that is refused puts no layer; so the last of them ends.
+// The disk under the layers of these lines, the lowest first, each loaded at its moment. A line
+// that is refused puts no layer; so the last of them ends.
 fn stack_of(
     rt: &impl Abort,
     alloc: Global,
@@ -171,7 +172,8 @@ fn plain_layers(rt: &impl Abort, alloc: Global, lines: &[(&str, u64)]) -> Result
     Ok(layers)
 }
 
-// Plays the calls on a device and on plain layers, and looks at the counts; what the plain layers' disk then holds.
+// Plays the calls on a device and on plain layers, and looks
+// at the counts; what the plain layers' disk then holds.
 fn play_all<D: BlockDev + Drop>(
     rt: &(impl Abort + Print),
     alloc: Global,

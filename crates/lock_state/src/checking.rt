@@ -1,8 +1,10 @@
 // What the queue compares with its history when a recorder closes.
-ghost use Rattle.std.specs.Prelude.{◌≡◌, ◌≢◌, ◌<◌, ◌≤◌, ℕ, IfOk, MatchBool, Option, Some, length, slice_get, true};
+ghost use Rattle.std.specs.Prelude.{◌≡◌, ◌≢◌, ◌<◌, ◌≤◌, ℕ, IfOk, MatchBool, Option, Some, length};
+ghost use Rattle.std.specs.Prelude.{slice_get, true};
 ghost use Rattle.log_format.specs.Entries.{is_sector_size};
 ghost use Rattle.pending.specs.CoreState.{items_of};
-ghost use Rattle.lock_state.specs.Comparing.{AreCauses, BeginsTaken, Each, Fails, IsItem, IsList, IsServed, listed, stop_cause_at};
+ghost use Rattle.lock_state.specs.Comparing.{AreCauses, BeginsTaken, Each, Fails, IsItem, IsList};
+ghost use Rattle.lock_state.specs.Comparing.{IsServed, listed, stop_cause_at};
 ghost use Rattle.lock_state.specs.History.{end_place, stop_of};
 
 use crate::compare::{are_causes, are_passed, is_list_of};
@@ -31,14 +33,17 @@ impl<R: Run> QueueState<R> {
 
     /// Whether the seat's passed calls found where recording ended.
     pub fn has_passed(&self, seat: &SeatPart<R>) -> bool
-        ensures { MatchBool result (Each (λ place. end_place self.now.core.events ≡ Some place) seat.now.passed) (Fails (λ place. end_place self.now.core.events ≡ Some place) seat.now.passed) }
+        ensures { MatchBool result
+            (Each (λ place. end_place self.now.core.events ≡ Some place) seat.now.passed)
+            (Fails (λ place. end_place self.now.core.events ≡ Some place) seat.now.passed) }
     {
         are_passed(&self.end, seat.passed.as_slice())
     }
 
     /// Whether each cause that the seat was told is that of the first stop, or this one.
     pub fn has_told(&self, seat: &SeatPart<R>, end: Option<End>) -> bool
-        ensures { MatchBool result (AreCauses seat.now.told self.now.stop end) (AreCauses seat.now.told self.now.stop end → ⊥) }
+        ensures { MatchBool result (AreCauses seat.now.told self.now.stop end)
+            (AreCauses seat.now.told self.now.stop end → ⊥) }
     {
         are_causes(&seat.told, self.stop, end)
     }
@@ -54,7 +59,8 @@ impl<R: Run> QueueState<R> {
     // Whether this item was taken as number k.
     fn is_taken_as(&self, k: usize, item: &Item) -> bool
         requires { k < self.now.core.taken }
-        ensures { MatchBool result (slice_get (items_of self.now.core) k ≡ Some (listed item.now)) (slice_get (items_of self.now.core) k ≢ Some (listed item.now)) }
+        ensures { MatchBool result (slice_get (items_of self.now.core) k ≡ Some (listed item.now))
+            (slice_get (items_of self.now.core) k ≢ Some (listed item.now)) }
     {
         list_has_what_is_queued();
         let bytes = self.sector_bytes();
@@ -67,7 +73,8 @@ impl<R: Run> QueueState<R> {
 
     /// Whether these items are a beginning of what was taken.
     pub fn has_taken(&self, placed: &[Item]) -> bool
-        ensures { MatchBool result (BeginsTaken self.now.core placed.now) (BeginsTaken self.now.core placed.now → ⊥) }
+        ensures { MatchBool result (BeginsTaken self.now.core placed.now)
+            (BeginsTaken self.now.core placed.now → ⊥) }
     {
         if placed.len() > self.taken.len() {
             return false;
@@ -101,16 +108,20 @@ impl<R: Run> QueueState<R> {
         vec![in alloc; Seen::Never; self.core.events().len()]
     }
 
-    /// Whether each request that ended Ok stands just once among these calls, as a call that ended Ok. There is to be a note for each event; what the notes
-    /// were doesn't matter. Takes no memory.
+    /// Whether each request that ended Ok stands just once among these
+    /// calls, as a call that ended Ok. There is to be a note for each
+    /// event; what the notes were doesn't matter. Takes no memory.
     pub fn is_served(&self, calls: &[Done], notes: &mut [Seen]) -> bool
         requires { length self.now.core.events ≤ length notes.old }
-        ensures { MatchBool result (Each (IsServed self.now.core.events calls.now) self.now.core.events) (Fails (IsServed self.now.core.events calls.now) self.now.core.events) }
+        ensures { MatchBool result
+            (Each (IsServed self.now.core.events calls.now) self.now.core.events)
+            (Fails (IsServed self.now.core.events calls.now) self.now.core.events) }
     {
         is_served(self.core.events(), calls, notes)
     }
 
-    /// The cause of the Stop that stands in the history: none where there is none, also where logging stopped after the Close.
+    /// The cause of the Stop that stands in the history: none where there is none, also where
+    /// logging stopped after the Close.
     pub fn recorded_stop(&self) -> Option<End>
         ensures { result ≡ stop_of self.now.core.events }
     {
@@ -131,10 +142,12 @@ fn stop_at(events: &[CoreEvent], place: Id) -> Option<End>
     }
 }
 
-// Whether the item is of this id, with the entry of this event, in a log with sectors of so many bytes.
+// Whether the item is of this id, with the entry of this
+// event, in a log with sectors of so many bytes.
 fn is_item(item: &Item, id: Id, event: &CoreEvent, bytes: u64) -> bool
     requires { is_sector_size bytes ≡ true }
-    ensures { MatchBool result (IsItem bytes item.now id event.now) (IsItem bytes item.now id event.now → ⊥) }
+    ensures { MatchBool result (IsItem bytes item.now id event.now)
+        (IsItem bytes item.now id event.now → ⊥) }
 {
     item.id == id && is_entry_of(event, &item.entry, bytes)
 }

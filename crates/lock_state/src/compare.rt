@@ -1,5 +1,6 @@
 // What is compared when a recorder closes, as functions of lists.
-ghost use Rattle.std.specs.Prelude.{◌≡◌, ◌≢◌, ◌⊎◌, ◌&&◌, MatchBool, Option, Some, slice_get, length};
+ghost use Rattle.std.specs.Prelude.{◌≡◌, ◌≢◌, ◌⊎◌, ◌&&◌, MatchBool, Option, Some, slice_get};
+ghost use Rattle.std.specs.Prelude.{length};
 ghost use Rattle.bio.specs.declared.request.Bio.TheVariants.{Discard, Flush, Read, Write};
 ghost use Rattle.lock_state.specs.Comparing.{AreCauses, Each, Fails, MayBeTold, Names, is_of, of};
 ghost use Rattle.lock_state.specs.History.{own_at};
@@ -9,7 +10,8 @@ use bio::{Bio, CoreEvent, End, Id};
 
 // Whether the request is this write.
 fn is_write(bio: &Bio, first: u64, bytes: &[u8], flush: bool, fua: bool, meta: bool) -> bool
-    ensures { MatchBool result (bio.now ≡ Write first bytes.now flush fua meta) (bio.now ≢ Write first bytes.now flush fua meta) }
+    ensures { MatchBool result (bio.now ≡ Write first bytes.now flush fua meta)
+        (bio.now ≢ Write first bytes.now flush fua meta) }
 {
     match bio {
         Bio::Write {
@@ -113,7 +115,8 @@ fn same_event(one: &CoreEvent, other: &CoreEvent) -> bool
 
 // Whether the list has this event, with its place, at this number.
 fn is_at(list: &[Own], number: usize, place: u64, event: &CoreEvent) -> bool
-    ensures { MatchBool result (slice_get list.now number ≡ Some (own_at place event.now)) (slice_get list.now number ≢ Some (own_at place event.now)) }
+    ensures { MatchBool result (slice_get list.now number ≡ Some (own_at place event.now))
+        (slice_get list.now number ≢ Some (own_at place event.now)) }
 {
     match list.get(number) {
         None => false,
@@ -160,7 +163,8 @@ fn is_end(end: &Option<Id>, place: Id) -> bool
 
 /// Whether each passed call found that recording had ended at this place.
 pub fn are_passed(end: &Option<Id>, passed: &[Id]) -> bool
-    ensures { MatchBool result (Each (λ place. end.now ≡ Some place) passed.now) (Fails (λ place. end.now ≡ Some place) passed.now) }
+    ensures { MatchBool result (Each (λ place. end.now ≡ Some place) passed.now)
+        (Fails (λ place. end.now ≡ Some place) passed.now) }
 {
     for place in passed {
         if !is_end(end, *place) {
@@ -172,7 +176,8 @@ pub fn are_passed(end: &Option<Id>, passed: &[Id]) -> bool
 
 // Whether this cause is one of the two.
 fn is_cause(cause: End, stop: Option<End>, end: Option<End>) -> bool
-    ensures { MatchBool result ((stop ≡ Some cause) ⊎ (end ≡ Some cause)) (((stop ≡ Some cause) ⊎ (end ≡ Some cause)) → ⊥) }
+    ensures { MatchBool result ((stop ≡ Some cause) ⊎ (end ≡ Some cause))
+        (((stop ≡ Some cause) ⊎ (end ≡ Some cause)) → ⊥) }
 {
     stop == Some(cause) || end == Some(cause)
 }
@@ -203,7 +208,8 @@ fn are_all(one: bool, two: bool, three: bool) -> bool
 
 /// Whether a receipt names a settled item of its id.
 pub fn names(placed: &[Item], settled: u64, receipt: &Receipt) -> bool
-    ensures { MatchBool result (Names placed.now settled receipt.now) (Names placed.now settled receipt.now → ⊥) }
+    ensures { MatchBool result (Names placed.now settled receipt.now)
+        (Names placed.now settled receipt.now → ⊥) }
 {
     if receipt.number >= settled {
         return false;
@@ -216,7 +222,8 @@ pub fn names(placed: &[Item], settled: u64, receipt: &Receipt) -> bool
 
 /// Whether each receipt names a settled item of its id.
 pub fn are_named(placed: &[Item], settled: u64, receipts: &[Receipt]) -> bool
-    ensures { MatchBool result (Each (Names placed.now settled) receipts.now) (Fails (Names placed.now settled) receipts.now) }
+    ensures { MatchBool result (Each (Names placed.now settled) receipts.now)
+        (Fails (Names placed.now settled) receipts.now) }
 {
     for receipt in receipts {
         if !names(placed, settled, receipt) {

@@ -1,5 +1,6 @@
 // The recorded device, and the requests that were handed to it.
-ghost use Rattle.std.specs.Prelude.{◌≡◌, ◌⊎◌, ℕ, ◌≤◌, ◌/◌, List, [], ◌∷◌, ◌++◌, length, Ok, Err, OnOk, IfErr, true, false};
+ghost use Rattle.std.specs.Prelude.{◌≡◌, ◌⊎◌, ℕ, ◌≤◌, ◌/◌, List, [], ◌∷◌, ◌++◌, length, Ok, Err};
+ghost use Rattle.std.specs.Prelude.{OnOk, IfErr, true, false};
 ghost use Rattle.bio.specs.Check.{check_answer};
 ghost use Rattle.bio.specs.Possible.{values_of};
 ghost use Rattle.bio.specs.Requests.{is_tracked};
@@ -16,7 +17,8 @@ use blockdev::BlockDev;
 use std::alloc::Global;
 use std::marker::{Model, PhantomData};
 
-/// What lies under the data lock: the recorded device, and the requests that were handed to it, in order. Contracts see it as these two.
+/// What lies under the data lock: the recorded device, and the requests that were handed to it, in
+/// order. Contracts see it as these two.
 #[derive(Drop)]
 pub struct DataState<D: BlockDev + Drop, R: Run> {
     device: D,
@@ -47,24 +49,32 @@ impl<D: BlockDev + Drop, R: Run> DataState<D, R> {
         }
     }
 
-    /// Hands a request over to the device, and notes it: a write with flush as a flush, and then the write where the flush succeeded. Where there is no memory
-    /// for the note, the device isn't called, and nothing changes.
+    /// Hands a request over to the device, and notes it: a write with flush as a flush, and then
+    /// the write where the flush succeeded. Where there is no memory for the note, the device isn't
+    /// called, and nothing changes.
     pub fn apply(&mut self, now: Ms, id: Option<Id>, bio: &Bio) -> Result<(), DevError>
         requires tracked { is_tracked bio.now ≡ true }
         requires checked { check_answer bio.now R.sectors ≡ Ok tt }
 
-        // It makes these calls of the device, each of which ended well, and notes the request as one that succeeded.
-        ensures done { OnOk result (self.new.calls ≡ self.old.calls ++ done_call id bio.now true ∷ []) }
-        ensures does { OnOk result (DoesInTurn D.does now (calls_of bio.now) self.old.device (Ok tt) self.new.device) }
+        // It makes these calls of the device, each of which ended
+        // well, and notes the request as one that succeeded.
+        ensures done { OnOk result
+            (self.new.calls ≡ self.old.calls ++ done_call id bio.now true ∷ []) }
+        ensures does { OnOk result
+            (DoesInTurn D.does now (calls_of bio.now) self.old.device (Ok tt) self.new.device) }
 
-        // Each sector that the request covers holds its value then, and each other what it held, unless the device told a lie.
+        // Each sector that the request covers holds its value then, and each other what it held,
+        // unless the device told a lie.
         ensures content { OnOk result ((D.shown self.new.device).lies ≡ 0 → (sector : ℕ) →
-            (D.shown self.new.device).content sector ≡ put (values_of bio.now) (D.shown self.old.device).content sector) }
+            (D.shown self.new.device).content sector
+            ≡ put (values_of bio.now) (D.shown self.old.device).content sector) }
 
-        // Else a call of the device ended by this error, and the request is noted as one that failed; or there was no memory for the note.
+        // Else a call of the device ended by this error, and the request is noted as one that
+        // failed; or there was no memory for the note.
         ensures failed { IfErr result (λ error. ((error ≡ Memory) × (self.new ≡ self.old))
             ⊎ ((self.new.calls ≡ self.old.calls ++ done_call id bio.now false ∷ [])
-            × DoesInTurn D.does now (calls_of bio.now) self.old.device (Err error) self.new.device)) }
+            × DoesInTurn D.does now (calls_of bio.now) self.old.device
+            (Err error) self.new.device)) }
     {
         self.done.reserve(1)?;
         let bio_kept = bio.clone()?;
@@ -77,23 +87,30 @@ impl<D: BlockDev + Drop, R: Run> DataState<D, R> {
         result
     }
 
-    /// Reads whole sectors of the device from `first` on: one call of it, which is no request that is noted.
+    /// Reads whole sectors of the device from `first` on:
+    /// one call of it, which is no request that is noted.
     pub fn read(&mut self, now: Ms, first: u64, buffer: &mut [u8]) -> Result<(), DevError>
         requires { IsByteRange R.sectors first (length buffer.old) }
         ensures calls { self.new.calls ≡ self.old.calls }
-        ensures bytes { OnOk result (buffer.new ≡ gather (D.shown self.old.device).content first (length buffer.old / 512)) }
-        ensures content { (sector : ℕ) → (D.shown self.new.device).content sector ≡ (D.shown self.old.device).content sector }
-        ensures does { IsRead D.does now first buffer.old buffer.new self.old.device result self.new.device }
+        ensures bytes { OnOk result
+            (buffer.new ≡ gather (D.shown self.old.device).content first
+            (length buffer.old / 512)) }
+        ensures content { (sector : ℕ)
+            → (D.shown self.new.device).content sector ≡ (D.shown self.old.device).content sector }
+        ensures does { IsRead D.does now first buffer.old buffer.new self.old.device result
+            self.new.device }
     {
         self.device.read(now, first, buffer)?;
         Ok(())
     }
 
-    /// The requests that were handed over, in order. Where the device told no lie, each sector that a request which ended Ok covers holds the value of one
-    /// after which none that ended Ok covers it.
+    /// The requests that were handed over, in order. Where the device
+    /// told no lie, each sector that a request which ended Ok covers
+    /// holds the value of one after which none that ended Ok covers it.
     pub fn done(&self) -> &[Done]
         ensures calls { result.now ≡ self.now.calls }
-        ensures holds { (D.shown self.now.device).lies ≡ 0 → Holds (D.shown self.now.device).content self.now.calls }
+        ensures holds { (D.shown self.now.device).lies ≡ 0
+            → Holds (D.shown self.now.device).content self.now.calls }
     {
         self.done.as_slice()
     }
@@ -114,15 +131,18 @@ impl<D: BlockDev + Drop, R: Run> DataState<D, R> {
     }
 }
 
-// Hands a request over to a device: a write with flush as a flush, and then the write where the flush succeeded.
+// Hands a request over to a device: a write with flush as a
+// flush, and then the write where the flush succeeded.
 fn do_request<D: BlockDev>(device: &mut D, now: Ms, bio: &Bio) -> Result<(), DevError>
     requires tracked { is_tracked bio.now ≡ true }
     requires checked { check_answer bio.now (D.shown device.old).size ≡ Ok tt }
     ensures size { (D.shown device.new).size ≡ (D.shown device.old).size }
     ensures lies { (D.shown device.old).lies ≤ (D.shown device.new).lies }
-    ensures patched { Patched (values_of bio.now) (D.shown device.old).content (D.shown device.new).content }
+    ensures patched { Patched (values_of bio.now) (D.shown device.old).content
+        (D.shown device.new).content }
     ensures whole { OnOk result ((D.shown device.new).lies ≡ 0 → (sector : ℕ) →
-        (D.shown device.new).content sector ≡ put (values_of bio.now) (D.shown device.old).content sector) }
+        (D.shown device.new).content sector
+        ≡ put (values_of bio.now) (D.shown device.old).content sector) }
     ensures does { DoesInTurn D.does now (calls_of bio.now) device.old result device.new }
 {
     match bio {
@@ -165,10 +185,13 @@ fn flush_and_write<D: BlockDev>(
     requires { IsByteRange (D.shown device.old).size first (length bytes.now) }
     ensures size { (D.shown device.new).size ≡ (D.shown device.old).size }
     ensures lies { (D.shown device.old).lies ≤ (D.shown device.new).lies }
-    ensures patched { Patched (writes first bytes.now) (D.shown device.old).content (D.shown device.new).content }
+    ensures patched { Patched (writes first bytes.now) (D.shown device.old).content
+        (D.shown device.new).content }
     ensures whole { OnOk result ((D.shown device.new).lies ≡ 0 → (sector : ℕ) →
-        (D.shown device.new).content sector ≡ put (writes first bytes.now) (D.shown device.old).content sector) }
-    ensures does { DoesInTurn D.does now (Flushes ∷ Writes first bytes.now fua ∷ []) device.old result device.new }
+        (D.shown device.new).content sector
+        ≡ put (writes first bytes.now) (D.shown device.old).content sector) }
+    ensures does { DoesInTurn D.does now
+        (Flushes ∷ Writes first bytes.now fua ∷ []) device.old result device.new }
 {
     device.flush(now)?;
     device.write(now, first, bytes, fua)?;

@@ -16,7 +16,8 @@ pub struct Item {
     pub entry: Entry,
 }
 
-/// A request that was handed to the recorded device: its id, where it is recorded, and whether it succeeded.
+/// A request that was handed to the recorded device: its
+/// id, where it is recorded, and whether it succeeded.
 #[derive(Debug, Drop)]
 pub struct Done {
     pub id: Option<Id>,
@@ -50,7 +51,8 @@ pub enum Unplaced {
     Ended(End),
 }
 
-/// Says that the entry of this request or mark stands in each log that a crash leaves, as the entry of this number, counted from 0.
+/// Says that the entry of this request or mark stands in each log that a crash leaves, as the entry
+/// of this number, counted from 0.
 #[derive(Clone, Copy, Debug, PartialEq, Eq)]
 pub struct Receipt {
     pub id: Id,

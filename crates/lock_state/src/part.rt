@@ -12,8 +12,9 @@ use std::marker::{Model, PhantomData};
 use std::mem::swap;
 use std::sync::ledger::Share;
 
-/// A seat's part: its number, its recorded events with their places, the places at which its passed calls found that recording had ended, the causes that it
-/// was told, and its request that is under way.
+/// A seat's part: its number, its recorded events with their places,
+/// the places at which its passed calls found that recording had ended,
+/// the causes that it was told, and its request that is under way.
 #[derive(Drop)]
 pub struct SeatPart<R: Run> {
     pub(crate) number: u64,
@@ -31,9 +32,16 @@ impl<R: Run> Model for SeatPart<R> {
 
     ghost Value = { Part };
 
-    ghost view = { λ s. record { number = s.number; own = s.own.items; passed = s.passed.items; told = s.told; under_way = s.under_way } };
+    ghost view = { λ s. record {
+      number = s.number;
+      own = s.own.items;
+      passed = s.passed.items;
+      told = s.told;
+      under_way = s.under_way;
+    } };
 
-    ghost invariant = { λ s. (s.share.amount ≡ length s.own.items) × (s.share.parts ≡ 1) × (IsSome s.under_way → vec_len s.own < vec_capacity s.own)
+    ghost invariant = { λ s. (s.share.amount ≡ length s.own.items) × (s.share.parts ≡ 1)
+        × (IsSome s.under_way → vec_len s.own < vec_capacity s.own)
         × (s.holder.number ≡ s.number) × (s.holder.held ≡ s.under_way) };
 }
 
@@ -66,11 +74,14 @@ impl<R: Run> SeatPart<R> {
         self.under_way
     }
 
-    // Two seats' events and passed calls change places, where they have as many events; else nothing changes.
+    // Two seats' events and passed calls change places,
+    // where they have as many events; else nothing changes.
     fn exchange_calls<C: Run>(&mut self, other: &mut SeatPart<C>) -> bool
         requires idle { (self.old.under_way ≡ None) × (other.old.under_way ≡ None) }
         ensures why { result ≡ (length self.old.own == length other.old.own) }
-        ensures changed { result ≡ true → (self.new ≡ with_calls self.old other.old) × (other.new ≡ with_calls other.old self.old) }
+        ensures changed { result ≡ true
+            → (self.new ≡ with_calls self.old other.old)
+            × (other.new ≡ with_calls other.old self.old) }
         ensures same { result ≡ false → (self.new ≡ self.old) × (other.new ≡ other.old) }
     {
         if self.own.len() != other.own.len() {
@@ -101,8 +112,8 @@ impl<R: Run> SeatPart<R> {
     }
 }
 
-/// What a caller has of its seat: between two calls no request of it is under way. Contracts see it as its part. Whoever is lent the part owes that
-/// again at the end.
+/// What a caller has of its seat: between two calls no request of it is under way. Contracts see it
+/// as its part. Whoever is lent the part owes that again at the end.
 #[derive(Drop)]
 pub struct Seat<R: Run> {
     pub part: SeatPart<R>,
@@ -120,18 +131,22 @@ impl<R: Run> Model for Seat<R> {
 }
 
 impl<R: Run> Seat<R> {
-    /// Two seats' events and passed calls change places, where they have as many events; else nothing changes. So a seat's list may be that of another
-    /// recorder, which a recorder that closes is to find.
+    /// Two seats' events and passed calls change places, where they have
+    /// as many events; else nothing changes. So a seat's list may be that
+    /// of another recorder, which a recorder that closes is to find.
     pub fn exchange_calls<C: Run>(&mut self, other: &mut Seat<C>) -> bool
         ensures why { result ≡ (length self.old.own == length other.old.own) }
-        ensures changed { result ≡ true → (self.new ≡ with_calls self.old other.old) × (other.new ≡ with_calls other.old self.old) }
+        ensures changed { result ≡ true
+            → (self.new ≡ with_calls self.old other.old)
+            × (other.new ≡ with_calls other.old self.old) }
         ensures same { result ≡ false → (self.new ≡ self.old) × (other.new ≡ other.old) }
     {
         self.part.exchange_calls(&mut other.part)
     }
 }
 
-/// The writer's part: the item that it took and hasn't placed yet, if there is one. Contracts see it as that.
+/// The writer's part: the item that it took and hasn't
+/// placed yet, if there is one. Contracts see it as that.
 #[derive(Drop)]
 pub struct WriterPart<R: Run> {
     pub(crate) hand: Option<Item>,

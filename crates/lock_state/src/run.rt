@@ -3,8 +3,9 @@ use holders::Whose;
 use std::marker::Brand;
 use std::sync::ledger::Ledger;
 
-/// Names one shared recorder: the ledger of its seats, the table on which its queue and seats agree, how many sectors of 512 bytes its recorded
-/// device has, how many bytes a sector of its log has, and what its log's device was before the log was begun. So a seat of another recorder is
+/// Names one shared recorder: the ledger of its seats, the table on which its queue and seats
+/// agree, how many sectors of 512 bytes its recorded device has, how many bytes a sector of its log
+/// has, and what its log's device was before the log was begun. So a seat of another recorder is
 /// refused by its type.
 pub trait Run: Ledger + Whose {
     ghost use Rattle.std.specs.Prelude.{ℕ};
@@ -24,5 +25,10 @@ impl Run for Brand {
 
     ghost sector_bytes = { 512 };
 
-    ghost log = { record { size = 0; place = record { origin = 0; disk = 0 }; can_lie = false; lies = 0 } };
+    ghost log = { record {
+      size = 0;
+      place = record { origin = 0; disk = 0 };
+      can_lie = false;
+      lies = 0;
+    } };
 }

@@ -1,7 +1,9 @@
-// Whether each request that ended Ok was done just once. One walk over the calls and one over the events, with a note for each event.
+// Whether each request that ended Ok was done just once. One walk over the calls and one over the
+// events, with a note for each event.
 ghost use Rattle.std.specs.Prelude.{◌≡◌, ◌≤◌, ℕ, [], MatchBool, Some, length, slice_get};
 ghost use Rattle.lock_state.specs.declared.served.Seen.{Seen as Noted};
-ghost use Rattle.lock_state.specs.Comparing.{AllTell, Each, Fails, IsDoneOnce, IsNoted, IsServed, Tells, is_ok_of, seen_more};
+ghost use Rattle.lock_state.specs.Comparing.{AllTell, Each, Fails, IsDoneOnce, IsNoted, IsServed};
+ghost use Rattle.lock_state.specs.Comparing.{Tells, is_ok_of, seen_more};
 
 use crate::compare::same_bio;
 use crate::note::Done;
@@ -18,10 +20,12 @@ pub enum Seen {
     Again,
 }
 
-/// Whether each request that ended Ok was done just once, as that request. There is to be a note for each event; what the notes were doesn't matter.
+/// Whether each request that ended Ok was done just once, as that request. There is to be a note
+/// for each event; what the notes were doesn't matter.
 pub fn is_served(events: &[CoreEvent], calls: &[Done], notes: &mut [Seen]) -> bool
     requires { length events.now ≤ length notes.old }
-    ensures { MatchBool result (Each (IsServed events.now calls.now) events.now) (Fails (IsServed events.now calls.now) events.now) }
+    ensures { MatchBool result (Each (IsServed events.now calls.now) events.now)
+        (Fails (IsServed events.now calls.now) events.now) }
 {
     note_all(calls, notes);
     for event in events {
@@ -55,7 +59,8 @@ fn clear(notes: &mut [Seen])
 
 // Notes a call, that stands at this place.
 fn note(notes: &mut [Seen], place: usize, call: &Done)
-    ensures noted { (id : ℕ) (seen : Noted) → slice_get notes.new id ≡ Some seen → IsNoted notes.old place call.now id seen }
+    ensures noted { (id : ℕ) (seen : Noted) → slice_get notes.new id ≡ Some seen
+        → IsNoted notes.old place call.now id seen }
     ensures size { length notes.new ≡ length notes.old }
 {
     let Some(id) = call.id else {
@@ -85,7 +90,8 @@ fn more(seen: Seen, place: usize) -> Seen
 fn is_event_served(events: &[CoreEvent], calls: &[Done], notes: &[Seen], event: &CoreEvent) -> bool
     requires told { AllTell calls.now notes.now }
     requires size { length events.now ≤ length notes.now }
-    ensures { MatchBool result (IsServed events.now calls.now event.now) (IsServed events.now calls.now event.now → ⊥) }
+    ensures { MatchBool result (IsServed events.now calls.now event.now)
+        (IsServed events.now calls.now event.now → ⊥) }
 {
     match event {
         CoreEvent::Complete { id, ok: true } => is_done_once(events, calls, notes, id.place()),
@@ -97,7 +103,8 @@ fn is_event_served(events: &[CoreEvent], calls: &[Done], notes: &[Seen], event: 
 fn is_done_once(events: &[CoreEvent], calls: &[Done], notes: &[Seen], id: u64) -> bool
     requires told { AllTell calls.now notes.now }
     requires size { length events.now ≤ length notes.now }
-    ensures { MatchBool result (IsDoneOnce calls.now id (slice_get events.now id)) (IsDoneOnce calls.now id (slice_get events.now id) → ⊥) }
+    ensures { MatchBool result (IsDoneOnce calls.now id (slice_get events.now id))
+        (IsDoneOnce calls.now id (slice_get events.now id) → ⊥) }
 {
     let at = id as usize;
     if at >= events.len() {
@@ -109,7 +116,8 @@ fn is_done_once(events: &[CoreEvent], calls: &[Done], notes: &[Seen], id: u64) -
 // Whether a request was done just once, of which this was seen, as this event submits it.
 fn is_done_as(event: &CoreEvent, calls: &[Done], seen: Seen, id: u64) -> bool
     requires { Tells calls.now id seen }
-    ensures { MatchBool result (IsDoneOnce calls.now id (Some event.now)) (IsDoneOnce calls.now id (Some event.now) → ⊥) }
+    ensures { MatchBool result (IsDoneOnce calls.now id (Some event.now))
+        (IsDoneOnce calls.now id (Some event.now) → ⊥) }
 {
     let Seen::Once(place) = seen else {
         return false;

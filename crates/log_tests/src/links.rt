@@ -24,7 +24,8 @@ fn end(core: &mut Core, place: u64) {
     }
 }
 
-// So many requests are submitted and end, every seventh first; they have the places from this one on.
+// So many requests are submitted and end, every seventh
+// first; they have the places from this one on.
 fn end_all(core: &mut Core, from: u64, count: u64) -> Result<(), AllocError> {
     for sector in 0..count {
         submit(core, sector)?;
@@ -83,7 +84,8 @@ fn rows_shown(alloc: Global, core: &Core) -> Result<usize, AllocError> {
     Ok(rows.split(',').count())
 }
 
-// So many rounds: requests end, a flush ends, and all is taken. How many rows there are after the second and the last one.
+// So many rounds: requests end, a flush ends, and all is taken. How many rows there are after the
+// second and the last one.
 fn rounds(alloc: Global, count: u64, requests: u64) -> Result<(usize, usize), AllocError> {
     let mut core = Core::new(alloc)?;
     let mut second = 0;

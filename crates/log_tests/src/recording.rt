@@ -118,10 +118,11 @@ fn played(alloc: Global, core: &mut Core, steps: &str) -> Result<String, AllocEr
     format!(in alloc; "{shown}{}", core.events().len())
 }
 
-// Steps, and what is shown of them: a flush takes what ended before it; a FUA write is queued at its end,
-// failed or not, behind an older write of its sector, also of a discard's, and before those of other sectors; a busy core isn't closed;
-// nothing is queued after a stop; of two flushes the one that ends first takes what ended before it, also where it has data; recording goes
-// on after a take; and a mark waits for nothing.
+// Steps, and what is shown of them: a flush takes what ended before it; a FUA write is queued at
+// its end, failed or not, behind an older write of its sector, also of a discard's, and before
+// those of other sectors; a busy core isn't closed; nothing is queued after a stop; of two flushes
+// the one that ends first takes what ended before it, also where it has data; recording goes on
+// after a take; and a mark waits for nothing.
 const ROWS: &str =
     "write 10,write 20,write 30,end 2,end 1,flush,end 0,end 5,close,take=2 30+1 0;1 20+1 0;5 0+0 1;0 10+1 0;8 0+0 8;9
 fua 5,fail 0,take,take=0 5+1 2;2
@@ -161,7 +162,8 @@ fn write_one(alloc: Global, core: &mut Core, sector: u64, flags: u64) -> Result<
     Ok(())
 }
 
-// Of 8,192 writes that wait a FUA write takes the one of its sector; over another sector it takes none.
+// Of 8,192 writes that wait a FUA write takes the one of
+// its sector; over another sector it takes none.
 fn check_many(rt: &impl Abort, alloc: Global, core: &mut Core) -> Result<(), Fail> {
     for sector in 0..8192 {
         write_one(alloc, core, sector, 0)?;
@@ -217,7 +219,8 @@ fn submit_mixed(
     Ok(())
 }
 
-// Records requests of the mix, some without flushes and some with them, and marks; and ends and closes it all.
+// Records requests of the mix, some without flushes and
+// some with them, and marks; and ends and closes it all.
 fn record_mix(alloc: Global, core: &mut Core) -> Result<(), Fail> {
     let mut open = Vec::new(alloc);
     submit_mixed(alloc, core, &mut open, 2_000, false)?;

@@ -1,5 +1,6 @@
--- What a core never is, how many links a call may change, which numbers of entries belong to a moment, and which events are alike but for their results: examples that hold and
--- examples that don't.
+-- What a core never is, how many links a call may change, which
+-- numbers of entries belong to a moment, and which events are alike
+-- but for their results: examples that hold and examples that don't.
 use Rattle.std.proofs.Common.{◌≡◌, true, false, List, [], ◌∷◌, length, map, replicate, refl, arith}
 use Rattle.bio.specs.declared.event.CoreEvent.{CoreEvent}
 use Rattle.bio.specs.declared.event.CoreEvent.TheVariants.{Submit, Complete, Mark, Stop, Close}
@@ -7,19 +8,29 @@ use Rattle.bio.specs.declared.outcome.End.TheVariants.{Full}
 use Rattle.bio.specs.declared.request.Bio.TheVariants.{Write, Flush}
 use Rattle.pending.specs.Beginnings.{BelongsTo, queued_by}
 use Rattle.pending.specs.CompletionList.{dm_log_writes}
-use Rattle.pending.specs.CoreState.{CoreState, IsSound, LinksBound, items_of, new_state, queued_between}
+use Rattle.pending.specs.CoreState.{CoreState, IsSound, LinksBound, items_of, new_state}
+use Rattle.pending.specs.CoreState.{queued_between}
 use Rattle.pending.specs.Results.{as_success}
 
 -- a core of no events is sound
 sound : IsSound new_state
-sound = record { sector_size = refl; well_formed = refl; within = omega arith; unstopped = λ going. refl; going = λ recording. refl }
+sound =
+    record {
+      sector_size = refl;
+      well_formed = refl;
+      within = omega arith;
+      unstopped = λ going. refl;
+      going = λ recording. refl;
+    }
 
 -- one of a log whose sectors have 100 bytes isn't, nor one that gave an entry
 sector_size : IsSound (record new_state { sector_bytes = 100 }) → ⊥
 sector_size told = let size : false ≡ true = told.sector_size in cc
 
 within : IsSound (record new_state { taken = 1 }) → ⊥
-within told = let most = told.within in let none : length (items_of (record new_state { taken = 1 })) ≡ 0 = refl in omega arith
+within told =
+    let most = told.within in
+    let none : length (items_of (record new_state { taken = 1 })) ≡ 0 = refl in omega arith
 
 -- nor one that was closed twice, one that goes on after a Stop, or one that was stopped by none
 well_formed : IsSound (record new_state { events = Close ∷ Close ∷ [] }) → ⊥
@@ -31,9 +42,12 @@ unstopped told = let none : false ≡ true = told.unstopped refl in cc
 going : IsSound (record new_state { stopped = true }) → ⊥
 going told = let on : true ≡ false = told.going refl in cc
 
--- a write that goes into the log with the flush after it: none is queued by the first three events, and both by the fourth
+-- a write that goes into the log with the flush after it: none
+-- is queued by the first three events, and both by the fourth
 abbrev flushed : List CoreEvent
-flushed = Submit (Write 5 (replicate 512 65) false false false) ∷ Complete 0 true ∷ Submit Flush ∷ Complete 2 true ∷ []
+flushed =
+    Submit (Write 5 (replicate 512 65) false false false) ∷ Complete 0 true ∷ Submit
+    Flush ∷ Complete 2 true ∷ []
 
 by-third : queued_by (dm_log_writes 512) flushed 3 ≡ 0
 by-third = refl
@@ -46,10 +60,14 @@ belongs-none : BelongsTo (dm_log_writes 512) flushed 3 0
 belongs-none = let before = by-third in record { from = omega arith; to = omega arith }
 
 belongs-one : BelongsTo (dm_log_writes 512) flushed 3 1
-belongs-one = let before = by-third in let after = by-fourth in record { from = omega arith; to = omega arith }
+belongs-one =
+    let before = by-third in
+    let after = by-fourth in record { from = omega arith; to = omega arith }
 
 belongs-both : BelongsTo (dm_log_writes 512) flushed 3 2
-belongs-both = let before = by-third in let after = by-fourth in record { from = omega arith; to = omega arith }
+belongs-both =
+    let before = by-third in
+    let after = by-fourth in record { from = omega arith; to = omega arith }
 
 -- and not three, nor one to the moment after it or to one long before it
 belongs-three : BelongsTo (dm_log_writes 512) flushed 3 3 → ⊥
@@ -82,17 +100,21 @@ one_queued : queued_between new_state marked ≡ 1
 one_queued = refl
 
 -- with one entry queued 16 links may be changed
-links_kept : LinksBound (record { state = new_state; links = 3 }) (record { state = marked; links = 19 })
+links_kept : LinksBound (record { state = new_state; links = 3 })
+    (record { state = marked; links = 19 })
 links_kept = let one = one_queued in record { few = omega arith; rises = omega arith }
 
 -- and no more
-links_missed : LinksBound (record { state = new_state; links = 3 }) (record { state = marked; links = 20 }) → ⊥
+links_missed : LinksBound (record { state = new_state; links = 3 })
+    (record { state = marked; links = 20 }) → ⊥
 links_missed bound = let one = one_queued in let few = bound.few in absurd (omega arith)
 
 -- with none queued 8 may be
-links_idle : LinksBound (record { state = marked; links = 3 }) (record { state = marked; links = 12 }) → ⊥
+links_idle : LinksBound (record { state = marked; links = 3 })
+    (record { state = marked; links = 12 }) → ⊥
 links_idle bound = let few = bound.few in absurd (omega arith)
 
 -- the count never falls
-links_lost : LinksBound (record { state = marked; links = 3 }) (record { state = marked; links = 2 }) → ⊥
+links_lost : LinksBound (record { state = marked; links = 3 })
+    (record { state = marked; links = 2 }) → ⊥
 links_lost bound = let rises = bound.rises in absurd (omega arith)

@@ -1,5 +1,8 @@
--- What was durable at a moment is queued by then, and what a request finds ended before it, where they overlap or it has a flush, is queued first.
-use Rattle.std.proofs.Common.{◌≡◌, ℕ, ◌<◌, ◌≤◌, Bool, true, false, not, ◌&&◌, ◌||◌, Option, Some, None, List, [], ◌∷◌, ◌++◌, length, take, drop, refl, ap, sym, ◌∙◌, subst, inl, inr, arith, append-nil, append_assoc, length-append}
+-- What was durable at a moment is queued by then, and what a request finds ended before it, where
+-- they overlap or it has a flush, is queued first.
+use Rattle.std.proofs.Common.{◌≡◌, ℕ, ◌<◌, ◌≤◌, Bool, true, false, not, ◌&&◌, ◌||◌, Option, Some}
+use Rattle.std.proofs.Common.{None, List, [], ◌∷◌, ◌++◌, length, take, drop, refl, ap, sym, ◌∙◌}
+use Rattle.std.proofs.Common.{subst, inl, inr, arith, append-nil, append_assoc, length-append}
 use Rattle.std.proofs.Math.Nat.{eq-or-lt_of_le}
 use Rattle.std.proofs.lemmas.Bool.{and_parts, cases_lt, eq-eqb, lt-ltb, ltb-true}
 use Rattle.std.proofs.lemmas.List.{take-append-drop}
@@ -13,10 +16,14 @@ use Rattle.bio.specs.Events.{end_of, first_place, is_flush_submit, is_stop}
 use Rattle.bio.specs.Lawful.{is_well_formed}
 use Rattle.bio.specs.EventLaws.{length-beginning}
 use Rattle.log_format.specs.declared.entry.Entry.{Entry}
-use Rattle.pending.specs.QueueEvent.{first_need, is_at, is_needed_by, queue_event, queue_of, log_writes_order, unless_stopped}
-use Rattle.pending.specs.CompletionList.{IsListedAt, Item, completion_list, dm_log_writes, entry_at, own_end}
-use Rattle.pending.proofs.Ends.{ends-there, flush_submit-some, open-queue_event, own-queue_event, plain-queue_event, queued-within}
-use Rattle.pending.proofs.Linked.{linked-here, needed-flush, needed-linked, needing-recorded, recorded-earlier}
+use Rattle.pending.specs.QueueEvent.{first_need, is_at, is_needed_by, queue_event, queue_of}
+use Rattle.pending.specs.QueueEvent.{log_writes_order, unless_stopped}
+use Rattle.pending.specs.CompletionList.{IsListedAt, Item, completion_list, dm_log_writes, entry_at}
+use Rattle.pending.specs.CompletionList.{own_end}
+use Rattle.pending.proofs.Ends.{ends-there, flush_submit-some, open-queue_event, own-queue_event}
+use Rattle.pending.proofs.Ends.{plain-queue_event, queued-within}
+use Rattle.pending.proofs.Linked.{linked-here, needed-flush, needed-linked, needing-recorded}
+use Rattle.pending.proofs.Linked.{recorded-earlier}
 use Rattle.pending.proofs.OneStep.{is_at-some}
 use Rattle.pending.proofs.Order.{listed-queued, listed-sorted, queued-listed, unstopped}
 use Rattle.pending.proofs.Prefix.{queue_event_same, recorded_stable}
@@ -29,16 +36,21 @@ pub record IsMoment (events : List CoreEvent) (moment : ℕ) : Type 0 where
 
 -- the queue event of anything, in a longer list
 same-longer : (events more : List CoreEvent) (id p : ℕ) → p < length events
-    → is_at p (queue_event log_writes_order (events ++ more) id) ≡ is_at p (queue_event log_writes_order events id)
-same-longer events [] id p within = ap (λ es. is_at p (queue_event log_writes_order es id)) (append-nil events)
+    → is_at p (queue_event log_writes_order (events ++ more) id)
+    ≡ is_at p (queue_event log_writes_order events id)
+same-longer events [] id p within =
+    ap (λ es. is_at p (queue_event log_writes_order es id)) (append-nil events)
 same-longer events (event ∷ more) id p within =
     let size = length-append events (event ∷ []) in
-    ap (λ es. is_at p (queue_event log_writes_order es id)) (sym (append_assoc events (event ∷ []) more))
+    ap (λ es. is_at p (queue_event log_writes_order es id))
+    (sym (append_assoc events (event ∷ []) more))
     ∙ same-longer (events ++ event ∷ []) more id p (omega arith)
     ∙ queue_event_same log_writes_order recorded_stable events event id p within
 
 -- what a beginning of the events queues, they queue
-pub queued-longer : (events : List CoreEvent) (m id p : ℕ) → queue_event log_writes_order (take m events) id ≡ Some p → queue_event log_writes_order events id ≡ Some p
+pub queued-longer : (events : List CoreEvent) (m id p : ℕ)
+    → queue_event log_writes_order (take m events) id ≡ Some p
+    → queue_event log_writes_order events id ≡ Some p
 queued-longer events m id p queued =
     is_at-some p (queue_event log_writes_order events id) (
     ap (λ es. is_at p (queue_event log_writes_order es id)) (sym (take-append-drop m events))
@@ -47,7 +59,8 @@ queued-longer events m id p queued =
     ∙ eq-eqb p p refl)
 
 -- what they queue before a moment, the beginning up to it queues
-pub queued-shorter : (events : List CoreEvent) (m id p : ℕ) → m ≤ length events → p < m → queue_event log_writes_order events id ≡ Some p
+pub queued-shorter : (events : List CoreEvent) (m id p : ℕ) → m ≤ length events → p < m
+    → queue_event log_writes_order events id ≡ Some p
     → queue_event log_writes_order (take m events) id ≡ Some p
 queued-shorter events m id p within less queued =
     let long = length-beginning events m within in
@@ -68,12 +81,14 @@ going-on events moment p safe less = elim (option_cases (first_place is_stop eve
 ]
 
 -- what comes no later than what comes before the Stop comes before it
-in-time : (stop : Option ℕ) (first event : ℕ) → unless_stopped stop (Some event) ≡ Some event → first ≤ event
+in-time : (stop : Option ℕ) (first event : ℕ) → unless_stopped stop (Some event) ≡ Some event
+    → first ≤ event
     → unless_stopped stop (Some first) ≡ Some first
 in-time None first event e less = refl
 in-time (Some stop) first event e less = by_test (nat_lt event stop) refl e
   where
-    by_test : (b : Bool) → nat_lt event stop ≡ b → (if b then Some event else None) ≡ Some event → (if nat_lt first stop then Some first else None) ≡ Some first
+    by_test : (b : Bool) → nat_lt event stop ≡ b → (if b then Some event else None) ≡ Some event
+        → (if nat_lt first stop then Some first else None) ≡ Some first
     by_test true f e = ap (λ b. if b then Some first else None) (lt-ltb first stop (let before = ltb-true event stop f in omega arith))
     by_test false f e = cc
 
@@ -84,21 +99,28 @@ pub record EndsBefore (events : List CoreEvent) (moment id end : ℕ) : Type 0 w
   pub ends : end_of events id ≡ Some end
   pub before : end < moment
 
--- A durable request over a sector, of the events before the moment: it ended, and it is FUA, or ended before the submission of a flush that ended.
+-- A durable request over a sector, of the events before the moment: it ended, and it is FUA, or
+-- ended before the submission of a flush that ended.
 pub record IsDurableBefore (events : List CoreEvent) (moment sector id : ℕ) : Type 0 where
   pub end : ℕ
   pub there : EndsBefore events moment id end
   pub over : covers there.bio sector ≡ true
   pub durable : (has_fua there.bio ≡ true)
-      ⊎ ((flush : ℕ) × (flush_end : ℕ) × EndsBefore events moment flush flush_end × (is_flush_submit (slice_get events flush) ≡ true) × (end < flush))
+      ⊎ ((flush : ℕ) × (flush_end : ℕ) × EndsBefore events moment flush flush_end
+      × (is_flush_submit (slice_get events flush) ≡ true) × (end < flush))
 
 -- a need that holds at an event is first found no later
 pub need-found : (events : List CoreEvent) (id end event : ℕ) → event < length events → end < event
     → log_writes_order events end (slice_get events id) event (slice_get events event) ≡ true
-    → (first : ℕ) × (first_need log_writes_order events id (Some end) ≡ Some first) × (first ≤ event)
+    → (first : ℕ) × (first_need log_writes_order events id (Some end) ≡ Some first)
+    × (first ≤ event)
 need-found events id end event within less needed =
-    let test : ℕ → Bool = λ p. nat_lt end p && log_writes_order events end (slice_get events id) p (slice_get events p) in
-    let here : test event ≡ true = ap (λ b. b && log_writes_order events end (slice_get events id) event (slice_get events event)) (lt-ltb end event less) ∙ needed in
+    let test : ℕ → Bool =
+    λ p. nat_lt end p && log_writes_order events end (slice_get events id) p
+    (slice_get events p) in
+    let here : test event ≡ true =
+    ap (λ b. b && log_writes_order events end (slice_get events id) event
+    (slice_get events event)) (lt-ltb end event less) ∙ needed in
     elim (option_cases (first_need log_writes_order events id (Some end))) [
       | inl none ↦ let not_here = first_below-none test (length events) none event within in cc
       | inr some ↦
@@ -119,28 +141,41 @@ pub record IsQueuedBy (events : List CoreEvent) (id event : ℕ) : Type 0 where
   pub order : first_event ≤ event
 
 -- what an event needs is queued by then, where logging goes on up to that event
-pub queued-by : (events : List CoreEvent) (id end event : ℕ) (bio : Bio) → slice_get events id ≡ Some (Submit bio) → end_of events id ≡ Some end
-    → end < event → event < length events → log_writes_order events end (Some (Submit bio)) event (slice_get events event) ≡ true
-    → unless_stopped (first_place is_stop events) (Some event) ≡ Some event → IsQueuedBy events id event
+pub queued-by : (events : List CoreEvent) (id end event : ℕ) (bio : Bio)
+    → slice_get events id ≡ Some (Submit bio) → end_of events id ≡ Some end
+    → end < event → event < length events
+    → log_writes_order events end (Some (Submit bio)) event (slice_get events event) ≡ true
+    → unless_stopped (first_place is_stop events) (Some event) ≡ Some event
+    → IsQueuedBy events id event
 queued-by events id end event bio is ends after within needed logging =
     let stop = first_place is_stop events in
     elim (bool_cases (has_flush bio || has_fua bio)) [
       | inl own ↦ record {
         first_event = end;
-        queued = own-queue_event events id bio is own ∙ ap (unless_stopped stop) ends ∙ in-time stop end event logging (omega arith);
+        queued =
+            own-queue_event events id bio is own ∙ ap (unless_stopped stop) ends
+            ∙ in-time stop end event logging (omega arith);
         order = omega arith;
       }
       | inr plain ↦
-          let found = need-found events id end event within after (ap (λ there. log_writes_order events end there event (slice_get events event)) is ∙ needed) in record {
+          let found =
+          need-found events id end event within after
+          (ap (λ there. log_writes_order events end there event (slice_get events event)) is
+          ∙ needed) in
+          record {
             first_event = found.0;
-            queued = plain-queue_event events id end bio is plain ends ∙ ap (unless_stopped stop) found.1 ∙ in-time stop found.0 event logging found.2;
+            queued =
+                plain-queue_event events id end bio is plain ends ∙ ap (unless_stopped stop) found.1
+                ∙ in-time stop found.0 event logging found.2;
             order = found.2;
           }
     ]
 
 -- the end of a flush needs what ended before its submission
-flush-needs : (events : List CoreEvent) (flush flush_end end : ℕ) (bio last : Bio) → slice_get events flush ≡ Some (Submit last) → has_flush last ≡ true
-    → end_of events flush ≡ Some flush_end → end < flush → log_writes_order events end (Some (Submit bio)) flush_end (slice_get events flush_end) ≡ true
+flush-needs : (events : List CoreEvent) (flush flush_end end : ℕ) (bio last : Bio)
+    → slice_get events flush ≡ Some (Submit last) → has_flush last ≡ true
+    → end_of events flush ≡ Some flush_end → end < flush
+    → log_writes_order events end (Some (Submit bio)) flush_end (slice_get events flush_end) ≡ true
 flush-needs events flush flush_end end bio last is has ends less =
     let there = ends-there events flush flush_end ends in
     needing-recorded events end bio flush_end (slice_get events flush_end) (record {
@@ -154,7 +189,8 @@ flush-needs events flush flush_end end bio last is has ends less =
     })
 
 -- a durable request is queued before the moment
-pub durable-queued : (events : List CoreEvent) (moment sector id : ℕ) → IsMoment events moment → IsDurableBefore events moment sector id
+pub durable-queued : (events : List CoreEvent) (moment sector id : ℕ) → IsMoment events moment
+    → IsDurableBefore events moment sector id
     → (event : ℕ) × (queue_event log_writes_order events id ≡ Some event) × (event < moment)
 durable-queued events moment sector id safe durable =
     let there = durable.there in
@@ -198,22 +234,29 @@ pub record IsFound (events : List CoreEvent) (earlier later : ℕ) : Type 0 wher
   pub why : (overlaps first second ≡ true) ⊎ (has_flush second ≡ true)
 
 -- the own end of a request needs what it finds
-own-needs : (events : List CoreEvent) (earlier later event : ℕ) → (found : IsFound events earlier later) → (has_flush found.second || has_fua found.second) ≡ true
+own-needs : (events : List CoreEvent) (earlier later event : ℕ)
+    → (found : IsFound events earlier later)
+    → (has_flush found.second || has_fua found.second) ≡ true
     → is_needed_by events found.end found.first event later found.second ≡ true
 own-needs events earlier later event found own = elim found.why [
-  | inr flush ↦ needed-flush events found.end found.first event later found.second flush found.before
+  | inr flush ↦
+      needed-flush events found.end found.first event later found.second flush found.before
   | inl overlap ↦ elim (bool_cases (has_flush found.second)) [
-    | inl flush ↦ needed-flush events found.end found.first event later found.second flush found.before
+    | inl flush ↦
+        needed-flush events found.end found.first event later found.second flush found.before
     | inr other ↦
         let fua = ap (λ b. b || has_fua found.second) (sym other) ∙ own in
-        needed-linked events found.end found.first event later found.second fua (linked-here events found.second event event found.end found.first overlap)
+        needed-linked events found.end found.first event later found.second fua
+        (linked-here events found.second event event found.end found.first overlap)
   ]
 ]
 
 -- what a request finds is needed by the event that queues it
-found-needed : (events : List CoreEvent) (earlier later end event : ℕ) → (found : IsFound events earlier later) → end_of events later ≡ Some end
+found-needed : (events : List CoreEvent) (earlier later end event : ℕ)
+    → (found : IsFound events earlier later) → end_of events later ≡ Some end
     → queue_of log_writes_order events later (slice_get events later) ≡ Some event
-    → (log_writes_order events found.end (Some (Submit found.first)) event (slice_get events event) ≡ true) × (found.end < event)
+    → (log_writes_order events found.end (Some (Submit found.first)) event (slice_get events event)
+    ≡ true) × (found.end < event)
 found-needed events earlier later end event found ends queued =
     let second = found.second in
     let there = ends-there events later end ends in
@@ -223,7 +266,9 @@ found-needed events earlier later end event found ends queued =
           let by_own : Some end ≡ Some event =
           sym ends ∙ sym (ap (λ b. if b then end_of events later else first_need log_writes_order events later (end_of events later)) own) ∙ of_second in
           let same : end ≡ event = cc in
-          let P : ℕ → Type 0 = λ e. (log_writes_order events found.end (Some (Submit found.first)) e (slice_get events e) ≡ true) × (found.end < e) in
+          let P : ℕ → Type 0 =
+          λ e. (log_writes_order events found.end (Some (Submit found.first)) e
+          (slice_get events e) ≡ true) × (found.end < e) in
           subst P same (
             needing-recorded events found.end found.first end (slice_get events end) (record {
               id = later;
@@ -239,13 +284,21 @@ found-needed events earlier later end event found ends queued =
       | inr plain ↦
           let need : first_need log_writes_order events later (Some end) ≡ Some event =
           sym (ap (first_need log_writes_order events later) ends)
-          ∙ sym (ap (λ b. if b then end_of events later else first_need log_writes_order events later (end_of events later)) plain)
+          ∙ sym (ap (λ b. if b then end_of events later else first_need log_writes_order events
+          later (end_of events later)) plain)
           ∙ of_second in
-          let first = first_below-found (λ p. nat_lt end p && log_writes_order events end (slice_get events later) p (slice_get events p)) (length events) event need in
-          let parts = and_parts (nat_lt end event) (log_writes_order events end (slice_get events later) event (slice_get events event)) first.here in
+          let first =
+          first_below-found (λ p. nat_lt end p
+          && log_writes_order events end (slice_get events later) p (slice_get events p))
+          (length events) event need in
+          let parts =
+          and_parts (nat_lt end event)
+          (log_writes_order events end (slice_get events later) event
+          (slice_get events event)) first.here in
           let after = ltb-true end event parts.0 in
           let rises : found.end < end = let a = found.before in let b = there.1 in omega arith in (
-            recorded-earlier events found.end end later event found.first second (slice_get events event)
+            recorded-earlier events found.end end later event found.first second
+                (slice_get events event)
                 (record {
                   ok = there.2.0;
                   ends = there.2.1;
@@ -254,31 +307,40 @@ found-needed events earlier later end event found ends queued =
                   plain = ap (λ b. not b) plain;
                 })
                 rises after (meets plain found.why)
-                (ap (λ s. log_writes_order events end s event (slice_get events event)) (sym found.second_is) ∙ parts.1),
+                (ap (λ s. log_writes_order events end s event (slice_get events event))
+                (sym found.second_is) ∙ parts.1),
             omega arith,
           )
     ]
   where
-    meets : (has_flush found.second || has_fua found.second) ≡ false → (overlaps found.first found.second ≡ true) ⊎ (has_flush found.second ≡ true)
+    meets : (has_flush found.second || has_fua found.second) ≡ false
+        → (overlaps found.first found.second ≡ true) ⊎ (has_flush found.second ≡ true)
         → overlaps found.first found.second ≡ true
     meets plain (inl overlap) = overlap
     meets plain (inr flush) = absurd (let own = ap (λ b. b || has_fua found.second) flush in let contra : true ≡ false = sym own ∙ plain in cc)
 
 -- What a queued request finds is queued by the same event or before it.
-pub found-queued : (events : List CoreEvent) (earlier later event : ℕ) → (found : IsFound events earlier later) → queue_event log_writes_order events later ≡ Some event
+pub found-queued : (events : List CoreEvent) (earlier later event : ℕ)
+    → (found : IsFound events earlier later)
+    → queue_event log_writes_order events later ≡ Some event
     → IsQueuedBy events earlier event
 found-queued events earlier later event found queued = elim (option_cases (end_of events later)) [
-  | inl endless ↦ absurd (let none = open-queue_event events later found.second found.second_is endless in cc)
+  | inl endless ↦
+      absurd (let none = open-queue_event events later found.second found.second_is endless in cc)
   | inr some ↦
       let stop = first_place is_stop events in
-      let at = unstopped stop (queue_of log_writes_order events later (slice_get events later)) event queued in
+      let at =
+      unstopped stop (queue_of log_writes_order events later
+      (slice_get events later)) event queued in
       let needed = found-needed events earlier later some.0 event found some.1 at in
-      queued-by events earlier found.end event found.first found.first_is found.ends needed.1 (queued-within events later event queued) needed.0
+      queued-by events earlier found.end event found.first found.first_is found.ends needed.1
+      (queued-within events later event queued) needed.0
       (ap (unless_stopped stop) (sym at) ∙ queued)
 ]
 
 -- of a request and one that it finds the latter stands first
-pub found-first : (size : ℕ) (events : List CoreEvent) (earlier later i j : ℕ) (x y : Entry) → is_well_formed events ≡ true → IsFound events earlier later
+pub found-first : (size : ℕ) (events : List CoreEvent) (earlier later i j : ℕ) (x y : Entry)
+    → is_well_formed events ≡ true → IsFound events earlier later
     → slice_get (completion_list (dm_log_writes size) events) i ≡ Some (earlier, x)
     → slice_get (completion_list (dm_log_writes size) events) j ≡ Some (later, y) → i < j
 found-first size events earlier later i j x y well_formed found first second =
@@ -294,17 +356,24 @@ found-first size events earlier later i j x y well_formed found first second =
             let items = completion_list profile events in
             let of_later : Item = (later, y) in
             let of_earlier : Item = (earlier, x) in
-            let both_there : Some of_later ≡ Some of_earlier = sym second ∙ ap (slice_get items) same ∙ first in
+            let both_there : Some of_later ≡ Some of_earlier =
+            sym second ∙ ap (slice_get items) same ∙ first in
             let pair : of_later ≡ of_earlier = cc in
             let one : later ≡ earlier = ap (λ (item : Item). item.0) pair in
             absurd (let a = own.1 in let b = found.before in omega arith)
         | inr swapped ↦
-            let sorted = listed-sorted profile events j i (later, y) (earlier, x) well_formed swapped second first in
-            let first_same : sorted.first_event ≡ event = let a = sorted.first_queued.queues in let b = queues.1.2.queues in cc in
+            let sorted =
+            listed-sorted profile events j i (later, y)
+            (earlier, x) well_formed swapped second first in
+            let first_same : sorted.first_event ≡ event = let a = sorted.first_queued.queues in
+            let b = queues.1.2.queues in cc in
             let second_same : sorted.second_event ≡ queued.first_event = let a = sorted.second_queued.queues in let b = queued.queued in cc in
-            let early_end : own_end events earlier (slice_get events earlier) ≡ Some found.end = ap (own_end events earlier) found.first_is ∙ found.ends in
-            let ends_same : sorted.second_end ≡ found.end = let a = sorted.second_queued.ends in cc in
-            let late_end : end_of events later ≡ Some sorted.first_end = sym (ap (own_end events later) found.second_is) ∙ sorted.first_queued.ends in
+            let early_end : own_end events earlier (slice_get events earlier) ≡ Some found.end =
+            ap (own_end events earlier) found.first_is ∙ found.ends in
+            let ends_same : sorted.second_end ≡ found.end = let a = sorted.second_queued.ends in
+            cc in
+            let late_end : end_of events later ≡ Some sorted.first_end =
+            sym (ap (own_end events later) found.second_is) ∙ sorted.first_queued.ends in
             let after = (ends-there events later sorted.first_end late_end).1 in
             elim sorted.earlier [
               | inl sooner ↦ absurd (let a = queued.order in omega arith)
@@ -314,12 +383,17 @@ found-first size events earlier later i j x y well_formed found first second =
     ]
 
 -- What a request that stands in the list finds stands there before it.
-pub found-stands : (size : ℕ) (events : List CoreEvent) (earlier later j : ℕ) → is_well_formed events ≡ true → IsFound events earlier later
+pub found-stands : (size : ℕ) (events : List CoreEvent) (earlier later j : ℕ)
+    → is_well_formed events ≡ true → IsFound events earlier later
     → IsListedAt (completion_list (dm_log_writes size) events) later j
     → (i : ℕ) × IsListedAt (completion_list (dm_log_writes size) events) earlier i × (i < j)
 found-stands size events earlier later j well_formed found listed =
     let queues = listed-queued (dm_log_writes size) events j (later, listed.0) well_formed listed.1 in
     let queued = found-queued events earlier later queues.1.0 found queues.1.2.queues in
     let stands = queued-listed (dm_log_writes size) events earlier queued.first_event queued.queued in
-    let entry = entry_at size (slice_get events earlier) in
-    (stands.0, (entry, stands.1), found-first size events earlier later stands.0 j entry listed.0 well_formed found stands.1 listed.1)
+    let entry = entry_at size (slice_get events earlier) in (
+      stands.0,
+      (entry, stands.1),
+      found-first size events earlier later stands.0 j entry listed.0 well_formed found stands.1
+          listed.1,
+    )

@@ -1,5 +1,6 @@
 -- What replaying entries leaves in a sector: the value of the last entry that has one.
-use Rattle.std.proofs.Common.{◌≡◌, ℕ, zero, suc, ◌*◌, ◌<◌, Option, Some, None, List, [], ◌∷◌, true, length, take, refl, ap, sym, ◌∙◌, inl, inr, arith}
+use Rattle.std.proofs.Common.{◌≡◌, ℕ, zero, suc, ◌*◌, ◌<◌, Option, Some, None, List, [], ◌∷◌, true}
+use Rattle.std.proofs.Common.{length, take, refl, ap, sym, ◌∙◌, inl, inr, arith}
 use Rattle.std.specs.Prelude.{◌⊎◌, slice_get, option_map, unwrap_or}
 use Rattle.sectors.specs.Content.{Content, Patch, over, put, sector_of}
 use Rattle.sectors.specs.ContentLaws.{over_cases}
@@ -25,78 +26,100 @@ pub record LastAt (size : ℕ) (es : List Entry) (sector : ℕ) (now : List ℕ)
   pub entry : Entry
   pub is : slice_get es place ≡ Some entry
   pub value : entry_values size entry sector ≡ Some now
-  pub after : (k : ℕ) (later : Entry) → place < k → slice_get es k ≡ Some later → entry_values size later sector ≡ None
+  pub after : (k : ℕ) (later : Entry) → place < k → slice_get es k ≡ Some later
+      → entry_values size later sector ≡ None
 
 -- no entry has a value for the sector
 abbrev pub NoneAt : ℕ → List Entry → ℕ → Type 0
-NoneAt size es sector = (k : ℕ) (entry : Entry) → slice_get es k ≡ Some entry → entry_values size entry sector ≡ None
+NoneAt size es sector =
+    (k : ℕ) (entry : Entry) → slice_get es k ≡ Some entry → entry_values size entry sector ≡ None
 
 -- what is left in a sector
 pub last-value : (size : ℕ) (es : List Entry) (sector : ℕ) (first : Content)
-    → ((replay size es first sector ≡ first sector) × NoneAt size es sector) ⊎ LastAt size es sector (replay size es first sector)
+    → ((replay size es first sector ≡ first sector) × NoneAt size es sector)
+    ⊎ LastAt size es sector (replay size es first sector)
 last-value size [] sector first = inl (refl, λ k entry e. cc)
-last-value size (e ∷ es) sector first = elim (last-value size es sector (put (entry_values size e) first)) [
-  | inr last ↦ inr (record {
-    place = suc last.place;
-    entry = last.entry;
-    is = last.is;
-    value = last.value;
-    after = λ k later less there. after_one k later last.place less there last.after;
-  })
-  | inl none ↦ elim (option_cases (entry_values size e sector)) [
-    | inl nothing_here ↦ inl (
-      none.0 ∙ ap (λ v. unwrap_or v (first sector)) nothing_here,
-      λ k entry there. first_too k entry there nothing_here none.1,
-    )
-    | inr some ↦ inr (record {
-      place = 0;
-      entry = e;
-      is = refl;
-      value = some.1 ∙ ap (λ v. Some v) (sym (none.0 ∙ ap (λ v. unwrap_or v (first sector)) some.1));
-      after = λ k later less there. rest_only k later less there none.1;
-    })
-  ]
-]
+last-value size (e ∷ es) sector first =
+    elim (last-value size es sector (put (entry_values size e) first)) [
+      | inr last ↦ inr (record {
+        place = suc last.place;
+        entry = last.entry;
+        is = last.is;
+        value = last.value;
+        after = λ k later less there. after_one k later last.place less there last.after;
+      })
+      | inl none ↦ elim (option_cases (entry_values size e sector)) [
+        | inl nothing_here ↦ inl (
+          none.0 ∙ ap (λ v. unwrap_or v (first sector)) nothing_here,
+          λ k entry there. first_too k entry there nothing_here none.1,
+        )
+        | inr some ↦ inr (record {
+          place = 0;
+          entry = e;
+          is = refl;
+          value =
+              some.1 ∙ ap (λ v. Some v)
+              (sym (none.0 ∙ ap (λ v. unwrap_or v (first sector)) some.1));
+          after = λ k later less there. rest_only k later less there none.1;
+        })
+      ]
+    ]
   where
-    after_one : (k : ℕ) (later : Entry) (place : ℕ) → suc place < k → slice_get (e ∷ es) k ≡ Some later
-        → ((k : ℕ) (later : Entry) → place < k → slice_get es k ≡ Some later → entry_values size later sector ≡ None) → entry_values size later sector ≡ None
+    after_one : (k : ℕ) (later : Entry) (place : ℕ) → suc place < k
+        → slice_get (e ∷ es) k ≡ Some later
+        → ((k : ℕ) (later : Entry) → place < k → slice_get es k ≡ Some later
+        → entry_values size later sector ≡ None) → entry_values size later sector ≡ None
     after_one zero later place less there after = absurd (omega arith)
     after_one (suc k) later place less there after = after k later (omega arith) there
 
-    first_too : (k : ℕ) (entry : Entry) → slice_get (e ∷ es) k ≡ Some entry → entry_values size e sector ≡ None → NoneAt size es sector → entry_values size entry sector ≡ None
-    first_too zero entry there here none = let same : e ≡ entry = cc in ap (λ x. entry_values size x sector) (sym same) ∙ here
+    first_too : (k : ℕ) (entry : Entry) → slice_get (e ∷ es) k ≡ Some entry
+        → entry_values size e sector ≡ None → NoneAt size es sector
+        → entry_values size entry sector ≡ None
+    first_too zero entry there here none =
+        let same : e ≡ entry = cc in ap (λ x. entry_values size x sector) (sym same) ∙ here
     first_too (suc k) entry there here none = none k entry there
 
-    rest_only : (k : ℕ) (later : Entry) → 0 < k → slice_get (e ∷ es) k ≡ Some later → NoneAt size es sector → entry_values size later sector ≡ None
+    rest_only : (k : ℕ) (later : Entry) → 0 < k → slice_get (e ∷ es) k ≡ Some later
+        → NoneAt size es sector → entry_values size later sector ≡ None
     rest_only zero later less there none = absurd (omega arith)
     rest_only (suc k) later less there none = none k later there
 
 -- a range of no sectors has no values
-empty_range : (n first : ℕ) (value : ℕ → List ℕ) (sector : ℕ) → n ≡ 0 → over first n value sector ≡ None
+empty_range : (n first : ℕ) (value : ℕ → List ℕ) (sector : ℕ) → n ≡ 0
+    → over first n value sector ≡ None
 empty_range n first value sector none = elim (over_cases first n value sector) [
   | inl within ↦ absurd (let some = within.1 in omega arith)
   | inr nothing_here ↦ nothing_here
 ]
 
 -- the entry of what an event submits has the values of the request
-pub entry-values : (size : ℕ) (there : Option CoreEvent) (sector : ℕ) → is_sector_size size ≡ true → submits_aligned size there ≡ true
+pub entry-values : (size : ℕ) (there : Option CoreEvent) (sector : ℕ) → is_sector_size size ≡ true
+    → submits_aligned size there ≡ true
     → entry_values size (entry_at size there) sector ≡ values_at there sector
-entry-values size (Some (Submit bio)) sector right aligned = entries_keep_values size bio sector right aligned
-entry-values size (Some (Complete id ok)) sector right aligned = empty_range (0 * sectors_per size) (0 * sectors_per size) (sector_of []) sector (omega arith)
+entry-values size (Some (Submit bio)) sector right aligned =
+    entries_keep_values size bio sector right aligned
+entry-values size (Some (Complete id ok)) sector right aligned =
+    empty_range (0 * sectors_per size) (0 * sectors_per size) (sector_of []) sector (omega arith)
 entry-values size (Some (Mark text)) sector right aligned = refl
-entry-values size (Some (Stop cause)) sector right aligned = empty_range (0 * sectors_per size) (0 * sectors_per size) (sector_of []) sector (omega arith)
+entry-values size (Some (Stop cause)) sector right aligned =
+    empty_range (0 * sectors_per size) (0 * sectors_per size) (sector_of []) sector (omega arith)
 entry-values size (Some Close) sector right aligned = refl
-entry-values size None sector right aligned = empty_range (0 * sectors_per size) (0 * sectors_per size) (sector_of []) sector (omega arith)
+entry-values size None sector right aligned =
+    empty_range (0 * sectors_per size) (0 * sectors_per size) (sector_of []) sector (omega arith)
 
 -- each request that the events submit is aligned, and what stands at a place submits no other
-pub aligned-at : (size : ℕ) (events : List CoreEvent) (id : ℕ) → all_aligned size events ≡ true → submits_aligned size (slice_get events id) ≡ true
+pub aligned-at : (size : ℕ) (events : List CoreEvent) (id : ℕ) → all_aligned size events ≡ true
+    → submits_aligned size (slice_get events id) ≡ true
 aligned-at size events id aligned = elim (option_cases (slice_get events id)) [
   | inl none ↦ ap (submits_aligned size) none
-  | inr some ↦ all_below-each (λ place. submits_aligned size (slice_get events place)) (length events) aligned id (slice_get-within events id some.0 some.1)
+  | inr some ↦
+      all_below-each (λ place. submits_aligned size (slice_get events place))
+      (length events) aligned id (slice_get-within events id some.0 some.1)
 ]
 
 -- an entry of a beginning of items is one of the items
-pub entry-item : (items : List Item) (n k : ℕ) (entry : Entry) → slice_get (entries_of (take n items)) k ≡ Some entry
+pub entry-item : (items : List Item) (n k : ℕ) (entry : Entry)
+    → slice_get (entries_of (take n items)) k ≡ Some entry
     → (item : Item) × (slice_get items k ≡ Some item) × (item.1 ≡ entry) × (k < n)
 entry-item items zero k entry is = cc
 entry-item [] (suc n) k entry is = cc

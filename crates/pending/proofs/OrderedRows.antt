@@ -1,5 +1,6 @@
 -- The words of the ordered list: examples that hold, and examples that don't.
-use Rattle.std.proofs.Common.{◌≡◌, ℕ, zero, suc, ◌<◌, true, false, Some, List, [], ◌∷◌, replicate, refl, sym, ◌∙◌, arith}
+use Rattle.std.proofs.Common.{◌≡◌, ℕ, zero, suc, ◌<◌, true, false, Some, List, [], ◌∷◌, replicate}
+use Rattle.std.proofs.Common.{refl, sym, ◌∙◌, arith}
 use Rattle.std.specs.Prelude.{slice_get}
 use Rattle.bio.specs.declared.event.CoreEvent.{CoreEvent}
 use Rattle.bio.specs.declared.event.CoreEvent.TheVariants.{Submit, Complete, Stop, Close}
@@ -10,7 +11,8 @@ use Rattle.pending.specs.Chains.{AtFua, Chain, Direct, EndsPlain, IsFirstNeed, I
 use Rattle.pending.specs.Moments.{last_moment}
 use Rattle.pending.specs.QueueEvent.{ends_plain, is_linked, log_writes_order}
 use Rattle.pending.specs.declared.row.PendingEntry.{PendingEntry}
-use Rattle.pending.specs.inside.Releasing.{is_beyond, is_taken, kept_from, lies_in, queues_itself, ranges_meet, taken_from}
+use Rattle.pending.specs.inside.Releasing.{is_beyond, is_taken, kept_from, lies_in, queues_itself}
+use Rattle.pending.specs.inside.Releasing.{ranges_meet, taken_from}
 use Rattle.log_format.specs.Entries.{entry_of}
 use Rattle.pending.proofs.Words.{chain-linked, need-recorded}
 
@@ -24,7 +26,8 @@ last = Write 7 (replicate 512 51) false true false
 -- a write elsewhere, two that overlap, and a FUA write that overlaps the second
 abbrev linked : List CoreEvent
 linked =
-    Submit (wide 9 512) ∷ Complete 0 true ∷ Submit (wide 5 1024) ∷ Complete 2 true ∷ Submit (wide 6 1024) ∷ Complete 4 true
+    Submit (wide 9 512) ∷ Complete 0 true ∷ Submit (wide 5 1024) ∷ Complete 2 true ∷ Submit
+    (wide 6 1024) ∷ Complete 4 true
     ∷ Submit last ∷ Complete 6 true ∷ Close ∷ []
 
 -- the second of them ended; the FUA write isn't plain
@@ -36,7 +39,9 @@ not-plain told = let plain : false ≡ true = told.plain in cc
 
 -- from the first a chain leads through it
 chain : Chain linked last 7 3 (wide 5 1024)
-chain = Through 3 (wide 5 1024) 5 4 (wide 6 1024) ends (omega arith) (omega arith) refl (Direct 5 (wide 6 1024) refl)
+chain =
+    Through 3 (wide 5 1024) 5 4 (wide 6 1024) ends (omega arith) (omega arith) refl
+    (Direct 5 (wide 6 1024) refl)
 
 -- not from the write elsewhere, and not from the first where it ended last
 no-chain : Chain linked last 7 1 (wide 9 512) → ⊥
@@ -57,7 +62,8 @@ too-late told =
 need : IsNeed linked 3 (wide 5 1024) 7
 need = AtFua 6 true last refl (omega arith) refl refl chain
 
-no-need : (place : ℕ) → log_writes_order linked 3 (Some (Submit (wide 5 1024))) place (slice_get linked place) ≡ false → IsNeed linked 3 (wide 5 1024) place → ⊥
+no-need : (place : ℕ) → log_writes_order linked 3 (Some (Submit (wide 5 1024))) place
+    (slice_get linked place) ≡ false → IsNeed linked 3 (wide 5 1024) place → ⊥
 no-need place none told =
     let is = need-recorded linked 3 (wide 5 1024) place told in
     let contra : true ≡ false = sym is ∙ none in
@@ -89,7 +95,8 @@ last-before-stop = refl
 
 -- what the core keeps of the three writes
 abbrev pending : ℕ → Bio → ℕ → ℕ → ℕ → PendingEntry
-pending id bio first count end = record { id = id; entry = entry_of 512 bio; first = first; count = count; end = end }
+pending id bio first count end =
+    record { id = id; entry = entry_of 512 bio; first = first; count = count; end = end }
 
 abbrev q : PendingEntry
 q = pending 0 (wide 9 512) 9 1 1

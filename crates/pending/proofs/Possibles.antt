@@ -1,21 +1,26 @@
 -- Replaying a beginning of the log gives what the device could hold.
-use Rattle.std.proofs.Common.{◌≡◌, ℕ, suc, ◌+◌, ◌-◌, ◌/◌, ◌<◌, ◌≤◌, true, false, ◌&&◌, ◌||◌, Option, Some, None, List, length, take, drop, replicate, refl, ap, sym, ◌∙◌, inl, inr, arith}
+use Rattle.std.proofs.Common.{◌≡◌, ℕ, suc, ◌+◌, ◌-◌, ◌/◌, ◌<◌, ◌≤◌, true, false, ◌&&◌, ◌||◌, Option}
+use Rattle.std.proofs.Common.{Some, None, List, length, take, drop, replicate, refl, ap, sym, ◌∙◌}
+use Rattle.std.proofs.Common.{inl, inr, arith}
 use Rattle.std.proofs.lemmas.Bool.{and_parts}
 use Rattle.std.proofs.lemmas.List.{length-take, take-append-drop}
 use Rattle.std.specs.Prelude.{slice_get, unwrap_or}
 use Rattle.sectors.specs.Content.{Content, over, sector_of}
 use Rattle.sectors.specs.ContentLaws.{over-in, over_cases}
-use Rattle.sectors.specs.PlaceLaws.{bool_cases, option_cases, first_below-found, slice_get-append_front, slice_get-within}
+use Rattle.sectors.specs.PlaceLaws.{bool_cases, option_cases, first_below-found}
+use Rattle.sectors.specs.PlaceLaws.{slice_get-append_front, slice_get-within}
 use Rattle.bio.specs.declared.request.Bio.{Bio}
 use Rattle.bio.specs.declared.request.Bio.TheVariants as bios
 use Rattle.bio.specs.declared.event.CoreEvent.{CoreEvent}
 use Rattle.bio.specs.declared.event.CoreEvent.TheVariants.{Submit, Complete, Mark, Stop, Close}
 use Rattle.bio.specs.Requests.{covers, has_fua}
 use Rattle.bio.specs.RequestLaws.{covers-parts, covers-within, is_before-end, overlaps-common}
-use Rattle.bio.specs.Events.{end_of, first_place, is_before, is_end_of, is_flush_submit, is_stop, submits}
+use Rattle.bio.specs.Events.{end_of, first_place, is_before, is_end_of, is_flush_submit, is_stop}
+use Rattle.bio.specs.Events.{submits}
 use Rattle.bio.specs.Lawful.{all_aligned, is_well_formed, submits_aligned}
 use Rattle.bio.specs.EventLaws.{length-beginning, slice_get-take}
-use Rattle.bio.specs.Possible.{PossibleAt, covers_at, ended_ok, has_kept, is_durable, is_flushed, is_kept, is_replaced, is_success_at, values_at, values_of}
+use Rattle.bio.specs.Possible.{PossibleAt, covers_at, ended_ok, has_kept, is_durable, is_flushed}
+use Rattle.bio.specs.Possible.{is_kept, is_replaced, is_success_at, values_at, values_of}
 use Rattle.log_format.specs.declared.entry.Entry.{Entry}
 use Rattle.log_format.specs.Entries.{is_sector_size}
 use Rattle.log_format.specs.Replay.{replay}
@@ -23,16 +28,20 @@ use Rattle.pending.specs.QueueEvent.{queue_event, log_writes_order}
 use Rattle.pending.specs.CompletionList.{Item, completion_list, dm_log_writes, entry_at}
 use Rattle.pending.specs.Moments.{last_moment}
 use Rattle.pending.specs.Beginnings.{BelongsTo, entries_of}
-use Rattle.pending.proofs.Durable.{IsDurableBefore, IsFound, IsMoment, durable-queued, found-first, queued-longer, queued-shorter}
-use Rattle.pending.proofs.Ends.{ends-there, flush_submit-some, open-queue_event, queued-after, queued-within}
-use Rattle.pending.proofs.LastValue.{LastAt, NoneAt, aligned-at, entry-item, entry-values, entry_values, item-entry, last-value}
+use Rattle.pending.proofs.Durable.{IsDurableBefore, IsFound, IsMoment, durable-queued, found-first}
+use Rattle.pending.proofs.Durable.{queued-longer, queued-shorter}
+use Rattle.pending.proofs.Ends.{ends-there, flush_submit-some, open-queue_event, queued-after}
+use Rattle.pending.proofs.Ends.{queued-within}
+use Rattle.pending.proofs.LastValue.{LastAt, NoneAt, aligned-at, entry-item, entry-values}
+use Rattle.pending.proofs.LastValue.{entry_values, item-entry, last-value}
 use Rattle.pending.proofs.Order.{listed-queued, queued-listed}
 use Rattle.pending.proofs.Passing.{any_below-found, or_cases}
 use Rattle.pending.proofs.Prefix.{recorded_list_grows}
 use Rattle.pending.proofs.Standing.{found-longer, well_formed-beginning}
 
 -- a moment that is no later than the last one
-pub moment-from : (events : List CoreEvent) (moment : ℕ) → is_well_formed events ≡ true → moment ≤ last_moment events → IsMoment events moment
+pub moment-from : (events : List CoreEvent) (moment : ℕ) → is_well_formed events ≡ true
+    → moment ≤ last_moment events → IsMoment events moment
 moment-from events moment well_formed last = elim (option_cases (first_place is_stop events)) [
   | inl none ↦ record {
     well_formed = well_formed;
@@ -41,7 +50,10 @@ moment-from events moment well_formed last = elim (option_cases (first_place is_
   }
   | inr some ↦
       let same : last_moment events ≡ some.0 = ap (λ found. unwrap_or found (length events)) some.1 in
-      let inside = (first_below-found (λ k. is_stop (slice_get events k)) (length events) some.0 some.1).within in record {
+      let inside =
+      (first_below-found (λ k. is_stop (slice_get events k))
+      (length events) some.0 some.1).within in
+      record {
         well_formed = well_formed;
         within = omega arith;
         going = λ stop found. let one : some.0 ≡ stop = let a = some.1 in cc in omega arith;
@@ -59,29 +71,35 @@ covers-some (Some Close) sector h = cc
 covers-some None sector h = cc
 
 -- what ended with success ended
-success-end : (events : List CoreEvent) (found : Option ℕ) → is_success_at events found ≡ true → (end : ℕ) × (found ≡ Some end)
+success-end : (events : List CoreEvent) (found : Option ℕ) → is_success_at events found ≡ true
+    → (end : ℕ) × (found ≡ Some end)
 success-end events None h = cc
 success-end events (Some end) h = (end, refl)
 
 -- an end in a beginning of the events
-end-longer : (events : List CoreEvent) (moment id end : ℕ) → moment ≤ length events → end_of (take moment events) id ≡ Some end
+end-longer : (events : List CoreEvent) (moment id end : ℕ) → moment ≤ length events
+    → end_of (take moment events) id ≡ Some end
     → (end_of events id ≡ Some end) × (id < end) × (end < moment)
 end-longer events moment id end within ends =
     let there = ends-there (take moment events) id end ends in
     let long = length-beginning events moment within in (
-      ap (λ es. end_of es id) (sym (take-append-drop moment events)) ∙ found-longer (is_end_of id) (take moment events) (drop moment events) id end ends,
+      ap (λ es. end_of es id) (sym (take-append-drop moment events))
+          ∙ found-longer (is_end_of id) (take moment events) (drop moment events) id end ends,
       there.1,
       (let less = there.0 in omega arith),
     )
 
 -- a durable request over a sector, of the first events
-durable-of : (events : List CoreEvent) (moment sector id : ℕ) → moment ≤ length events → id < length (take moment events)
+durable-of : (events : List CoreEvent) (moment sector id : ℕ) → moment ≤ length events
+    → id < length (take moment events)
     → is_kept (take moment events) sector id ≡ true → IsDurableBefore events moment sector id
 durable-of events moment sector id within inside kept =
     let front = take moment events in
     let long = length-beginning events moment within in
     let parts = and_parts (is_durable front id) (covers_at sector (slice_get front id)) kept in
-    let why = and_parts (ended_ok front id) (submits has_fua (slice_get front id) || is_flushed front id) parts.0 in
+    let why =
+    and_parts (ended_ok front id)
+    (submits has_fua (slice_get front id) || is_flushed front id) parts.0 in
     let there = covers-some (slice_get front id) sector parts.1 in
     let end = success-end front (end_of front id) why.0 in
     let ends = end-longer events moment id end.0 within end.1 in record {
@@ -96,9 +114,13 @@ durable-of events moment sector id within inside kept =
       durable = elim (or_cases (submits has_fua (slice_get front id)) (is_flushed front id) why.1) [
         | inl fua ↦ inl (ap (submits has_fua) (sym there.1) ∙ fua)
         | inr flushed ↦
-            let found = any_below-found (λ flush. is_flush_submit (slice_get front flush) && (ended_ok front flush && is_before front id flush)) (length front) flushed in
+            let found =
+            any_below-found (λ flush. is_flush_submit (slice_get front flush)
+            && (ended_ok front flush && is_before front id flush)) (length front) flushed in
             let flush = found.0 in
-            let outer = and_parts (is_flush_submit (slice_get front flush)) (ended_ok front flush && is_before front id flush) found.2 in
+            let outer =
+            and_parts (is_flush_submit (slice_get front flush))
+            (ended_ok front flush && is_before front id flush) found.2 in
             let inner = and_parts (ended_ok front flush) (is_before front id flush) outer.1 in
             let some = flush_submit-some (slice_get front flush) outer.0 in
             let flush_end = success-end front (end_of front flush) inner.0 in
@@ -108,7 +130,12 @@ durable-of events moment sector id within inside kept =
             inr (
               flush,
               flush_end.0,
-              record { bio = some.0; submitted = sym same ∙ some.1; ends = flush_ends.0; before = flush_ends.2 },
+              record {
+                bio = some.0;
+                submitted = sym same ∙ some.1;
+                ends = flush_ends.0;
+                before = flush_ends.2;
+              },
               ap is_flush_submit (sym same) ∙ outer.0,
               (let one : before.0 ≡ end.0 = let a = before.1 in let b = end.1 in cc in let less = before.2 in omega arith),
             )
@@ -116,41 +143,55 @@ durable-of events moment sector id within inside kept =
     }
 
 -- the entry of what is queued before a moment stands among those queued by then
-stands-before : (size : ℕ) (events : List CoreEvent) (moment id event : ℕ) → moment ≤ length events → queue_event log_writes_order events id ≡ Some event → event < moment
-    → (k : ℕ) × (slice_get (completion_list (dm_log_writes size) events) k ≡ Some (id, entry_at size (slice_get (take moment events) id)))
+stands-before : (size : ℕ) (events : List CoreEvent) (moment id event : ℕ) → moment ≤ length events
+    → queue_event log_writes_order events id ≡ Some event → event < moment
+    → (k : ℕ) × (slice_get (completion_list (dm_log_writes size) events) k
+    ≡ Some (id, entry_at size (slice_get (take moment events) id)))
     × (k < length (completion_list (dm_log_writes size) (take moment events)))
 stands-before size events moment id event within queued less =
     let front = take moment events in
-    let listed = queued-listed (dm_log_writes size) front id event (queued-shorter events moment id event within less queued) in
-    let inside = slice_get-within (completion_list (dm_log_writes size) front) listed.0 (id, entry_at size (slice_get front id)) listed.1 in
+    let listed =
+    queued-listed (dm_log_writes size) front id event
+    (queued-shorter events moment id event within less queued) in
+    let inside =
+    slice_get-within (completion_list (dm_log_writes size) front) listed.0
+    (id, entry_at size (slice_get front id)) listed.1 in
     let grows = recorded_list_grows size front (drop moment events) in (
       listed.0,
-      ap (λ es. slice_get (completion_list (dm_log_writes size) es) listed.0) (sym (take-append-drop moment events))
+      ap (λ es. slice_get (completion_list (dm_log_writes size) es) listed.0)
+          (sym (take-append-drop moment events))
           ∙ ap (λ items. slice_get items listed.0) grows.1
-          ∙ slice_get-append_front (completion_list (dm_log_writes size) front) grows.0 listed.0 inside
+          ∙ slice_get-append_front
+          (completion_list (dm_log_writes size) front) grows.0 listed.0 inside
           ∙ listed.1,
       inside,
     )
 
--- What an item of the first so many is: queued by a moment's next event at the latest, and submitted before the moment.
+-- What an item of the first so many is: queued by a moment's next event at the latest, and
+-- submitted before the moment.
 record IsItemBy (size : ℕ) (events : List CoreEvent) (moment : ℕ) (item : Item) : Type 0 where
   event : ℕ
   queued : queue_event log_writes_order events item.0 ≡ Some event
   entry : item.1 ≡ entry_at size (slice_get events item.0)
   by_then : event ≤ moment
 
-item-by : (size : ℕ) (events : List CoreEvent) (moment k : ℕ) (item : Item) → is_well_formed events ≡ true
+item-by : (size : ℕ) (events : List CoreEvent) (moment k : ℕ) (item : Item)
+    → is_well_formed events ≡ true
     → slice_get (completion_list (dm_log_writes size) events) k ≡ Some item
-    → k < length (completion_list (dm_log_writes size) (take (suc moment) events)) → IsItemBy size events moment item
+    → k < length (completion_list (dm_log_writes size) (take (suc moment) events))
+    → IsItemBy size events moment item
 item-by size events moment k item well_formed is inside =
     let front = take (suc moment) events in
     let grows = recorded_list_grows size front (drop (suc moment) events) in
     let there : slice_get (completion_list (dm_log_writes size) front) k ≡ Some item =
     sym (slice_get-append_front (completion_list (dm_log_writes size) front) grows.0 k inside)
     ∙ ap (λ items. slice_get items k) (sym grows.1)
-    ∙ ap (λ es. slice_get (completion_list (dm_log_writes size) es) k) (take-append-drop (suc moment) events)
+    ∙ ap (λ es. slice_get (completion_list (dm_log_writes size) es) k)
+    (take-append-drop (suc moment) events)
     ∙ is in
-    let front_formed = well_formed-beginning front (drop (suc moment) events) (ap is_well_formed (take-append-drop (suc moment) events) ∙ well_formed) in
+    let front_formed =
+    well_formed-beginning front (drop (suc moment) events)
+    (ap is_well_formed (take-append-drop (suc moment) events) ∙ well_formed) in
     let listed = listed-queued (dm_log_writes size) front k item front_formed there in
     let whole = listed-queued (dm_log_writes size) events k item well_formed is in
     let event = listed.1.0 in
@@ -163,27 +204,32 @@ item-by size events moment k item well_formed is inside =
     }
 
 -- what is queued by a moment's next event was submitted before the moment
-item-before : (events : List CoreEvent) (moment id : ℕ) (bio : Bio) (event : ℕ) → is_well_formed events ≡ true → slice_get events id ≡ Some (Submit bio)
+item-before : (events : List CoreEvent) (moment id : ℕ) (bio : Bio) (event : ℕ)
+    → is_well_formed events ≡ true → slice_get events id ≡ Some (Submit bio)
     → queue_event log_writes_order events id ≡ Some event → event ≤ moment → id < moment
-item-before events moment id bio event well_formed is queued by_then = elim (option_cases (end_of events id)) [
-  | inl endless ↦ absurd (let none = open-queue_event events id bio is endless in cc)
-  | inr some ↦
-      let after = queued-after events id some.0 event (Some (Submit bio)) is refl some.1 queued in
-      let ended = (ends-there events id some.0 some.1).1 in
-      omega arith
-]
+item-before events moment id bio event well_formed is queued by_then =
+    elim (option_cases (end_of events id)) [
+      | inl endless ↦ absurd (let none = open-queue_event events id bio is endless in cc)
+      | inr some ↦
+          let after = queued-after events id some.0 event (Some (Submit bio)) is refl some.1 queued in
+          let ended = (ends-there events id some.0 some.1).1 in
+          omega arith
+    ]
 
 -- a value that a request puts in a sector covers it
-value-covers : (bio : Bio) (sector : ℕ) (now : List ℕ) → values_of bio sector ≡ Some now → covers bio sector ≡ true
-value-covers (bios.Write first bytes flush fua meta) sector now e = elim (over_cases first (length bytes / 512) (sector_of bytes) sector) [
-  | inl within ↦ covers-within (bios.Write first bytes flush fua meta) sector refl (let at = within.2 in omega arith) (let at = within.2 in let less = within.1 in omega arith)
-  | inr none ↦ cc
-]
+value-covers : (bio : Bio) (sector : ℕ) (now : List ℕ) → values_of bio sector ≡ Some now
+    → covers bio sector ≡ true
+value-covers (bios.Write first bytes flush fua meta) sector now e =
+    elim (over_cases first (length bytes / 512) (sector_of bytes) sector) [
+      | inl within ↦ covers-within (bios.Write first bytes flush fua meta) sector refl (let at = within.2 in omega arith) (let at = within.2 in let less = within.1 in omega arith)
+      | inr none ↦ cc
+    ]
 value-covers bios.Flush sector now e = cc
-value-covers (bios.Discard first count) sector now e = elim (over_cases first count (λ _. replicate 512 0) sector) [
-  | inl within ↦ covers-within (bios.Discard first count) sector refl (let at = within.2 in omega arith) (let at = within.2 in let less = within.1 in omega arith)
-  | inr none ↦ cc
-]
+value-covers (bios.Discard first count) sector now e =
+    elim (over_cases first count (λ _. replicate 512 0) sector) [
+      | inl within ↦ covers-within (bios.Discard first count) sector refl (let at = within.2 in omega arith) (let at = within.2 in let less = within.1 in omega arith)
+      | inr none ↦ cc
+    ]
 value-covers (bios.Read first count) sector now e = cc
 
 -- a request that covers a sector has a value for it
@@ -194,7 +240,9 @@ covers-value (bios.Write first bytes flush fua meta) sector h e =
     let here = ap (over first (length bytes / 512) (sector_of bytes)) at
     ∙ over-in first (length bytes / 512) (sector_of bytes) (sector - first) (let low = parts.1 in let high = parts.2 in omega arith) in
     cc
-covers-value bios.Flush sector h e = let parts = covers-parts bios.Flush sector h in let low = parts.1 in let high = parts.2 in omega arith
+covers-value bios.Flush sector h e =
+    let parts = covers-parts bios.Flush sector h in
+    let low = parts.1 in let high = parts.2 in omega arith
 covers-value (bios.Discard first count) sector h e =
     let parts = covers-parts (bios.Discard first count) sector h in
     let at : sector ≡ first + (sector - first) = let low = parts.1 in omega arith in
@@ -204,7 +252,8 @@ covers-value (bios.Discard first count) sector h e =
 covers-value (bios.Read first count) sector h e = cc
 
 -- an event that has a value for a sector submits a request
-value-some : (there : Option CoreEvent) (sector : ℕ) (now : List ℕ) → values_at there sector ≡ Some now → (bio : Bio) × (there ≡ Some (Submit bio))
+value-some : (there : Option CoreEvent) (sector : ℕ) (now : List ℕ)
+    → values_at there sector ≡ Some now → (bio : Bio) × (there ≡ Some (Submit bio))
 value-some (Some (Submit bio)) sector now e = (bio, refl)
 value-some (Some (Complete id ok)) sector now e = cc
 value-some (Some (Mark text)) sector now e = cc
@@ -212,23 +261,29 @@ value-some (Some (Stop cause)) sector now e = cc
 value-some (Some Close) sector now e = cc
 value-some None sector now e = cc
 
--- the events were recorded for a log with sectors of so many bytes: each request that they submit is aligned
+-- the events were recorded for a log with sectors of so
+-- many bytes: each request that they submit is aligned
 pub record IsSized (size : ℕ) (events : List CoreEvent) : Type 0 where
   pub right : is_sector_size size ≡ true
   pub aligned : all_aligned size events ≡ true
 
 -- a durable request over a sector has an entry with a value there, among those queued by the moment
-durable-entry : (size : ℕ) (events : List CoreEvent) (moment count sector id : ℕ) → IsSized size events → IsMoment events moment → BelongsTo (dm_log_writes size) events moment count
+durable-entry : (size : ℕ) (events : List CoreEvent) (moment count sector id : ℕ)
+    → IsSized size events → IsMoment events moment
+    → BelongsTo (dm_log_writes size) events moment count
     → (durable : IsDurableBefore events moment sector id)
-    → (k : ℕ) × (entry : Entry) × (slice_get (completion_list (dm_log_writes size) events) k ≡ Some (id, entry)) × (k < count)
-    × (slice_get (entries_of (take count (completion_list (dm_log_writes size) events))) k ≡ Some entry) × (entry_values size entry sector ≡ None → ⊥)
+    → (k : ℕ) × (entry : Entry)
+    × (slice_get (completion_list (dm_log_writes size) events) k ≡ Some (id, entry)) × (k < count)
+    × (slice_get (entries_of (take count (completion_list (dm_log_writes size) events))) k
+    ≡ Some entry) × (entry_values size entry sector ≡ None → ⊥)
 durable-entry size events moment count sector id sized safe belongs durable =
     let items = completion_list (dm_log_writes size) events in
     let there = durable.there in
     let queued = durable-queued events moment sector id safe durable in
     let stands = stands-before size events moment id queued.0 safe.within queued.1 queued.2 in
     let entry = entry_at size (slice_get (take moment events) id) in
-    let before : id < moment = let a = (ends-there events id durable.end there.ends).1 in let b = there.before in omega arith in
+    let before : id < moment = let a = (ends-there events id durable.end there.ends).1 in
+    let b = there.before in omega arith in
     let less : stands.0 < count = let a = stands.2 in let b = belongs.from in omega arith in (
       stands.0,
       entry,
@@ -236,35 +291,49 @@ durable-entry size events moment count sector id sized safe belongs durable =
       less,
       item-entry items count stands.0 (id, entry) stands.1 less,
       λ none. covers-value there.bio sector durable.over (
-          ap (λ found. values_at found sector) (sym (slice_get-take events moment id before ∙ there.submitted))
+          ap (λ found. values_at found sector)
+          (sym (slice_get-take events moment id before ∙ there.submitted))
           ∙ sym (entry-values size (slice_get (take moment events) id) sector sized.right
-          (ap (submits_aligned size) (slice_get-take events moment id before) ∙ aligned-at size events id sized.aligned))
+          (ap (submits_aligned size) (slice_get-take events moment id before)
+          ∙ aligned-at size events id sized.aligned))
           ∙ none),
     )
 
 -- where no entry has a value for the sector, nothing durable covers it
-none-kept : (size : ℕ) (events : List CoreEvent) (moment count sector : ℕ) → IsSized size events → IsMoment events moment → BelongsTo (dm_log_writes size) events moment count
-    → NoneAt size (entries_of (take count (completion_list (dm_log_writes size) events))) sector → has_kept (take moment events) sector ≡ false
-none-kept size events moment count sector sized safe belongs none = elim (bool_cases (has_kept (take moment events) sector)) [
-  | inl some ↦
-      let found = any_below-found (is_kept (take moment events) sector) (length (take moment events)) some in
-      let entry = durable-entry size events moment count sector found.0 sized safe belongs (durable-of events moment sector found.0 safe.within found.1 found.2) in
-      absurd (entry.5 (none entry.0 entry.1 entry.4))
-  | inr other ↦ other
-]
+none-kept : (size : ℕ) (events : List CoreEvent) (moment count sector : ℕ) → IsSized size events
+    → IsMoment events moment → BelongsTo (dm_log_writes size) events moment count
+    → NoneAt size (entries_of (take count (completion_list (dm_log_writes size) events))) sector
+    → has_kept (take moment events) sector ≡ false
+none-kept size events moment count sector sized safe belongs none =
+    elim (bool_cases (has_kept (take moment events) sector)) [
+      | inl some ↦
+          let found =
+          any_below-found (is_kept (take moment events) sector)
+          (length (take moment events)) some in
+          let entry =
+          durable-entry size events moment count sector found.0 sized safe belongs
+          (durable-of events moment sector found.0 safe.within found.1 found.2) in
+          absurd (entry.5 (none entry.0 entry.1 entry.4))
+      | inr other ↦ other
+    ]
 
 -- the request whose value is last is replaced by none that is durable
-last-unreplaced : (size : ℕ) (events : List CoreEvent) (moment count sector id place : ℕ) (now : List ℕ) (entry : Entry) → IsSized size events → IsMoment events moment
+last-unreplaced : (size : ℕ) (events : List CoreEvent) (moment count sector id place : ℕ)
+    (now : List ℕ) (entry : Entry) → IsSized size events → IsMoment events moment
     → BelongsTo (dm_log_writes size) events moment count
-    → (last : LastAt size (entries_of (take count (completion_list (dm_log_writes size) events))) sector now)
+    → (last : LastAt size (entries_of
+    (take count (completion_list (dm_log_writes size) events))) sector now)
     → slice_get (completion_list (dm_log_writes size) events) last.place ≡ Some (id, entry)
     → (bio : Bio) → slice_get events id ≡ Some (Submit bio) → covers bio sector ≡ true
     → is_replaced (take moment events) sector id ≡ false
-last-unreplaced size events moment count sector id place now entry sized safe belongs last stands bio submitted over =
+last-unreplaced size events moment count sector id place now entry sized safe belongs last stands
+    bio submitted over =
     let front = take moment events in
     elim (bool_cases (is_replaced front sector id)) [
       | inl replaced ↦
-          let found = any_below-found (λ later. is_kept front sector later && is_before front id later) (length front) replaced in
+          let found =
+          any_below-found (λ later. is_kept front sector later && is_before front id later)
+          (length front) replaced in
           let later = found.0 in
           let parts = and_parts (is_kept front sector later) (is_before front id later) found.2 in
           let durable = durable-of events moment sector later safe.within found.1 parts.0 in
@@ -281,15 +350,20 @@ last-unreplaced size events moment count sector id place now entry sized safe be
             why = inl ((overlaps-common bio second).1 (sector, over, durable.over));
           } in
           let there = durable-entry size events moment count sector later sized safe belongs durable in
-          let less = found-first size events id later last.place there.0 entry there.1 safe.well_formed both stands there.2 in
+          let less =
+          found-first size events id later last.place there.0 entry there.1 safe.well_formed
+          both stands there.2 in
           absurd (there.5 (last.after there.0 there.1 less there.4))
       | inr other ↦ other
     ]
 
 -- Each sector of what is replayed is possible.
-pub possible-at : (size : ℕ) (events : List CoreEvent) (first : Content) (moment count sector : ℕ) → IsSized size events → is_well_formed events ≡ true
+pub possible-at : (size : ℕ) (events : List CoreEvent) (first : Content) (moment count sector : ℕ)
+    → IsSized size events → is_well_formed events ≡ true
     → moment ≤ last_moment events → BelongsTo (dm_log_writes size) events moment count
-    → PossibleAt (take moment events) first (replay size (entries_of (take count (completion_list (dm_log_writes size) events))) first) sector
+    → PossibleAt (take moment events) first
+    (replay size (entries_of
+    (take count (completion_list (dm_log_writes size) events))) first) sector
 possible-at size events first moment count sector sized well_formed until belongs =
     let safe = moment-from events moment well_formed until in
     let items = completion_list (dm_log_writes size) events in
@@ -301,15 +375,22 @@ possible-at size events first moment count sector sized well_formed until belong
           let id = item.0.0 in
           let by = item-by size events moment last.place item.0 well_formed item.1 (let a = item.3 in let b = belongs.to in omega arith) in
           let value : values_at (slice_get events id) sector ≡ Some (replay size es first sector) =
-          sym (entry-values size (slice_get events id) sector sized.right (aligned-at size events id sized.aligned))
+          sym (entry-values size (slice_get events id) sector sized.right
+          (aligned-at size events id sized.aligned))
           ∙ ap (λ e. entry_values size e sector) (sym by.entry ∙ item.2)
           ∙ last.value in
           let some = value-some (slice_get events id) sector (replay size es first sector) value in
-          let over = value-covers some.0 sector (replay size es first sector) (ap (λ there. values_at there sector) (sym some.1) ∙ value) in
-          let before = item-before events moment id some.0 by.event well_formed some.1 by.queued by.by_then in
+          let over =
+          value-covers some.0 sector (replay size es first sector)
+          (ap (λ there. values_at there sector) (sym some.1) ∙ value) in
+          let before =
+          item-before events moment id some.0 by.event well_formed some.1 by.queued
+          by.by_then in
           inr (
             id,
             ap (λ there. values_at there sector) (slice_get-take events moment id before) ∙ value,
-            last-unreplaced size events moment count sector id last.place (replay size es first sector) item.0.1 sized safe belongs last item.1 some.0 some.1 over,
+            last-unreplaced size events moment count sector id last.place
+                (replay size es first sector) item.0.1 sized safe belongs last item.1 some.0 some.1
+                over,
           )
     ]

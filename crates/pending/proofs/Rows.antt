@@ -1,4 +1,5 @@
--- Event lists of logs that are known, and their completion lists by computation: each entry with the place of its submission.
+-- Event lists of logs that are known, and their completion lists by computation: each entry with
+-- the place of its submission.
 use Rattle.std.specs.Prelude.{◌≡◌, ℕ, true, false, List, [], ◌∷◌, map, replicate, Some}
 use Rattle.std.proofs.Common.{refl, ap}
 use Rattle.bio.specs.declared.event.CoreEvent.{CoreEvent}
@@ -35,12 +36,15 @@ close_alone-list = refl
 
 abbrev splice_order : List CoreEvent
 splice_order =
-    Submit (write 10 17) ∷ Submit (write 20 34) ∷ Submit (write 30 51) ∷ Complete 2 true ∷ Complete 1 true ∷ Submit Flush
+    Submit (write 10 17) ∷ Submit (write 20 34) ∷ Submit
+    (write 30 51) ∷ Complete 2 true ∷ Complete 1 true ∷ Submit Flush
     ∷ Complete 0 true ∷ Complete 5 true ∷ Close ∷ []
 
--- what ended before the flush's submission goes with it, in the order of the ends; what ended after it waits for the Close
+-- what ended before the flush's submission goes with it, in the
+-- order of the ends; what ended after it waits for the Close
 pub splice_order-list : completion_list (dm_log_writes 512) splice_order
-    ≡ (2, entry_of 512 (write 30 51)) ∷ (1, entry_of 512 (write 20 34)) ∷ (5, entry_of 512 Flush) ∷ (0, entry_of 512 (write 10 17)) ∷ (8, end_mark) ∷ []
+    ≡ (2, entry_of 512 (write 30 51)) ∷ (1, entry_of 512 (write 20 34)) ∷ (5, entry_of 512 Flush) ∷
+    (0, entry_of 512 (write 10 17)) ∷ (8, end_mark) ∷ []
 splice_order-list = refl
 
 pub splice_order-lawful : is_lawful 64 splice_order ≡ true
@@ -48,21 +52,25 @@ splice_order-lawful = refl
 
 abbrev fua_overtakes : List CoreEvent
 fua_overtakes =
-    Submit (write 5 97) ∷ Complete 0 true ∷ Submit (fua_write 5 98) ∷ Complete 2 true ∷ Submit Flush ∷ Complete 4 true ∷ Close ∷ []
+    Submit (write 5 97) ∷ Complete 0 true ∷ Submit
+    (fua_write 5 98) ∷ Complete 2 true ∷ Submit Flush ∷ Complete 4 true ∷ Close ∷ []
 
 -- a FUA write is queued at its own end, after an earlier plain write of its sector
 pub fua_overtakes-list : completion_list (dm_log_writes 512) fua_overtakes
-    ≡ (0, entry_of 512 (write 5 97)) ∷ (2, entry_of 512 (fua_write 5 98)) ∷ (4, entry_of 512 Flush) ∷ (6, end_mark) ∷ []
+    ≡ (0, entry_of 512 (write 5 97)) ∷ (2, entry_of 512 (fua_write 5 98)) ∷
+    (4, entry_of 512 Flush) ∷ (6, end_mark) ∷ []
 fua_overtakes-list = refl
 
 abbrev flush_overtakes : List CoreEvent
 flush_overtakes =
-    Submit (write 5 97) ∷ Complete 0 true ∷ Submit Flush ∷ Submit Flush ∷ Complete 3 true ∷ Submit (fua_write 9 99) ∷ Complete 5 true
+    Submit (write 5 97) ∷ Complete 0 true ∷ Submit Flush ∷ Submit Flush ∷ Complete 3 true ∷ Submit
+    (fua_write 9 99) ∷ Complete 5 true
     ∷ Complete 2 true ∷ Close ∷ []
 
 -- the write goes with the flush that ends first, though another was submitted before it
 pub flush_overtakes-list : completion_list (dm_log_writes 512) flush_overtakes
-    ≡ (0, entry_of 512 (write 5 97)) ∷ (3, entry_of 512 Flush) ∷ (5, entry_of 512 (fua_write 9 99)) ∷ (2, entry_of 512 Flush) ∷ (8, end_mark) ∷ []
+    ≡ (0, entry_of 512 (write 5 97)) ∷ (3, entry_of 512 Flush) ∷
+    (5, entry_of 512 (fua_write 9 99)) ∷ (2, entry_of 512 Flush) ∷ (8, end_mark) ∷ []
 flush_overtakes-list = refl
 
 pub flush_overtakes-event : queue_event log_writes_order flush_overtakes 0 ≡ Some 4
@@ -70,39 +78,49 @@ flush_overtakes-event = refl
 
 abbrev linked_writes : List CoreEvent
 linked_writes =
-    Submit (write 9 68) ∷ Complete 0 true ∷ Submit (Write 5 (replicate 1024 17) false false false) ∷ Complete 2 true
-    ∷ Submit (Write 6 (replicate 1024 34) false false false) ∷ Complete 4 true ∷ Submit (fua_write 7 51) ∷ Complete 6 true ∷ Close ∷ []
+    Submit (write 9 68) ∷ Complete 0 true ∷ Submit
+    (Write 5 (replicate 1024 17) false false false) ∷ Complete 2 true
+    ∷ Submit (Write 6 (replicate 1024 34) false false false) ∷ Complete 4 true ∷ Submit
+    (fua_write 7 51) ∷ Complete 6 true ∷ Close ∷ []
 
 -- a FUA write takes what it overlaps, and what that overlaps; what it isn't linked to waits
-pub linked_writes-places : map (λ item. item.0) (completion_list (dm_log_writes 512) linked_writes) ≡ 2 ∷ 4 ∷ 6 ∷ 0 ∷ 8 ∷ []
+pub linked_writes-places : map (λ item. item.0) (completion_list (dm_log_writes 512) linked_writes)
+    ≡ 2 ∷ 4 ∷ 6 ∷ 0 ∷ 8 ∷ []
 linked_writes-places = refl
 
-pub linked-by-another : is_linked linked_writes (fua_write 7 51) 7 7 3 (Write 5 (replicate 1024 17) false false false) ≡ true
+pub linked-by-another : is_linked linked_writes (fua_write 7 51) 7 7 3
+    (Write 5 (replicate 1024 17) false false false) ≡ true
 linked-by-another = refl
 
 -- not with no other between them, nor by one that ended before it
-pub linked-directly : is_linked linked_writes (fua_write 7 51) 7 0 3 (Write 5 (replicate 1024 17) false false false) ≡ false
+pub linked-directly : is_linked linked_writes (fua_write 7 51) 7 0 3
+    (Write 5 (replicate 1024 17) false false false) ≡ false
 linked-directly = refl
 
-pub linked-backwards : is_linked linked_writes (fua_write 7 51) 7 7 6 (Write 5 (replicate 1024 17) false false false) ≡ false
+pub linked-backwards : is_linked linked_writes (fua_write 7 51) 7 7 6
+    (Write 5 (replicate 1024 17) false false false) ≡ false
 linked-backwards = refl
 
 -- a write with flush and FUA takes what ended before its submission, and what it overlaps
 abbrev both_kinds : List CoreEvent
 both_kinds =
-    Submit (write 1 65) ∷ Complete 0 true ∷ Submit (Write 5 (replicate 512 66) true true false) ∷ Submit (write 5 67) ∷ Submit (write 9 68)
+    Submit (write 1 65) ∷ Complete 0 true ∷ Submit
+    (Write 5 (replicate 512 66) true true false) ∷ Submit (write 5 67) ∷ Submit (write 9 68)
     ∷ Complete 3 true ∷ Complete 4 true ∷ Complete 2 true ∷ Close ∷ []
 
-pub both_kinds-places : map (λ item. item.0) (completion_list (dm_log_writes 512) both_kinds) ≡ 0 ∷ 3 ∷ 2 ∷ 4 ∷ 8 ∷ []
+pub both_kinds-places : map (λ item. item.0) (completion_list (dm_log_writes 512) both_kinds)
+    ≡ 0 ∷ 3 ∷ 2 ∷ 4 ∷ 8 ∷ []
 both_kinds-places = refl
 
 abbrev discard_zeroes : List CoreEvent
 discard_zeroes =
-    Submit (write 1 127) ∷ Complete 0 true ∷ Submit (Discard 1 1) ∷ Complete 2 true ∷ Submit Flush ∷ Complete 4 true ∷ Close ∷ []
+    Submit (write 1 127) ∷ Complete 0 true ∷ Submit
+    (Discard 1 1) ∷ Complete 2 true ∷ Submit Flush ∷ Complete 4 true ∷ Close ∷ []
 
 -- a discard waits like a plain write
 pub discard_zeroes-list : completion_list (dm_log_writes 512) discard_zeroes
-    ≡ (0, entry_of 512 (write 1 127)) ∷ (2, entry_of 512 (Discard 1 1)) ∷ (4, entry_of 512 Flush) ∷ (6, end_mark) ∷ []
+    ≡ (0, entry_of 512 (write 1 127)) ∷ (2, entry_of 512 (Discard 1 1)) ∷ (4, entry_of 512 Flush) ∷
+    (6, end_mark) ∷ []
 discard_zeroes-list = refl
 
 abbrev marked : List CoreEvent
@@ -110,53 +128,84 @@ marked = Submit (write 5 65) ∷ Complete 0 true ∷ Mark (104 ∷ 101 ∷ 114 �
 
 -- a mark waits for nothing
 pub marked-list : completion_list (dm_log_writes 512) marked
-    ≡ (2, mark_entry 512 (104 ∷ 101 ∷ 114 ∷ 101 ∷ [])) ∷ (0, entry_of 512 (write 5 65)) ∷ (3, end_mark) ∷ []
+    ≡ (2, mark_entry 512 (104 ∷ 101 ∷ 114 ∷ 101 ∷ [])) ∷ (0, entry_of 512 (write 5 65)) ∷
+    (3, end_mark) ∷ []
 marked-list = refl
 
 -- nothing is queued from a Stop on
-pub stopped-list : completion_list (dm_log_writes 512) (Submit (fua_write 5 65) ∷ Submit Flush ∷ Complete 0 false ∷ Stop Full ∷ Complete 1 true ∷ Close ∷ [])
+pub stopped-list : completion_list (dm_log_writes 512)
+    (Submit (fua_write 5 65) ∷ Submit Flush ∷ Complete 0 false ∷ Stop Full ∷ Complete 1
+    true ∷ Close ∷ [])
     ≡ (0, entry_of 512 (fua_write 5 65)) ∷ []
 stopped-list = refl
 
 abbrev large_sectors : List CoreEvent
-large_sectors = Submit (Write 8 (replicate 4096 65) false true false) ∷ Complete 0 true ∷ Submit (Discard 16 24) ∷ Complete 2 true ∷ Close ∷ []
+large_sectors =
+    Submit (Write 8 (replicate 4096 65) false true false) ∷ Complete 0 true ∷ Submit
+    (Discard 16 24) ∷ Complete 2 true ∷ Close ∷ []
 
 -- in a log with sectors of 4096 bytes eight sectors of 512 bytes are one
 pub large_sectors-list : completion_list (dm_log_writes 4096) large_sectors
-    ≡ (0, record { sector = 1; nr_sectors = 1; flags = record no_flags { fua = true }; body = replicate 4096 65 })
-    ∷ (2, record { sector = 2; nr_sectors = 3; flags = record no_flags { discard = true }; body = [] })
+    ≡ (
+      0,
+      record {
+        sector = 1;
+        nr_sectors = 1;
+        flags = record no_flags { fua = true };
+        body = replicate 4096 65;
+      },
+    )
+    ∷ (
+      2,
+      record {
+        sector = 2;
+        nr_sectors = 3;
+        flags = record no_flags { discard = true };
+        body = [];
+      },
+    )
     ∷ (4, end_mark)
     ∷ []
 large_sectors-list = refl
 
 -- and this isn't its list in a log with sectors of 512 bytes
-pub large_sectors-differ : completion_list (dm_log_writes 512) large_sectors ≡ completion_list (dm_log_writes 4096) large_sectors → ⊥
+pub large_sectors-differ : completion_list (dm_log_writes 512) large_sectors
+    ≡ completion_list (dm_log_writes 4096) large_sectors → ⊥
 large_sectors-differ same = let sectors = ap (λ items. map (λ item. item.1.sector) items) same in cc
 
 -- two writes that end before one flush
 abbrev ends_in_order : List CoreEvent
 ends_in_order =
-    Submit (write 1 65) ∷ Submit (write 2 66) ∷ Complete 0 true ∷ Complete 1 true ∷ Submit Flush ∷ Complete 4 true ∷ Close ∷ []
+    Submit (write 1 65) ∷ Submit
+    (write 2 66) ∷ Complete 0 true ∷ Complete 1 true ∷ Submit Flush ∷ Complete 4
+    true ∷ Close ∷ []
 
 abbrev ends_crossed : List CoreEvent
 ends_crossed =
-    Submit (write 1 65) ∷ Submit (write 2 66) ∷ Complete 1 true ∷ Complete 0 true ∷ Submit Flush ∷ Complete 4 true ∷ Close ∷ []
+    Submit (write 1 65) ∷ Submit
+    (write 2 66) ∷ Complete 1 true ∷ Complete 0 true ∷ Submit Flush ∷ Complete 4
+    true ∷ Close ∷ []
 
 -- the places of a completion list's items
 abbrev places : List CoreEvent → List ℕ
 places events = map (λ item. item.0) (completion_list (dm_log_writes 512) events)
 
 -- which of them ended first makes a difference
-pub crossed-differ : completion_list (dm_log_writes 512) ends_in_order ≡ completion_list (dm_log_writes 512) ends_crossed → ⊥
-crossed-differ same = let order : places ends_in_order ≡ places ends_crossed = ap (map (λ item. item.0)) same in cc
+pub crossed-differ : completion_list (dm_log_writes 512) ends_in_order
+    ≡ completion_list (dm_log_writes 512) ends_crossed → ⊥
+crossed-differ same =
+    let order : places ends_in_order ≡ places ends_crossed = ap (map (λ item. item.0)) same in cc
 
--- a FUA write overtakes a plain one of another sector that ended before it, unless a flush ended between them
+-- a FUA write overtakes a plain one of another sector that
+-- ended before it, unless a flush ended between them
 abbrev no_flush : List CoreEvent
-no_flush = Submit (write 1 65) ∷ Complete 0 true ∷ Submit (fua_write 2 66) ∷ Complete 2 true ∷ Close ∷ []
+no_flush =
+    Submit (write 1 65) ∷ Complete 0 true ∷ Submit (fua_write 2 66) ∷ Complete 2 true ∷ Close ∷ []
 
 abbrev with_flush : List CoreEvent
 with_flush =
-    Submit (write 1 65) ∷ Complete 0 true ∷ Submit Flush ∷ Complete 2 true ∷ Submit (fua_write 2 66) ∷ Complete 4 true ∷ Close ∷ []
+    Submit (write 1 65) ∷ Complete 0 true ∷ Submit Flush ∷ Complete 2 true ∷ Submit
+    (fua_write 2 66) ∷ Complete 4 true ∷ Close ∷ []
 
 pub no_flush-places : places no_flush ≡ 2 ∷ 0 ∷ 4 ∷ []
 no_flush-places = refl

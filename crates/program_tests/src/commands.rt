@@ -14,7 +14,8 @@ use test_files::{Folder, OneFile};
 // A script of a write, a flush and a close.
 const FIRST: &str = "data 16\nlog 32\nw a 5 1 41\nc a\nf b\nc b\nclose\n";
 
-/// What a command line after the program's name tells of a folder's files: its status, its output and its faults, parted by `|`. A line feed is shown as `;`.
+/// What a command line after the program's name tells of a folder's files: its status, its output
+/// and its faults, parted by `|`. A line feed is shown as `;`.
 pub fn output_of<F: Files>(
     rt: &(impl Threads + Wait + Sync),
     alloc: Global,
@@ -100,7 +101,8 @@ fn check_outputs<F: Files>(
     Ok(())
 }
 
-// Where an allocation is refused (`rt try --test --fail-alloc N`) that is what is shown, in place of an answer.
+// Where an allocation is refused (`rt try --test --fail-alloc N`)
+// that is what is shown, in place of an answer.
 #[test]
 fn shows_want_of_memory(rt: HostRuntime) -> Result<(), Fail> {
     let mut folder = folder_of(rt.alloc(), FIRST)?;
@@ -201,7 +203,8 @@ const ROWS: &str = "| 0 | done |
 | 33 | PastEntries |
 | 34 | BadMoment |";
 
-// The page of the formats is printed as it is (`bench/outside.py` compares it with docs/FORMATS.md).
+// The page of the formats is printed as it is (`bench/outside.py` compares it with
+// docs/FORMATS.md).
 #[test]
 fn prints_the_formats(rt: HostRuntime) {
     let mut files = OneFile::new(b"".as_slice());

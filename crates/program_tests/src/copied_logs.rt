@@ -1,4 +1,5 @@
-// On generated scripts: each beginning of a copied log replays to what that beginning of the log replays to.
+// On generated scripts: each beginning of a copied log
+// replays to what that beginning of the log replays to.
 use crate::crashed_logs::{SECTORS, Sizes, log_of, script_of};
 use bio::SectorSize;
 use blockdev::BlockDev;
@@ -38,7 +39,8 @@ fn copy_of<L: BlockDev + Drop>(
     )
 }
 
-// Replays both logs one entry after another, each on a disk of zeroes, and compares what they leave after each.
+// Replays both logs one entry after another, each on a disk
+// of zeroes, and compares what they leave after each.
 fn compare<L: BlockDev + Drop, M: BlockDev + Drop>(
     rt: &impl Abort,
     alloc: Global,

@@ -1,5 +1,6 @@
-// Generated scripts under layers, crashed at each of their lines: the log that is found lists with no fault, and each beginning
-// of it replays to an image of which the verdict is yes at one of the moments at least.
+// Generated scripts under layers, crashed at each of their lines: the log
+// that is found lists with no fault, and each beginning of it replays to
+// an image of which the verdict is yes at one of the moments at least.
 use crate::commands::{folder_of, output_of};
 use std::alloc::{AllocError, Global};
 use std::io::Print;
@@ -150,7 +151,8 @@ fn judge_beginning(
     Ok(())
 }
 
-// Records a script that ends by a crash, and replays and judges each beginning of the log that is found.
+// Records a script that ends by a crash, and replays and
+// judges each beginning of the log that is found.
 fn force(
     rt: &(impl Abort + Print + Threads + Wait + Sync),
     alloc: Global,

@@ -52,7 +52,8 @@ fn check_lengths<F: Files>(
     Ok(())
 }
 
-// The image of a disk is written and read again: of several pieces, with zeroes before and behind the one sector that has this byte.
+// The image of a disk is written and read again: of several pieces, with zeroes before and behind
+// the one sector that has this byte.
 fn check_written<F: Files>(
     rt: &impl Abort,
     alloc: Global,
@@ -85,7 +86,8 @@ fn check_zeroes<F: Files>(
     check_written(rt, alloc, files, name, 1499, 7)
 }
 
-// Nothing is left beside a file that was written, and one that isn't there, or has no folder, is refused.
+// Nothing is left beside a file that was written, and one
+// that isn't there, or has no folder, is refused.
 fn check_gone<R: std::rt::Files + Abort, F: Files>(
     rt: &R,
     alloc: Global,
@@ -196,7 +198,8 @@ fn files_beside_are_kept(rt: HostRuntime) -> Result<(), Fail> {
     check_beside(&rt, rt.alloc(), &mut HostFiles::new(&rt))
 }
 
-// A file in the memory of the machine is a file as any other: it is replaced, though its name begins with /dev/.
+// A file in the memory of the machine is a file as any
+// other: it is replaced, though its name begins with /dev/.
 #[test]
 fn files_in_memory_are_replaced(rt: HostRuntime) -> Result<(), Fail> {
     let alloc = rt.alloc();

@@ -48,7 +48,8 @@ fn check_layers(
     Ok(())
 }
 
-// Each layer over each, and a fuse of 0 to 6 calls over both: where a log could be made, its entries are a beginning of the list.
+// Each layer over each, and a fuse of 0 to 6 calls over both: where a log could be made, its
+// entries are a beginning of the list.
 #[test]
 fn layers_leave_beginnings(rt: HostRuntime) -> Result<(), Fail> {
     let alloc = rt.alloc();
@@ -62,7 +63,8 @@ fn layers_leave_beginnings(rt: HostRuntime) -> Result<(), Fail> {
     Ok(())
 }
 
-// What is listed of the log that a script leaves; a whole list where it leaves none, since its device can't be written.
+// What is listed of the log that a script leaves; a whole list where it leaves none, since its
+// device can't be written.
 fn listed_of(
     rt: &(impl Threads + Wait + Sync),
     alloc: Global,

@@ -62,8 +62,8 @@ fn scripts_are_run(rt: HostRuntime) -> Result<(), Fail> {
     Ok(())
 }
 
-// Scripts of the same form, with how many events they leave, or the fault: a Close ends recording and a Stop logging, and what a line asks then
-// is no event.
+// Scripts of the same form, with how many events they leave, or the fault: a Close ends recording
+// and a Stop logging, and what a line asks then is no event.
 const REHEARSALS: &str = "log 32,r 5 1,turn,at 7=0
 log 32,w a 5 1 41,c a,f b,c b,close=5
 log 32,w a 5 1 41,c a,d b 4 1,mark here,c b=5

@@ -24,7 +24,8 @@ fn printed(alloc: Global, script: &Script) -> Result<String, AllocError> {
     }
 }
 
-// The sizes of a script's disks, its names, how many commands it has, and the lines of its text where the last of these and the one behind it stand.
+// The sizes of a script's disks, its names, how many commands it has, and the lines of its text
+// where the last of these and the one behind it stand.
 fn parts_of(alloc: Global, text: &[u8], script: &Script) -> Result<String, AllocError> {
     let mut names = String::new(alloc);
     for name in script.names() {
@@ -206,7 +207,8 @@ fn disks_have_layers(rt: HostRuntime) -> Result<(), Fail> {
     Ok(())
 }
 
-// A line, and each field of what it is read as; a name stands for each target, whose own fields stand behind it.
+// A line, and each field of what it is read as; a name
+// stands for each target, whose own fields stand behind it.
 const VALUES: &str = "0 16 linear a 8=LayerSpec { length: 16, offset: 8, target: Linear }
 0 7 error=LayerSpec { length: 7, offset: 0, target: Error }
 0 9 fuse b 2 3=LayerSpec { length: 9, offset: 2, target: Fuse { calls: 3 } }

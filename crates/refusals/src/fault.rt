@@ -9,7 +9,8 @@ use std::fmt;
 /// What a user reads: a refusal, and for a script the line that is at fault.
 #[derive(Clone, Copy, Debug, PartialEq, Eq)]
 pub struct Fault {
-    /// The line that is at fault, counted from 1; none where no line is to blame, as when memory ran out.
+    /// The line that is at fault, counted from 1; none
+    /// where no line is to blame, as when memory ran out.
     pub line: Option<u64>,
     pub refusal: Refusal,
 }

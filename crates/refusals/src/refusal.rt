@@ -135,7 +135,8 @@ impl Refusal {
         }
     }
 
-    /// The number, from 1 to 38. It stands for one refusal: its place in the list of all, counted from 1.
+    /// The number, from 1 to 38. It stands for one refusal:
+    /// its place in the list of all, counted from 1.
     #[tactic(auto, using(crate::specs::Table::number_names))]
     pub fn number(self) -> u8
         ensures number { result ≡ (row_of self).0 }

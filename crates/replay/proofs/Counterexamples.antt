@@ -1,5 +1,8 @@
--- For each clause of what a replay leaves and calls, and of the cause of a refusal, what breaks it, and is refused by it.
-use Rattle.std.proofs.Common.{◌≡◌, ℕ, zero, suc, ◌<◌, ◌≤◌, true, false, Option, Some, None, Result, Ok, Err, List, [], ◌∷◌, replicate, slice_index_or, refl, ap, subst, sym, ◌∙◌, inl, inr, arith}
+-- For each clause of what a replay leaves and calls, and of the
+-- cause of a refusal, what breaks it, and is refused by it.
+use Rattle.std.proofs.Common.{◌≡◌, ℕ, zero, suc, ◌<◌, ◌≤◌, true, false, Option, Some, None, Result}
+use Rattle.std.proofs.Common.{Ok, Err, List, [], ◌∷◌, replicate, slice_index_or, refl, ap, subst}
+use Rattle.std.proofs.Common.{sym, ◌∙◌, inl, inr, arith}
 use Rattle.std.specs.Prelude.{slice_get, unwrap_or}
 use Rattle.bio.specs.declared.outcome.DevError.{DevError}
 use Rattle.bio.specs.declared.outcome.DevError.TheVariants.{Io}
@@ -19,7 +22,9 @@ use Rattle.replay.specs.declared.fault.ReplayError.TheVariants as replays
 use Rattle.replay.specs.declared.upto.Upto.{Upto}
 use Rattle.replay.specs.declared.upto.Upto.TheVariants.{Count, Flush, Mark}
 use Rattle.replay.specs.Calls.{CallsBy, IsCalled, IsCalledTo, entry_calls}
-use Rattle.replay.specs.Replays.{AsksTooMany, HasReplayCause, IsApplied, IsAppliedInPart, IsUpto, KeepsTarget, LacksFlush, LacksMark, LeavesBy, ReachesPast, RefusesNoMore}
+use Rattle.replay.specs.Replays.{AsksTooMany, HasReplayCause, IsApplied, IsAppliedInPart, IsUpto}
+use Rattle.replay.specs.Replays.{KeepsTarget, LacksFlush, LacksMark, LeavesBy, ReachesPast}
+use Rattle.replay.specs.Replays.{RefusesNoMore}
 
 -- content of one value in each sector
 all : ℕ → Content
@@ -47,7 +52,18 @@ asks_mark other bytes = ⊥
 
 -- a device of 8 sectors of zeroes
 still : View
-still = record { size = 8; place = record { origin = 0; disk = 8 }; content = all 0; crash = λ left. Unit {0}; moment = 0; since = λ moment left. Unit {0}; faults = 1; lies = 1; can_lie = true }
+still =
+    record {
+      size = 8;
+      place = record { origin = 0; disk = 8 };
+      content = all 0;
+      crash = λ left. Unit {0};
+      moment = 0;
+      since = λ moment left. Unit {0};
+      faults = 1;
+      lies = 1;
+      can_lie = true;
+    }
 
 -- the write is applied where it is replayed, and not where its sector stays
 applied : IsApplied 512 (write ∷ []) 0 1 (all 0) (replay 512 (write ∷ []) (all 0))
@@ -63,7 +79,8 @@ applied_past : IsApplied 512 [] 0 1 (all 0) (all 0) → ⊥
 applied_past told = let there = told.some (omega arith) in omega arith
 
 -- an entry that isn't told of isn't applied, but by a target that refused in it
-applied_more : LeavesBy 512 (write ∷ []) 0 (all 0) (replay 512 (write ∷ []) (all 0)) 0 replays.PastTarget → ⊥
+applied_more : LeavesBy 512 (write ∷ []) 0 (all 0)
+    (replay 512 (write ∷ []) (all 0)) 0 replays.PastTarget → ⊥
 unfolding write all contents.over
 applied_more told = let same = one_value 1 0 (ap (λ (c : Content). c 5) told.content) in omega arith
 
@@ -88,22 +105,37 @@ upto_count es same = omega arith
 -- up to the first flush, which is included, and not up to the second one
 upto_flush : IsUpto Flush (write ∷ flush ∷ flush ∷ []) 0 2
 unfolding write flush
-upto_flush = (1, refl, record { element = flush; behind = omega arith; there = refl; is = record { flush = refl; no_mark = refl }; least = none })
+upto_flush = (
+  1,
+  refl,
+  record {
+    element = flush;
+    behind = omega arith;
+    there = refl;
+    is = record { flush = refl; no_mark = refl };
+    least = none;
+  },
+)
   where
-    none : (k : ℕ) (x : Entry) → 0 ≤ k → k < 1 → slice_get (write ∷ flush ∷ flush ∷ []) k ≡ Some x → IsFlush x → ⊥
+    none : (k : ℕ) (x : Entry) → 0 ≤ k → k < 1 → slice_get (write ∷ flush ∷ flush ∷ []) k ≡ Some x
+        → IsFlush x → ⊥
     none zero x low high there is =
-        let same : false ≡ true = ap (λ (o : Option Entry). (unwrap_or o write).flags.flush) there ∙ is.flush in cc
+        let same : false ≡ true =
+        ap (λ (o : Option Entry). (unwrap_or o write).flags.flush) there ∙ is.flush in
+        cc
     none (suc k) x low high there is = omega arith
 
 upto_second : IsUpto Flush (write ∷ flush ∷ flush ∷ []) 0 3 → ⊥
 unfolding flush
-upto_second (last, sum, first) = first.least 1 flush (omega arith) (omega arith) refl (record { flush = refl; no_mark = refl })
+upto_second (last, sum, first) =
+    first.least 1 flush (omega arith) (omega arith) refl (record { flush = refl; no_mark = refl })
 
 -- nor up to the second mark of a text
 upto_mark : (upto : Upto) → asks_mark upto [] → IsUpto upto (write ∷ mark ∷ mark ∷ []) 0 3 → ⊥
 unfolding mark
 upto_mark (Count n) asks told = absurd asks
-upto_mark (Mark text) asks (last, sum, first) = first.least 1 mark (omega arith) (omega arith) refl (record { mark = refl; body = sym asks })
+upto_mark (Mark text) asks (last, sum, first) =
+    first.least 1 mark (omega arith) (omega arith) refl (record { mark = refl; body = sym asks })
 upto_mark Flush asks told = absurd asks
 
 -- more entries are asked for than there are; just as many aren't
@@ -128,7 +160,8 @@ lacks none = none 1 flush (omega arith) refl (record { flush = refl; no_mark = r
 lacks_mark : (upto : Upto) → asks_mark upto [] → LacksMark upto (write ∷ mark ∷ []) 0 → ⊥
 unfolding mark
 lacks_mark (Count n) asks none = absurd asks
-lacks_mark (Mark text) asks none = none 1 mark (omega arith) refl (record { mark = refl; body = sym asks })
+lacks_mark (Mark text) asks none =
+    none 1 mark (omega arith) refl (record { mark = refl; body = sym asks })
 lacks_mark Flush asks none = absurd asks
 
 -- the write reaches past a target of 5 sectors, and not past one of 6
@@ -139,8 +172,10 @@ reaches = record { next = write; there = refl; past = omega arith }
 reaches_end : ReachesPast 512 (write ∷ []) 0 6 → ⊥
 unfolding write
 reaches_end told =
-    let sector : 5 ≡ told.next.sector = ap (λ (o : Option Entry). (unwrap_or o write).sector) told.there in
-    let count : 1 ≡ told.next.nr_sectors = ap (λ (o : Option Entry). (unwrap_or o write).nr_sectors) told.there in
+    let sector : 5 ≡ told.next.sector =
+    ap (λ (o : Option Entry). (unwrap_or o write).sector) told.there in
+    let count : 1 ≡ told.next.nr_sectors =
+    ap (λ (o : Option Entry). (unwrap_or o write).nr_sectors) told.there in
     let past = told.past in
     omega arith
 
@@ -157,53 +192,75 @@ keeps_lies : KeepsTarget still (record still { lies = 0 }) → ⊥
 unfolding still
 keeps_lies kept = let grows = kept.lies in omega arith
 
--- causes that aren't: too few entries, no flush or no mark after one that was applied, or too few in a search; a flush that is lacking where the log has a fault; a fault that it
--- hasn't; a reader that refuses for the first time by an earlier refusal; a target that didn't fail
-cause_applied : (old new : Reader) → HasReplayCause [] None (Count 1) old new still still 1 replays.PastEntries → ⊥
+-- causes that aren't: too few entries, no flush or no mark after one that was applied, or too few
+-- in a search; a flush that is lacking where the log has a fault; a fault that it hasn't; a reader
+-- that refuses for the first time by an earlier refusal; a target that didn't fail
+cause_applied : (old new : Reader)
+    → HasReplayCause [] None (Count 1) old new still still 1 replays.PastEntries → ⊥
 cause_applied old new cause = let none = cause.0 in omega arith
 
-cause_flush_later : (old new : Reader) → HasReplayCause [] None Flush old new still still 1 replays.NoFlush → ⊥
+cause_flush_later : (old new : Reader)
+    → HasReplayCause [] None Flush old new still still 1 replays.NoFlush → ⊥
 cause_flush_later old new cause = let none = cause.0 in omega arith
 
-cause_mark_later : (old new : Reader) (upto : Upto) → HasReplayCause [] None upto old new still still 1 replays.NoSuchMark → ⊥
+cause_mark_later : (old new : Reader) (upto : Upto)
+    → HasReplayCause [] None upto old new still still 1 replays.NoSuchMark → ⊥
 cause_mark_later old new upto cause = let none = cause.0 in omega arith
 
-cause_search : (old new : Reader) → HasReplayCause [] None Flush old new still still 0 replays.PastEntries → ⊥
+cause_search : (old new : Reader)
+    → HasReplayCause [] None Flush old new still still 0 replays.PastEntries → ⊥
 cause_search old new cause = cause.1
 
-cause_flush : (old new : Reader) → HasReplayCause [] (Some CutShort) Flush old new still still 0 replays.NoFlush → ⊥
+cause_flush : (old new : Reader)
+    → HasReplayCause [] (Some CutShort) Flush old new still still 0 replays.NoFlush → ⊥
 cause_flush old new cause = let none = cause.2 in cc
 
-cause_fault : (old new : Reader) (upto : Upto) → HasReplayCause [] None upto old new still still 0 (replays.Log (reads.Log CutShort)) → ⊥
+cause_fault : (old new : Reader) (upto : Upto)
+    → HasReplayCause [] None upto old new still still 0 (replays.Log (reads.Log CutShort)) → ⊥
 cause_fault old new upto cause = let some = cause.0 in cc
 
--- nor a fault behind what is asked for, told before it or after it; nor one after entries that were applied in a search
-cause_fault_early : (old new : Reader) → old.next ≡ 0 → HasReplayCause (write ∷ []) (Some CutShort) (Count 2) old new still still 0 (replays.Log (reads.Log CutShort)) → ⊥
+-- nor a fault behind what is asked for, told before it or after
+-- it; nor one after entries that were applied in a search
+cause_fault_early : (old new : Reader) → old.next ≡ 0
+    → HasReplayCause (write ∷ []) (Some CutShort) (Count 2) old new still still 0
+    (replays.Log (reads.Log CutShort)) → ⊥
 cause_fault_early old new first cause = let all = cause.1.0 in omega arith
 
-cause_fault_behind : (old new : Reader) → HasReplayCause (write ∷ []) (Some CutShort) (Count 1) old new still still 1 (replays.Log (reads.Log CutShort)) → ⊥
+cause_fault_behind : (old new : Reader)
+    → HasReplayCause (write ∷ []) (Some CutShort) (Count 1) old new still still 1
+    (replays.Log (reads.Log CutShort)) → ⊥
 cause_fault_behind old new cause = let fewer = cause.1.1 in omega arith
 
-cause_fault_found : (old new : Reader) → old.next ≡ 0 → HasReplayCause (flush ∷ []) (Some CutShort) Flush old new still still 0 (replays.Log (reads.Log CutShort)) → ⊥
+cause_fault_found : (old new : Reader) → old.next ≡ 0
+    → HasReplayCause (flush ∷ []) (Some CutShort) Flush old new still still 0
+    (replays.Log (reads.Log CutShort)) → ⊥
 unfolding flush
-cause_fault_found old new first cause = cause.1.1 0 flush (omega arith) refl (record { flush = refl; no_mark = refl })
+cause_fault_found old new first cause =
+    cause.1.1 0 flush (omega arith) refl (record { flush = refl; no_mark = refl })
 
-cause_fault_later : (old new : Reader) → HasReplayCause [] (Some CutShort) Flush old new still still 1 (replays.Log (reads.Log CutShort)) → ⊥
+cause_fault_later : (old new : Reader)
+    → HasReplayCause [] (Some CutShort) Flush old new still still 1
+    (replays.Log (reads.Log CutShort)) → ⊥
 cause_fault_later old new cause = let none = cause.1.0 in omega arith
 
-cause_failed : (old new : Reader) (upto : Upto) → old.failed ≡ false → HasReplayCause [] None upto old new still still 0 (replays.Log reads.Failed) → ⊥
+cause_failed : (old new : Reader) (upto : Upto) → old.failed ≡ false
+    → HasReplayCause [] None upto old new still still 0 (replays.Log reads.Failed) → ⊥
 cause_failed old new upto fresh cause = let same : false ≡ true = sym fresh ∙ cause in cc
 
-cause_target : (old new : Reader) (upto : Upto) → HasReplayCause [] None upto old new still still 0 (replays.Target Io) → ⊥
+cause_target : (old new : Reader) (upto : Upto)
+    → HasReplayCause [] None upto old new still still 0 (replays.Target Io) → ⊥
 unfolding still
-cause_target old new upto cause = elim (cause refl) [ inl grew ↦ omega arith | inr end ↦ omega arith ]
+cause_target old new upto cause =
+    elim (cause refl) [ inl grew ↦ omega arith | inr end ↦ omega arith ]
 
 -- a reader that refuses, and did before; and one that didn't
 refuses_before : (old : Reader) → old.failed ≡ true → RefusesNoMore old old
 refuses_before old refused = λ same. same
 
-refuses_first : (old new : Reader) → old.failed ≡ false → new.failed ≡ true → RefusesNoMore old new → ⊥
-refuses_first old new fresh refused no_more = let same : false ≡ true = sym fresh ∙ no_more refused in cc
+refuses_first : (old new : Reader) → old.failed ≡ false → new.failed ≡ true
+    → RefusesNoMore old new → ⊥
+refuses_first old new fresh refused no_more =
+    let same : false ≡ true = sym fresh ∙ no_more refused in cc
 
 -- a write of one byte to sector 5, and a discard of two sectors from sector 6 on
 small : Entry
@@ -212,7 +269,8 @@ small = record { sector = 5; nr_sectors = 1; flags = no_flags; body = 7 ∷ [] }
 cut : Entry
 cut = record { sector = 6; nr_sectors = 2; flags = record no_flags { discard = true }; body = [] }
 
--- their calls; an entry of no sectors has none, and in a log of larger sectors they are of more sectors of the target
+-- their calls; an entry of no sectors has none, and in a log
+-- of larger sectors they are of more sectors of the target
 calls_write : entry_calls 512 small ≡ Writes 5 (7 ∷ []) false ∷ []
 unfolding small
 calls_write = refl
@@ -225,7 +283,8 @@ calls_larger : entry_calls 1024 cut ≡ Discards 12 4 ∷ []
 unfolding cut
 calls_larger = refl
 
--- a target whose calls begin at the moment 0, and that notes each: the first one ends well, and each later one fails
+-- a target whose calls begin at the moment 0, and that notes
+-- each: the first one ends well, and each later one fails
 answer : List Call → Result ℕ DevError
 answer [] = Ok 5
 answer (call ∷ calls) = Err Io
@@ -266,16 +325,22 @@ called_to = record {
 }
 
 -- not where it is tried once more, nor where there is none
-called_again : (told : IsCalledTo notes 512 (small ∷ cut ∷ []) 0 1 Io [] (Discards 6 2 ∷ Discards 6 2 ∷ put_small ∷ [])) → told.next ≡ cut → ⊥
+called_again : (told : IsCalledTo notes 512 (small ∷ cut ∷ []) 0 1 Io []
+    (Discards 6 2 ∷ Discards 6 2 ∷ put_small ∷ [])) → told.next ≡ cut → ⊥
 unfolding small cut notes answer put_small
 called_again told is =
     let middle : told.mid ≡ put_small ∷ [] = first told.mid told.called in
-    again told.mid middle (subst (λ (e : Entry). DoesInTurn notes 0 (entry_calls 512 e) told.mid (Err Io) (Discards 6 2 ∷ Discards 6 2 ∷ put_small ∷ [])) is told.refused)
+    again told.mid middle (subst
+    (λ (e : Entry). DoesInTurn notes 0 (entry_calls 512 e) told.mid (Err Io)
+    (Discards 6 2 ∷ Discards 6 2 ∷ put_small ∷ [])) is told.refused)
   where
-    first : (mid : List Call) → IsCalled notes 512 (small ∷ cut ∷ []) 0 1 [] mid → mid ≡ put_small ∷ []
+    first : (mid : List Call) → IsCalled notes 512 (small ∷ cut ∷ []) 0 1 [] mid
+        → mid ≡ put_small ∷ []
     first mid (next, (end, (at, noted, told_it)), same) = cc
 
-    again : (mid : List Call) → mid ≡ put_small ∷ [] → DoesInTurn notes 0 (Discards 6 2 ∷ []) mid (Err Io) (Discards 6 2 ∷ Discards 6 2 ∷ put_small ∷ []) → ⊥
+    again : (mid : List Call) → mid ≡ put_small ∷ []
+        → DoesInTurn notes 0 (Discards 6 2 ∷ []) mid (Err Io)
+        (Discards 6 2 ∷ Discards 6 2 ∷ put_small ∷ []) → ⊥
     again mid is (inl (at, noted, told_it)) = cc
     again mid is (inr (next, (end, (at, noted, told_it)), never)) = never
 

@@ -1,5 +1,6 @@
 -- What a replay reads of its log, and what it doesn't.
-use Rattle.std.proofs.Common.{◌≡◌, ℕ, ◌+◌, List, [], ◌∷◌, Result, Ok, Err, replicate, refl, inl, inr, arith}
+use Rattle.std.proofs.Common.{◌≡◌, ℕ, ◌+◌, List, [], ◌∷◌, Result, Ok, Err, replicate, refl, inl}
+use Rattle.std.proofs.Common.{inr, arith}
 use Rattle.bio.specs.declared.outcome.DevError.{DevError}
 use Rattle.bio.specs.declared.outcome.DevError.TheVariants as devices
 use Rattle.blockdev.specs.Calls.{Call, Reads}
@@ -16,7 +17,15 @@ counts old call now (Err error) new = ⊥
 -- one read, and then the target failed
 stopped : ReadsToStop counts 0 1 (replays.Target devices.Io)
 unfolding counts
-stopped = (1, record { calls = Reads 1 (replicate 512 0) (replicate 512 7) ∷ []; are = (tt, tt); few = omega arith; turn = (1, (0, refl), refl) })
+stopped = (
+  1,
+  record {
+    calls = Reads 1 (replicate 512 0) (replicate 512 7) ∷ [];
+    are = (tt, tt);
+    few = omega arith;
+    turn = (1, (0, refl), refl);
+  },
+)
 
 -- the log's device didn't fail
 refused_device : ReadsToStop counts 0 1 (replays.Log reads.Device) → ⊥

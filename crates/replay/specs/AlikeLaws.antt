@@ -7,8 +7,10 @@ use Rattle.log_format.specs.Entries.{kind_of}
 use Rattle.log_format.specs.Replay.{kind_values, replay}
 
 -- entries are replayed alike
-pub replay_alike : (size : ℕ) (es : List Entry) (end : ℕ) (c d : Content) → AgreeBelow end c d → AgreeBelow end (replay size es c) (replay size es d)
+pub replay_alike : (size : ℕ) (es : List Entry) (end : ℕ) (c d : Content) → AgreeBelow end c d
+    → AgreeBelow end (replay size es c) (replay size es d)
 replay_alike size [] end c d agree = agree
 replay_alike size (e ∷ es) end c d agree =
     let patch = kind_values size (kind_of e.flags) e in
-    replay_alike size es end (put patch c) (put patch d) (λ s below. ap (λ (bytes : List ℕ). unwrap_or (patch s) bytes) (agree s below))
+    replay_alike size es end (put patch c) (put patch d)
+    (λ s below. ap (λ (bytes : List ℕ). unwrap_or (patch s) bytes) (agree s below))

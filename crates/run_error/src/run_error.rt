@@ -10,8 +10,8 @@ use refusals::{Fault, Refusal};
 use std::alloc::AllocError;
 use std::{fmt, io};
 
-/// Why a command ended before its time. It is shown as its fault: its line, if it names one, and its
-/// number and name.
+/// Why a command ended before its time. It is shown as its
+/// fault: its line, if it names one, and its number and name.
 #[derive(Clone, Copy, Debug, PartialEq, Eq)]
 pub enum RunError {
     /// It was refused, for a script perhaps at a line.

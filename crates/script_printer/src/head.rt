@@ -17,7 +17,8 @@ pub(crate) fn push_head(
     log_disk: &DiskSpec,
     log_size: SectorSize,
 ) -> Result<(), AllocError>
-    ensures { OnOk result (out.new.items ≡ out.old.items ++ flat_map ended_line (head_of data_disk.now log_disk.now log_size)) }
+    ensures { OnOk result (out.new.items
+        ≡ out.old.items ++ flat_map ended_line (head_of data_disk.now log_disk.now log_size)) }
 {
     push_disks(out, data_disk.sectors(), log_disk.sectors(), log_size)?;
     push_disk_layers(out, data_disk, log_disk)
@@ -30,7 +31,9 @@ pub(crate) fn push_disks(
     log_sectors: u64,
     log_size: SectorSize,
 ) -> Result<(), AllocError>
-    ensures { OnOk result (out.new.items ≡ out.old.items ++ (ended_line (data_line data_sectors) ++ ended_line (log_line log_sectors log_size))) }
+    ensures { OnOk result (out.new.items
+        ≡ out.old.items ++ (ended_line (data_line data_sectors)
+        ++ ended_line (log_line log_sectors log_size))) }
 {
     push_value(out, b"data ", data_sectors)?;
     out.push(b'\n')?;
@@ -46,13 +49,15 @@ pub(crate) fn push_disk_layers(
     log_disk: &DiskSpec,
 ) -> Result<(), AllocError>
     ensures { OnOk result (out.new.items ≡ out.old.items
-        ++ (flat_map ended_line (map (layer_line disks.Data) data_disk.now.layers) ++ flat_map ended_line (map (layer_line disks.Log) log_disk.now.layers))) }
+        ++ (flat_map ended_line (map (layer_line disks.Data) data_disk.now.layers)
+        ++ flat_map ended_line (map (layer_line disks.Log) log_disk.now.layers))) }
 {
     push_layers(out, DiskName::Data, data_disk.layers())?;
     push_layers(out, DiskName::Log, log_disk.layers())
 }
 
-// The line of the log disk, but for its line feed: the size of the log's sectors is named where it isn't 512 bytes.
+// The line of the log disk, but for its line feed: the size
+// of the log's sectors is named where it isn't 512 bytes.
 fn push_log(out: &mut Vec<u8>, sectors: u64, size: SectorSize) -> Result<(), AllocError>
     ensures { OnOk result (out.new.items ≡ out.old.items ++ line_text (log_line sectors size)) }
 {
@@ -65,7 +70,8 @@ fn push_log(out: &mut Vec<u8>, sectors: u64, size: SectorSize) -> Result<(), All
 
 // The lines of a disk's layers.
 fn push_layers(out: &mut Vec<u8>, over: DiskName, layers: &[LayerSpec]) -> Result<(), AllocError>
-    ensures { OnOk result (out.new.items ≡ out.old.items ++ flat_map ended_line (map (layer_line over) layers.now)) }
+    ensures { OnOk result (out.new.items
+        ≡ out.old.items ++ flat_map ended_line (map (layer_line over) layers.now)) }
 {
     for layer in layers {
         push_layer(out, over, layer)?;
@@ -75,7 +81,8 @@ fn push_layers(out: &mut Vec<u8>, over: DiskName, layers: &[LayerSpec]) -> Resul
 
 // The line of a layer.
 fn push_layer(out: &mut Vec<u8>, over: DiskName, layer: &LayerSpec) -> Result<(), AllocError>
-    ensures { OnOk result (out.new.items ≡ out.old.items ++ ended_line (layer_line over layer.now)) }
+    ensures { OnOk result (out.new.items
+        ≡ out.old.items ++ ended_line (layer_line over layer.now)) }
 {
     let verb: &[u8] = match over {
         DiskName::Data => b"data-layer ",

@@ -1,7 +1,8 @@
 //! Prints a script as one text.
 //!
-//! `print_script` writes the one spelling of a script, `canonical_text` (`specs/CanonicalText` of `dmlw_script`), line by line: the head, the
-//! body, and the crash that ends it. Reading that text gives the same script. `print_run_script` does so of a run's script, by `run_text`.
+//! `print_script` writes the one spelling of a script, `canonical_text` (`specs/CanonicalText` of
+//! `dmlw_script`), line by line: the head, the body, and the crash that ends it. Reading that text
+//! gives the same script. `print_run_script` does so of a run's script, by `run_text`.
 #![tactic(auto)]
 
 pub use printing::print_script;

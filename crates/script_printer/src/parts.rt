@@ -14,14 +14,16 @@ pub(crate) fn push_value(out: &mut Vec<u8>, verb: &[u8], number: u64) -> Result<
     push_number(out, number)
 }
 
-// A line's first word and space, or a space alone, and behind it a first sector and a number of sectors.
+// A line's first word and space, or a space alone, and
+// behind it a first sector and a number of sectors.
 pub(crate) fn push_sectors(
     out: &mut Vec<u8>,
     verb: &[u8],
     first: u64,
     count: u64,
 ) -> Result<(), AllocError>
-    ensures { OnOk result (out.new.items ≡ out.old.items ++ (verb.now ++ (decimal first ++ 32 ∷ decimal count))) }
+    ensures { OnOk result (out.new.items
+        ≡ out.old.items ++ (verb.now ++ (decimal first ++ 32 ∷ decimal count))) }
 {
     push_value(out, verb, first)?;
     out.push(b' ')?;

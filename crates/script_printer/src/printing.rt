@@ -3,7 +3,8 @@ ghost use Rattle.std.specs.Prelude.{◌≡◌, ◌<◌, ◌+◌, ◌^◌, ◌++�
 ghost use Rattle.dmlw_script.specs.Grammar.{IsTextOf};
 ghost use Rattle.dmlw_script.specs.LineMeaning as parsed_lines;
 ghost use Rattle.dmlw_script.specs.Plans.{count_after_command, lines_of_body, line_at, HasName};
-ghost use Rattle.dmlw_script.specs.CanonicalText.{ended_line, ending_text, line_text, canonical_text};
+ghost use Rattle.dmlw_script.specs.CanonicalText.{ended_line, ending_text, line_text};
+ghost use Rattle.dmlw_script.specs.CanonicalText.{canonical_text};
 
 use crate::head::push_head;
 use crate::parts::push_name;
@@ -40,7 +41,8 @@ fn push_ending(out: &mut Vec<u8>, script: &Script) -> Result<(), AllocError>
 
 // The line of a crash.
 fn push_crash(out: &mut Vec<u8>, picks: &[u64]) -> Result<(), AllocError>
-    ensures { OnOk result (out.new.items ≡ out.old.items ++ ended_line (parsed_lines.Crash picks.now)) }
+    ensures { OnOk result (out.new.items
+        ≡ out.old.items ++ ended_line (parsed_lines.Crash picks.now)) }
 {
     push_picks(out, picks)?;
     out.push(b'\n')?;
@@ -49,7 +51,8 @@ fn push_crash(out: &mut Vec<u8>, picks: &[u64]) -> Result<(), AllocError>
 
 // The same, but for its line feed.
 fn push_picks(out: &mut Vec<u8>, picks: &[u64]) -> Result<(), AllocError>
-    ensures { OnOk result (out.new.items ≡ out.old.items ++ line_text (parsed_lines.Crash picks.now)) }
+    ensures { OnOk result (out.new.items
+        ≡ out.old.items ++ line_text (parsed_lines.Crash picks.now)) }
 {
     out.extend_from_slice(b"crash")?;
     for pick in picks {
@@ -61,7 +64,9 @@ fn push_picks(out: &mut Vec<u8>, picks: &[u64]) -> Result<(), AllocError>
 
 // The lines of a script's body.
 fn push_body(out: &mut Vec<u8>, script: &Script) -> Result<(), AllocError>
-    ensures { OnOk result (out.new.items ≡ out.old.items ++ flat_map ended_line (lines_of_body script.now.names 0 script.now.commands)) }
+    ensures { OnOk result (out.new.items
+        ≡ out.old.items ++ flat_map ended_line
+        (lines_of_body script.now.names 0 script.now.commands)) }
 {
     let names = script.names();
     let mut before = 0;
@@ -80,7 +85,8 @@ fn push_command(
     command: &Command,
 ) -> Result<(), AllocError>
     requires { HasName (length names.now) before command.now }
-    ensures { OnOk result (out.new.items ≡ out.old.items ++ ended_line (parsed_lines.Body (line_at names.now before command.now))) }
+    ensures { OnOk result (out.new.items
+        ≡ out.old.items ++ ended_line (parsed_lines.Body (line_at names.now before command.now))) }
 {
     match command {
         Command::Submit(submission) => push_submission(out, names[before], *submission)?,

@@ -2,7 +2,8 @@
 ghost use Rattle.std.specs.Prelude.{◌≡◌, ◌++◌, flat_map, map, IfOk, OnOk};
 ghost use Rattle.dmlw_script.specs.RunGrammar.{IsRunText};
 ghost use Rattle.dmlw_script.specs.RunPlans.{run_head};
-ghost use Rattle.dmlw_script.specs.RunText.{call_line, call_text, ended_run_line, run_text, seats_line};
+ghost use Rattle.dmlw_script.specs.RunText.{call_line, call_text, ended_run_line, run_text};
+ghost use Rattle.dmlw_script.specs.RunText.{seats_line};
 
 use crate::head::{push_disk_layers, push_disks};
 use crate::parts::{push_sectors, push_value};
@@ -11,8 +12,8 @@ use crate::submissions::push_filling;
 use dmlw_script::{Call, RunScript, SeatCall, Submission};
 use std::alloc::{AllocError, Global};
 
-/// The one text of a run's script: no comments, no empty lines, no leading zeroes, and a line feed after each line. Reading it
-/// gives the same script.
+/// The one text of a run's script: no comments, no empty lines, no leading zeroes, and a line feed
+/// after each line. Reading it gives the same script.
 pub fn print_run_script(alloc: Global, script: &RunScript) -> Result<Vec<u8>, AllocError>
     ensures spelled { IfOk result (λ text. text.items ≡ run_text script.now) }
     // What is printed is a text of this script, and so read as it.
@@ -27,7 +28,8 @@ pub fn print_run_script(alloc: Global, script: &RunScript) -> Result<Vec<u8>, Al
 
 // The lines of a run's head.
 fn push_run_head(out: &mut Vec<u8>, script: &RunScript) -> Result<(), AllocError>
-    ensures { OnOk result (out.new.items ≡ out.old.items ++ flat_map ended_run_line (run_head script.now)) }
+    ensures { OnOk result (out.new.items
+        ≡ out.old.items ++ flat_map ended_run_line (run_head script.now)) }
 {
     let data_disk = script.data();
     let log_disk = script.log();
@@ -52,7 +54,8 @@ fn push_seats(out: &mut Vec<u8>, seats: u64) -> Result<(), AllocError>
 
 // The lines of what the seats do.
 fn push_calls(out: &mut Vec<u8>, calls: &[SeatCall]) -> Result<(), AllocError>
-    ensures { OnOk result (out.new.items ≡ out.old.items ++ flat_map ended_run_line (map call_line calls.now)) }
+    ensures { OnOk result (out.new.items
+        ≡ out.old.items ++ flat_map ended_run_line (map call_line calls.now)) }
 {
     for call in calls {
         push_seat_call(out, call)?;

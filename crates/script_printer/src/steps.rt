@@ -36,7 +36,8 @@ fn push_message(
     layer: u64,
     text: &[u8],
 ) -> Result<(), AllocError>
-    ensures { OnOk result (out.new.items ≡ out.old.items ++ (message_verb over ++ 32 ∷ (decimal layer ++ 32 ∷ text.now))) }
+    ensures { OnOk result (out.new.items
+        ≡ out.old.items ++ (message_verb over ++ 32 ∷ (decimal layer ++ 32 ∷ text.now))) }
 {
     match over {
         DiskName::Data => push_valued(out, b"message data ", layer, text),
@@ -46,7 +47,8 @@ fn push_message(
 
 // A line's first words and space, a number, and a text behind a space.
 fn push_valued(out: &mut Vec<u8>, verb: &[u8], number: u64, text: &[u8]) -> Result<(), AllocError>
-    ensures { OnOk result (out.new.items ≡ out.old.items ++ (verb.now ++ (decimal number ++ 32 ∷ text.now))) }
+    ensures { OnOk result (out.new.items
+        ≡ out.old.items ++ (verb.now ++ (decimal number ++ 32 ∷ text.now))) }
 {
     push_value(out, verb, number)?;
     out.push(b' ')?;

@@ -39,7 +39,8 @@ fn push_write(
     byte: u8,
     options: WriteOptions,
 ) -> Result<(), AllocError>
-    ensures { OnOk result (out.new.items ≡ out.old.items ++ submission_text name (Submission.Write first count byte options)) }
+    ensures { OnOk result (out.new.items
+        ≡ out.old.items ++ submission_text name (Submission.Write first count byte options)) }
 {
     push_range(out, b"w ", name, first, count)?;
     push_filling(out, byte, options)
@@ -51,7 +52,8 @@ pub(crate) fn push_filling(
     byte: u8,
     options: WriteOptions,
 ) -> Result<(), AllocError>
-    ensures { OnOk result (out.new.items ≡ out.old.items ++ 32 ∷ spaced (byte_text byte ∷ option_words options)) }
+    ensures { OnOk result (out.new.items
+        ≡ out.old.items ++ 32 ∷ spaced (byte_text byte ∷ option_words options)) }
 {
     out.push(b' ')?;
     push_byte(out, byte)?;
@@ -66,7 +68,9 @@ fn push_range(
     first: u64,
     count: u64,
 ) -> Result<(), AllocError>
-    ensures { OnOk result (out.new.items ≡ out.old.items ++ (verb.now ++ (letters_of name ++ 32 ∷ (decimal first ++ 32 ∷ decimal count)))) }
+    ensures { OnOk result (out.new.items
+        ≡ out.old.items ++ (verb.now
+        ++ (letters_of name ++ 32 ∷ (decimal first ++ 32 ∷ decimal count)))) }
 {
     push_name(out, verb, name)?;
     push_sectors(out, b" ", first, count)

@@ -21,13 +21,20 @@ bare_refuses : (after : List Layer) (old new : SectorDisk) (bytes : List ℕ) (e
 bare_refuses after old new bytes Io done = absurd done.2
 bare_refuses after old new bytes Memory done = refl
 
-pub bare_log_fails : ((old : Stack) (call : Call) (now : ℕ) (result : Result ℕ DevError) (new : Stack) → stack_does old call now result new
+pub bare_log_fails : ((old : Stack) (call : Call) (now : ℕ) (result : Result ℕ DevError)
+    (new : Stack) → stack_does old call now result new
     → LayersDo (layers_of old) (disk_of old) call now result (layers_of new) (disk_of new))
-    → (bytes : ℕ) (disk : Disk) (fault : RunError) → disk.layers ≡ [] → IsUnmade bytes disk fault → fault ≡ LoggingEnded ends.Memory
+    → (bytes : ℕ) (disk : Disk) (fault : RunError) → disk.layers ≡ [] → IsUnmade bytes disk fault
+    → fault ≡ LoggingEnded ends.Memory
 bare_log_fails does bytes disk fault bare un =
-    let none : layers_of un.stack ≡ [] = un.blank.layers ∙ ap (λ (ls : List LayerSpec). layers_under ls 0 []) bare in
+    let none : layers_of un.stack ≡ [] =
+    un.blank.layers ∙ ap (λ (ls : List LayerSpec). layers_under ls 0 []) bare in
     let refused = un.refused in
-    let done = does un.stack (Writes 0 (first_sector bytes 0) true) 0 (Err refused.error) refused.last refused.answered in
-    let memory = bare_refuses (layers_of refused.last) (disk_of un.stack) (disk_of refused.last) (first_sector bytes 0) refused.error
+    let done =
+    does un.stack (Writes 0 (first_sector bytes 0) true) 0
+    (Err refused.error) refused.last refused.answered in
+    let memory =
+    bare_refuses (layers_of refused.last) (disk_of un.stack) (disk_of refused.last)
+    (first_sector bytes 0) refused.error
     (subst (λ (ls : List Layer). LayersDo ls (disk_of un.stack) (Writes 0 (first_sector bytes 0) true) 0 (Err refused.error) (layers_of refused.last) (disk_of refused.last)) none done) in
     refused.ends_by ∙ ap (λ (e : DevError). LoggingEnded (end_cause e)) memory

@@ -1,5 +1,7 @@
 -- For each definition of a script's run, what breaks it, and is refused by it, and what holds.
-use Rattle.std.proofs.Common.{◌≡◌, ◌∙◌, ◌+◌, ◌*◌, ◌<◌, ◌++◌, ℕ, suc, Bool, true, false, List, [], ◌∷◌, Option, Some, None, Result, Ok, Err, ap, arith, inl, inr, length, refl, replicate, slice_index_or, subst, sym}
+use Rattle.std.proofs.Common.{◌≡◌, ◌∙◌, ◌+◌, ◌*◌, ◌<◌, ◌++◌, ℕ, suc, Bool, true, false, List, []}
+use Rattle.std.proofs.Common.{◌∷◌, Option, Some, None, Result, Ok, Err, ap, arith, inl, inr, length}
+use Rattle.std.proofs.Common.{refl, replicate, slice_index_or, subst, sym}
 use Rattle.std.specs.Prelude.{codes, decimal, is_ok, slice_get}
 use Rattle.std.specs.List.{list_all}
 use Rattle.std.proofs.lemmas.List.{length-replicate}
@@ -62,9 +64,13 @@ use Rattle.script_runner.specs.Begun.{IsNewOn, IsUnmadeOn}
 use Rattle.run_error.specs.Errors.{IsFileError}
 use Rattle.script_runner.specs.Followed.{IsFollowed, StandsFor, submissions_of}
 use Rattle.script_runner.specs.HandOver.{HandsOver, ReadsSectors}
-use Rattle.script_runner.specs.Lines.{Answering, Asks, Does, EndsAsked, EndsRequest, HearsEnd, PrintsMark, RefusesMessage, RunsLine, submission_text}
-use Rattle.script_runner.specs.OnDisks.{DiskRecorder, DiskRun, FailsOnDisks, IsCounted, IsRecorded, IsStackOf, IsUnmade, Starts, file as disk_file, left_on, run as disk_run, stack_answering, unmade}
-use Rattle.script_runner.specs.Runs.{Chain, EndsRun, RefusesClose, RefusesLine, RunsLines, close, file as run_file, message}
+use Rattle.script_runner.specs.Lines.{Answering, Asks, Does, EndsAsked, EndsRequest, HearsEnd}
+use Rattle.script_runner.specs.Lines.{PrintsMark, RefusesMessage, RunsLine, submission_text}
+use Rattle.script_runner.specs.OnDisks.{DiskRecorder, DiskRun, FailsOnDisks, IsCounted, IsRecorded}
+use Rattle.script_runner.specs.OnDisks.{IsStackOf, IsUnmade, Starts, file as disk_file, left_on}
+use Rattle.script_runner.specs.OnDisks.{run as disk_run, stack_answering, unmade}
+use Rattle.script_runner.specs.Runs.{Chain, EndsRun, RefusesClose, RefusesLine, RunsLines, close}
+use Rattle.script_runner.specs.Runs.{file as run_file, message}
 use Rattle.script_runner.specs.Rehearsals.{IsRehearsed, is_memory_stop}
 use Rattle.script_runner.specs.Submitted.{bio_of, is_asked}
 use Rattle.script_runner.specs.Texts.{mark_failed, outcome_line, read_line}
@@ -83,27 +89,38 @@ abbrev failing : ℕ → Call → ℕ → Result ℕ DevError → ℕ → Type 0
 failing old call now answer new = (answer ≡ Err Io) × (new ≡ suc old)
 
 -- a write with flush is a flush, and then the write; without it, the write alone, with its FUA
-hands_flushed : (bytes : List ℕ) → HandsOver listing 5 (bios.Write 3 bytes true false false) true [] (Flushes ∷ Writes 3 bytes false ∷ [])
+hands_flushed : (bytes : List ℕ)
+    → HandsOver listing 5 (bios.Write 3 bytes true false false) true []
+    (Flushes ∷ Writes 3 bytes false ∷ [])
 hands_flushed bytes = inr (Flushes ∷ [], (Ok 5, refl, (refl, refl)), (Ok 5, refl, (refl, refl)))
 
-hands_unflushed : (bytes : List ℕ) → HandsOver listing 5 (bios.Write 3 bytes true false false) true [] (Writes 3 bytes false ∷ []) → ⊥
+hands_unflushed : (bytes : List ℕ)
+    → HandsOver listing 5 (bios.Write 3 bytes true false false) true []
+    (Writes 3 bytes false ∷ []) → ⊥
 hands_unflushed bytes (inl failed) = let never = failed.0 in cc
 hands_unflushed bytes (inr both) =
-    let same : Writes 3 bytes false ∷ [] ≡ Flushes ∷ Writes 3 bytes false ∷ [] = both.2.2.1 ∙ ap (λ (mid : List Call). mid ++ Writes 3 bytes false ∷ []) both.1.2.1 in
+    let same : Writes 3 bytes false ∷ [] ≡ Flushes ∷ Writes 3 bytes false ∷ [] =
+    both.2.2.1 ∙ ap (λ (mid : List Call). mid ++ Writes 3 bytes false ∷ []) both.1.2.1 in
     cc
 
-hands_after : (bytes : List ℕ) → HandsOver listing 5 (bios.Write 3 bytes true false false) true [] (Writes 3 bytes false ∷ Flushes ∷ []) → ⊥
+hands_after : (bytes : List ℕ)
+    → HandsOver listing 5 (bios.Write 3 bytes true false false) true []
+    (Writes 3 bytes false ∷ Flushes ∷ []) → ⊥
 hands_after bytes (inl failed) = let never = failed.0 in cc
 hands_after bytes (inr both) =
     let same : Writes 3 bytes false ∷ Flushes ∷ [] ≡ Flushes ∷ Writes 3 bytes false ∷ [] =
     both.2.2.1 ∙ ap (λ (mid : List Call). mid ++ Writes 3 bytes false ∷ []) both.1.2.1 in
     cc
 
-hands_write : (bytes : List ℕ) → HandsOver listing 5 (bios.Write 3 bytes false true false) true [] (Writes 3 bytes true ∷ [])
+hands_write : (bytes : List ℕ)
+    → HandsOver listing 5 (bios.Write 3 bytes false true false) true [] (Writes 3 bytes true ∷ [])
 hands_write bytes = (Ok 5, refl, (refl, refl))
 
-hands_no_fua : (bytes : List ℕ) → HandsOver listing 5 (bios.Write 3 bytes false true false) true [] (Writes 3 bytes false ∷ []) → ⊥
-hands_no_fua bytes told = let same : Writes 3 bytes false ∷ [] ≡ Writes 3 bytes true ∷ [] = told.2.1 in cc
+hands_no_fua : (bytes : List ℕ)
+    → HandsOver listing 5 (bios.Write 3 bytes false true false) true []
+    (Writes 3 bytes false ∷ []) → ⊥
+hands_no_fua bytes told =
+    let same : Writes 3 bytes false ∷ [] ≡ Writes 3 bytes true ∷ [] = told.2.1 in cc
 
 -- an error is no success
 failed_ok : (answer : Result ℕ DevError) → answer ≡ Err Io → is_ok answer ≡ true → ⊥
@@ -111,14 +128,18 @@ failed_ok (Ok end) is ok = cc
 failed_ok (Err error) is ok = cc
 
 -- where the flush fails the write isn't asked
-hands_failed : (bytes : List ℕ) → HandsOver failing 5 (bios.Write 3 bytes true false false) false 0 1
+hands_failed : (bytes : List ℕ)
+    → HandsOver failing 5 (bios.Write 3 bytes true false false) false 0 1
 hands_failed bytes = inl (refl, (Err Io, refl, (refl, refl)))
 
-hands_past : (bytes : List ℕ) → HandsOver failing 5 (bios.Write 3 bytes true false false) false 0 2 → ⊥
+hands_past : (bytes : List ℕ)
+    → HandsOver failing 5 (bios.Write 3 bytes true false false) false 0 2 → ⊥
 hands_past bytes (inl once) = let count = once.1.2.1 in omega arith
-hands_past bytes (inr both) = let answer = both.1.2.0 in let ok = both.1.1 in failed_ok both.1.0 answer ok
+hands_past bytes (inr both) =
+    let answer = both.1.2.0 in let ok = both.1.1 in failed_ok both.1.0 answer ok
 
-hands_told : (bytes : List ℕ) → HandsOver failing 5 (bios.Write 3 bytes true false false) true 0 1 → ⊥
+hands_told : (bytes : List ℕ)
+    → HandsOver failing 5 (bios.Write 3 bytes true false false) true 0 1 → ⊥
 hands_told bytes (inl once) = let never = once.0 in cc
 hands_told bytes (inr both) = failed_ok both.1.0 both.1.2.0 both.1.1
 
@@ -144,15 +165,22 @@ hands_read told = let same : Flushes ∷ [] ≡ [] = told.1 in cc
 
 -- a device of which sector 3 alone can be read, and is a 7
 abbrev sevens : ℕ → Call → ℕ → Result ℕ DevError → ℕ → Type 0
-sevens old (Reads first before after) now answer new = (answer ≡ Ok now) × (first ≡ 3) × (length before ≡ 512) × (after ≡ 7 ∷ []) × (new ≡ suc old)
+sevens old (Reads first before after) now answer new =
+    (answer ≡ Ok now) × (first ≡ 3) × (length before ≡ 512) × (after ≡ 7 ∷ []) × (new ≡ suc old)
 sevens old (Writes first bytes fua) now answer new = ⊥
 sevens old (Discards first count) now answer new = ⊥
 sevens old Flushes now answer new = ⊥
 
 reads_seven : ReadsSectors sevens 5 3 1 (Some (7 ∷ [])) 0 1
-reads_seven = (replicate 512 0, 5, length-replicate {A = ℕ} 512 0, (refl, refl, length-replicate {A = ℕ} 512 0, refl, refl))
+reads_seven = (
+  replicate 512 0,
+  5,
+  length-replicate {A = ℕ} 512 0,
+  (refl, refl, length-replicate {A = ℕ} 512 0, refl, refl),
+)
 
--- other bytes, another sector, and more of them; and a read that went well, and of which nothing was found
+-- other bytes, another sector, and more of them; and a read
+-- that went well, and of which nothing was found
 reads_eight : ReadsSectors sevens 5 3 1 (Some (8 ∷ [])) 0 1 → ⊥
 reads_eight told = let same = ap (λ (xs : List ℕ). slice_index_or xs 0 0) told.3.3 in omega arith
 
@@ -180,10 +208,14 @@ line_ok = refl
 line_failed : outcome_line a_name false ≡ codes "a1 failed\n"
 line_failed = refl
 
-line_read : read_line 3 2 (Some (replicate 512 10 ++ 255 ∷ [])) ≡ codes "read " ++ decimal 3 ++ codes "+" ++ decimal 2 ++ codes " " ++ codes "ok 0aff" ++ codes "\n"
+line_read : read_line 3 2 (Some (replicate 512 10 ++ 255 ∷ []))
+    ≡ codes "read " ++ decimal 3 ++ codes "+" ++ decimal 2 ++ codes " " ++ codes "ok 0aff"
+    ++ codes "\n"
 line_read = refl
 
-line_unread : read_line 3 2 None ≡ codes "read " ++ decimal 3 ++ codes "+" ++ decimal 2 ++ codes " " ++ codes "failed" ++ codes "\n"
+line_unread : read_line 3 2 None
+    ≡ codes "read " ++ decimal 3 ++ codes "+" ++ decimal 2 ++ codes " " ++ codes "failed"
+    ++ codes "\n"
 line_unread = refl
 
 line_mark : mark_failed ≡ codes "mark failed\n"
@@ -193,7 +225,7 @@ line_mark = refl
 submits_silent : submission_text a_name (requests.Asked bios.Flush None) ≡ []
 submits_silent = refl
 
-submits_failed : submission_text a_name requests.Failed ≡ codes "a1 failed\n"
+submits_failed : submission_text a_name requests.NotAsked ≡ codes "a1 failed\n"
 submits_failed = refl
 
 -- a mark prints nothing, unless there was no memory for it
@@ -237,58 +269,79 @@ stands_flush = refl
 stands_other : StandsFor submits.Flush (requests.Asked (bios.Discard 3 2) None) → ⊥
 stands_other told = cc
 
-asked_in_order : submissions_of (commands.Submit submits.Flush ∷ commands.Step steps.Turn ∷ commands.Complete 0 ∷ commands.Submit (submits.Discard 3 2) ∷ [])
+asked_in_order : submissions_of
+    (commands.Submit submits.Flush ∷ commands.Step steps.Turn ∷ commands.Complete
+    0 ∷ commands.Submit (submits.Discard 3 2) ∷ [])
     ≡ submits.Flush ∷ submits.Discard 3 2 ∷ []
 asked_in_order = refl
 
 -- a request that is followed stands in the events
-followed_nowhere : {D L : Type 0} {d : Ghosts D} {l : Ghosts L} (run : Running D L d l) → slice_get run.requests.items 0 ≡ Some (requests.Asked bios.Flush (Some 0))
+followed_nowhere : {D L : Type 0} {d : Ghosts D} {l : Ghosts L} (run : Running D L d l)
+    → slice_get run.requests.items 0 ≡ Some (requests.Asked bios.Flush (Some 0))
     → core_of run.recorder ≡ new_state → IsFollowed run → ⊥
 followed_nowhere run asked none told =
-    let here : slice_get [] 0 ≡ Some (events.Submit bios.Flush) = ap (λ (c : CoreState). slice_get c.events 0) (sym none) ∙ told 0 bios.Flush 0 asked in
+    let here : slice_get [] 0 ≡ Some (events.Submit bios.Flush) =
+    ap (λ (c : CoreState). slice_get c.events 0) (sym none) ∙ told 0 bios.Flush 0 asked in
     cc
 
 -- there is memory for a flush wherever the recorder has some
-asks_flush : {L : Type 0} {l : Ghosts L} (old new : Recorder L l) → records (core_of old) bios.Flush ≡ false → Asks bios.Flush requests.Failed old new → ⊥
+asks_flush : {L : Type 0} {l : Ghosts L} (old new : Recorder L l)
+    → records (core_of old) bios.Flush ≡ false → Asks bios.Flush requests.NotAsked old new → ⊥
 asks_flush old new passes (inl unasked) = let has = unasked.0 in cc
 asks_flush old new passes (inr asked) = let reply = (asked.passed passes).0 in cc
 
 -- another request than was asked
-asks_other : {L : Type 0} {l : Ghosts L} (old new : Recorder L l) (id : Option ℕ) → Asks bios.Flush (requests.Asked (bios.Discard 3 2) id) old new → ⊥
+asks_other : {L : Type 0} {l : Ghosts L} (old new : Recorder L l) (id : Option ℕ)
+    → Asks bios.Flush (requests.Asked (bios.Discard 3 2) id) old new → ⊥
 asks_other old new id asked = let kept = asked.0 in cc
 
 -- ---- lines
 
 -- a submission leaves the data device as it is, and adds one request
-submit_keeps : {D L : Type 0} {d : Ghosts D} {l : Ghosts L} (m : Answering D L) (names : List ScriptId) (submission : Submission) (text : List ℕ) (old new : Running D L d l)
+submit_keeps : {D L : Type 0} {d : Ghosts D} {l : Ghosts L} (m : Answering D L)
+    (names : List ScriptId) (submission : Submission) (text : List ℕ) (old new : Running D L d l)
     → (told : Does m names (commands.Submit submission) text old new)
     → (new.disk ≡ old.disk) × (new.requests.items ≡ old.requests.items ++ told.request ∷ [])
     × (text ≡ submission_text (name_at names (length old.requests.items)) told.request)
 submit_keeps m names submission text old new told = (told.device, told.kept, told.prints)
 
--- the end of a request that was asked calls the data device at the run's moment, and its line says what that answered
-complete_calls : {D L : Type 0} {d : Ghosts D} {l : Ghosts L} (m : Answering D L) (names : List ScriptId) (request : ℕ) (id : Option ℕ) (text : List ℕ) (old new : Running D L d l)
+-- the end of a request that was asked calls the data device
+-- at the run's moment, and its line says what that answered
+complete_calls : {D L : Type 0} {d : Ghosts D} {l : Ghosts L} (m : Answering D L)
+    (names : List ScriptId) (request : ℕ) (id : Option ℕ) (text : List ℕ)
+    (old new : Running D L d l)
     → slice_get old.requests.items request ≡ Some (requests.Asked bios.Flush id)
-    → ((answer : Result ℕ DevError) → d.does old.disk Flushes old.moment answer new.disk → ⊥) → Does m names (commands.Complete request) text old new → ⊥
+    → ((answer : Result ℕ DevError) → d.does old.disk Flushes old.moment answer new.disk → ⊥)
+    → Does m names (commands.Complete request) text old new → ⊥
 complete_calls {D} {L} {d} {l} m names request id text old new asked never told =
-    let ended = subst (λ (found : Option Request). EndsRequest found (name_at names request) text old new) asked told in
+    let ended =
+    subst (λ (found : Option Request). EndsRequest found
+    (name_at names request) text old new) asked told in
     never ended.hands_over.0 ended.hands_over.2
 
-complete_line : {D L : Type 0} {d : Ghosts D} {l : Ghosts L} (bio : Bio) (id : Option ℕ) (name : ScriptId) (text : List ℕ) (old new : Running D L d l)
-    → (told : EndsAsked bio id name text old new) → (text ≡ outcome_line name told.ok) × (new.requests.items ≡ old.requests.items)
+complete_line : {D L : Type 0} {d : Ghosts D} {l : Ghosts L} (bio : Bio) (id : Option ℕ)
+    (name : ScriptId) (text : List ℕ) (old new : Running D L d l)
+    → (told : EndsAsked bio id name text old new)
+    → (text ≡ outcome_line name told.ok) × (new.requests.items ≡ old.requests.items)
 complete_line bio id name text old new told = (told.prints, told.kept)
 
 -- and the recorder hears of a success only where the device answered one
-complete_heard : {D L : Type 0} {d : Ghosts D} {l : Ghosts L} (id : ℕ) (name : ScriptId) (text : List ℕ) (old new : Running D L d l)
-    → is_open_at (core_of old.recorder).events id ≡ true → core_of new.recorder ≡ added_to (core_of old.recorder) (events.Complete id true)
-    → ((end : ℕ) → d.does old.disk Flushes old.moment (Ok end) new.disk → ⊥) → EndsAsked bios.Flush (Some id) name text old new → ⊥
-complete_heard {D} {L} {d} {l} id name text old new opened heard never told = by_end told.ok told.hands_over told.hears
+complete_heard : {D L : Type 0} {d : Ghosts D} {l : Ghosts L} (id : ℕ) (name : ScriptId)
+    (text : List ℕ) (old new : Running D L d l)
+    → is_open_at (core_of old.recorder).events id ≡ true
+    → core_of new.recorder ≡ added_to (core_of old.recorder) (events.Complete id true)
+    → ((end : ℕ) → d.does old.disk Flushes old.moment (Ok end) new.disk → ⊥)
+    → EndsAsked bios.Flush (Some id) name text old new → ⊥
+complete_heard {D} {L} {d} {l} id name text old new opened heard never told =
+    by_end told.ok told.hands_over told.hears
   where
-    by_answer : (answer : Result ℕ DevError) → is_ok answer ≡ true → d.does old.disk Flushes old.moment answer new.disk → ⊥
+    by_answer : (answer : Result ℕ DevError) → is_ok answer ≡ true
+        → d.does old.disk Flushes old.moment answer new.disk → ⊥
     by_answer (Ok end) ok does = never end does
     by_answer (Err error) ok does = cc
 
-    by_end : (ok : Bool) → HandsOver d.does old.moment bios.Flush ok old.disk new.disk → HearsEnd (Some id) ok old.recorder new.recorder → ⊥
+    by_end : (ok : Bool) → HandsOver d.does old.moment bios.Flush ok old.disk new.disk
+        → HearsEnd (Some id) ok old.recorder new.recorder → ⊥
     by_end true handed hears = by_answer handed.0 handed.1 handed.2
     by_end false handed hears =
         let before = (core_of old.recorder).events in
@@ -299,65 +352,99 @@ complete_heard {D} {L} {d} {l} id name text old new opened heard never told = by
         ∙ slice_get-append_here before (events.Complete id false) [] in
         cc
 
--- the end of one for which there was no memory does nothing, and of one that was never submitted there is no line
-complete_failed : {D L : Type 0} {d : Ghosts D} {l : Ghosts L} (m : Answering D L) (names : List ScriptId) (request : ℕ) (text : List ℕ) (old new : Running D L d l)
-    → slice_get old.requests.items request ≡ Some requests.Failed → Does m names (commands.Complete request) text old new
-    → (new.disk ≡ old.disk) × (new.recorder ≡ old.recorder) × (new.requests.items ≡ old.requests.items) × (text ≡ [])
+-- the end of one for which there was no memory does nothing,
+-- and of one that was never submitted there is no line
+complete_failed : {D L : Type 0} {d : Ghosts D} {l : Ghosts L} (m : Answering D L)
+    (names : List ScriptId) (request : ℕ) (text : List ℕ) (old new : Running D L d l)
+    → slice_get old.requests.items request ≡ Some requests.NotAsked
+    → Does m names (commands.Complete request) text old new
+    → (new.disk ≡ old.disk) × (new.recorder ≡ old.recorder)
+    × (new.requests.items ≡ old.requests.items) × (text ≡ [])
 complete_failed {D} {L} {d} {l} m names request text old new failed told =
-    let ended = subst (λ (found : Option Request). EndsRequest found (name_at names request) text old new) failed told in
+    let ended =
+    subst (λ (found : Option Request). EndsRequest found
+    (name_at names request) text old new) failed told in
     (ended.0.device, ended.1, ended.0.kept, ended.0.prints)
 
-complete_none : {D L : Type 0} {d : Ghosts D} {l : Ghosts L} (m : Answering D L) (names : List ScriptId) (request : ℕ) (text : List ℕ) (old new : Running D L d l)
-    → slice_get old.requests.items request ≡ None → Does m names (commands.Complete request) text old new → ⊥
+complete_none : {D L : Type 0} {d : Ghosts D} {l : Ghosts L} (m : Answering D L)
+    (names : List ScriptId) (request : ℕ) (text : List ℕ) (old new : Running D L d l)
+    → slice_get old.requests.items request ≡ None
+    → Does m names (commands.Complete request) text old new → ⊥
 complete_none {D} {L} {d} {l} m names request text old new none told =
-    subst (λ (found : Option Request). EndsRequest found (name_at names request) text old new) none told
+    subst (λ (found : Option Request). EndsRequest found
+    (name_at names request) text old new) none told
 
--- a close, a turn and a mark leave the data device and the requests as they are, and a turn and a close print nothing
-close_keeps : {D L : Type 0} {d : Ghosts D} {l : Ghosts L} (m : Answering D L) (names : List ScriptId) (text : List ℕ) (old new : Running D L d l)
-    → Does m names (commands.Step steps.Close) text old new → (new.disk ≡ old.disk) × (new.requests.items ≡ old.requests.items) × (text ≡ [])
+-- a close, a turn and a mark leave the data device and the
+-- requests as they are, and a turn and a close print nothing
+close_keeps : {D L : Type 0} {d : Ghosts D} {l : Ghosts L} (m : Answering D L)
+    (names : List ScriptId) (text : List ℕ) (old new : Running D L d l)
+    → Does m names (commands.Step steps.Close) text old new
+    → (new.disk ≡ old.disk) × (new.requests.items ≡ old.requests.items) × (text ≡ [])
 close_keeps m names text old new told = (told.keeps.device, told.keeps.kept, told.keeps.prints)
 
-turn_keeps : {D L : Type 0} {d : Ghosts D} {l : Ghosts L} (m : Answering D L) (names : List ScriptId) (text : List ℕ) (old new : Running D L d l)
-    → Does m names (commands.Step steps.Turn) text old new → (new.disk ≡ old.disk) × (new.requests.items ≡ old.requests.items) × (text ≡ [])
+turn_keeps : {D L : Type 0} {d : Ghosts D} {l : Ghosts L} (m : Answering D L)
+    (names : List ScriptId) (text : List ℕ) (old new : Running D L d l)
+    → Does m names (commands.Step steps.Turn) text old new
+    → (new.disk ≡ old.disk) × (new.requests.items ≡ old.requests.items) × (text ≡ [])
 turn_keeps m names text old new told = (told.keeps.device, told.keeps.kept, told.keeps.prints)
 
-mark_keeps : {D L : Type 0} {d : Ghosts D} {l : Ghosts L} (m : Answering D L) (names : List ScriptId) (mark text : List ℕ) (old new : Running D L d l)
+mark_keeps : {D L : Type 0} {d : Ghosts D} {l : Ghosts L} (m : Answering D L)
+    (names : List ScriptId) (mark text : List ℕ) (old new : Running D L d l)
     → (told : Does m names (commands.Step (steps.Mark mark)) text old new)
     → (new.disk ≡ old.disk) × (new.requests.items ≡ old.requests.items) × PrintsMark told.reply text
 mark_keeps m names mark text old new told = (told.device, told.kept, told.prints)
 
--- a read leaves the recorder and the requests as they are, calls the data device at the run's moment, and prints what was read
-read_reads : {D L : Type 0} {d : Ghosts D} {l : Ghosts L} (m : Answering D L) (names : List ScriptId) (first count : ℕ) (text : List ℕ) (old new : Running D L d l)
+-- a read leaves the recorder and the requests as they are, calls the data device at the run's
+-- moment, and prints what was read
+read_reads : {D L : Type 0} {d : Ghosts D} {l : Ghosts L} (m : Answering D L)
+    (names : List ScriptId) (first count : ℕ) (text : List ℕ) (old new : Running D L d l)
     → (told : Does m names (commands.Step (steps.Read first count)) text old new)
-    → (new.recorder ≡ old.recorder) × (new.requests.items ≡ old.requests.items) × ReadsSectors d.does old.moment first count told.bytes old.disk new.disk
+    → (new.recorder ≡ old.recorder) × (new.requests.items ≡ old.requests.items)
+    × ReadsSectors d.does old.moment first count told.bytes old.disk new.disk
     × (text ≡ read_line first count told.bytes)
 read_reads m names first count text old new told = (told.log, told.kept, told.reads, told.prints)
 
 -- a moment is set in the run and in the recorder, and the devices aren't called
-moment_set : {D L : Type 0} {d : Ghosts D} {l : Ghosts L} (m : Answering D L) (names : List ScriptId) (moment : ℕ) (text : List ℕ) (old new : Running D L d l)
+moment_set : {D L : Type 0} {d : Ghosts D} {l : Ghosts L} (m : Answering D L)
+    (names : List ScriptId) (moment : ℕ) (text : List ℕ) (old new : Running D L d l)
     → RunsLine m names (commands.Step (steps.At moment)) text old new
-    → (new.moment ≡ moment) × (new.recorder.store.moment ≡ moment) × (new.recorder.store.device ≡ old.recorder.store.device) × (new.disk ≡ old.disk)
+    → (new.moment ≡ moment) × (new.recorder.store.moment ≡ moment)
+    × (new.recorder.store.device ≡ old.recorder.store.device) × (new.disk ≡ old.disk)
     × (new.requests.items ≡ old.requests.items) × (text ≡ [])
-moment_set m names moment text old new told =
-    (told.moment, told.does.log_moment, told.does.device, told.does.keeps.device, told.does.keeps.kept, told.does.keeps.prints)
+moment_set m names moment text old new told = (
+  told.moment,
+  told.does.log_moment,
+  told.does.device,
+  told.does.keeps.device,
+  told.does.keeps.kept,
+  told.does.keeps.prints,
+)
 
 -- every other line leaves it
-moment_kept : {D L : Type 0} {d : Ghosts D} {l : Ghosts L} (m : Answering D L) (names : List ScriptId) (request : ℕ) (text : List ℕ) (old new : Running D L d l)
+moment_kept : {D L : Type 0} {d : Ghosts D} {l : Ghosts L} (m : Answering D L)
+    (names : List ScriptId) (request : ℕ) (text : List ℕ) (old new : Running D L d l)
     → RunsLine m names (commands.Complete request) text old new → new.moment ≡ old.moment
 moment_kept m names request text old new told = told.moment
 
--- a message to a layer of the data device goes there, and one to a layer of the log's device there; nothing else changes
-message_data : {D L : Type 0} {d : Ghosts D} {l : Ghosts L} (m : Answering D L) (names : List ScriptId) (layer : ℕ) (asked text : List ℕ) (old new : Running D L d l)
+-- a message to a layer of the data device goes there, and one
+-- to a layer of the log's device there; nothing else changes
+message_data : {D L : Type 0} {d : Ghosts D} {l : Ghosts L} (m : Answering D L)
+    (names : List ScriptId) (layer : ℕ) (asked text : List ℕ) (old new : Running D L d l)
     → Does m names (commands.Step (steps.Message disks.Data layer asked)) text old new
-    → m.data_device old.disk layer asked (Ok tt) new.disk × Unchanged (d.shown old.disk) (d.shown new.disk) × (new.recorder ≡ old.recorder)
+    → m.data_device old.disk layer asked (Ok tt) new.disk
+    × Unchanged (d.shown old.disk) (d.shown new.disk) × (new.recorder ≡ old.recorder)
     × (new.requests.items ≡ old.requests.items) × (text ≡ [])
-message_data m names layer asked text old new told = (told.takes, told.unchanged, told.log, told.kept, told.prints)
+message_data m names layer asked text old new told =
+    (told.takes, told.unchanged, told.log, told.kept, told.prints)
 
-message_log : {D L : Type 0} {d : Ghosts D} {l : Ghosts L} (m : Answering D L) (names : List ScriptId) (layer : ℕ) (asked text : List ℕ) (old new : Running D L d l)
+message_log : {D L : Type 0} {d : Ghosts D} {l : Ghosts L} (m : Answering D L)
+    (names : List ScriptId) (layer : ℕ) (asked text : List ℕ) (old new : Running D L d l)
     → Does m names (commands.Step (steps.Message disks.Log layer asked)) text old new
     → m.log_device old.recorder.store.device layer asked (Ok tt) new.recorder.store.device
-    × Unchanged (l.shown old.recorder.store.device) (l.shown new.recorder.store.device) × (core_of new.recorder ≡ core_of old.recorder)
-    × (new.recorder.end ≡ old.recorder.end) × (new.recorder.store.moment ≡ old.recorder.store.moment) × (new.disk ≡ old.disk)
+    × Unchanged (l.shown old.recorder.store.device) (l.shown new.recorder.store.device)
+    × (core_of new.recorder ≡ core_of old.recorder)
+    × (new.recorder.end ≡ old.recorder.end)
+    × (new.recorder.store.moment ≡ old.recorder.store.moment) × (new.disk ≡ old.disk)
     × (new.requests.items ≡ old.requests.items) × (text ≡ [])
 message_log m names layer asked text old new told = (
   told.takes,
@@ -371,12 +458,16 @@ message_log m names layer asked text old new told = (
 )
 
 -- a device that doesn't refuse a message isn't told to have refused it
-refused_data : {D L : Type 0} {d : Ghosts D} {l : Ghosts L} (m : Answering D L) (layer : ℕ) (asked : List ℕ) (error : MessageError) (old : Running D L d l)
-    → ((last : D) → m.data_device old.disk layer asked (Err error) last → ⊥) → RefusesMessage m disks.Data layer asked error old → ⊥
+refused_data : {D L : Type 0} {d : Ghosts D} {l : Ghosts L} (m : Answering D L) (layer : ℕ)
+    (asked : List ℕ) (error : MessageError) (old : Running D L d l)
+    → ((last : D) → m.data_device old.disk layer asked (Err error) last → ⊥)
+    → RefusesMessage m disks.Data layer asked error old → ⊥
 refused_data m layer asked error old never told = never told.0 told.1
 
-refused_log : {D L : Type 0} {d : Ghosts D} {l : Ghosts L} (m : Answering D L) (layer : ℕ) (asked : List ℕ) (error : MessageError) (old : Running D L d l)
-    → ((last : L) → m.log_device old.recorder.store.device layer asked (Err error) last → ⊥) → RefusesMessage m disks.Log layer asked error old → ⊥
+refused_log : {D L : Type 0} {d : Ghosts D} {l : Ghosts L} (m : Answering D L) (layer : ℕ)
+    (asked : List ℕ) (error : MessageError) (old : Running D L d l)
+    → ((last : L) → m.log_device old.recorder.store.device layer asked (Err error) last → ⊥)
+    → RefusesMessage m disks.Log layer asked error old → ⊥
 refused_log m layer asked error old never told = never told.0 told.1
 
 -- ---- lines one after another
@@ -386,7 +477,14 @@ abbrev adding : ℕ → List ℕ → ℕ → ℕ → Type 0
 adding step text old new = (text ≡ step ∷ []) × (new ≡ old + step)
 
 chain_two : Chain adding (1 ∷ 2 ∷ []) (1 ∷ 2 ∷ []) 0 3
-chain_two = (1, 1 ∷ [], 2 ∷ [], refl, (refl, omega arith), (3, 2 ∷ [], [], refl, (refl, omega arith), (refl, refl)))
+chain_two = (
+  1,
+  1 ∷ [],
+  2 ∷ [],
+  refl,
+  (refl, omega arith),
+  (3, 2 ∷ [], [], refl, (refl, omega arith), (refl, refl)),
+)
 
 -- what they print in the other order, or not; and a state that no step made
 chain_order : Chain adding (1 ∷ 2 ∷ []) (2 ∷ 1 ∷ []) 0 3 → ⊥
@@ -396,7 +494,8 @@ chain_order ran =
     omega arith
 
 chain_silent : Chain adding (1 ∷ []) [] 0 1 → ⊥
-chain_silent ran = let same : [] ≡ 1 ∷ ran.2 = ran.3 ∙ ap (λ (text : List ℕ). text ++ ran.2) ran.4.0 in cc
+chain_silent ran =
+    let same : [] ≡ 1 ∷ ran.2 = ran.3 ∙ ap (λ (text : List ℕ). text ++ ran.2) ran.4.0 in cc
 
 chain_state : Chain adding (1 ∷ []) (1 ∷ []) 0 2 → ⊥
 chain_state ran = let mid = ran.4.1 in let last = ran.5.1 in omega arith
@@ -408,38 +507,61 @@ chain_moved : Chain adding [] [] 0 1 → ⊥
 chain_moved ran = let same = ran.1 in omega arith
 
 -- of one line, none stands before it
-none_before : (before rest : List Command) (line other : Command) → line ∷ [] ≡ before ++ other ∷ rest → before ≡ []
+none_before : (before rest : List Command) (line other : Command)
+    → line ∷ [] ≡ before ++ other ∷ rest → before ≡ []
 none_before [] rest line other split = refl
 none_before (first ∷ []) rest line other split = absurd (cc)
 none_before (first ∷ second ∷ before) rest line other split = absurd (cc)
 
--- a script of a Close alone, which is refused at its own place, where nothing was printed, and not as busy where no request is open
-close_place : {D L : Type 0} {d : Ghosts D} {l : Ghosts L} (m : Answering D L) (plan : ScriptValue) (place : ℕ) (refusal : Refusal) (text : List ℕ) (old : Running D L d l)
-    → plan.commands ≡ commands.Step steps.Close ∷ [] → RefusesClose m plan place refusal text old → (place ≡ 0) × (text ≡ [])
+-- a script of a Close alone, which is refused at its own place, where nothing was printed, and not
+-- as busy where no request is open
+close_place : {D L : Type 0} {d : Ghosts D} {l : Ghosts L} (m : Answering D L) (plan : ScriptValue)
+    (place : ℕ) (refusal : Refusal) (text : List ℕ) (old : Running D L d l)
+    → plan.commands ≡ commands.Step steps.Close ∷ [] → RefusesClose m plan place refusal text old
+    → (place ≡ 0) × (text ≡ [])
 close_place {D} {L} {d} {l} m plan place refusal text old alone told =
     let none = none_before told.before told.rest (commands.Step steps.Close) _ (sym alone ∙ told.split) in
-    let ran = subst (λ (before : List Command). RunsLines m plan.names before text old told.mid) none told.ran in
+    let ran =
+    subst (λ (before : List Command). RunsLines m plan.names before text old told.mid) none
+    told.ran in
     (told.place_is ∙ ap (λ (before : List Command). length before) none, ran.0)
 
-close_busy : {D L : Type 0} {d : Ghosts D} {l : Ghosts L} (m : Answering D L) (plan : ScriptValue) (place : ℕ) (text : List ℕ) (old : Running D L d l)
-    → plan.commands ≡ commands.Step steps.Close ∷ [] → none_open (core_of old.recorder).events ≡ true → RefusesClose m plan place refusals.Busy text old → ⊥
+close_busy : {D L : Type 0} {d : Ghosts D} {l : Ghosts L} (m : Answering D L) (plan : ScriptValue)
+    (place : ℕ) (text : List ℕ) (old : Running D L d l)
+    → plan.commands ≡ commands.Step steps.Close ∷ []
+    → none_open (core_of old.recorder).events ≡ true
+    → RefusesClose m plan place refusals.Busy text old → ⊥
 close_busy {D} {L} {d} {l} m plan place text old alone none_is told =
     let none = none_before told.before told.rest (commands.Step steps.Close) _ (sym alone ∙ told.split) in
-    let ran = subst (λ (before : List Command). RunsLines m plan.names before text old told.mid) none told.ran in
+    let ran =
+    subst (λ (before : List Command). RunsLines m plan.names before text old told.mid) none
+    told.ran in
     let opened = told.refused.busy.0 refl in
-    let same = sym none_is ∙ ap (λ (run : Running D L d l). none_open (core_of run.recorder).events) (sym ran.1) ∙ opened in
+    let same =
+    sym none_is ∙ ap (λ (run : Running D L d l). none_open (core_of run.recorder).events)
+    (sym ran.1) ∙ opened in
     cc
 
--- a script of a message alone, which is refused at its own place, where nothing was printed, by what its device answers
-message_place : {D L : Type 0} {d : Ghosts D} {l : Ghosts L} (m : Answering D L) (plan : ScriptValue) (place layer : ℕ) (asked text : List ℕ) (error : MessageError) (old : Running D L d l)
-    → plan.commands ≡ commands.Step (steps.Message disks.Data layer asked) ∷ [] → RefusesLine m plan place error text old → (place ≡ 0) × (text ≡ [])
+-- a script of a message alone, which is refused at its own
+-- place, where nothing was printed, by what its device answers
+message_place : {D L : Type 0} {d : Ghosts D} {l : Ghosts L} (m : Answering D L)
+    (plan : ScriptValue) (place layer : ℕ) (asked text : List ℕ) (error : MessageError)
+    (old : Running D L d l)
+    → plan.commands ≡ commands.Step (steps.Message disks.Data layer asked) ∷ []
+    → RefusesLine m plan place error text old → (place ≡ 0) × (text ≡ [])
 message_place {D} {L} {d} {l} m plan place layer asked text error old alone told =
-    let none = none_before told.before told.rest (commands.Step (steps.Message disks.Data layer asked)) _ (sym alone ∙ told.split) in
-    let ran = subst (λ (before : List Command). RunsLines m plan.names before text old told.mid) none told.ran in
+    let none =
+    none_before told.before told.rest
+    (commands.Step (steps.Message disks.Data layer asked)) _ (sym alone ∙ told.split) in
+    let ran =
+    subst (λ (before : List Command). RunsLines m plan.names before text old told.mid) none
+    told.ran in
     (told.place_is ∙ ap (λ (before : List Command). length before) none, ran.0)
 
-message_refused : {D L : Type 0} {d : Ghosts D} {l : Ghosts L} (m : Answering D L) (plan : ScriptValue) (place : ℕ) (error : MessageError) (text : List ℕ) (old : Running D L d l)
-    → (told : RefusesLine m plan place error text old) → RefusesMessage m told.over told.layer told.asked error told.mid
+message_refused : {D L : Type 0} {d : Ghosts D} {l : Ghosts L} (m : Answering D L)
+    (plan : ScriptValue) (place : ℕ) (error : MessageError) (text : List ℕ) (old : Running D L d l)
+    → (told : RefusesLine m plan place error text old)
+    → RefusesMessage m told.over told.layer told.asked error told.mid
 message_refused m plan place error text old told = told.refused
 
 -- the line of a fault, and its refusal
@@ -452,121 +574,180 @@ refusal_of (faults.Refused fault) = fault.refusal
 refusal_of (faults.LoggingEnded end) = refusals.File
 
 file_busy : (fault : RunError) → IsFileError fault → refusal_of fault ≡ refusals.Busy → ⊥
-file_busy fault (inl is) busy = let same : refusals.File ≡ refusals.Busy = ap refusal_of (sym is) ∙ busy in cc
-file_busy fault (inr is) busy = let same : refusals.Memory ≡ refusals.Busy = ap refusal_of (sym is) ∙ busy in cc
+file_busy fault (inl is) busy =
+    let same : refusals.File ≡ refusals.Busy = ap refusal_of (sym is) ∙ busy in cc
+file_busy fault (inr is) busy =
+    let same : refusals.Memory ≡ refusals.Busy = ap refusal_of (sym is) ∙ busy in cc
 
 -- so the fault names the line of that Close
-close_line : {D L : Type 0} {d : Ghosts D} {l : Ghosts L} (m : Answering D L) (text : List ℕ) (plan : ScriptValue) (before after : Option (List ℕ)) (old : Running D L d l) (fault : RunError)
-    → plan.commands ≡ commands.Step steps.Close ∷ [] → EndsRun m text plan before after old fault → refusal_of fault ≡ refusals.Busy
+close_line : {D L : Type 0} {d : Ghosts D} {l : Ghosts L} (m : Answering D L) (text : List ℕ)
+    (plan : ScriptValue) (before after : Option (List ℕ)) (old : Running D L d l) (fault : RunError)
+    → plan.commands ≡ commands.Step steps.Close ∷ [] → EndsRun m text plan before after old fault
+    → refusal_of fault ≡ refusals.Busy
     → line_of fault ≡ command_line text (head_count plan)
-close_line {D} {L} {d} {l} m text plan before after old fault alone (close place refusal printed refuses grew) busy =
+close_line {D} {L} {d} {l} m text plan before after old fault alone
+    (close place refusal printed refuses grew) busy =
     ap (λ (n : ℕ). command_line text n) (let first = (close_place {d = d} {l = l} m plan place refusal printed old alone refuses).0 in omega arith)
-close_line {D} {L} {d} {l} m text plan before after old fault alone (message place error printed refuses grew) busy =
+close_line {D} {L} {d} {l} m text plan before after old fault alone
+    (message place error printed refuses grew) busy =
     absurd (let none = none_before refuses.before refuses.rest (commands.Step steps.Close) _ (sym alone ∙ refuses.split) in
     let same : commands.Step steps.Close ∷ [] ≡ commands.Step (steps.Message refuses.over refuses.layer refuses.asked) ∷ refuses.rest =
     sym alone ∙ refuses.split ∙ ap (λ (front : List Command). front ++ commands.Step (steps.Message refuses.over refuses.layer refuses.asked) ∷ refuses.rest) none in
     cc)
-close_line {D} {L} {d} {l} m text plan before after old fault alone (run_file again is) busy = absurd (file_busy again is busy)
+close_line {D} {L} {d} {l} m text plan before after old fault alone (run_file again is) busy =
+    absurd (file_busy again is busy)
 
 some_printed : (text : List ℕ) → text ≡ [] → text ≡ 1 ∷ [] → ⊥
 some_printed text none some = let same = sym none ∙ some in cc
 
 -- and nothing was printed
-close_printing : {D L : Type 0} {d : Ghosts D} {l : Ghosts L} (m : Answering D L) (text : List ℕ) (plan : ScriptValue) (old : Running D L d l) (fault : RunError)
-    → plan.commands ≡ commands.Step steps.Close ∷ [] → EndsRun m text plan (Some []) (Some (1 ∷ [])) old fault → refusal_of fault ≡ refusals.Busy → ⊥
-close_printing {D} {L} {d} {l} m text plan old fault alone (close place refusal printed refuses grew) busy =
+close_printing : {D L : Type 0} {d : Ghosts D} {l : Ghosts L} (m : Answering D L) (text : List ℕ)
+    (plan : ScriptValue) (old : Running D L d l) (fault : RunError)
+    → plan.commands ≡ commands.Step steps.Close ∷ []
+    → EndsRun m text plan (Some []) (Some (1 ∷ [])) old fault → refusal_of fault ≡ refusals.Busy → ⊥
+close_printing {D} {L} {d} {l} m text plan old fault alone
+    (close place refusal printed refuses grew) busy =
     let none = (close_place {d = d} {l = l} m plan place refusal printed old alone refuses).1 in
     some_printed printed none (sym grew)
-close_printing {D} {L} {d} {l} m text plan old fault alone (message place error printed refuses grew) busy =
-    let none = none_before refuses.before refuses.rest (commands.Step steps.Close) _ (sym alone ∙ refuses.split) in
+close_printing {D} {L} {d} {l} m text plan old fault alone
+    (message place error printed refuses grew) busy =
+    let none =
+    none_before refuses.before refuses.rest (commands.Step steps.Close) _
+    (sym alone ∙ refuses.split) in
     let same : commands.Step steps.Close ∷ [] ≡ commands.Step (steps.Message refuses.over refuses.layer refuses.asked) ∷ refuses.rest =
     sym alone ∙ refuses.split ∙ ap (λ (front : List Command). front ++ commands.Step (steps.Message refuses.over refuses.layer refuses.asked) ∷ refuses.rest) none in
     cc
-close_printing {D} {L} {d} {l} m text plan old fault alone (run_file again is) busy = file_busy again is busy
+close_printing {D} {L} {d} {l} m text plan old fault alone (run_file again is) busy =
+    file_busy again is busy
 
 -- ---- on disks
 
--- a new log has no entry, logging goes on, and where its device told no lie a crash leaves an empty log
-new_nothing : {L : Type 0} {l : Ghosts L} (bytes : ℕ) (device : L) (recorder : Recorder L l) → IsNewOn bytes device recorder
+-- a new log has no entry, logging goes on, and where its
+-- device told no lie a crash leaves an empty log
+new_nothing : {L : Type 0} {l : Ghosts L} (bytes : ℕ) (device : L) (recorder : Recorder L l)
+    → IsNewOn bytes device recorder
     → (recorder.store.placed ≡ 0) × (recorder.end ≡ None) × (core_of recorder ≡ sized_state bytes)
 new_nothing bytes device recorder told = (told.placed, told.end, told.core)
 
-new_empty : {L : Type 0} {l : Ghosts L} (bytes : ℕ) (device : L) (recorder : Recorder L l) (left : Content) → IsNewOn bytes device recorder
-    → (l.shown recorder.store.device).lies ≡ 0 → (l.shown recorder.store.device).crash left → IsLogOf (l.shown recorder.store.device).size left bytes []
+new_empty : {L : Type 0} {l : Ghosts L} (bytes : ℕ) (device : L) (recorder : Recorder L l)
+    (left : Content) → IsNewOn bytes device recorder
+    → (l.shown recorder.store.device).lies ≡ 0 → (l.shown recorder.store.device).crash left
+    → IsLogOf (l.shown recorder.store.device).size left bytes []
 new_empty bytes device recorder left told honest may = told.empty honest left may
 
--- where no log could be made, its device answered so to the write of the super block, and where it failed it had a fault
-unmade_answered : {L : Type 0} {l : Ghosts L} (bytes : ℕ) (device : L) (fault : RunError) → (told : IsUnmadeOn l bytes device fault)
-    → l.does device (Writes 0 (first_sector bytes 0) true) 0 (Err told.error) told.last × (fault ≡ faults.LoggingEnded (end_cause told.error))
+-- where no log could be made, its device answered so to the
+-- write of the super block, and where it failed it had a fault
+unmade_answered : {L : Type 0} {l : Ghosts L} (bytes : ℕ) (device : L) (fault : RunError)
+    → (told : IsUnmadeOn l bytes device fault)
+    → l.does device (Writes 0 (first_sector bytes 0) true) 0 (Err told.error) told.last
+    × (fault ≡ faults.LoggingEnded (end_cause told.error))
     × (told.error ≡ Io → HasFaulted (l.shown device) (l.shown told.last))
 unmade_answered bytes device fault told = (told.answered, told.ends_by, told.failed)
 
 -- a disk begins with zeroes, at moment 0, under its layers, which were loaded then
 stack_begins : (disk : Disk) (stack : Stack) → 0 < disk.sectors → IsStackOf disk stack
-    → ((shown_of (disk_of stack)).content 0 ≡ replicate 512 0) × ((shown_of (disk_of stack)).size ≡ disk.sectors)
-    × (layers_of stack ≡ layers_under disk.layers 0 []) × ((stack_shown stack).moment ≡ 0) × ((stack_shown stack).lies ≡ 0)
-stack_begins disk stack some told = (told.blank.content 0 some, told.blank.size, told.layers, told.over.moment ∙ told.blank.moment, told.over.lies)
+    → ((shown_of (disk_of stack)).content 0 ≡ replicate 512 0)
+    × ((shown_of (disk_of stack)).size ≡ disk.sectors)
+    × (layers_of stack ≡ layers_under disk.layers 0 []) × ((stack_shown stack).moment ≡ 0)
+    × ((stack_shown stack).lies ≡ 0)
+stack_begins disk stack some told = (
+  told.blank.content 0 some,
+  told.blank.size,
+  told.layers,
+  told.over.moment ∙ told.blank.moment,
+  told.over.lies,
+)
 
 -- a run begins at moment 0, with no request, on its data disk
-starts_first : (plan : ScriptValue) (run : DiskRun) → Starts plan run → (run.moment ≡ 0) × (run.requests.items ≡ []) × IsStackOf plan.data_disk run.disk
+starts_first : (plan : ScriptValue) (run : DiskRun) → Starts plan run
+    → (run.moment ≡ 0) × (run.requests.items ≡ []) × IsStackOf plan.data_disk run.disk
 starts_first plan run told = (told.moment, told.none, told.data_disk)
 
 -- what a status counts
 status_counts : (status : Status) (recorder : DiskRecorder) → IsCounted status recorder
-    → (status.entries ≡ recorder.store.placed) × (status.end ≡ recorder.end) × (0 < recorder.store.placed → status.sector + 1 ≡ recorder.store.next * sectors_per (core_of recorder).sector_bytes)
+    → (status.entries ≡ recorder.store.placed) × (status.end ≡ recorder.end)
+    × (0 < recorder.store.placed
+    → status.sector + 1 ≡ recorder.store.next * sectors_per (core_of recorder).sector_bytes)
 status_counts status recorder told = (told.entries, told.end, told.last)
 
--- a script of no lines prints nothing; of it there is no entry, no end of logging and no lie of the data disk's layers
-nothing_recorded : (plan : ScriptValue) (text : List ℕ) (status : Status) (lies : Lies) (image : List ℕ) → plan.commands ≡ []
+-- a script of no lines prints nothing; of it there is no entry,
+-- no end of logging and no lie of the data disk's layers
+nothing_recorded : (plan : ScriptValue) (text : List ℕ) (status : Status) (lies : Lies)
+    (image : List ℕ) → plan.commands ≡ []
     → IsRecorded plan text status lies image
-    → (text ≡ []) × (status.entries ≡ 0) × (status.sector ≡ 0) × (status.end ≡ None) × (lies.data_disk ≡ 0)
+    → (text ≡ []) × (status.entries ≡ 0) × (status.sector ≡ 0) × (status.end ≡ None)
+    × (lies.data_disk ≡ 0)
 nothing_recorded plan text status lies image none told =
-    let ran = subst (λ (body : List Command). RunsLines stack_answering plan.names body text told.start told.last) none told.ran in
+    let ran =
+    subst (λ (body : List Command). RunsLines stack_answering plan.names body text
+    told.start told.last) none told.ran in
     let same : told.last ≡ told.start = ran.1 in
     let begun = told.starts.log_disk.begun in
-    let placed : told.last.recorder.store.placed ≡ 0 = ap (λ (run : DiskRun). run.recorder.store.placed) same ∙ begun.placed in (
+    let placed : told.last.recorder.store.placed ≡ 0 =
+    ap (λ (run : DiskRun). run.recorder.store.placed) same ∙ begun.placed in (
       ran.0,
       told.counted.entries ∙ placed,
       told.counted.none placed,
       told.counted.end ∙ ap (λ (run : DiskRun). run.recorder.end) same ∙ begun.end,
-      ap (λ (l : Lies). l.data_disk) told.lied ∙ ap (λ (run : DiskRun). (stack_shown run.disk).lies) same ∙ told.starts.data_disk.over.lies,
+      ap (λ (l : Lies). l.data_disk) told.lied
+          ∙ ap (λ (run : DiskRun). (stack_shown run.disk).lies) same
+          ∙ told.starts.data_disk.over.lies,
     )
 
--- the lies of each disk are those of its layers, and the log's are none where none of its layers may drop writes
+-- the lies of each disk are those of its layers, and the
+-- log's are none where none of its layers may drop writes
 lies_of_each : (plan : ScriptValue) (text : List ℕ) (status : Status) (lies : Lies) (image : List ℕ)
     → (told : IsRecorded plan text status lies image)
-    → (lies.data_disk ≡ (stack_shown told.last.disk).lies) × (lies.log_disk ≡ (stack_shown told.last.recorder.store.device).lies)
+    → (lies.data_disk ≡ (stack_shown told.last.disk).lies)
+    × (lies.log_disk ≡ (stack_shown told.last.recorder.store.device).lies)
     × (some_drops plan.log_disk.layers ≡ false → lies.log_disk ≡ 0)
 lies_of_each plan text status lies image told =
     (ap (λ (l : Lies). l.data_disk) told.lied, ap (λ (l : Lies). l.log_disk) told.lied, told.honest)
 
--- the image is of the log's disk: its content, or where the script ends by a crash what its picks leave
-image_whole : (plan : ScriptValue) (text : List ℕ) (status : Status) (lies : Lies) (image : List ℕ) → plan.ending ≡ None
+-- the image is of the log's disk: its content, or where the
+-- script ends by a crash what its picks leave
+image_whole : (plan : ScriptValue) (text : List ℕ) (status : Status) (lies : Lies) (image : List ℕ)
+    → plan.ending ≡ None
     → (told : IsRecorded plan text status lies image)
-    → AgreeBelow plan.log_disk.sectors (shown_of (disk_of told.last.recorder.store.device)).content (sector_of image)
+    → AgreeBelow plan.log_disk.sectors (shown_of (disk_of told.last.recorder.store.device)).content
+    (sector_of image)
 image_whole plan text status lies image none told =
-    subst (λ (ending : Option (List ℕ)). AgreeBelow plan.log_disk.sectors (left_on ending (disk_of told.last.recorder.store.device)) (sector_of image)) none told.bytes
+    subst (λ (ending : Option (List ℕ)). AgreeBelow plan.log_disk.sectors
+    (left_on ending (disk_of told.last.recorder.store.device))
+    (sector_of image)) none told.bytes
 
-image_left : (plan : ScriptValue) (text : List ℕ) (status : Status) (lies : Lies) (image picks : List ℕ) → plan.ending ≡ Some picks
+image_left : (plan : ScriptValue) (text : List ℕ) (status : Status) (lies : Lies)
+    (image picks : List ℕ) → plan.ending ≡ Some picks
     → (told : IsRecorded plan text status lies image)
-    → AgreeBelow plan.log_disk.sectors (left_by (cache_of (disk_of told.last.recorder.store.device)) picks) (sector_of image)
+    → AgreeBelow plan.log_disk.sectors
+    (left_by (cache_of (disk_of told.last.recorder.store.device)) picks) (sector_of image)
 image_left plan text status lies image picks some told =
-    subst (λ (ending : Option (List ℕ)). AgreeBelow plan.log_disk.sectors (left_on ending (disk_of told.last.recorder.store.device)) (sector_of image)) some told.bytes
+    subst (λ (ending : Option (List ℕ)). AgreeBelow plan.log_disk.sectors
+    (left_on ending (disk_of told.last.recorder.store.device))
+    (sector_of image)) some told.bytes
 
-image_size : (plan : ScriptValue) (text : List ℕ) (status : Status) (lies : Lies) → plan.log_disk.sectors ≡ 1
+image_size : (plan : ScriptValue) (text : List ℕ) (status : Status) (lies : Lies)
+    → plan.log_disk.sectors ≡ 1
     → IsRecorded plan text status lies [] → ⊥
 image_size plan text status lies one told = let size = told.size in let count = one in omega arith
 
--- where the log's device told no lie, the status is that of what is placed, and the image has a log of what could be; the whole list where the script closed
-honest_log : (plan : ScriptValue) (text : List ℕ) (status : Status) (lies : Lies) (image : List ℕ) → lies.log_disk ≡ 0
+-- where the log's device told no lie, the status is that of what is placed, and the image has a log
+-- of what could be; the whole list where the script closed
+honest_log : (plan : ScriptValue) (text : List ℕ) (status : Status) (lies : Lies) (image : List ℕ)
+    → lies.log_disk ≡ 0
     → (told : IsRecorded plan text status lies image)
-    → (status ≡ status_of (bytes_of plan.log_size) (entries_of (store_of told.last.recorder.store)) told.last.recorder.end)
-    × ReplaysToWhatCouldBe (recorder_view told.last.recorder) (recorder_view told.last.recorder) (moved (top_origin 0 plan.log_disk.layers) (sector_of image))
+    → (status ≡ status_of (bytes_of plan.log_size)
+    (entries_of (store_of told.last.recorder.store)) told.last.recorder.end)
+    × ReplaysToWhatCouldBe (recorder_view told.last.recorder) (recorder_view told.last.recorder)
+    (moved (top_origin 0 plan.log_disk.layers) (sector_of image))
     × (has_no_close (core_of told.last.recorder).events ≡ false → told.last.recorder.end ≡ None
-    → IsLogOf (top_of plan.log_disk) (moved (top_origin 0 plan.log_disk.layers) (sector_of image)) (bytes_of plan.log_size) (log_of (core_of told.last.recorder)))
-honest_log plan text status lies image honest told = (told.tells honest, told.beginning honest, told.whole honest)
+    → IsLogOf (top_of plan.log_disk) (moved (top_origin 0 plan.log_disk.layers) (sector_of image))
+    (bytes_of plan.log_size) (log_of (core_of told.last.recorder)))
+honest_log plan text status lies image honest told =
+    (told.tells honest, told.beginning honest, told.whole honest)
 
--- a recording ends by the end of logging only where its log can't be made, and then it has printed nothing
+-- a recording ends by the end of logging only where its log
+-- can't be made, and then it has printed nothing
 abbrev is_end : RunError → Bool
 is_end (faults.Refused fault) = false
 is_end (faults.LoggingEnded end) = true
@@ -575,20 +756,27 @@ not_file : (fault : RunError) (end : End) → fault ≡ faults.LoggingEnded end 
 not_file fault end is (inl file) = let same : true ≡ false = ap is_end (sym is ∙ file) in cc
 not_file fault end is (inr memory) = let same : true ≡ false = ap is_end (sym is ∙ memory) in cc
 
-unmade_printing : (text : List ℕ) (plan : ScriptValue) (fault : RunError) (end : End) → fault ≡ faults.LoggingEnded end
+unmade_printing : (text : List ℕ) (plan : ScriptValue) (fault : RunError) (end : End)
+    → fault ≡ faults.LoggingEnded end
     → FailsOnDisks text plan (Some []) (Some (1 ∷ [])) fault → ⊥
 unmade_printing text plan fault end is (disk_file again file) = not_file again end is file
 unmade_printing text plan fault end is (unmade again none kept) = cc
 unmade_printing text plan fault end is (disk_run start again starts (close place refusal printed refuses grew)) = cc
 unmade_printing text plan fault end is (disk_run start again starts (message place error printed refuses grew)) = cc
-unmade_printing text plan fault end is (disk_run start again starts (run_file other file)) = not_file other end is file
+unmade_printing text plan fault end is (disk_run start again starts (run_file other file)) =
+    not_file other end is file
 
 -- what is no file's fault and no log's is a line's, of a run that began as its script says
-fails_by_run : (text : List ℕ) (plan : ScriptValue) (before after : Option (List ℕ)) (fault : RunError) → (IsFileError fault → ⊥) → (IsUnmade (bytes_of plan.log_size) plan.log_disk fault → ⊥)
-    → FailsOnDisks text plan before after fault → (start : DiskRun) × Starts plan start × EndsRun stack_answering text plan before after start fault
+fails_by_run : (text : List ℕ) (plan : ScriptValue) (before after : Option (List ℕ))
+    (fault : RunError) → (IsFileError fault → ⊥)
+    → (IsUnmade (bytes_of plan.log_size) plan.log_disk fault → ⊥)
+    → FailsOnDisks text plan before after fault
+    → (start : DiskRun) × Starts plan start
+    × EndsRun stack_answering text plan before after start fault
 fails_by_run text plan before after fault other made (disk_file again file) = absurd (other file)
 fails_by_run text plan before after fault other made (unmade again none kept) = absurd (made none)
-fails_by_run text plan before after fault other made (disk_run start again starts fails) = (start, starts, fails)
+fails_by_run text plan before after fault other made (disk_run start again starts fails) =
+    (start, starts, fails)
 
 -- ---- rehearsing
 
@@ -596,7 +784,7 @@ fails_by_run text plan before after fault other made (disk_run start again start
 asked_flush : is_asked (requests.Asked bios.Flush None) ≡ true
 asked_flush = refl
 
-asked_failed : is_asked requests.Failed ≡ false
+asked_failed : is_asked requests.NotAsked ≡ false
 asked_failed = refl
 
 -- a Stop for want of memory is one; by another cause it isn't, nor is a Close
@@ -613,8 +801,11 @@ stop_close : is_memory_stop events.Close ≡ false
 stop_close = refl
 
 -- a run that asked of a flush, and whose log is full, rehearses its script
-rehearsed_full : (plan : ScriptValue) (start last : DiskRun) (text : List ℕ) → Starts plan start → RunsLines stack_answering plan.names plan.commands text start last
-    → last.requests.items ≡ requests.Asked bios.Flush None ∷ [] → (core_of last.recorder).events ≡ events.Stop ends.Full ∷ [] → IsRehearsed plan (events.Stop ends.Full ∷ [])
+rehearsed_full : (plan : ScriptValue) (start last : DiskRun) (text : List ℕ) → Starts plan start
+    → RunsLines stack_answering plan.names plan.commands text start last
+    → last.requests.items ≡ requests.Asked bios.Flush None ∷ []
+    → (core_of last.recorder).events ≡ events.Stop ends.Full ∷ []
+    → IsRehearsed plan (events.Stop ends.Full ∷ [])
 rehearsed_full plan start last text starts ran asked stopped = record {
   start = start;
   starts = starts;
@@ -627,8 +818,11 @@ rehearsed_full plan start last text starts ran asked stopped = record {
 }
 
 -- one of which a request failed doesn't, nor one that ended for want of memory
-rehearsed_failed : (plan : ScriptValue) (es : List CoreEvent) → (told : IsRehearsed plan es) → told.last.requests.items ≡ requests.Asked bios.Flush None ∷ requests.Failed ∷ [] → ⊥
-rehearsed_failed plan es told failed = let same : false ≡ true = sym (ap (list_all is_asked) failed) ∙ told.asked in cc
+rehearsed_failed : (plan : ScriptValue) (es : List CoreEvent) → (told : IsRehearsed plan es)
+    → told.last.requests.items ≡ requests.Asked bios.Flush None ∷ requests.NotAsked ∷ [] → ⊥
+rehearsed_failed plan es told failed =
+    let same : false ≡ true = sym (ap (list_all is_asked) failed) ∙ told.asked in cc
 
-rehearsed_stopped : (plan : ScriptValue) → IsRehearsed plan (events.Submit bios.Flush ∷ events.Stop ends.Memory ∷ []) → ⊥
+rehearsed_stopped : (plan : ScriptValue)
+    → IsRehearsed plan (events.Submit bios.Flush ∷ events.Stop ends.Memory ∷ []) → ⊥
 rehearsed_stopped plan told = let same : true ≡ false = told.ample in cc

@@ -1,5 +1,6 @@
 -- The events of a script's run are lawful for a device of the size of the data disk's top.
-use Rattle.std.proofs.Common.{◌≡◌, ℕ, zero, suc, Bool, true, false, Option, Some, None, List, [], ◌∷◌, ◌++◌, Result, Ok, Err, inl, inr, refl, subst, sym}
+use Rattle.std.proofs.Common.{◌≡◌, ℕ, zero, suc, Bool, true, false, Option, Some, None, List, []}
+use Rattle.std.proofs.Common.{◌∷◌, ◌++◌, Result, Ok, Err, inl, inr, refl, subst, sym}
 use Rattle.std.specs.Prelude.{if◌then◌else◌, is_ok, slice_get}
 use Rattle.sectors.specs.PlaceLaws.{bool_cases}
 use Rattle.bio.specs.declared.event.CoreEvent.{CoreEvent}
@@ -10,7 +11,8 @@ use Rattle.bio.specs.Check.{check_answer}
 use Rattle.bio.specs.Sizes.{bytes_of}
 use Rattle.bio.specs.Events.{is_open_at}
 use Rattle.bio.specs.EventLaws.{well_formed-lawful}
-use Rattle.bio.specs.Lawful.{has_no_close, is_lawful, is_recording, is_text, is_well_formed, is_within}
+use Rattle.bio.specs.Lawful.{has_no_close, is_lawful, is_recording, is_text, is_well_formed}
+use Rattle.bio.specs.Lawful.{is_within}
 use Rattle.blockdev.specs.declared.device.BlockDev.{Ghosts}
 use Rattle.refusals.specs.declared.refusal.Refusal.TheVariants as refusals
 use Rattle.dmlw_script.specs.declared.command.Command.{Command}
@@ -42,61 +44,84 @@ abbrev AreWithin : ℕ → List CoreEvent → Type 0
 AreWithin sectors events = (place : ℕ) → is_within sectors (slice_get events place) ≡ true
 
 -- one more event
-within_snoc : (sectors : ℕ) (es : List CoreEvent) (e : CoreEvent) → AreWithin sectors es → is_within sectors (Some e) ≡ true → AreWithin sectors (es ++ e ∷ [])
+within_snoc : (sectors : ℕ) (es : List CoreEvent) (e : CoreEvent) → AreWithin sectors es
+    → is_within sectors (Some e) ≡ true → AreWithin sectors (es ++ e ∷ [])
 within_snoc sectors [] e within here zero = here
 within_snoc sectors [] e within here (suc place) = refl
 within_snoc sectors (first ∷ es) e within here zero = within zero
-within_snoc sectors (first ∷ es) e within here (suc place) = within_snoc sectors es e (λ p. within (suc p)) here place
+within_snoc sectors (first ∷ es) e within here (suc place) =
+    within_snoc sectors es e (λ p. within (suc p)) here place
 
 -- of a core that grew by an event
-grown_within : (sectors : ℕ) (core grown : CoreState) (e : CoreEvent) → grown ≡ added_to core e → is_within sectors (Some e) ≡ true
+grown_within : (sectors : ℕ) (core grown : CoreState) (e : CoreEvent) → grown ≡ added_to core e
+    → is_within sectors (Some e) ≡ true
     → AreWithin sectors core.events → AreWithin sectors grown.events
 grown_within sectors core grown e is here within =
-    subst (λ (c : CoreState). AreWithin sectors c.events) (sym is) (within_snoc sectors core.events e within here)
+    subst (λ (c : CoreState). AreWithin sectors c.events) (sym is)
+    (within_snoc sectors core.events e within here)
 
 -- of a core that is the same
-same_within : (sectors : ℕ) (core same : CoreState) → same ≡ core → AreWithin sectors core.events → AreWithin sectors same.events
-same_within sectors core same is within = subst (λ (c : CoreState). AreWithin sectors c.events) (sym is) within
+same_within : (sectors : ℕ) (core same : CoreState) → same ≡ core → AreWithin sectors core.events
+    → AreWithin sectors same.events
+same_within sectors core same is within =
+    subst (λ (c : CoreState). AreWithin sectors c.events) (sym is) within
 
 -- where logging ends
-stopped_within : (sectors : ℕ) (core : CoreState) (cause : End) → AreWithin sectors core.events → AreWithin sectors (stopped_by core cause).events
+stopped_within : (sectors : ℕ) (core : CoreState) (cause : End) → AreWithin sectors core.events
+    → AreWithin sectors (stopped_by core cause).events
 stopped_within sectors core cause within = by_case (is_recording core.events)
   where
-    by_case : (going : Bool) → AreWithin sectors (if going then core.events ++ events.Stop cause ∷ [] else core.events)
+    by_case : (going : Bool)
+        → AreWithin sectors (if going then core.events ++ events.Stop cause ∷ [] else core.events)
     by_case true = within_snoc sectors core.events (events.Stop cause) within refl
     by_case false = within
 
-stops_within : {L : Type 0} {l : Ghosts L} (sectors : ℕ) (cause : End) (old new : Recorder L l) → Stops cause old new
+stops_within : {L : Type 0} {l : Ghosts L} (sectors : ℕ) (cause : End) (old new : Recorder L l)
+    → Stops cause old new
     → AreWithin sectors (core_of old).events → AreWithin sectors (core_of new).events
 stops_within sectors cause old new stops within =
-    subst (λ (es : List CoreEvent). AreWithin sectors es) (sym stops.events) (stopped_within sectors (core_of old) cause within)
+    subst (λ (es : List CoreEvent). AreWithin sectors es) (sym stops.events)
+    (stopped_within sectors (core_of old) cause within)
 
 -- a submission of a request that passes the test
-submitted_within : {L : Type 0} {l : Ghosts L} (sectors : ℕ) (bio : Bio) (reply : Reply) (old new : Recorder L l) → Submits bio reply old new
-    → is_ok (check_answer bio sectors) ≡ true → AreWithin sectors (core_of old).events → AreWithin sectors (core_of new).events
-submitted_within {L} {l} sectors bio reply old new submits passes within = elim (bool_cases (records (core_of old) bio)) [
-  | inl recorded ↦ elim (submits.recorded recorded) [
-    | inl tracked ↦ grown_within sectors (core_of old) (core_of new) (events.Submit bio) tracked.1.core passes within
-    | inr refused ↦ stops_within {l = l} sectors _ old new refused.1 within
-  ]
-  | inr other ↦ same_within sectors (core_of old) (core_of new) (submits.passed other).1.core within
-]
+submitted_within : {L : Type 0} {l : Ghosts L} (sectors : ℕ) (bio : Bio) (reply : Reply)
+    (old new : Recorder L l) → Submits bio reply old new
+    → is_ok (check_answer bio sectors) ≡ true → AreWithin sectors (core_of old).events
+    → AreWithin sectors (core_of new).events
+submitted_within {L} {l} sectors bio reply old new submits passes within =
+    elim (bool_cases (records (core_of old) bio)) [
+      | inl recorded ↦ elim (submits.recorded recorded) [
+        | inl tracked ↦
+            grown_within sectors (core_of old) (core_of new)
+            (events.Submit bio) tracked.1.core passes within
+        | inr refused ↦ stops_within {l = l} sectors _ old new refused.1 within
+      ]
+      | inr other ↦
+          same_within sectors (core_of old) (core_of new) (submits.passed other).1.core within
+    ]
 
 -- the end of a request
-completed_within : {L : Type 0} {l : Ghosts L} (sectors id : ℕ) (ok : Bool) (reply : Reply) (old new : Recorder L l) → Completes id ok reply old new
+completed_within : {L : Type 0} {l : Ghosts L} (sectors id : ℕ) (ok : Bool) (reply : Reply)
+    (old new : Recorder L l) → Completes id ok reply old new
     → AreWithin sectors (core_of old).events → AreWithin sectors (core_of new).events
-completed_within sectors id ok reply old new completes within = elim (bool_cases (is_open_at (core_of old).events id)) [
-  | inl opened ↦ grown_within sectors (core_of old) (core_of new) (events.Complete id ok) (completes.recorded opened).1 refl within
-  | inr other ↦ same_within sectors (core_of old) (core_of new) (completes.unknown other).1 within
-]
+completed_within sectors id ok reply old new completes within =
+    elim (bool_cases (is_open_at (core_of old).events id)) [
+      | inl opened ↦
+          grown_within sectors (core_of old) (core_of new) (events.Complete id ok)
+          (completes.recorded opened).1 refl within
+      | inr other ↦
+          same_within sectors (core_of old) (core_of new) (completes.unknown other).1 within
+    ]
 
 -- a mark
-marked_within : {L : Type 0} {l : Ghosts L} (sectors : ℕ) (text : List ℕ) (reply : Reply) (old new : Recorder L l) → Marks text reply old new
+marked_within : {L : Type 0} {l : Ghosts L} (sectors : ℕ) (text : List ℕ) (reply : Reply)
+    (old new : Recorder L l) → Marks text reply old new
     → AreWithin sectors (core_of old).events → AreWithin sectors (core_of new).events
 marked_within sectors text reply old new marks within = elim (bool_cases (is_text text)) [
   | inl heard ↦ elim (bool_cases (is_recording (core_of old).events)) [
     | inl going ↦ elim (marks.recorded heard going) [
-      | inl queued ↦ grown_within sectors (core_of old) (core_of new) (events.Mark text) queued.1 refl within
+      | inl queued ↦
+          grown_within sectors (core_of old) (core_of new) (events.Mark text) queued.1 refl within
       | inr refused ↦ same_within sectors (core_of old) (core_of new) refused.1 within
     ]
     | inr over ↦ same_within sectors (core_of old) (core_of new) (marks.passed heard over).1 within
@@ -105,77 +130,106 @@ marked_within sectors text reply old new marks within = elim (bool_cases (is_tex
 ]
 
 -- the end of recording
-closed_within : {L : Type 0} {l : Ghosts L} (sectors : ℕ) (reply : Reply) (old new : Recorder L l) → Closes reply old new
+closed_within : {L : Type 0} {l : Ghosts L} (sectors : ℕ) (reply : Reply) (old new : Recorder L l)
+    → Closes reply old new
     → AreWithin sectors (core_of old).events → AreWithin sectors (core_of new).events
 closed_within sectors reply old new closes within = elim closes.answer [
-  | inl done ↦ subst (λ (c : CoreState). AreWithin sectors c.events) (sym done.1) (by_case (has_no_close (core_of old).events))
+  | inl done ↦
+      subst (λ (c : CoreState). AreWithin sectors c.events) (sym done.1)
+      (by_case (has_no_close (core_of old).events))
   | inr other ↦ elim other [
     | inl busy ↦ same_within sectors (core_of old) (core_of new) busy.1 within
     | inr memory ↦ same_within sectors (core_of old) (core_of new) memory.1 within
   ]
 ]
   where
-    by_case : (going : Bool) → AreWithin sectors (if going then added_to (core_of old) events.Close else (core_of old)).events
+    by_case : (going : Bool)
+        → AreWithin sectors (if going then added_to (core_of old) events.Close else
+        (core_of old)).events
     by_case true = within_snoc sectors (core_of old).events events.Close within refl
     by_case false = within
 
 -- a turn of the writer
-turned_within : {L : Type 0} {l : Ghosts L} (sectors : ℕ) (turn : Turn) (old new : Recorder L l) → Turns turn old new
+turned_within : {L : Type 0} {l : Ghosts L} (sectors : ℕ) (turn : Turn) (old new : Recorder L l)
+    → Turns turn old new
     → AreWithin sectors (core_of old).events → AreWithin sectors (core_of new).events
 turned_within {L} {l} sectors turn old new turned within = by_end old.end refl
   where
     going : (core_of new).events ≡ (core_of old).events → AreWithin sectors (core_of new).events
     going same = subst (λ (es : List CoreEvent). AreWithin sectors es) (sym same) within
 
-    by_turn : (turn : Turn) → old.end ≡ None → Turns turn old new → AreWithin sectors (core_of new).events
-    by_turn turns.Nothing on did = same_within sectors (core_of old) (core_of new) (did.logging on).1.core within
+    by_turn : (turn : Turn) → old.end ≡ None → Turns turn old new
+        → AreWithin sectors (core_of new).events
+    by_turn turns.Nothing on did =
+        same_within sectors (core_of old) (core_of new) (did.logging on).1.core within
     by_turn (turns.Placed index) on did = going (did.logging on).0.events
     by_turn (turns.Settled index) on did = going (did.logging on).0.events
-    by_turn (turns.Ended cause) on did = stops_within {l = l} sectors cause old new (did.logging on).stops within
+    by_turn (turns.Ended cause) on did =
+        stops_within {l = l} sectors cause old new (did.logging on).stops within
 
     by_end : (end : Option End) → old.end ≡ end → AreWithin sectors (core_of new).events
     by_end None is = by_turn turn is turned
-    by_end (Some cause) is = same_within sectors (core_of old) (core_of new) (turned.ended cause is).1.core within
+    by_end (Some cause) is =
+        same_within sectors (core_of old) (core_of new) (turned.ended cause is).1.core within
 
 -- turns until the log is written
-drained_within : {L : Type 0} {l : Ghosts L} (sectors : ℕ) (answer : Result Unit End) (old new : Recorder L l) → Drains answer old new
+drained_within : {L : Type 0} {l : Ghosts L} (sectors : ℕ) (answer : Result Unit End)
+    (old new : Recorder L l) → Drains answer old new
     → AreWithin sectors (core_of old).events → AreWithin sectors (core_of new).events
 drained_within {L} {l} sectors answer old new drains within = by_end old.end refl
   where
-    by_answer : (answer : Result Unit End) → old.end ≡ None → Drains answer old new → AreWithin sectors (core_of new).events
-    by_answer (Ok done) on drained = subst (λ (es : List CoreEvent). AreWithin sectors es) (sym (drained.logging on).0.events) within
-    by_answer (Err cause) on drained = stops_within {l = l} sectors cause old new (drained.logging on) within
+    by_answer : (answer : Result Unit End) → old.end ≡ None → Drains answer old new
+        → AreWithin sectors (core_of new).events
+    by_answer (Ok done) on drained =
+        subst (λ (es : List CoreEvent). AreWithin sectors es)
+        (sym (drained.logging on).0.events) within
+    by_answer (Err cause) on drained =
+        stops_within {l = l} sectors cause old new (drained.logging on) within
 
     by_end : (end : Option End) → old.end ≡ end → AreWithin sectors (core_of new).events
     by_end None is = by_answer answer is drains
-    by_end (Some cause) is = same_within sectors (core_of old) (core_of new) (drains.ended cause is).1.core within
+    by_end (Some cause) is =
+        same_within sectors (core_of old) (core_of new) (drains.ended cause is).1.core within
 
 -- a request that is asked
-asked_within : {L : Type 0} {l : Ghosts L} (sectors : ℕ) (bio : Bio) (request : Request) (old new : Recorder L l) → Asks bio request old new
-    → is_ok (check_answer bio sectors) ≡ true → AreWithin sectors (core_of old).events → AreWithin sectors (core_of new).events
-asked_within {L} {l} sectors bio (requests.Asked kept id) old new asks passes within = submitted_within {l = l} sectors bio (reply_of id) old new asks.1 passes within
-asked_within {L} {l} sectors bio requests.Failed old new asks passes within = elim asks [
-  | inl unasked ↦ subst (λ (r : Recorder L l). AreWithin sectors (core_of r).events) (sym unasked.1) within
-  | inr refused ↦ submitted_within {l = l} sectors bio (replies.Refused refusals.Memory) old new refused passes within
+asked_within : {L : Type 0} {l : Ghosts L} (sectors : ℕ) (bio : Bio) (request : Request)
+    (old new : Recorder L l) → Asks bio request old new
+    → is_ok (check_answer bio sectors) ≡ true → AreWithin sectors (core_of old).events
+    → AreWithin sectors (core_of new).events
+asked_within {L} {l} sectors bio (requests.Asked kept id) old new asks passes within =
+    submitted_within {l = l} sectors bio (reply_of id) old new asks.1 passes within
+asked_within {L} {l} sectors bio requests.NotAsked old new asks passes within = elim asks [
+  | inl unasked ↦
+      subst (λ (r : Recorder L l). AreWithin sectors (core_of r).events) (sym unasked.1) within
+  | inr refused ↦
+      submitted_within {l = l} sectors bio
+      (replies.Refused refusals.Memory) old new refused passes within
 ]
 
 -- a request's end
-heard_within : {L : Type 0} {l : Ghosts L} (sectors : ℕ) (id : Option ℕ) (ok : Bool) (old new : Recorder L l) → HearsEnd id ok old new
+heard_within : {L : Type 0} {l : Ghosts L} (sectors : ℕ) (id : Option ℕ) (ok : Bool)
+    (old new : Recorder L l) → HearsEnd id ok old new
     → AreWithin sectors (core_of old).events → AreWithin sectors (core_of new).events
-heard_within {L} {l} sectors (Some id) ok old new hears within = completed_within {l = l} sectors id ok hears.0 old new hears.1 within
-heard_within {L} {l} sectors None ok old new hears within = subst (λ (r : Recorder L l). AreWithin sectors (core_of r).events) (sym hears) within
+heard_within {L} {l} sectors (Some id) ok old new hears within =
+    completed_within {l = l} sectors id ok hears.0 old new hears.1 within
+heard_within {L} {l} sectors None ok old new hears within =
+    subst (λ (r : Recorder L l). AreWithin sectors (core_of r).events) (sym hears) within
 
-ended_within : {D L : Type 0} {d : Ghosts D} {l : Ghosts L} (sectors : ℕ) (found : Option Request) (name : ScriptId) (text : List ℕ) (old new : Running D L d l)
-    → EndsRequest found name text old new → AreWithin sectors (core_of old.recorder).events → AreWithin sectors (core_of new.recorder).events
+ended_within : {D L : Type 0} {d : Ghosts D} {l : Ghosts L} (sectors : ℕ) (found : Option Request)
+    (name : ScriptId) (text : List ℕ) (old new : Running D L d l)
+    → EndsRequest found name text old new → AreWithin sectors (core_of old.recorder).events
+    → AreWithin sectors (core_of new.recorder).events
 ended_within {D} {L} {d} {l} sectors None name text old new does within = absurd does
-ended_within {D} {L} {d} {l} sectors (Some requests.Failed) name text old new does within =
+ended_within {D} {L} {d} {l} sectors (Some requests.NotAsked) name text old new does within =
     subst (λ (r : Recorder L l). AreWithin sectors (core_of r).events) (sym does.1) within
 ended_within {D} {L} {d} {l} sectors (Some (requests.Asked bio id)) name text old new does within =
     heard_within {l = l} sectors id does.ok old.recorder new.recorder does.hears within
 
 -- a line that names no request
-step_within : {D L : Type 0} {d : Ghosts D} {l : Ghosts L} (m : Answering D L) (sectors : ℕ) (step : Step) (text : List ℕ) (old new : Running D L d l) → TakesStep m step text old new
-    → AreWithin sectors (core_of old.recorder).events → AreWithin sectors (core_of new.recorder).events
+step_within : {D L : Type 0} {d : Ghosts D} {l : Ghosts L} (m : Answering D L) (sectors : ℕ)
+    (step : Step) (text : List ℕ) (old new : Running D L d l) → TakesStep m step text old new
+    → AreWithin sectors (core_of old.recorder).events
+    → AreWithin sectors (core_of new.recorder).events
 step_within {D} {L} {d} {l} m sectors steps.Close text old new does within =
     drained_within {l = l} sectors does.answer does.closed new.recorder does.drains
     (closed_within {l = l} sectors replies.Closed old.recorder does.closed does.closes within)
@@ -187,32 +241,53 @@ step_within {D} {L} {d} {l} m sectors (steps.Mark mark) text old new does within
     marked_within {l = l} sectors mark does.reply old.recorder new.recorder does.marks within
 step_within {D} {L} {d} {l} m sectors (steps.At moment) text old new does within =
     same_within sectors (core_of old.recorder) (core_of new.recorder) does.core within
-step_within {D} {L} {d} {l} m sectors (steps.Message disks.Data layer asked) text old new does within =
+step_within {D} {L} {d} {l} m sectors
+    (steps.Message disks.Data layer asked) text old new does within =
     subst (λ (r : Recorder L l). AreWithin sectors (core_of r).events) (sym does.log) within
-step_within {D} {L} {d} {l} m sectors (steps.Message disks.Log layer asked) text old new does within =
+step_within {D} {L} {d} {l} m sectors
+    (steps.Message disks.Log layer asked) text old new does within =
     same_within sectors (core_of old.recorder) (core_of new.recorder) does.core within
 
 -- the lines of a script, where each request fits a device of so many sectors
-lines_within : {D L : Type 0} {d : Ghosts D} {l : Ghosts L} (m : Answering D L) (bytes sectors : ℕ) (names : List ScriptId) (before body : List Command) (text : List ℕ) (old new : Running D L d l)
-    → IsWellFormed bytes sectors before body → RunsLines m names body text old new → AreWithin sectors (core_of old.recorder).events → AreWithin sectors (core_of new.recorder).events
+lines_within : {D L : Type 0} {d : Ghosts D} {l : Ghosts L} (m : Answering D L) (bytes sectors : ℕ)
+    (names : List ScriptId) (before body : List Command) (text : List ℕ) (old new : Running D L d l)
+    → IsWellFormed bytes sectors before body → RunsLines m names body text old new
+    → AreWithin sectors (core_of old.recorder).events
+    → AreWithin sectors (core_of new.recorder).events
 lines_within {D} {L} {d} {l} m bytes sectors names before [] text old new fit ran within =
-    subst (λ (run : Running D L d l). AreWithin sectors (core_of run.recorder).events) (sym ran.1) within
-lines_within {D} {L} {d} {l} m bytes sectors names before (commands.Submit submission ∷ body) text old new fit ran within =
+    subst (λ (run : Running D L d l). AreWithin sectors (core_of run.recorder).events)
+    (sym ran.1) within
+lines_within {D} {L} {d} {l} m bytes sectors names before
+    (commands.Submit submission ∷ body) text old new fit ran within =
     let does = ran.4.does in
-    lines_within {d = d} {l = l} m bytes sectors names (before ++ commands.Submit submission ∷ []) body ran.2 ran.0 new fit.1 ran.5
-    (asked_within {l = l} sectors (bio_of submission) does.request old.recorder ran.0.recorder does.asks (bio_passes bytes sectors submission fit.0.0) within)
-lines_within {D} {L} {d} {l} m bytes sectors names before (commands.Complete request ∷ body) text old new fit ran within =
-    lines_within {d = d} {l = l} m bytes sectors names (before ++ commands.Complete request ∷ []) body ran.2 ran.0 new fit.1 ran.5
-    (ended_within {d = d} {l = l} sectors (slice_get old.requests.items request) (name_at names request) ran.1 old ran.0 ran.4.does within)
-lines_within {D} {L} {d} {l} m bytes sectors names before (commands.Step step ∷ body) text old new fit ran within =
-    lines_within {d = d} {l = l} m bytes sectors names (before ++ commands.Step step ∷ []) body ran.2 ran.0 new fit.1 ran.5
+    lines_within {d = d} {l = l} m bytes sectors names
+    (before ++ commands.Submit submission ∷ []) body ran.2 ran.0 new fit.1 ran.5
+    (asked_within {l = l} sectors
+    (bio_of submission) does.request old.recorder ran.0.recorder does.asks
+    (bio_passes bytes sectors submission fit.0.0) within)
+lines_within {D} {L} {d} {l} m bytes sectors names before
+    (commands.Complete request ∷ body) text old new fit ran within =
+    lines_within {d = d} {l = l} m bytes sectors names
+    (before ++ commands.Complete request ∷ []) body ran.2 ran.0 new fit.1 ran.5
+    (ended_within {d = d} {l = l} sectors (slice_get old.requests.items request)
+    (name_at names request) ran.1 old ran.0 ran.4.does within)
+lines_within {D} {L} {d} {l} m bytes sectors names before
+    (commands.Step step ∷ body) text old new fit ran within =
+    lines_within {d = d} {l = l} m bytes sectors names
+    (before ++ commands.Step step ∷ []) body ran.2 ran.0 new fit.1 ran.5
     (step_within {d = d} {l = l} m sectors step ran.1 old ran.0 ran.4.does within)
 
 -- the events of a script's run are lawful
-pub run_lawful : (plan : ScriptValue) (text : List ℕ) (start last : DiskRun) → IsPlan plan → Starts plan start → RunsLines stack_answering plan.names plan.commands text start last
-    → is_well_formed (core_of last.recorder).events ≡ true → is_lawful (top_of plan.data_disk) (core_of last.recorder).events ≡ true
+pub run_lawful : (plan : ScriptValue) (text : List ℕ) (start last : DiskRun) → IsPlan plan
+    → Starts plan start → RunsLines stack_answering plan.names plan.commands text start last
+    → is_well_formed (core_of last.recorder).events ≡ true
+    → is_lawful (top_of plan.data_disk) (core_of last.recorder).events ≡ true
 run_lawful plan text start last is starts ran well_formed =
     let none : AreWithin (top_of plan.data_disk) (core_of start.recorder).events =
     subst (λ (c : CoreState). AreWithin (top_of plan.data_disk) c.events) (sym starts.log_disk.begun.core) (λ place. refl) in
-    let within = lines_within stack_answering (bytes_of plan.log_size) (top_of plan.data_disk) plan.names [] plan.commands text start last is.well_formed ran none in
-    well_formed-lawful (top_of plan.data_disk) (core_of last.recorder).events well_formed (λ place here. within place)
+    let within =
+    lines_within stack_answering (bytes_of plan.log_size)
+    (top_of plan.data_disk) plan.names [] plan.commands text start last is.well_formed ran
+    none in
+    well_formed-lawful (top_of plan.data_disk) (core_of last.recorder).events well_formed
+    (λ place here. within place)

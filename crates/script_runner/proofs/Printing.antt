@@ -1,5 +1,7 @@
 -- What is printed.
-use Rattle.std.proofs.Common.{◌≡◌, ◌∙◌, ℕ, zero, suc, ◌<◌, ◌==◌, Bool, true, false, Option, List, [], ◌∷◌, ◌++◌, encode_utf8_all, length, replicate, append_assoc, ap, arith, sym, subst, if◌then◌else◌}
+use Rattle.std.proofs.Common.{◌≡◌, ◌∙◌, ℕ, zero, suc, ◌<◌, ◌==◌, Bool, true, false, Option, List}
+use Rattle.std.proofs.Common.{[], ◌∷◌, ◌++◌, encode_utf8_all, length, replicate, append_assoc, ap}
+use Rattle.std.proofs.Common.{arith, sym, subst, if◌then◌else◌}
 use Rattle.std.specs.Prelude.{codes, slice_index_or}
 use Rattle.std.specs.List.{AllByRecursion, list_all}
 use Rattle.std.specs.Io.KnownBytes.{Appends}
@@ -33,20 +35,26 @@ low_letters (byte ∷ word) size all =
     kept false bytes low rest = (low, rest)
 
 -- a name is printed by its letters
-letters_encoded : (name : ScriptId) → IsName name → encode_utf8_all (letters_of name) ≡ letters_of name
+letters_encoded : (name : ScriptId) → IsName name
+    → encode_utf8_all (letters_of name) ≡ letters_of name
 letters_encoded name is =
     let word = is.0 in
     let letters = and_parts _ (list_all is_name_byte word) is.1 in
     subst (λ (n : ScriptId). encode_utf8_all (letters_of n) ≡ letters_of n) (sym is.2)
     (encodes-IsAscii (letters_of (script_id word)) (IsAscii-from_all (letters_of (script_id word))
-    (All-from_recursion (λ byte. byte < 128) (letters_of (script_id word)) (low_letters word _ letters.1))))
+    (All-from_recursion (λ byte. byte < 128) (letters_of (script_id word))
+    (low_letters word _ letters.1))))
 
 -- a line of two words
-line_of : (word other : List ℕ) → word ++ 32 ∷ (other ++ 10 ∷ []) ≡ word ++ codes " " ++ other ++ codes "\n"
-line_of word other = sym (append_assoc (word ++ codes " ") other (codes "\n") ∙ append_assoc word (codes " ") (other ++ codes "\n"))
+line_of : (word other : List ℕ)
+    → word ++ 32 ∷ (other ++ 10 ∷ []) ≡ word ++ codes " " ++ other ++ codes "\n"
+line_of word other =
+    sym (append_assoc (word ++ codes " ") other (codes "\n")
+    ∙ append_assoc word (codes " ") (other ++ codes "\n"))
 
 -- what became of a request was printed
-pub outcome_printed : (name : ScriptId) (ok : Bool) (word : List ℕ) (before after : Option (List ℕ)) → IsName name → word ≡ outcome_word ok
+pub outcome_printed : (name : ScriptId) (ok : Bool) (word : List ℕ) (before after : Option (List ℕ))
+    → IsName name → word ≡ outcome_word ok
     → Appends before after (encode_utf8_all (letters_of name) ++ 32 ∷ (word ++ 10 ∷ []))
     → Appends before after (outcome_line name ok)
 outcome_printed name ok word before after is says output =
@@ -56,6 +64,8 @@ outcome_printed name ok word before after is says output =
     ∙ ap (λ (w : List ℕ). letters_of name ++ codes " " ++ w ++ codes "\n") says) output
 
 -- the id of a request is an id
-pub name_is : (names : List ScriptId) (request : ℕ) (other : ScriptId) → AllByRecursion IsName names → request < length names
+pub name_is : (names : List ScriptId) (request : ℕ) (other : ScriptId) → AllByRecursion IsName names
+    → request < length names
     → IsName (slice_index_or names request other)
-name_is names request other ids here = All-get_or IsName names request other here (All-from_recursion IsName names ids)
+name_is names request other ids here =
+    All-get_or IsName names request other here (All-from_recursion IsName names ids)

@@ -1,5 +1,7 @@
--- Laws of what calls leave: what a writer holds after several of them, and the error of one that failed.
-use Rattle.std.proofs.Common.{◌∙◌, ℕ, List, ◌++◌, Option, None, Some, Result, Ok, Err, IfErr, append_assoc, ap, refl}
+-- Laws of what calls leave: what a writer holds after
+-- several of them, and the error of one that failed.
+use Rattle.std.proofs.Common.{◌∙◌, ℕ, List, ◌++◌, Option, None, Some, Result, Ok, Err, IfErr}
+use Rattle.std.proofs.Common.{append_assoc, ap, refl}
 use Rattle.std.specs.Result.{IsErrAnd}
 use Rattle.std.specs.Io.KnownBytes.{Appends, Keeps}
 
@@ -9,14 +11,17 @@ keeps_same None = tt
 keeps_same (Some bytes) = refl
 
 -- what a writer holds grows twice
-pub appends_twice : (a b c : Option (List ℕ)) (x y : List ℕ) → Appends a b x → Appends b c y → Appends a c (x ++ y)
+pub appends_twice : (a b c : Option (List ℕ)) (x y : List ℕ) → Appends a b x → Appends b c y
+    → Appends a c (x ++ y)
 appends_twice None b c x y first second = tt
 appends_twice (Some a) None c x y first second = absurd first
 appends_twice (Some a) (Some b) None x y first second = absurd second
-appends_twice (Some a) (Some b) (Some c) x y first second = second ∙ ap (λ (z : List ℕ). z ++ y) first ∙ append_assoc a x y
+appends_twice (Some a) (Some b) (Some c) x y first second =
+    second ∙ ap (λ (z : List ℕ). z ++ y) first ∙ append_assoc a x y
 
 -- what has grown is kept
-pub appends_kept : (a b c : Option (List ℕ)) (x : List ℕ) → Appends a b x → Keeps b c → Appends a c x
+pub appends_kept : (a b c : Option (List ℕ)) (x : List ℕ) → Appends a b x → Keeps b c
+    → Appends a c x
 appends_kept None b c x first second = tt
 appends_kept (Some a) None c x first second = absurd first
 appends_kept (Some a) (Some b) None x first second = absurd second
@@ -30,6 +35,7 @@ keeps_twice (Some a) (Some b) None first second = absurd second
 keeps_twice (Some a) (Some b) (Some c) first second = second ∙ first
 
 -- the error of a call that failed
-pub on_error : {T E : Type 0} {Q P : E → Type 0} (r : Result T E) → IsErrAnd r Q → ((e : E) → Q e → P e) → IfErr r P
+pub on_error : {T E : Type 0} {Q P : E → Type 0} (r : Result T E) → IsErrAnd r Q
+    → ((e : E) → Q e → P e) → IfErr r P
 on_error (Ok x) fails follows = absurd fails
 on_error (Err e) fails follows = follows e fails

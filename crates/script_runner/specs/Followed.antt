@@ -14,13 +14,16 @@ use Rattle.recorder.specs.Shown.{core_of}
 
 -- each request that the recorder follows stands in its events at its id, as it was asked
 abbrev pub IsFollowed : {D L : Type 0} {d : Ghosts D} {l : Ghosts L} → Running D L d l → Type 0
-IsFollowed run = (place : ℕ) (bio : Bio) (id : ℕ) → slice_get run.requests.items place ≡ Some (requests.Asked bio (Some id))
+IsFollowed run =
+    (place : ℕ) (bio : Bio) (id : ℕ)
+    → slice_get run.requests.items place ≡ Some (requests.Asked bio (Some id))
     → slice_get (core_of run.recorder).events id ≡ Some (core_events.Submit bio)
 
--- what became of a line that submits: the request that it says was asked; or there was no memory for it
+-- what became of a line that submits: the request that it
+-- says was asked; or there was no memory for it
 abbrev pub StandsFor : Submission → Request → Type 0
 StandsFor submission (requests.Asked bio id) = bio ≡ bio_of submission
-StandsFor submission requests.Failed = Unit {0}
+StandsFor submission requests.NotAsked = Unit {0}
 
 -- what the lines submit, in their order
 abbrev pub submissions_of : List Command → List Submission

@@ -1,6 +1,8 @@
--- What each line of a script does, from the run before it (old) to the run after it (new), and what it prints.
+-- What each line of a script does, from the run before it
+-- (old) to the run after it (new), and what it prints.
 use Rattle.recorder.specs.declared.reply.Turn.{Turn}
-use Rattle.std.specs.Prelude.{◌≡◌, ◌⊎◌, ℕ, ◌<◌, Bool, true, false, List, [], ◌∷◌, ◌++◌, Option, Some, None, Result, Ok, Err, length, slice_get, if◌then◌else◌}
+use Rattle.std.specs.Prelude.{◌≡◌, ◌⊎◌, ℕ, ◌<◌, Bool, true, false, List, [], ◌∷◌, ◌++◌, Option}
+use Rattle.std.specs.Prelude.{Some, None, Result, Ok, Err, length, slice_get, if◌then◌else◌}
 use Rattle.std.specs.Io.KnownBytes.{Appends, Keeps}
 use Rattle.bio.specs.declared.request.Bio.{Bio}
 use Rattle.bio.specs.declared.outcome.End.{End}
@@ -17,7 +19,8 @@ use Rattle.dmlw_script.specs.declared.command.Command.TheVariants as commands
 use Rattle.dmlw_script.specs.declared.command.Step.{Step}
 use Rattle.dmlw_script.specs.declared.command.Step.TheVariants as steps
 use Rattle.dmlw_script.specs.declared.script_id.ScriptId.{ScriptId}
-use Rattle.dmlw_script.specs.Plans.{is_submission, name_at, step_answer, submission_answer, HasLineText}
+use Rattle.dmlw_script.specs.Plans.{is_submission, name_at, step_answer, submission_answer}
+use Rattle.dmlw_script.specs.Plans.{HasLineText}
 use Rattle.recorder.specs.declared.recorder.Recorder.{Recorder}
 use Rattle.recorder.specs.declared.reply.Reply.{Reply}
 use Rattle.recorder.specs.declared.reply.Reply.TheVariants as replies
@@ -41,19 +44,21 @@ abbrev pub reply_of : Option ℕ → Reply
 reply_of (Some id) = replies.Tracked id
 reply_of None = replies.Passed
 
--- The recorder is asked of a request: it follows it by an id, or passes it. Or there is no memory: for the request's bytes, and the recorder
--- isn't asked; or the recorder has none.
+-- The recorder is asked of a request: it follows it by an id, or passes it. Or there is no memory:
+-- for the request's bytes, and the recorder isn't asked; or the recorder has none.
 abbrev pub Asks : {L : Type 0} {l : Ghosts L} → Bio → Request → Recorder L l → Recorder L l → Type 0
 Asks bio (requests.Asked kept id) old new = (kept ≡ bio) × Submits bio (reply_of id) old new
-Asks bio requests.Failed old new = ((has_data bio ≡ true) × (new ≡ old)) ⊎ Submits bio (replies.Refused refusals.Memory) old new
+Asks bio requests.NotAsked old new =
+    ((has_data bio ≡ true) × (new ≡ old)) ⊎ Submits bio (replies.Refused refusals.Memory) old new
 
 -- what a submission prints: nothing, unless there was no memory for the request
 abbrev pub submission_text : ScriptId → Request → List ℕ
 submission_text name (requests.Asked bio id) = []
-submission_text name requests.Failed = outcome_line name false
+submission_text name requests.NotAsked = outcome_line name false
 
 -- A line submits the next request. The data device isn't called yet.
-pub record SubmitsNext {D L : Type 0} {d : Ghosts D} {l : Ghosts L} (names : List ScriptId) (bio : Bio) (text : List ℕ) (old new : Running D L d l) : Type 0 where
+pub record SubmitsNext {D L : Type 0} {d : Ghosts D} {l : Ghosts L} (names : List ScriptId)
+    (bio : Bio) (text : List ℕ) (old new : Running D L d l) : Type 0 where
   pub device : new.disk ≡ old.disk
   pub request : Request
   pub asks : Asks bio request old.recorder new.recorder
@@ -61,12 +66,15 @@ pub record SubmitsNext {D L : Type 0} {d : Ghosts D} {l : Ghosts L} (names : Lis
   pub prints : text ≡ submission_text (name_at names (length old.requests.items)) request
 
 -- how the recorder hears of the end of a request that it follows by this id, or passed
-abbrev pub HearsEnd : {L : Type 0} {l : Ghosts L} → Option ℕ → Bool → Recorder L l → Recorder L l → Type 0
+abbrev pub HearsEnd : {L : Type 0} {l : Ghosts L} → Option ℕ → Bool → Recorder L l → Recorder L l
+    → Type 0
 HearsEnd (Some id) ok old new = (reply : Reply) × Completes id ok reply old new
 HearsEnd None ok old new = new ≡ old
 
--- A request that was asked is handed over to the data device, and ends with that result, which is printed.
-pub record EndsAsked {D L : Type 0} {d : Ghosts D} {l : Ghosts L} (bio : Bio) (id : Option ℕ) (name : ScriptId) (text : List ℕ) (old new : Running D L d l) : Type 0 where
+-- A request that was asked is handed over to the data
+-- device, and ends with that result, which is printed.
+pub record EndsAsked {D L : Type 0} {d : Ghosts D} {l : Ghosts L} (bio : Bio) (id : Option ℕ)
+    (name : ScriptId) (text : List ℕ) (old new : Running D L d l) : Type 0 where
   pub ok : Bool
   pub hands_over : HandsOver d.does old.moment bio ok old.disk new.disk
   pub hears : HearsEnd id ok old.recorder new.recorder
@@ -74,19 +82,23 @@ pub record EndsAsked {D L : Type 0} {d : Ghosts D} {l : Ghosts L} (bio : Bio) (i
   pub prints : text ≡ outcome_line name ok
 
 -- A line leaves the data device and the requests as they are, and prints nothing.
-pub record KeepsData {D L : Type 0} {d : Ghosts D} {l : Ghosts L} (text : List ℕ) (old new : Running D L d l) : Type 0 where
+pub record KeepsData {D L : Type 0} {d : Ghosts D} {l : Ghosts L} (text : List ℕ)
+    (old new : Running D L d l) : Type 0 where
   pub device : new.disk ≡ old.disk
   pub kept : new.requests.items ≡ old.requests.items
   pub prints : text ≡ []
 
 -- A line ends a request: one that has failed already does nothing, and prints nothing.
-abbrev pub EndsRequest : {D L : Type 0} {d : Ghosts D} {l : Ghosts L} → Option Request → ScriptId → List ℕ → Running D L d l → Running D L d l → Type 0
+abbrev pub EndsRequest : {D L : Type 0} {d : Ghosts D} {l : Ghosts L} → Option Request → ScriptId
+    → List ℕ → Running D L d l → Running D L d l → Type 0
 EndsRequest (Some (requests.Asked bio id)) name text old new = EndsAsked bio id name text old new
-EndsRequest (Some requests.Failed) name text old new = KeepsData text old new × (new.recorder ≡ old.recorder)
+EndsRequest (Some requests.NotAsked) name text old new =
+    KeepsData text old new × (new.recorder ≡ old.recorder)
 EndsRequest None name text old new = ⊥
 
 -- A line ends recording, and the log is written to its end, or logging ends.
-pub record EndsRecording {D L : Type 0} {d : Ghosts D} {l : Ghosts L} (text : List ℕ) (old new : Running D L d l) : Type 0 where
+pub record EndsRecording {D L : Type 0} {d : Ghosts D} {l : Ghosts L} (text : List ℕ)
+    (old new : Running D L d l) : Type 0 where
   pub keeps : KeepsData text old new
   pub closed : Recorder L l
   pub closes : Closes replies.Closed old.recorder closed
@@ -94,7 +106,8 @@ pub record EndsRecording {D L : Type 0} {d : Ghosts D} {l : Ghosts L} (text : Li
   pub drains : Drains answer closed new.recorder
 
 -- A line reads from the data device; the recorder isn't asked.
-pub record ReadsData {D L : Type 0} {d : Ghosts D} {l : Ghosts L} (first count : ℕ) (text : List ℕ) (old new : Running D L d l) : Type 0 where
+pub record ReadsData {D L : Type 0} {d : Ghosts D} {l : Ghosts L} (first count : ℕ) (text : List ℕ)
+    (old new : Running D L d l) : Type 0 where
   pub log : new.recorder ≡ old.recorder
   pub kept : new.requests.items ≡ old.requests.items
   pub bytes : Option (List ℕ)
@@ -102,21 +115,24 @@ pub record ReadsData {D L : Type 0} {d : Ghosts D} {l : Ghosts L} (first count :
   pub prints : text ≡ read_line first count bytes
 
 -- A line gives the writer a turn.
-pub record GivesTurn {D L : Type 0} {d : Ghosts D} {l : Ghosts L} (text : List ℕ) (old new : Running D L d l) : Type 0 where
+pub record GivesTurn {D L : Type 0} {d : Ghosts D} {l : Ghosts L} (text : List ℕ)
+    (old new : Running D L d l) : Type 0 where
   pub keeps : KeepsData text old new
   pub turn : Turn
   pub turns : Turns turn old.recorder new.recorder
 
--- what the line of a mark prints by the recorder's reply: nothing where the mark is queued or passed; and that it failed where there is no
--- memory for it, which is the only refusal
+-- what the line of a mark prints by the recorder's reply: nothing where the mark is queued or
+-- passed; and that it failed where there is no memory for it, which is the only refusal
 abbrev pub PrintsMark : Reply → List ℕ → Type 0
 PrintsMark (replies.Queued id) printed = printed ≡ []
 PrintsMark replies.Passed printed = printed ≡ []
 PrintsMark (replies.Refused refusal) printed = (refusal ≡ refusals.Memory) × (printed ≡ mark_failed)
 PrintsMark _ printed = ⊥
 
--- A line sets the moment, at which the calls of both devices begin from then on; the recorder hears of nothing.
-pub record SetsMoment {D L : Type 0} {d : Ghosts D} {l : Ghosts L} (moment : ℕ) (text : List ℕ) (old new : Running D L d l) : Type 0 where
+-- A line sets the moment, at which the calls of both devices
+-- begin from then on; the recorder hears of nothing.
+pub record SetsMoment {D L : Type 0} {d : Ghosts D} {l : Ghosts L} (moment : ℕ) (text : List ℕ)
+    (old new : Running D L d l) : Type 0 where
   pub keeps : KeepsData text old new
   pub core : core_of new.recorder ≡ core_of old.recorder
   pub end : new.recorder.end ≡ old.recorder.end
@@ -125,33 +141,40 @@ pub record SetsMoment {D L : Type 0} {d : Ghosts D} {l : Ghosts L} (moment : ℕ
   pub log_moment : new.recorder.store.moment ≡ moment
 
 -- A line tells the recorder of a mark; the data device isn't called.
-pub record TellsMark {D L : Type 0} {d : Ghosts D} {l : Ghosts L} (mark text : List ℕ) (old new : Running D L d l) : Type 0 where
+pub record TellsMark {D L : Type 0} {d : Ghosts D} {l : Ghosts L} (mark text : List ℕ)
+    (old new : Running D L d l) : Type 0 where
   pub device : new.disk ≡ old.disk
   pub kept : new.requests.items ≡ old.requests.items
   pub reply : Reply
   pub marks : Marks mark reply old.recorder new.recorder
   pub prints : PrintsMark reply text
 
--- What the devices of a run answer to messages: whether a device, before a message to this layer and after it, can have answered this.
+-- What the devices of a run answer to messages: whether a device, before a message to this layer
+-- and after it, can have answered this.
 pub record Answering (D L : Type 0) : Type 1 where
   pub data_device : D → ℕ → List ℕ → Result (Unit {0}) MessageError → D → Type 0
   pub log_device : L → ℕ → List ℕ → Result (Unit {0}) MessageError → L → Type 0
 
 -- the same, of what each of the two answers
-abbrev pub answering : {D L : Type 0} → (D → ℕ → List ℕ → Result (Unit {0}) MessageError → D → Type 0)
+abbrev pub answering : {D L : Type 0}
+    → (D → ℕ → List ℕ → Result (Unit {0}) MessageError → D → Type 0)
     → (L → ℕ → List ℕ → Result (Unit {0}) MessageError → L → Type 0) → Answering D L
 answering data_device log_device = record { data_device = data_device; log_device = log_device }
 
--- A line hands a message to a layer of the data device, which takes it; nothing that contracts see of the device changes.
-pub record TellsData {D L : Type 0} {d : Ghosts D} {l : Ghosts L} (m : Answering D L) (layer : ℕ) (asked text : List ℕ) (old new : Running D L d l) : Type 0 where
+-- A line hands a message to a layer of the data device, which
+-- takes it; nothing that contracts see of the device changes.
+pub record TellsData {D L : Type 0} {d : Ghosts D} {l : Ghosts L} (m : Answering D L) (layer : ℕ)
+    (asked text : List ℕ) (old new : Running D L d l) : Type 0 where
   pub log : new.recorder ≡ old.recorder
   pub kept : new.requests.items ≡ old.requests.items
   pub takes : m.data_device old.disk layer asked (Ok tt) new.disk
   pub unchanged : Unchanged (d.shown old.disk) (d.shown new.disk)
   pub prints : text ≡ []
 
--- A line hands a message to a layer of the log's device, which takes it; nothing of the recorder and its log changes.
-pub record TellsLog {D L : Type 0} {d : Ghosts D} {l : Ghosts L} (m : Answering D L) (layer : ℕ) (asked text : List ℕ) (old new : Running D L d l) : Type 0 where
+-- A line hands a message to a layer of the log's device, which
+-- takes it; nothing of the recorder and its log changes.
+pub record TellsLog {D L : Type 0} {d : Ghosts D} {l : Ghosts L} (m : Answering D L) (layer : ℕ)
+    (asked text : List ℕ) (old new : Running D L d l) : Type 0 where
   pub keeps : KeepsData text old new
   pub takes : m.log_device old.recorder.store.device layer asked (Ok tt) new.recorder.store.device
   pub unchanged : Unchanged (l.shown old.recorder.store.device) (l.shown new.recorder.store.device)
@@ -161,49 +184,64 @@ pub record TellsLog {D L : Type 0} {d : Ghosts D} {l : Ghosts L} (m : Answering 
   pub log_moment : new.recorder.store.moment ≡ old.recorder.store.moment
 
 -- A line hands a message to a layer of this disk.
-abbrev pub TellsLayer : {D L : Type 0} {d : Ghosts D} {l : Ghosts L} → Answering D L → DiskName → ℕ → List ℕ → List ℕ → Running D L d l → Running D L d l → Type 0
+abbrev pub TellsLayer : {D L : Type 0} {d : Ghosts D} {l : Ghosts L} → Answering D L → DiskName → ℕ
+    → List ℕ → List ℕ → Running D L d l → Running D L d l → Type 0
 TellsLayer m disks.Data layer asked text old new = TellsData m layer asked text old new
 TellsLayer m disks.Log layer asked text old new = TellsLog m layer asked text old new
 
 -- A message to a layer of this disk is refused by this.
-abbrev pub RefusesMessage : {D L : Type 0} {d : Ghosts D} {l : Ghosts L} → Answering D L → DiskName → ℕ → List ℕ → MessageError → Running D L d l → Type 0
-RefusesMessage {D} m disks.Data layer asked error old = (last : D) × m.data_device old.disk layer asked (Err error) last
-RefusesMessage {L = L} m disks.Log layer asked error old = (last : L) × m.log_device old.recorder.store.device layer asked (Err error) last
+abbrev pub RefusesMessage : {D L : Type 0} {d : Ghosts D} {l : Ghosts L} → Answering D L → DiskName
+    → ℕ → List ℕ → MessageError → Running D L d l → Type 0
+RefusesMessage {D} m disks.Data layer asked error old =
+    (last : D) × m.data_device old.disk layer asked (Err error) last
+RefusesMessage {L = L} m disks.Log layer asked error old =
+    (last : L) × m.log_device old.recorder.store.device layer asked (Err error) last
 
 -- A line that names no request.
-abbrev pub TakesStep : {D L : Type 0} {d : Ghosts D} {l : Ghosts L} → Answering D L → Step → List ℕ → Running D L d l → Running D L d l → Type 0
+abbrev pub TakesStep : {D L : Type 0} {d : Ghosts D} {l : Ghosts L} → Answering D L → Step → List ℕ
+    → Running D L d l → Running D L d l → Type 0
 TakesStep m steps.Close text old new = EndsRecording text old new
 TakesStep m (steps.Read first count) text old new = ReadsData first count text old new
 TakesStep m steps.Turn text old new = GivesTurn text old new
 TakesStep m (steps.Mark mark) text old new = TellsMark mark text old new
 TakesStep m (steps.At moment) text old new = SetsMoment moment text old new
-TakesStep m (steps.Message over layer asked) text old new = TellsLayer m over layer asked text old new
+TakesStep m (steps.Message over layer asked) text old new =
+    TellsLayer m over layer asked text old new
 
 -- What a line does, by its kind.
-abbrev pub Does : {D L : Type 0} {d : Ghosts D} {l : Ghosts L} → Answering D L → List ScriptId → Command → List ℕ → Running D L d l → Running D L d l → Type 0
-Does m names (commands.Submit submission) text old new = SubmitsNext names (bio_of submission) text old new
+abbrev pub Does : {D L : Type 0} {d : Ghosts D} {l : Ghosts L} → Answering D L → List ScriptId
+    → Command → List ℕ → Running D L d l → Running D L d l → Type 0
+Does m names (commands.Submit submission) text old new =
+    SubmitsNext names (bio_of submission) text old new
 Does m names (commands.Complete request) text old new =
     EndsRequest (slice_get old.requests.items request) (name_at names request) text old new
 Does m names (commands.Step step) text old new = TakesStep m step text old new
 
--- A line is run: it does what its kind does, the moment is its own or stays, for the log's device too, and the recorder goes on as by one of its calls.
-pub record RunsLine {D L : Type 0} {d : Ghosts D} {l : Ghosts L} (m : Answering D L) (names : List ScriptId) (command : Command) (text : List ℕ) (old new : Running D L d l) : Type 0 where
+-- A line is run: it does what its kind does, the moment is its own or stays, for the log's device
+-- too, and the recorder goes on as by one of its calls.
+pub record RunsLine {D L : Type 0} {d : Ghosts D} {l : Ghosts L} (m : Answering D L)
+    (names : List ScriptId) (command : Command) (text : List ℕ)
+    (old new : Running D L d l) : Type 0 where
   pub does : Does m names command text old new
   pub moment : new.moment ≡ moment_at old.moment command
   pub log_moment : new.recorder.store.moment ≡ moment_at old.recorder.store.moment command
   pub goes : RecorderFrame (recorder_view old.recorder) (recorder_view new.recorder)
 
 -- A line is run, and what it prints is added to what a writer holds.
-abbrev pub PrintsLine : {D L : Type 0} {d : Ghosts D} {l : Ghosts L} → Answering D L → List ScriptId → Command → Option (List ℕ) → Option (List ℕ) → Running D L d l → Running D L d l → Type 0
-PrintsLine m names command before after old new = (text : List ℕ) × RunsLine m names command text old new × Appends before after text
+abbrev pub PrintsLine : {D L : Type 0} {d : Ghosts D} {l : Ghosts L} → Answering D L → List ScriptId
+    → Command → Option (List ℕ) → Option (List ℕ) → Running D L d l → Running D L d l → Type 0
+PrintsLine m names command before after old new =
+    (text : List ℕ) × RunsLine m names command text old new × Appends before after text
 
 -- how many requests a line submits
 abbrev pub count_of : Command → ℕ
 count_of command = if is_submission command then 1 else 0
 
--- what a line covers is within a data device of so many sectors, and aligned to a log's sectors of so many bytes
+-- what a line covers is within a data device of so many
+-- sectors, and aligned to a log's sectors of so many bytes
 abbrev pub FitsDevice : (bytes sectors : ℕ) → Command → Type 0
-FitsDevice bytes sectors (commands.Submit submission) = submission_answer bytes sectors submission ≡ Ok tt
+FitsDevice bytes sectors (commands.Submit submission) =
+    submission_answer bytes sectors submission ≡ Ok tt
 FitsDevice bytes sectors (commands.Complete request) = Unit {0}
 FitsDevice bytes sectors (commands.Step step) = step_answer bytes sectors step ≡ Ok tt
 
@@ -219,7 +257,8 @@ StopsForFile (AtLine refusal) = ⊥
 StopsForFile (Whole fault) = IsFileError fault
 
 -- or since it is a close that the recorder refuses
-pub record StopsAtClose {L : Type 0} {l : Ghosts L} (command : Command) (before after : Option (List ℕ)) (stop : StepError) (old : Recorder L l) : Type 0 where
+pub record StopsAtClose {L : Type 0} {l : Ghosts L} (command : Command)
+    (before after : Option (List ℕ)) (stop : StepError) (old : Recorder L l) : Type 0 where
   pub is_close : command ≡ commands.Step steps.Close
   pub refusal : Refusal
   pub stops : stop ≡ AtLine refusal
@@ -228,7 +267,8 @@ pub record StopsAtClose {L : Type 0} {l : Ghosts L} (command : Command) (before 
   pub printed : Keeps before after
 
 -- or since it is a message that the device refuses
-pub record StopsAtMessage {D L : Type 0} {d : Ghosts D} {l : Ghosts L} (m : Answering D L) (command : Command) (before after : Option (List ℕ)) (stop : StepError)
+pub record StopsAtMessage {D L : Type 0} {d : Ghosts D} {l : Ghosts L} (m : Answering D L)
+    (command : Command) (before after : Option (List ℕ)) (stop : StepError)
     (old : Running D L d l) : Type 0 where
   pub over : DiskName
   pub layer : ℕ
@@ -240,9 +280,11 @@ pub record StopsAtMessage {D L : Type 0} {d : Ghosts D} {l : Ghosts L} (m : Answ
   pub printed : Keeps before after
 
 -- why the run of a line stops
-abbrev pub StopsLine : {D L : Type 0} {d : Ghosts D} {l : Ghosts L} → Answering D L → Command → Option (List ℕ) → Option (List ℕ) → Running D L d l → StepError → Type 0
+abbrev pub StopsLine : {D L : Type 0} {d : Ghosts D} {l : Ghosts L} → Answering D L → Command
+    → Option (List ℕ) → Option (List ℕ) → Running D L d l → StepError → Type 0
 StopsLine m command before after old stop =
-    StopsForFile stop ⊎ (StopsAtClose command before after stop old.recorder ⊎ StopsAtMessage m command before after stop old)
+    StopsForFile stop ⊎ (StopsAtClose command before after stop old.recorder
+    ⊎ StopsAtMessage m command before after stop old)
 
 -- the request that a line ends is one of so many
 abbrev pub EndsSubmitted : ℕ → Command → Type 0

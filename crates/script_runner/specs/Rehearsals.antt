@@ -1,4 +1,5 @@
--- What rehearsing a script comes to: it runs on two disks in memory as a recording does, and only the recorder's events are kept.
+-- What rehearsing a script comes to: it runs on two disks in memory as a recording does, and only
+-- the recorder's events are kept.
 use Rattle.std.specs.Prelude.{◌≡◌, ℕ, Bool, true, false, List, None}
 use Rattle.std.specs.List.{list_all, list_any}
 use Rattle.bio.specs.declared.event.CoreEvent.{CoreEvent}
@@ -16,8 +17,8 @@ abbrev pub is_memory_stop : CoreEvent → Bool
 is_memory_stop (core_events.Stop ends.Memory) = true
 is_memory_stop _ = false
 
--- A script was rehearsed: its lines ran, whatever they print, and these are the recorder's events. No request failed for want of memory as it was
--- submitted, and logging didn't end for that.
+-- A script was rehearsed: its lines ran, whatever they print, and these are the recorder's events.
+-- No request failed for want of memory as it was submitted, and logging didn't end for that.
 pub record IsRehearsed (plan : ScriptValue) (events : List CoreEvent) : Type 0 where
   pub start : DiskRun
   pub starts : Starts plan start
@@ -30,7 +31,7 @@ pub record IsRehearsed (plan : ScriptValue) (events : List CoreEvent) : Type 0 w
   -- no Stop says that there was no memory
   pub ample : list_any is_memory_stop events ≡ false
 
--- rehearsing a script, which was read from a text, fails as recording it does, with a writer of which nothing is known; a run that finds no
--- memory fails for that, where a recording may go on
+-- rehearsing a script, which was read from a text, fails as recording it does, with a writer of
+-- which nothing is known; a run that finds no memory fails for that, where a recording may go on
 abbrev pub FailsRehearsal : List ℕ → ScriptValue → RunError → Type 0
 FailsRehearsal text plan fault = FailsOnDisks text plan None None fault

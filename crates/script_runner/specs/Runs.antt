@@ -25,18 +25,25 @@ use Rattle.script_runner.specs.Lines.{Answering, RefusesMessage, RunsLine}
 abbrev pub Chain : {C S : Type 0} → (C → List ℕ → S → S → Type 0) → List C → List ℕ → S → S → Type 0
 Chain Step [] text old new = (text ≡ []) × (new ≡ old)
 Chain {S = S} Step (c ∷ cs) text old new =
-    (mid : S) × (first : List ℕ) × (rest : List ℕ) × (text ≡ first ++ rest) × Step c first old mid × Chain Step cs rest mid new
+    (mid : S) × (first : List ℕ) × (rest : List ℕ) × (text ≡ first ++ rest) × Step c first old mid
+    × Chain Step cs rest mid new
 
 -- the lines of a script are run
-abbrev pub RunsLines : {D L : Type 0} {d : Ghosts D} {l : Ghosts L} → Answering D L → List ScriptId → List Command → List ℕ → Running D L d l → Running D L d l → Type 0
+abbrev pub RunsLines : {D L : Type 0} {d : Ghosts D} {l : Ghosts L} → Answering D L → List ScriptId
+    → List Command → List ℕ → Running D L d l → Running D L d l → Type 0
 RunsLines m names body text old new = Chain (RunsLine m names) body text old new
 
 -- the same, and what they print is added to what a writer holds
-abbrev pub PrintsLines : {D L : Type 0} {d : Ghosts D} {l : Ghosts L} → Answering D L → List ScriptId → List Command → Option (List ℕ) → Option (List ℕ) → Running D L d l → Running D L d l → Type 0
-PrintsLines m names body before after old new = (text : List ℕ) × RunsLines m names body text old new × Appends before after text
+abbrev pub PrintsLines : {D L : Type 0} {d : Ghosts D} {l : Ghosts L} → Answering D L
+    → List ScriptId → List Command → Option (List ℕ) → Option (List ℕ) → Running D L d l
+    → Running D L d l → Type 0
+PrintsLines m names body before after old new =
+    (text : List ℕ) × RunsLines m names body text old new × Appends before after text
 
 -- A close is refused: after the lines before it, at its own line.
-pub record RefusesClose {D L : Type 0} {d : Ghosts D} {l : Ghosts L} (m : Answering D L) (plan : ScriptValue) (place : ℕ) (refusal : Refusal) (text : List ℕ) (old : Running D L d l) : Type 0 where
+pub record RefusesClose {D L : Type 0} {d : Ghosts D} {l : Ghosts L} (m : Answering D L)
+    (plan : ScriptValue) (place : ℕ) (refusal : Refusal) (text : List ℕ)
+    (old : Running D L d l) : Type 0 where
   pub before : List Command
   pub rest : List Command
   pub split : plan.commands ≡ before ++ commands.Step steps.Close ∷ rest
@@ -47,7 +54,8 @@ pub record RefusesClose {D L : Type 0} {d : Ghosts D} {l : Ghosts L} (m : Answer
   pub refused : Closes (replies.Refused refusal) mid.recorder last
 
 -- A message is refused: after the lines before it, at its own line.
-pub record RefusesLine {D L : Type 0} {d : Ghosts D} {l : Ghosts L} (m : Answering D L) (plan : ScriptValue) (place : ℕ) (error : MessageError) (text : List ℕ)
+pub record RefusesLine {D L : Type 0} {d : Ghosts D} {l : Ghosts L} (m : Answering D L)
+    (plan : ScriptValue) (place : ℕ) (error : MessageError) (text : List ℕ)
     (old : Running D L d l) : Type 0 where
   pub before : List Command
   pub rest : List Command
@@ -60,11 +68,21 @@ pub record RefusesLine {D L : Type 0} {d : Ghosts D} {l : Ghosts L} (m : Answeri
   pub ran : RunsLines m plan.names before text old mid
   pub refused : RefusesMessage m over layer asked error mid
 
--- Why the run of a script, which was read from a text, ends before its last line: a close or a message is refused, and what was printed is what
--- the lines before it print; or the output can't be written, or there is no memory.
-pub data EndsRun {D L : Type 0} {d : Ghosts D} {l : Ghosts L} (m : Answering D L) (text : List ℕ) (plan : ScriptValue) (before after : Option (List ℕ)) (old : Running D L d l) : RunError → Type 0 where
-  close : (place : ℕ) (refusal : Refusal) (printed : List ℕ) → RefusesClose m plan place refusal printed old → Appends before after printed
-      → EndsRun m text plan before after old (Refused (record { line = command_line text (head_count plan + place); refusal = refusal }))
-  message : (place : ℕ) (error : MessageError) (printed : List ℕ) → RefusesLine m plan place error printed old → Appends before after printed
-      → EndsRun m text plan before after old (Refused (record { line = command_line text (head_count plan + place); refusal = message_refusal error }))
+-- Why the run of a script, which was read from a text, ends before its last line: a close or a
+-- message is refused, and what was printed is what the lines before it print; or the output can't
+-- be written, or there is no memory.
+pub data EndsRun {D L : Type 0} {d : Ghosts D} {l : Ghosts L} (m : Answering D L) (text : List ℕ)
+    (plan : ScriptValue) (before after : Option (List ℕ)) (old : Running D L d l) : RunError
+    → Type 0 where
+  close : (place : ℕ) (refusal : Refusal) (printed : List ℕ)
+      → RefusesClose m plan place refusal printed old → Appends before after printed
+      → EndsRun m text plan before after old
+      (Refused (record { line = command_line text (head_count plan + place); refusal = refusal }))
+  message : (place : ℕ) (error : MessageError) (printed : List ℕ)
+      → RefusesLine m plan place error printed old → Appends before after printed
+      → EndsRun m text plan before after old
+      (Refused (record {
+        line = command_line text (head_count plan + place);
+        refusal = message_refusal error;
+      }))
   file : (fault : RunError) → IsFileError fault → EndsRun m text plan before after old fault

@@ -8,18 +8,20 @@ use Rattle.dmlw_script.specs.declared.command.Submission.TheVariants as submits
 use Rattle.script_runner.specs.declared.request.Request.{Request}
 use Rattle.script_runner.specs.declared.request.Request.TheVariants as requests
 
--- the request that a line submits: a write's sectors are of its byte, and it asks for what its options say
+-- the request that a line submits: a write's sectors are of
+-- its byte, and it asks for what its options say
 abbrev pub bio_of : Submission → Bio
-bio_of (submits.Write first count byte options) = bios.Write first (replicate (count * 512) byte) options.flush options.fua options.meta
+bio_of (submits.Write first count byte options) =
+    bios.Write first (replicate (count * 512) byte) options.flush options.fua options.meta
 bio_of submits.Flush = bios.Flush
 bio_of (submits.Discard first count) = bios.Discard first count
 
 -- the request passes the test of a device of so many sectors
 abbrev pub fits_device : ℕ → Request → Bool
 fits_device sectors (requests.Asked bio id) = is_ok (check_answer bio sectors)
-fits_device sectors requests.Failed = true
+fits_device sectors requests.NotAsked = true
 
 -- the recorder was asked of the request: there was memory for it
 abbrev pub is_asked : Request → Bool
 is_asked (requests.Asked bio id) = true
-is_asked requests.Failed = false
+is_asked requests.NotAsked = false

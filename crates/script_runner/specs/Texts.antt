@@ -1,7 +1,8 @@
 -- What the lines of a script print.
 use Rattle.sectors.specs.Places.{collect}
 use Rattle.dmlw_script.specs.Words.{byte_text}
-use Rattle.std.specs.Prelude.{decimal, Option, ℕ, Bool, true, false, List, ◌++◌, codes, Some, None, ◌*◌, slice_index_or}
+use Rattle.std.specs.Prelude.{decimal, Option, ℕ, Bool, true, false, List, ◌++◌, codes, Some, None}
+use Rattle.std.specs.Prelude.{◌*◌, slice_index_or}
 use Rattle.dmlw_script.specs.declared.script_id.ScriptId.{ScriptId}
 use Rattle.dmlw_script.specs.Ids.{letters_of}
 
@@ -16,7 +17,8 @@ outcome_line name ok = letters_of name ++ codes " " ++ outcome_word ok ++ codes 
 
 -- the first byte of each of so many sectors, as two hexadecimal digits
 abbrev pub first_bytes : ℕ → List ℕ → List ℕ
-first_bytes count bytes = collect (λ sector. byte_text (slice_index_or bytes (sector * 512) 0)) count
+first_bytes count bytes =
+    collect (λ sector. byte_text (slice_index_or bytes (sector * 512) 0)) count
 
 -- what a read prints: the first byte of each sector that was read, or that none was
 abbrev pub read_outcome : ℕ → Option (List ℕ) → List ℕ
@@ -25,7 +27,9 @@ read_outcome count None = codes "failed"
 
 -- the line of a read
 abbrev pub read_line : ℕ → ℕ → Option (List ℕ) → List ℕ
-read_line first count bytes = codes "read " ++ decimal first ++ codes "+" ++ decimal count ++ codes " " ++ read_outcome count bytes ++ codes "\n"
+read_line first count bytes =
+    codes "read " ++ decimal first ++ codes "+" ++ decimal count ++ codes " "
+    ++ read_outcome count bytes ++ codes "\n"
 
 -- the line of a mark for which there was no memory
 abbrev pub mark_failed : List ℕ

@@ -8,4 +8,6 @@ use Rattle.recorder.specs.Shown.{core_of}
 
 -- where recording is closed and logging goes on, all of the completion list is placed
 abbrev pub IsWritten : {L : Type 0} {l : Ghosts L} → Recorder L l → Type 0
-IsWritten recorder = has_no_close (core_of recorder).events ≡ false → recorder.end ≡ None → recorder.store.placed ≡ length (log_of (core_of recorder))
+IsWritten recorder =
+    has_no_close (core_of recorder).events ≡ false → recorder.end ≡ None
+    → recorder.store.placed ≡ length (log_of (core_of recorder))

@@ -25,15 +25,15 @@ pub(crate) fn ask<L: BlockDev + Drop>(
     ensures log_moment { recorder.new.store.moment ≡ recorder.old.store.moment }
 {
     let Ok(bio) = bio_of(last, submission) else {
-        return Request::Failed;
+        return Request::NotAsked;
     };
     let Ok(asked) = bio.clone() else {
-        return Request::Failed;
+        return Request::NotAsked;
     };
     match recorder.event(Event::Submit(asked)) {
         Reply::Tracked(id) => Request::Asked { bio, id: Some(id) },
         Reply::Passed => Request::Asked { bio, id: None },
-        _ => Request::Failed,
+        _ => Request::NotAsked,
     }
 }
 

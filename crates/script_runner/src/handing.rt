@@ -1,5 +1,6 @@
 //! Hands a script's request over to the data device.
-ghost use Rattle.std.specs.Prelude.{◌≡◌, ◌*◌, IfSome, Ok, option_map, IsTrue, is_ok, length, true, false};
+ghost use Rattle.std.specs.Prelude.{◌≡◌, ◌*◌, IfSome, Ok, option_map, IsTrue, is_ok, length, true};
+ghost use Rattle.std.specs.Prelude.{false};
 ghost use Rattle.bio.specs.Check.{check_answer, range_answer};
 ghost use Rattle.blockdev.specs.Calls.{Flushes, IsByteRange, IsRange, Writes};
 ghost use Rattle.script_runner.specs.HandOver.{DoesCall, HandsOver, ReadsSectors};
@@ -59,7 +60,8 @@ fn write<D: BlockDev>(
     fua: bool,
 ) -> Result<Ms, DevError>
     requires { IsByteRange (D.shown device.old).size first (length bytes.now) }
-    ensures does { DoesCall D.does now (Writes first bytes.now fua) (is_ok result) device.old device.new }
+    ensures does { DoesCall D.does now (Writes first bytes.now fua)
+        (is_ok result) device.old device.new }
     ensures size { (D.shown device.new).size ≡ (D.shown device.old).size }
 {
     device.write(now, first, bytes, fua)
@@ -74,7 +76,8 @@ pub(crate) fn read_sectors<D: BlockDev>(
     count: u64,
 ) -> Option<Vec<u8>>
     requires { range_answer first count (D.shown device.old).size ≡ Ok tt }
-    ensures reads { ReadsSectors D.does now first count (option_map (λ bytes. bytes.items) result) device.old device.new }
+    ensures reads { ReadsSectors D.does now first count
+        (option_map (λ bytes. bytes.items) result) device.old device.new }
     ensures length { IfSome result (λ bytes. length bytes.items ≡ count * 512) }
     ensures size { (D.shown device.new).size ≡ (D.shown device.old).size }
 {

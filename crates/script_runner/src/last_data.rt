@@ -1,4 +1,5 @@
-// The data of a script's writes: sectors of one byte, which lie in memory once for writes that follow one another with the same.
+// The data of a script's writes: sectors of one byte, which lie in memory once for writes that
+// follow one another with the same.
 ghost use Rattle.std.specs.Prelude.{◌≡◌, length, replicate};
 
 use bio::Bytes;

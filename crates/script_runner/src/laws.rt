@@ -1,5 +1,6 @@
 //! The headline, of a recorder over a stack of layers.
-ghost use Rattle.std.specs.Prelude.{◌++◌, ◌≡◌, ◌≤◌, [], List, None, Some, false, length, slice_get, take, ℕ};
+ghost use Rattle.std.specs.Prelude.{◌++◌, ◌≡◌, ◌≤◌, [], List, None, Some, false, length, slice_get};
+ghost use Rattle.std.specs.Prelude.{take, ℕ};
 ghost use Rattle.bio.specs.declared.event.CoreEvent.TheVariants.{Mark};
 ghost use Rattle.recorder.specs.declared.reply.Reply.TheVariants.{Queued};
 ghost use Rattle.dmlw_script.specs.declared.command.Command.{Command};
@@ -29,88 +30,123 @@ use crate::Running;
 use blockdev::Message;
 use layer_table::Stack;
 
-/// After any list of submissions, completions, marks and writer's turns, whatever calls the layers fail, and a crash at any moment,
-/// inside a log write too, the reopened log is a beginning of the completion list and holds every mark and FUA write acknowledged as
-/// logged; replaying any beginning of it gives a content that the recorded device could hold had power failed there.
+/// After any list of submissions, completions, marks and writer's turns, whatever calls the layers
+/// fail, and a crash at any moment, inside a log write too, the reopened log is a beginning of the
+/// completion list and holds every mark and FUA write acknowledged as logged; replaying any
+/// beginning of it gives a content that the recorded device could hold had power failed there.
 ///
-/// `old` is the recorder over a stack of layers before some of its calls, and `new` after them: `RecorderFrame` holds of each call and of
-/// several (`recorder::laws::several_calls_go_as_one`). `left` is what a crash at any moment since `old` may have left of the log's
-/// device. Of five premises one is asked for, that no layer of the log told a lie. That the log was created with success is of the type: a
-/// recorder is made over no other. That the log's device keeps the law of a device is proved of each stack. The first content may be any.
-/// And no device need answer when the log is reopened and replayed: both are definitions here, to which `log_reader::LogReader` and
-/// `replay::replay` come where the devices answer Ok, without a new lie, and memory isn't refused.
+/// `old` is the recorder over a stack of layers before some of its calls, and `new` after them:
+/// `RecorderFrame` holds of each call and of several (`recorder::laws::several_calls_go_as_one`).
+/// `left` is what a crash at any moment since `old` may have left of the log's device. Of five
+/// premises one is asked for, that no layer of the log told a lie. That the log was created with
+/// success is of the type: a recorder is made over no other. That the log's device keeps the law of
+/// a device is proved of each stack. The first content may be any. And no device need answer when
+/// the log is reopened and replayed: both are definitions here, to which `log_reader::LogReader`
+/// and `replay::replay` come where the devices answer Ok, without a new lie, and memory isn't
+/// refused.
 pub fn headline()
-    ensures { (old new : DiskRecorder) (left : Content) → RecorderFrame (recorder_view old) (recorder_view new) →
-        (stack_shown new.store.device).lies ≡ 0 → (stack_shown new.store.device).since (stack_shown old.store.device).moment left →
+    ensures { (old new : DiskRecorder) (left : Content)
+        → RecorderFrame (recorder_view old) (recorder_view new) →
+        (stack_shown new.store.device).lies ≡ 0
+        → (stack_shown new.store.device).since (stack_shown old.store.device).moment left →
         ReplaysToWhatCouldBe (recorder_view old) (recorder_view new) left }
 {
     recorder::laws::crashed_logs_replay_to_what_could_be::<Stack>();
 }
 
-/// A log on a disk under no layers can always be made, of either sector size, unless there is no memory for it.
+/// A log on a disk under no layers can always be made, of
+/// either sector size, unless there is no memory for it.
 pub fn bare_logs_fail_by_memory_alone()
-    ensures { (bytes : ℕ) (disk : Disk) (fault : RunError) → disk.layers ≡ [] → IsUnmade bytes disk fault → fault ≡ LoggingEnded ends.Memory }
+    ensures { (bytes : ℕ) (disk : Disk) (fault : RunError) → disk.layers ≡ []
+        → IsUnmade bytes disk fault → fault ≡ LoggingEnded ends.Memory }
 {
     layer_table::laws::stacks_do_what_their_layers_do();
 }
 
-/// To the recorder the lines of a script are as one call: its events only grow, and what is placed and settled stays so.
+/// To the recorder the lines of a script are as one call: its
+/// events only grow, and what is placed and settled stays so.
 pub fn lines_go_as_one_call<D: Message + Drop, L: Message + Drop>()
-    ensures { (names : List ScriptId) (body : List Command) (text : List ℕ) (old new : Running D L D.BlockDev L.BlockDev) →
-        RunsLines (answering D.answers L.answers) names body text old new → RecorderFrame (recorder_view old.recorder) (recorder_view new.recorder) }
+    ensures { (names : List ScriptId) (body : List Command) (text : List ℕ)
+        (old new : Running D L D.BlockDev L.BlockDev) →
+        RunsLines (answering D.answers L.answers) names body text old new
+        → RecorderFrame (recorder_view old.recorder) (recorder_view new.recorder) }
 {
     recorder::laws::several_calls_go_as_one::<L>();
 }
 
-/// The calls of both devices begin at one moment: at 0 before the first line of a script, and after some lines where they did before them. So
-/// each line calls its device at the moment that the last `at` said.
+/// The calls of both devices begin at one moment: at 0 before the first
+/// line of a script, and after some lines where they did before them.
+/// So each line calls its device at the moment that the last `at` said.
 pub fn both_devices_are_called_at_one_moment<D: Message + Drop, L: Message + Drop>()
-    ensures start { (plan : ScriptValue) (run : DiskRun) → Starts plan run → run.recorder.store.moment ≡ run.moment }
-    ensures lines { (names : List ScriptId) (body : List Command) (text : List ℕ) (old new : Running D L D.BlockDev L.BlockDev) →
-        RunsLines (answering D.answers L.answers) names body text old new → old.recorder.store.moment ≡ old.moment →
+    ensures start { (plan : ScriptValue) (run : DiskRun) → Starts plan run
+        → run.recorder.store.moment ≡ run.moment }
+    ensures lines { (names : List ScriptId) (body : List Command) (text : List ℕ)
+        (old new : Running D L D.BlockDev L.BlockDev) →
+        RunsLines (answering D.answers L.answers) names body text old new
+        → old.recorder.store.moment ≡ old.moment →
         new.recorder.store.moment ≡ new.moment }
 {}
 
-/// Each line that submits asks the recorder of the request that it says, in the order of the lines, unless there is no memory for it. And each
-/// request that the recorder follows stands in its events, at its id, as it was asked.
+/// Each line that submits asks the recorder of the request that it says, in the order of the lines,
+/// unless there is no memory for it. And each request that the recorder follows stands in its
+/// events, at its id, as it was asked.
 pub fn requests_stand_in_the_events<D: Message + Drop, L: Message + Drop>()
-    ensures asked { (names : List ScriptId) (body : List Command) (text : List ℕ) (old new : Running D L D.BlockDev L.BlockDev) →
-        RunsLines (answering D.answers L.answers) names body text old new → (more : List Request) × (new.requests.items ≡ old.requests.items ++ more)
+    ensures asked { (names : List ScriptId) (body : List Command) (text : List ℕ)
+        (old new : Running D L D.BlockDev L.BlockDev) →
+        RunsLines (answering D.answers L.answers) names body text old new
+        → (more : List Request) × (new.requests.items ≡ old.requests.items ++ more)
         × AllZip StandsFor (submissions_of body) more }
-    ensures recorded { (names : List ScriptId) (body : List Command) (text : List ℕ) (old new : Running D L D.BlockDev L.BlockDev) →
-        RunsLines (answering D.answers L.answers) names body text old new → IsFollowed old → IsFollowed new }
+    ensures recorded { (names : List ScriptId) (body : List Command) (text : List ℕ)
+        (old new : Running D L D.BlockDev L.BlockDev) →
+        RunsLines (answering D.answers L.answers) names body text old new → IsFollowed old
+        → IsFollowed new }
 {}
 
-/// A mark that a line has queued stands in the recorder's events, at its place and with its text, whatever lines run after it.
+/// A mark that a line has queued stands in the recorder's events, at its place and with its text,
+/// whatever lines run after it.
 pub fn marks_stand_in_the_events<D: Message + Drop, L: Message + Drop>()
-    ensures { (names : List ScriptId) (body : List Command) (mark text more : List ℕ) (id : ℕ) (old mid new : Running D L D.BlockDev L.BlockDev) →
-        (line : TellsMark mark text old mid) → line.reply ≡ Queued id → RunsLines (answering D.answers L.answers) names body more mid new →
+    ensures { (names : List ScriptId) (body : List Command) (mark text more : List ℕ) (id : ℕ)
+        (old mid new : Running D L D.BlockDev L.BlockDev) →
+        (line : TellsMark mark text old mid) → line.reply ≡ Queued id
+        → RunsLines (answering D.answers L.answers) names body more mid new →
         slice_get (core_of new.recorder).events id ≡ Some (Mark mark) }
 {
     lines_go_as_one_call::<D, L>();
 }
 
-/// Where the log's device told no lie: whatever a crash at any moment of a script's run may have left has a log, and that is a beginning of
-/// the completion list of the recorder's events, with all that was settled when the run began.
+/// Where the log's device told no lie: whatever a crash at any moment of a script's run may have
+/// left has a log, and that is a beginning of the completion list of the recorder's events, with
+/// all that was settled when the run began.
 pub fn crashes_of_a_run_leave_beginnings<D: Message + Drop, L: Message + Drop>()
-    ensures { (names : List ScriptId) (body : List Command) (text : List ℕ) (old new : Running D L D.BlockDev L.BlockDev) (left : Content) →
-        RunsLines (answering D.answers L.answers) names body text old new → (recorder_view new.recorder).store.device.lies ≡ 0 →
-        (recorder_view new.recorder).store.device.since (recorder_view old.recorder).store.device.moment left →
-        (count : ℕ) × (old.recorder.store.settled ≤ count) × (count ≤ length (log_of (core_of new.recorder)))
-        × IsLogOf (recorder_view new.recorder).store.device.size left (core_of new.recorder).sector_bytes (take count (log_of (core_of new.recorder))) }
+    ensures { (names : List ScriptId) (body : List Command) (text : List ℕ)
+        (old new : Running D L D.BlockDev L.BlockDev) (left : Content) →
+        RunsLines (answering D.answers L.answers) names body text old new
+        → (recorder_view new.recorder).store.device.lies ≡ 0 →
+        (recorder_view new.recorder).store.device.since
+        (recorder_view old.recorder).store.device.moment left →
+        (count : ℕ) × (old.recorder.store.settled ≤ count)
+        × (count ≤ length (log_of (core_of new.recorder)))
+        × IsLogOf (recorder_view new.recorder).store.device.size left
+        (core_of new.recorder).sector_bytes (take count (log_of (core_of new.recorder))) }
 {
     lines_go_as_one_call::<D, L>();
     recorder::laws::crashes_leave_beginnings::<L>();
 }
 
-/// Where a script's run ends with recording closed and logging going on, also with lines after the Close, all of the completion list of
-/// the recorder's events is placed; and where the log's device told no lie, the log of its content is whole, and so is that of whatever a crash leaves.
+/// Where a script's run ends with recording closed and logging going on, also with lines after the
+/// Close, all of the completion list of the recorder's events is placed; and where the log's device
+/// told no lie, the log of its content is whole, and so is that of whatever a crash leaves.
 pub fn closed_runs_leave_whole_logs<D: Message + Drop, L: Message + Drop>()
-    ensures placed { (names : List ScriptId) (body : List Command) (text : List ℕ) (old new : Running D L D.BlockDev L.BlockDev) →
-        RunsLines (answering D.answers L.answers) names body text old new → IsWritten old.recorder → IsWritten new.recorder }
-    ensures whole { (names : List ScriptId) (body : List Command) (text : List ℕ) (old new : Running D L D.BlockDev L.BlockDev) →
-        RunsLines (answering D.answers L.answers) names body text old new → IsWritten old.recorder → IsSound (core_of new.recorder) → new.recorder.end ≡ None →
-        has_no_close (core_of new.recorder).events ≡ false → (recorder_view new.recorder).store.device.lies ≡ 0 →
+    ensures placed { (names : List ScriptId) (body : List Command) (text : List ℕ)
+        (old new : Running D L D.BlockDev L.BlockDev) →
+        RunsLines (answering D.answers L.answers) names body text old new → IsWritten old.recorder
+        → IsWritten new.recorder }
+    ensures whole { (names : List ScriptId) (body : List Command) (text : List ℕ)
+        (old new : Running D L D.BlockDev L.BlockDev) →
+        RunsLines (answering D.answers L.answers) names body text old new → IsWritten old.recorder
+        → IsSound (core_of new.recorder) → new.recorder.end ≡ None →
+        has_no_close (core_of new.recorder).events ≡ false
+        → (recorder_view new.recorder).store.device.lies ≡ 0 →
         HasWholeLog (recorder_view new.recorder) }
 {
     recorder::laws::closed_logs_are_whole::<L>();

@@ -1,7 +1,9 @@
-//! Runs a script of `dmlw record`: its requests go through the recorder and to the data device, and a line says what became of each.
+//! Runs a script of `dmlw record`: its requests go through the recorder and to the data device, and
+//! a line says what became of each.
 //!
-//! `Running` is a script's run so far: the recorder over the log's device, the data device, and the requests that were submitted. `run` runs
-//! the lines of a script one after another. `specs/Lines` says what each line does and prints, in one case for each kind of line, and `specs/Runs` what
+//! `Running` is a script's run so far: the recorder over the log's device, the data device, and the
+//! requests that were submitted. `run` runs the lines of a script one after another. `specs/Lines`
+//! says what each line does and prints, in one case for each kind of line, and `specs/Runs` what
 //! all lines come to.
 #![tactic(auto)]
 

@@ -41,8 +41,11 @@ pub(crate) fn play_on_disks<O: Write>(
     script: &Script,
     out: &mut O,
 ) -> Result<Played<Stack>, RunError>
-    ensures played { IfOk result (λ played. IsPlayed stack_answering script.now (Starts script.now) (O.contents out.old) (O.contents out.new) played.recorder played.data_lies played.ample) }
-    ensures faults { IfErr result (FailsOnDisks text.now script.now (O.contents out.old) (O.contents out.new)) }
+    ensures played { IfOk result
+        (λ played. IsPlayed stack_answering script.now (Starts script.now) (O.contents out.old)
+        (O.contents out.new) played.recorder played.data_lies played.ample) }
+    ensures faults { IfErr result
+        (FailsOnDisks text.now script.now (O.contents out.old) (O.contents out.new)) }
 {
     let log = new_stack(alloc, script.log())?;
     play_beside(alloc, text, script, log, out)
@@ -57,14 +60,22 @@ fn play_beside<L: Message + Drop, O: Write>(
     out: &mut O,
 ) -> Result<Played<L>, RunError>
     requires { bytes_of script.now.log_size / 512 ≤ (L.shown log).size }
-    ensures played { IfOk result (λ played. IsPlayed {l = L.BlockDev} (answering StackAnswers L.answers) script.now (StartsBeside (bytes_of script.now.log_size) script.now.data_disk log) (O.contents out.old) (O.contents out.new) played.recorder played.data_lies played.ample) }
-    ensures faults { IfErr result (FailsPlaying {l = L.BlockDev} (answering StackAnswers L.answers) text.now script.now (IsUnmadeOn L.BlockDev (bytes_of script.now.log_size) log) (StartsBeside (bytes_of script.now.log_size) script.now.data_disk log) (O.contents out.old) (O.contents out.new)) }
+    ensures played { IfOk result
+        (λ played. IsPlayed {l = L.BlockDev} (answering StackAnswers L.answers) script.now
+        (StartsBeside (bytes_of script.now.log_size) script.now.data_disk log) (O.contents out.old)
+        (O.contents out.new) played.recorder played.data_lies played.ample) }
+    ensures faults { IfErr result
+        (FailsPlaying {l = L.BlockDev} (answering StackAnswers L.answers) text.now script.now
+        (IsUnmadeOn L.BlockDev (bytes_of script.now.log_size) log)
+        (StartsBeside (bytes_of script.now.log_size) script.now.data_disk log) (O.contents out.old)
+        (O.contents out.new)) }
 {
     let data = new_stack(alloc, script.data())?;
     play(alloc, text, script, log, data, out)
 }
 
-// Runs a script on a new log on one device, on which one of its sectors fits, and on another device.
+// Runs a script on a new log on one device, on which one of
+// its sectors fits, and on another device.
 fn play<D: Message + Drop, L: Message + Drop, O: Write>(
     alloc: Global,
     text: &[u8],
@@ -75,8 +86,17 @@ fn play<D: Message + Drop, L: Message + Drop, O: Write>(
 ) -> Result<Played<L>, RunError>
     requires size { (D.shown disk).size ≡ top_of script.now.data_disk }
     requires room { bytes_of script.now.log_size / 512 ≤ (L.shown log).size }
-    ensures played { IfOk result (λ played. IsPlayed {d = D.BlockDev} {l = L.BlockDev} (answering D.answers L.answers) script.now (StartsOn (bytes_of script.now.log_size) disk log) (O.contents out.old) (O.contents out.new) played.recorder played.data_lies played.ample) }
-    ensures faults { IfErr result (FailsPlaying {d = D.BlockDev} {l = L.BlockDev} (answering D.answers L.answers) text.now script.now (IsUnmadeOn L.BlockDev (bytes_of script.now.log_size) log) (StartsOn (bytes_of script.now.log_size) disk log) (O.contents out.old) (O.contents out.new)) }
+    ensures played { IfOk result
+        (λ played. IsPlayed {d = D.BlockDev} {l = L.BlockDev}
+        (answering D.answers L.answers) script.now
+        (StartsOn (bytes_of script.now.log_size) disk log) (O.contents out.old)
+        (O.contents out.new) played.recorder played.data_lies played.ample) }
+    ensures faults { IfErr result
+        (FailsPlaying {d = D.BlockDev} {l = L.BlockDev}
+        (answering D.answers L.answers) text.now script.now
+        (IsUnmadeOn L.BlockDev (bytes_of script.now.log_size) log)
+        (StartsOn (bytes_of script.now.log_size) disk log) (O.contents out.old)
+        (O.contents out.new)) }
 {
     let mut running = start_on(alloc, log, script.log_size(), disk, script.names().len())?;
     run(text, script, &mut running, out)?;
@@ -89,7 +109,8 @@ fn play<D: Message + Drop, L: Message + Drop, O: Write>(
     })
 }
 
-// A run before its first line, over a new log with such sectors on one device and over another device, with room for so many requests.
+// A run before its first line, over a new log with such sectors on one device and over another
+// device, with room for so many requests.
 fn start_on<D: BlockDev + Drop, L: BlockDev + Drop>(
     alloc: Global,
     log: L,
@@ -99,7 +120,8 @@ fn start_on<D: BlockDev + Drop, L: BlockDev + Drop>(
 ) -> Result<Running<D, L>, RunError>
     requires { bytes_of size / 512 ≤ (L.shown log).size }
     ensures starts { IfOk result (StartsOn (bytes_of size) disk log) }
-    ensures faults { IfErr result (λ fault. (fault ≡ memory_error) ⊎ IsUnmadeOn L.BlockDev (bytes_of size) log fault) }
+    ensures faults { IfErr result
+        (λ fault. (fault ≡ memory_error) ⊎ IsUnmadeOn L.BlockDev (bytes_of size) log fault) }
 {
     let recorder = new_recorder(alloc, log, size)?;
     Ok(Running::new(alloc, recorder, disk, requests)?)
@@ -113,7 +135,8 @@ fn new_recorder<L: BlockDev + Drop>(
 ) -> Result<Recorder<L>, RunError>
     requires { bytes_of size / 512 ≤ (L.shown device).size }
     ensures made { IfOk result (IsNewOn (bytes_of size) device) }
-    ensures faults { IfErr result (λ fault. (fault ≡ memory_error) ⊎ IsUnmadeOn L.BlockDev (bytes_of size) device fault) }
+    ensures faults { IfErr result
+        (λ fault. (fault ≡ memory_error) ⊎ IsUnmadeOn L.BlockDev (bytes_of size) device fault) }
 {
     match LogStore::create_sized(device, size) {
         Ok(store) => match Recorder::new(alloc, store) {

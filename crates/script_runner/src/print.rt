@@ -25,12 +25,13 @@ pub(crate) fn print_submission<O: Write>(
     out: &mut O,
 ) -> Result<(), StepError>
     requires { IsName name.now }
-    ensures output { OnOk result (Appends (O.contents out.old) (O.contents out.new) (submission_text name.now request.now)) }
+    ensures output { OnOk result
+        (Appends (O.contents out.old) (O.contents out.new) (submission_text name.now request.now)) }
     ensures faults { IfErr result StopsForFile }
 {
     match request {
         Request::Asked { .. } => Ok(()),
-        Request::Failed => print_outcome(name, false, out),
+        Request::NotAsked => print_outcome(name, false, out),
     }
 }
 
@@ -41,7 +42,8 @@ pub(crate) fn print_outcome<O: Write>(
     out: &mut O,
 ) -> Result<(), StepError>
     requires { IsName name.now }
-    ensures output { OnOk result (Appends (O.contents out.old) (O.contents out.new) (outcome_line name.now ok)) }
+    ensures output { OnOk result
+        (Appends (O.contents out.old) (O.contents out.new) (outcome_line name.now ok)) }
     ensures faults { IfErr result StopsForFile }
 {
     let word = outcome_word(ok);
@@ -50,7 +52,8 @@ pub(crate) fn print_outcome<O: Write>(
 
 // Says that there was no memory for a mark, where the recorder refused it.
 pub(crate) fn print_mark<O: Write>(reply: Reply, out: &mut O) -> Result<(), StepError>
-    ensures output { OnOk result (Appends (O.contents out.old) (O.contents out.new) (mark_outcome reply)) }
+    ensures output { OnOk result
+        (Appends (O.contents out.old) (O.contents out.new) (mark_outcome reply)) }
     ensures faults { IfErr result StopsForFile }
 {
     match reply {
@@ -67,7 +70,9 @@ pub(crate) fn print_read<O: Write>(
     out: &mut O,
 ) -> Result<(), StepError>
     requires { IfSome bytes.now (λ read. length read.items ≡ count * 512) }
-    ensures output { OnOk result (Appends (O.contents out.old) (O.contents out.new) (read_line first count (option_map (λ read. read.items) bytes.now))) }
+    ensures output { OnOk result
+        (Appends (O.contents out.old) (O.contents out.new)
+        (read_line first count (option_map (λ read. read.items) bytes.now))) }
     ensures faults { IfErr result StopsForFile }
 {
     match bytes {
@@ -83,7 +88,8 @@ pub(crate) fn print_read<O: Write>(
 // Prints the first byte of each of so many sectors.
 fn print_first_bytes<O: Write>(count: u64, bytes: &[u8], out: &mut O) -> Result<(), StepError>
     requires { length bytes.now ≡ count * 512 }
-    ensures output { OnOk result (Appends (O.contents out.old) (O.contents out.new) (first_bytes count bytes.now)) }
+    ensures output { OnOk result
+        (Appends (O.contents out.old) (O.contents out.new) (first_bytes count bytes.now)) }
     ensures faults { IfErr result StopsForFile }
 {
     for sector in 0..count {

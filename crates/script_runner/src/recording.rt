@@ -38,10 +38,12 @@ pub struct RunResult {
     pub lies: Lies,
 }
 
-/// Records a script, which was read from `text`, on two disks in memory of the sizes that it names, each under its layers. What its lines
-/// print is written to `out`. Where the script ends by a crash, the log's disk loses power then, with its picks. The log is handed over also
-/// where logging ended before the script did. Where no log can be made, the run ends by the cause of that. A close or a message that is refused fails at
-/// its line; so do memory that runs out and an output that can't be written, for which no line is named.
+/// Records a script, which was read from `text`, on two disks in memory of the sizes that it names,
+/// each under its layers. What its lines print is written to `out`. Where the script ends by a
+/// crash, the log's disk loses power then, with its picks. The log is handed over also where
+/// logging ended before the script did. Where no log can be made, the run ends by the cause of
+/// that. A close or a message that is refused fails at its line; so do memory that runs out and an
+/// output that can't be written, for which no line is named.
 pub fn record<O: Write>(
     alloc: Global,
     text: &[u8],
@@ -52,7 +54,8 @@ pub fn record<O: Write>(
         × (let image = gather (shown_of recorded.disk).content 0 (shown_of recorded.disk).size in
         IsRecorded script.now printed recorded.status recorded.lies image)
         × Appends (O.contents out.old) (O.contents out.new) printed) }
-    ensures faults { IfErr result (FailsOnDisks text.now script.now (O.contents out.old) (O.contents out.new)) }
+    ensures faults { IfErr result
+        (FailsOnDisks text.now script.now (O.contents out.old) (O.contents out.new)) }
 {
     crashed_logs_replay_to_what_could_be::<Stack>();
     lines_go_as_one_call::<Stack, Stack>();

@@ -45,17 +45,19 @@ impl Rehearsed {
     }
 }
 
-/// Runs a script, which was read from `text`, as `record` does, on two disks in memory, and keeps the recorder's events alone: what its
-/// lines print is dropped, and so is the log. Where logging ends before the script does, the run goes on. It fails as `record` does.
-/// And where the run went on though something in it found no memory, so that its events may be
-/// others than those with enough, it is refused with Memory, at no line. A read that finds none is
-/// no matter: what reads print is dropped.
+/// Runs a script, which was read from `text`, as `record` does, on two disks in memory, and keeps
+/// the recorder's events alone: what its lines print is dropped, and so is the log. Where logging
+/// ends before the script does, the run goes on. It fails as `record` does. And where the run went
+/// on though something in it found no memory, so that its events may be others than those with
+/// enough, it is refused with Memory, at no line. A read that finds none is no matter: what reads
+/// print is dropped.
 pub fn events_of_run(alloc: Global, text: &[u8], script: &Script) -> Result<Rehearsed, RunError>
     ensures rehearsed { IfOk result (IsRehearsed script.now) }
     // They are events of a device of the size of the data disk's top.
     ensures lawful { IfOk result (λ events. is_lawful (top_of script.now.data_disk) events ≡ true) }
     // Each request among them is aligned to the log's sectors.
-    ensures aligned { IfOk result (λ events. all_aligned (bytes_of script.now.log_size) events ≡ true) }
+    ensures aligned { IfOk result
+        (λ events. all_aligned (bytes_of script.now.log_size) events ≡ true) }
     ensures faults { IfErr result (FailsRehearsal text.now script.now) }
 {
     lines_go_as_one_call::<Stack, Stack>();
@@ -77,7 +79,8 @@ fn is_ample(asked: bool, events: &[CoreEvent]) -> bool
     asked && !has_memory_stop(events)
 }
 
-// What was made, where there was memory enough for all of it. Of any type, so that what it may drop isn't looked into.
+// What was made, where there was memory enough for all of it.
+// Of any type, so that what it may drop isn't looked into.
 fn kept_if<T: Drop>(ample: bool, made: T) -> Result<T, RunError>
     ensures kept { IfOk result (λ it. (it ≡ made) × (ample ≡ true)) }
     ensures refused { IfErr result (λ fault. fault ≡ memory_error) }

@@ -16,18 +16,20 @@ use std::alloc::AllocError;
 pub enum Request {
     /// The recorder was asked; it follows the request by its id, or passed it.
     Asked { bio: Bio, id: Option<Id> },
-    /// There was no memory for it.
-    Failed,
+    /// There was no memory for it, so the data device is not asked.
+    NotAsked,
 }
 
-/// The request that a script's line submits. Its bytes lie in memory once however many hold them, and those of the write before are used again.
+/// The request that a script's line submits. Its bytes lie in memory once however many hold them,
+/// and those of the write before are used again.
 #[tactic(auto, using(crate::proofs::Submitting::bio_suits))]
 pub fn bio_of(last: &mut LastData, submission: Submission) -> Result<Bio, AllocError>
     requires { (bytes sectors : ℕ) × (submission_answer bytes sectors submission ≡ Ok tt) }
     ensures made { IfOk result (λ bio. bio ≡ bio_of submission) }
     ensures no_data { has_data (bio_of submission) ≡ false → IsOk result }
     // It passes the test that its line passes.
-    ensures suits { (bytes sectors : ℕ) → submission_answer bytes sectors submission ≡ Ok tt → check_sized_answer bytes (bio_of submission) sectors ≡ Ok tt }
+    ensures suits { (bytes sectors : ℕ) → submission_answer bytes sectors submission ≡ Ok tt
+        → check_sized_answer bytes (bio_of submission) sectors ≡ Ok tt }
 {
     match submission {
         Submission::Write {

@@ -14,9 +14,10 @@ use refusals::Fault;
 use run_error::RunError;
 use std::io::Write;
 
-/// Runs a script, which was read from `text`, on a data device of the size of its data disk's top, beside a log with sectors of its log's size, from before its first line on. What its lines print is
-/// written to `out`. A close or a message that is refused ends the run at its line; so does an output that can't be written, and memory that runs out for what the
-/// run itself keeps.
+/// Runs a script, which was read from `text`, on a data device of the size of its data disk's top,
+/// beside a log with sectors of its log's size, from before its first line on. What its lines print
+/// is written to `out`. A close or a message that is refused ends the run at its line; so does an
+/// output that can't be written, and memory that runs out for what the run itself keeps.
 pub fn run<D: Message + Drop, L: Message + Drop, O: Write>(
     text: &[u8],
     script: &Script,
@@ -26,9 +27,13 @@ pub fn run<D: Message + Drop, L: Message + Drop, O: Write>(
     requires size { (D.shown running.old.disk).size ≡ top_of script.now.data_disk }
     requires sectors { (core_of running.old.recorder).sector_bytes ≡ bytes_of script.now.log_size }
     requires first { running.old.requests.items ≡ [] }
-    ensures runs { OnOk result (PrintsLines (answering D.answers L.answers) script.now.names script.now.commands (O.contents out.old) (O.contents out.new) running.old running.new) }
+    ensures runs { OnOk result
+        (PrintsLines (answering D.answers L.answers) script.now.names script.now.commands
+        (O.contents out.old) (O.contents out.new) running.old running.new) }
     ensures size { (D.shown running.new.disk).size ≡ (D.shown running.old.disk).size }
-    ensures faults { IfErr result (EndsRun (answering D.answers L.answers) text.now script.now (O.contents out.old) (O.contents out.new) running.old) }
+    ensures faults { IfErr result
+        (EndsRun (answering D.answers L.answers) text.now script.now (O.contents out.old)
+        (O.contents out.new) running.old) }
 {
     laws::requests_end_once();
     for (place, command) in script.commands().iter().enumerate() {

@@ -1,4 +1,5 @@
-//! A script's run, line by line: `Running` has the recorder, the data device and the script's requests.
+//! A script's run, line by line: `Running` has the
+//! recorder, the data device and the script's requests.
 ghost use Rattle.std.specs.Prelude.{IsTrue};
 ghost use Rattle.std.specs.List.{list_all};
 ghost use Rattle.script_runner.specs.Submitted.{fits_device, is_asked};
@@ -18,7 +19,8 @@ use std::alloc::{AllocError, Global};
 use std::io::Write;
 use text_words::ascii_text;
 
-/// A script's run so far: a recorder over the log's device, the data device, and the requests that were submitted, by their numbers.
+/// A script's run so far: a recorder over the log's device, the data device, and the requests that
+/// were submitted, by their numbers.
 #[derive(Drop)]
 pub struct Running<D: BlockDev + Drop, L: BlockDev + Drop> {
     alloc: Global,
@@ -29,7 +31,7 @@ pub struct Running<D: BlockDev + Drop, L: BlockDev + Drop> {
     // At which the calls of both devices begin.
     moment: Ms,
     // Whether a mark, the log, or the data device's call for a request found no memory. A request
-    // that found none as it was submitted is `Failed`.
+    // that found none as it was submitted is `NotAsked`.
     short: bool,
     ghost fits: { IsTrue (list_all (fits_device (D.shown disk).size) requests.items) },
 }
@@ -44,7 +46,9 @@ impl<D: BlockDev + Drop, L: BlockDev + Drop> Running<D, L> {
         disk: D,
         requests: usize,
     ) -> Result<Running<D, L>, AllocError>
-        ensures made { IfOk result (λ run. (run.recorder ≡ recorder) × (run.disk ≡ disk) × (run.requests.items ≡ []) × (run.moment ≡ 0)) }
+        ensures made { IfOk result
+            (λ run. (run.recorder ≡ recorder) × (run.disk ≡ disk) × (run.requests.items ≡ [])
+            × (run.moment ≡ 0)) }
     {
         Ok(Running {
             alloc,
@@ -83,7 +87,8 @@ impl<D: BlockDev + Drop, L: BlockDev + Drop> Running<D, L> {
 }
 
 impl<D: Message + Drop, L: Message + Drop> Running<D, L> {
-    ghost use Rattle.std.specs.Prelude.{◌≡◌, ◌⊎◌, ◌+◌, ◌<◌, IfErr, List, Ok, OnOk, [], length, true, ℕ};
+    ghost use Rattle.std.specs.Prelude.{◌≡◌, ◌⊎◌, ◌+◌, ◌<◌, IfErr, List, Ok, OnOk, [], length};
+    ghost use Rattle.std.specs.Prelude.{true, ℕ};
     ghost use Rattle.std.specs.List.{AllByRecursion};
     ghost use Rattle.std.specs.Io.KnownBytes.{Appends, Keeps};
     ghost use Rattle.bio.specs.Check.{range_answer};
@@ -96,7 +101,11 @@ impl<D: Message + Drop, L: Message + Drop> Running<D, L> {
     ghost use Rattle.recorder.specs.Growth.{RecorderFrame};
     ghost use Rattle.recorder.specs.Shown.{core_of, recorder_view};
     ghost use Rattle.script_runner.specs.declared.step_error.StepError.TheVariants.{AtLine};
-    ghost use Rattle.script_runner.specs.Lines.{EndsRecording, EndsSubmitted, FitsDevice, GivesTurn, HasScriptText, PrintsLine, ReadsData, RefusesMessage, SetsMoment, StopsForFile, StopsLine, TellsLayer, TellsMark, answering, count_of};
+    ghost use Rattle.script_runner.specs.Lines.{EndsRecording, EndsSubmitted, FitsDevice};
+    ghost use Rattle.script_runner.specs.Lines.{GivesTurn, HasScriptText, PrintsLine, ReadsData};
+    ghost use Rattle.script_runner.specs.Lines.{RefusesMessage, SetsMoment, StopsForFile};
+    ghost use Rattle.script_runner.specs.Lines.{StopsLine, TellsLayer, TellsMark, answering};
+    ghost use Rattle.script_runner.specs.Lines.{count_of};
 
     // Submits the next request.
     fn submit<O: Write>(
@@ -105,13 +114,17 @@ impl<D: Message + Drop, L: Message + Drop> Running<D, L> {
         names: &[ScriptId],
         out: &mut O,
     ) -> Result<(), StepError>
-        requires fits { submission_answer (core_of self.old.recorder).sector_bytes (D.shown self.old.disk).size submission ≡ Ok tt }
+        requires fits { submission_answer (core_of self.old.recorder).sector_bytes
+            (D.shown self.old.disk).size submission ≡ Ok tt }
         requires named { length self.old.requests.items < length names.now }
         requires ids { AllByRecursion IsName names.now }
-        ensures runs { OnOk result (PrintsLine (answering D.answers L.answers) names.now (Command.Submit submission) (O.contents out.old) (O.contents out.new) self.old self.new) }
+        ensures runs { OnOk result
+            (PrintsLine (answering D.answers L.answers) names.now (Command.Submit submission)
+            (O.contents out.old) (O.contents out.new) self.old self.new) }
         ensures faults { IfErr result StopsForFile }
         ensures size { (D.shown self.new.disk).size ≡ (D.shown self.old.disk).size }
-        ensures count { OnOk result (length self.new.requests.items ≡ length self.old.requests.items + 1) }
+        ensures count { OnOk result
+            (length self.new.requests.items ≡ length self.old.requests.items + 1) }
     {
         let _sectors = self.disk.sectors();
         let request = ask(&mut self.recorder, &mut self.last, submission);
@@ -130,14 +143,17 @@ impl<D: Message + Drop, L: Message + Drop> Running<D, L> {
         requires submitted { request < length self.old.requests.items }
         requires named { request < length names.now }
         requires ids { AllByRecursion IsName names.now }
-        ensures runs { OnOk result (PrintsLine (answering D.answers L.answers) names.now (Command.Complete request) (O.contents out.old) (O.contents out.new) self.old self.new) }
+        ensures runs { OnOk result
+            (PrintsLine (answering D.answers L.answers) names.now (Command.Complete request)
+            (O.contents out.old) (O.contents out.new) self.old self.new) }
         ensures faults { IfErr result StopsForFile }
         ensures size { (D.shown self.new.disk).size ≡ (D.shown self.old.disk).size }
-        ensures count { OnOk result (length self.new.requests.items ≡ length self.old.requests.items) }
+        ensures count { OnOk result
+            (length self.new.requests.items ≡ length self.old.requests.items) }
     {
         laws::several_calls_go_as_one::<L>();
         match &self.requests[request] {
-            Request::Failed => Ok(()),
+            Request::NotAsked => Ok(()),
             Request::Asked { bio, id } => {
                 let answer = do_request(&mut self.disk, self.moment, bio);
                 let ok = answer.is_ok();
@@ -148,7 +164,8 @@ impl<D: Message + Drop, L: Message + Drop> Running<D, L> {
         }
     }
 
-    // Reads `count` sectors from sector `first` on from the data device, and prints the first byte of each, or that the read failed.
+    // Reads `count` sectors from sector `first` on from the data device, and prints the first byte
+    // of each, or that the read failed.
     fn read<O: Write>(&mut self, first: u64, count: u64, out: &mut O) -> Result<(), StepError>
         requires { range_answer first count (D.shown self.old.disk).size ≡ Ok tt }
         ensures moment { self.new.moment ≡ self.old.moment }
@@ -156,7 +173,8 @@ impl<D: Message + Drop, L: Message + Drop> Running<D, L> {
         ensures runs { OnOk result ((text : List ℕ) × ReadsData first count text self.old self.new
             × Appends (O.contents out.old) (O.contents out.new) text) }
         ensures faults { IfErr result StopsForFile }
-        ensures goes { RecorderFrame (recorder_view self.old.recorder) (recorder_view self.new.recorder) }
+        ensures goes { RecorderFrame (recorder_view self.old.recorder)
+            (recorder_view self.new.recorder) }
         ensures size { (D.shown self.new.disk).size ≡ (D.shown self.old.disk).size }
         ensures count { length self.new.requests.items ≡ length self.old.requests.items }
     {
@@ -170,7 +188,8 @@ impl<D: Message + Drop, L: Message + Drop> Running<D, L> {
         ensures moment { self.new.moment ≡ self.old.moment }
         ensures log_moment { self.new.recorder.store.moment ≡ self.old.recorder.store.moment }
         ensures turns { GivesTurn [] self.old self.new }
-        ensures goes { RecorderFrame (recorder_view self.old.recorder) (recorder_view self.new.recorder) }
+        ensures goes { RecorderFrame (recorder_view self.old.recorder)
+            (recorder_view self.new.recorder) }
         ensures size { (D.shown self.new.disk).size ≡ (D.shown self.old.disk).size }
         ensures count { length self.new.requests.items ≡ length self.old.requests.items }
     {
@@ -183,10 +202,12 @@ impl<D: Message + Drop, L: Message + Drop> Running<D, L> {
         requires { is_line_text text.now ≡ true }
         ensures moment { self.new.moment ≡ self.old.moment }
         ensures log_moment { self.new.recorder.store.moment ≡ self.old.recorder.store.moment }
-        ensures runs { OnOk result ((printed : List ℕ) × TellsMark text.now printed self.old self.new
+        ensures runs { OnOk result
+            ((printed : List ℕ) × TellsMark text.now printed self.old self.new
             × Appends (O.contents out.old) (O.contents out.new) printed) }
         ensures faults { IfErr result StopsForFile }
-        ensures goes { OnOk result (RecorderFrame (recorder_view self.old.recorder) (recorder_view self.new.recorder)) }
+        ensures goes { OnOk result
+            (RecorderFrame (recorder_view self.old.recorder) (recorder_view self.new.recorder)) }
         ensures size { (D.shown self.new.disk).size ≡ (D.shown self.old.disk).size }
         ensures count { length self.new.requests.items ≡ length self.old.requests.items }
     {
@@ -200,7 +221,8 @@ impl<D: Message + Drop, L: Message + Drop> Running<D, L> {
         ensures sets { SetsMoment moment [] self.old self.new }
         ensures moment { self.new.moment ≡ moment }
         ensures log_moment { self.new.recorder.store.moment ≡ moment }
-        ensures goes { RecorderFrame (recorder_view self.old.recorder) (recorder_view self.new.recorder) }
+        ensures goes { RecorderFrame (recorder_view self.old.recorder)
+            (recorder_view self.new.recorder) }
         ensures size { (D.shown self.new.disk).size ≡ (D.shown self.old.disk).size }
         ensures count { length self.new.requests.items ≡ length self.old.requests.items }
     {
@@ -213,7 +235,8 @@ impl<D: Message + Drop, L: Message + Drop> Running<D, L> {
         ensures moment { self.new.moment ≡ self.old.moment }
         ensures log_moment { self.new.recorder.store.moment ≡ self.old.recorder.store.moment }
         ensures ends { OnOk result (EndsRecording [] self.old self.new) }
-        ensures goes { OnOk result (RecorderFrame (recorder_view self.old.recorder) (recorder_view self.new.recorder)) }
+        ensures goes { OnOk result
+            (RecorderFrame (recorder_view self.old.recorder) (recorder_view self.new.recorder)) }
         ensures refused { IfErr result (λ stop. (refusal : Refusal) × (stop ≡ AtLine refusal)
             × Closes (replies.Refused refusal) self.old.recorder self.new.recorder) }
         ensures size { (D.shown self.new.disk).size ≡ (D.shown self.old.disk).size }
@@ -234,10 +257,13 @@ impl<D: Message + Drop, L: Message + Drop> Running<D, L> {
         requires { is_line_text text.now ≡ true }
         ensures moment { self.new.moment ≡ self.old.moment }
         ensures log_moment { self.new.recorder.store.moment ≡ self.old.recorder.store.moment }
-        ensures tells { OnOk result (TellsLayer (answering D.answers L.answers) over layer text.now [] self.old self.new) }
-        ensures refused { IfErr result (λ stop. (error : MessageError) × (stop ≡ AtLine (message_refusal error))
+        ensures tells { OnOk result
+            (TellsLayer (answering D.answers L.answers) over layer text.now [] self.old self.new) }
+        ensures refused { IfErr result
+            (λ stop. (error : MessageError) × (stop ≡ AtLine (message_refusal error))
             × RefusesMessage (answering D.answers L.answers) over layer text.now error self.old) }
-        ensures goes { RecorderFrame (recorder_view self.old.recorder) (recorder_view self.new.recorder) }
+        ensures goes { RecorderFrame (recorder_view self.old.recorder)
+            (recorder_view self.new.recorder) }
         ensures size { (D.shown self.new.disk).size ≡ (D.shown self.old.disk).size }
         ensures count { length self.new.requests.items ≡ length self.old.requests.items }
     {
@@ -260,15 +286,22 @@ impl<D: Message + Drop, L: Message + Drop> Running<D, L> {
         names: &[ScriptId],
         out: &mut O,
     ) -> Result<(), StepError>
-        requires fits { FitsDevice (core_of self.old.recorder).sector_bytes (D.shown self.old.disk).size command.now }
+        requires fits { FitsDevice (core_of self.old.recorder).sector_bytes
+            (D.shown self.old.disk).size command.now }
         requires text { HasScriptText command.now }
         requires named { HasName (length names.now) (length self.old.requests.items) command.now }
         requires submitted { EndsSubmitted (length self.old.requests.items) command.now }
         requires ids { AllByRecursion IsName names.now }
-        ensures runs { OnOk result (PrintsLine (answering D.answers L.answers) names.now command.now (O.contents out.old) (O.contents out.new) self.old self.new) }
-        ensures faults { IfErr result (StopsLine (answering D.answers L.answers) command.now (O.contents out.old) (O.contents out.new) self.old) }
+        ensures runs { OnOk result
+            (PrintsLine (answering D.answers L.answers) names.now command.now (O.contents out.old)
+            (O.contents out.new) self.old self.new) }
+        ensures faults { IfErr result
+            (StopsLine (answering D.answers L.answers) command.now (O.contents out.old)
+            (O.contents out.new) self.old) }
         ensures size { (D.shown self.new.disk).size ≡ (D.shown self.old.disk).size }
-        ensures count { OnOk result (length self.new.requests.items ≡ length self.old.requests.items + count_of command.now) }
+        ensures count { OnOk result
+            (length self.new.requests.items
+            ≡ length self.old.requests.items + count_of command.now) }
     {
         match command {
             Command::Submit(submission) => self.submit(*submission, names, out),

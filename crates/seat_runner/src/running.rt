@@ -1,7 +1,8 @@
 //! The threads of a run.
 ghost use Rattle.std.specs.Prelude.{◌≡◌, ◌⊎◌, ℕ, IfErr, IfOk, MatchResult};
 ghost use Rattle.refusals.specs.declared.refusal.Refusal.TheVariants as refusals;
-ghost use Rattle.seat_runner.specs.inside.Playing.{AreNewPlayers, DoesLines, FitsRecorder, HavePlayed};
+ghost use Rattle.seat_runner.specs.inside.Playing.{AreNewPlayers, DoesLines, FitsRecorder};
+ghost use Rattle.seat_runner.specs.inside.Playing.{HavePlayed};
 ghost use Rattle.seat_runner.specs.SeatRuns.{IsUnplayed};
 
 use crate::work::Work;
@@ -15,8 +16,9 @@ use std::sync::Wait;
 use std::thread;
 use std::thread::Threads;
 
-// Starts the writer, makes all calls, a thread for each seat, and asks to close. A seat whose thread can't be started makes its calls on this one; where the
-// writer has no thread no call is made.
+// Starts the writer, makes all calls, a thread for each seat, and
+// asks to close. A seat whose thread can't be started makes its
+// calls on this one; where the writer has no thread no call is made.
 pub(crate) fn run_all<
     D: BlockDev + Drop + Send,
     L: BlockDev + Drop + Send,
@@ -31,7 +33,8 @@ pub(crate) fn run_all<
 ) -> Result<Vec<Work<R>>, Refusal>
     requires fits { FitsRecorder R.sector_bytes R.sectors script.now }
     requires new { AreNewPlayers script.now.seats works.items }
-    ensures played { IfOk result (λ works. HavePlayed script.now.calls script.now.seats works.items) }
+    ensures played { IfOk result
+        (λ works. HavePlayed script.now.calls script.now.seats works.items) }
     ensures refused { IfErr result IsUnplayed }
 {
     thread::scope(
@@ -40,7 +43,8 @@ pub(crate) fn run_all<
         |scope| -> Result<Vec<Work<R>>, Refusal>
             requires fits { FitsRecorder R.sector_bytes R.sectors script.now }
             requires new { AreNewPlayers script.now.seats works.items }
-            ensures played { IfOk result (λ works. HavePlayed script.entry.now.calls script.entry.now.seats works.items) }
+            ensures played { IfOk result
+                (λ works. HavePlayed script.entry.now.calls script.entry.now.seats works.items) }
             ensures refused { IfErr result IsUnplayed }
         {
             if scope

@@ -48,16 +48,18 @@ pub struct Ran {
     pub lies: Lies,
 }
 
-/// Runs a script on two disks in memory of the sizes that it names, each under its layers: each seat makes the calls of its lines in a thread of its own,
-/// then the recorder is closed. The log is handed over also where logging ended before the script did. Where no log can be made, the run ends by the cause
-/// of that. No fault names a line.
+/// Runs a script on two disks in memory of the sizes that it names, each under its layers: each
+/// seat makes the calls of its lines in a thread of its own, then the recorder is closed. The log
+/// is handed over also where logging ended before the script did. Where no log can be made, the run
+/// ends by the cause of that. No fault names a line.
 pub fn run_seats<H: Threads + Wait + Sync>(
     rt: &H,
     alloc: Global,
     script: &RunScript,
 ) -> Result<Ran, RunError>
     ensures ran { IfOk result (λ ran.
-        IsRun script.now ran.tallies.items ran.status ran.lies (gather (shown_of ran.disk).content 0 (shown_of ran.disk).size)) }
+        IsRun script.now ran.tallies.items ran.status ran.lies
+        (gather (shown_of ran.disk).content 0 (shown_of ran.disk).size)) }
     ensures faults { IfErr result (FailsRun script.now) }
 {
     let device = new_stack(alloc, script.data())?;
@@ -66,7 +68,8 @@ pub fn run_seats<H: Threads + Wait + Sync>(
     run_on::<Brand, H>(rt, alloc, unnamed, device, log, script)
 }
 
-// Runs a script on a data device and a new log on another, by a recorder over this ledger and this table.
+// Runs a script on a data device and a new log on another,
+// by a recorder over this ledger and this table.
 fn run_on<R: Run + Names + Send + Sync, H: Threads + Wait + Sync>(
     rt: &H,
     alloc: Global,
@@ -75,7 +78,8 @@ fn run_on<R: Run + Names + Send + Sync, H: Threads + Wait + Sync>(
     log: Stack,
     script: &RunScript,
 ) -> Result<Ran, RunError>
-    requires ledger { (unnamed.ledger.name ≡ R.name) × (unnamed.ledger.parts ≡ R.parts) × (unnamed.ledger.parts ≡ script.now.seats) }
+    requires ledger { (unnamed.ledger.name ≡ R.name) × (unnamed.ledger.parts ≡ R.parts)
+        × (unnamed.ledger.parts ≡ script.now.seats) }
     requires some { 0 < script.now.seats }
     requires script { IsRunPlan script.now }
     requires table { unnamed.table ≡ R.table }
@@ -85,7 +89,8 @@ fn run_on<R: Run + Names + Send + Sync, H: Threads + Wait + Sync>(
     requires log { IsStackOf script.now.log_disk log }
     requires ground { R.log ≡ ground_of (stack_shown log) }
     ensures ran { IfOk result (λ ran.
-        IsRun script.now ran.tallies.items ran.status ran.lies (gather (shown_of ran.disk).content 0 (shown_of ran.disk).size)) }
+        IsRun script.now ran.tallies.items ran.status ran.lies
+        (gather (shown_of ran.disk).content 0 (shown_of ran.disk).size)) }
     ensures faults { IfErr result (FailsRun script.now) }
 {
     let Started {
@@ -113,7 +118,8 @@ fn start<R: Run + Names>(
     log: Stack,
     script: &RunScript,
 ) -> Result<Started<Stack, Stack, R>, RunError>
-    requires ledger { (unnamed.ledger.name ≡ R.name) × (unnamed.ledger.parts ≡ R.parts) × (unnamed.ledger.parts ≡ script.now.seats) }
+    requires ledger { (unnamed.ledger.name ≡ R.name) × (unnamed.ledger.parts ≡ R.parts)
+        × (unnamed.ledger.parts ≡ script.now.seats) }
     requires table { unnamed.table ≡ R.table }
     requires board { unnamed.board ≡ R.board }
     requires fits { FitsRecorder R.sector_bytes R.sectors script.now }
@@ -164,9 +170,12 @@ struct Parts<R: Run + Names> {
 // The seats, their tallies in the same order, and all receipts.
 #[tactic(auto, using(crate::proofs::Runs::map_push, crate::proofs::Runs::joined_next))]
 fn parts_of<R: Run + Names>(alloc: Global, works: Vec<Work<R>>) -> Result<Parts<R>, AllocError>
-    ensures seats { IfOk result (λ parts. parts.seats.items ≡ map (λ player. player.part) works.items) }
-    ensures tallies { IfOk result (λ parts. parts.tallies.items ≡ map (λ player. player.tally) works.items) }
-    ensures receipts { IfOk result (λ parts. parts.receipts.items ≡ joined (map (λ player. player.receipts) works.items)) }
+    ensures seats { IfOk result
+        (λ parts. parts.seats.items ≡ map (λ player. player.part) works.items) }
+    ensures tallies { IfOk result
+        (λ parts. parts.tallies.items ≡ map (λ player. player.tally) works.items) }
+    ensures receipts { IfOk result
+        (λ parts. parts.receipts.items ≡ joined (map (λ player. player.receipts) works.items)) }
 {
     let mut seats = Vec::new(alloc);
     let mut tallies = Vec::new(alloc);
@@ -191,7 +200,8 @@ fn close<R: Run + Names>(
     receipts: Vec<Receipt>,
 ) -> Result<Closed<Stack, Stack>, Refusal>
     requires { (length seats.items ≡ R.parts) × (0 < R.parts) }
-    ensures closed { IfOk result (IsClosed R.log R.sector_bytes R.sectors seats.items receipts.items) }
+    ensures closed { IfOk result
+        (IsClosed R.log R.sector_bytes R.sectors seats.items receipts.items) }
     ensures refused { IfErr result (IsUnclosed seats.items receipts.items) }
 {
     match recorder.close(seats, writer, receipts) {
@@ -205,7 +215,11 @@ fn close<R: Run + Names>(
 fn ran_of(tallies: Vec<Tally>, closed: Closed<Stack, Stack>) -> Ran
     ensures tallies { result.tallies.items ≡ tallies.items }
     ensures status { result.status ≡ closed.status }
-    ensures lies { result.lies ≡ record { data_disk = (stack_shown closed.device).lies; log_disk = (stack_shown closed.log).lies } }
+    ensures lies { result.lies
+        ≡ record {
+          data_disk = (stack_shown closed.device).lies;
+          log_disk = (stack_shown closed.log).lies;
+        } }
     ensures disk { result.disk ≡ disk_of closed.log }
 {
     let lies = Lies {

@@ -4,7 +4,8 @@ ghost use Rattle.dmlw_script.specs.declared.seat_call.Call.TheVariants.{Mark, Su
 ghost use Rattle.dmlw_script.specs.Plans.{submission_answer};
 ghost use Rattle.dmlw_script.specs.Lines.{is_line_text};
 ghost use Rattle.lock_state.specs.History.{new_part};
-ghost use Rattle.seat_runner.specs.inside.Playing.{CanMake, DoesLine, DoesLines, FitsRecorder, Makes, new_player};
+ghost use Rattle.seat_runner.specs.inside.Playing.{CanMake, DoesLine, DoesLines, FitsRecorder};
+ghost use Rattle.seat_runner.specs.inside.Playing.{Makes, new_player};
 ghost use Rattle.seat_runner.specs.Tallies.{and_kept, mark_receipt_in, receipt_in};
 
 use crate::tally::{Outcome, Tally};
@@ -35,7 +36,12 @@ impl<R: Run + Names> Model for Work<R> {
 
     ghost Value = { Player };
 
-    ghost view = { λ w. record { number = w.number; part = w.seat; tally = w.tally; receipts = w.receipts.items } };
+    ghost view = { λ w. record {
+      number = w.number;
+      part = w.seat;
+      tally = w.tally;
+      receipts = w.receipts.items;
+    } };
 }
 
 impl<R: Run + Names> Work<R> {
@@ -86,7 +92,8 @@ impl<R: Run + Names> Work<R> {
         self.tally.count(outcome);
     }
 
-    // Makes a call. The room for its receipt is got first: where there is no memory for that the call fails, or the mark is refused, and the recorder isn't asked.
+    // Makes a call. The room for its receipt is got first: where there is no memory for that the
+    // call fails, or the mark is refused, and the recorder isn't asked.
     fn make<D: BlockDev + Drop, L: BlockDev + Drop, H: Wait>(
         &mut self,
         rt: &H,
@@ -102,7 +109,8 @@ impl<R: Run + Names> Work<R> {
         }
     }
 
-    // Submits a request. Where there is no memory for its data it fails, and the recorder isn't asked.
+    // Submits a request. Where there is no memory for its
+    // data it fails, and the recorder isn't asked.
     #[tactic(auto, using(crate::proofs::Seats::makes_request, crate::proofs::Seats::fails))]
     fn submit<D: BlockDev + Drop, L: BlockDev + Drop, H: Wait>(
         &mut self,

@@ -1,5 +1,7 @@
--- For each clause of what a past begins with, and of what a call does to a disk, what breaks it, and is refused by it.
-use Rattle.std.proofs.Common.{◌≡◌, ℕ, suc, Bool, List, [], ◌∷◌, length, Ok, Err, replicate, slice_index_or, refl, sym, ap, ◌∙◌, arith}
+-- For each clause of what a past begins with, and of what a
+-- call does to a disk, what breaks it, and is refused by it.
+use Rattle.std.proofs.Common.{◌≡◌, ℕ, suc, Bool, List, [], ◌∷◌, length, Ok, Err, replicate}
+use Rattle.std.proofs.Common.{slice_index_or, refl, sym, ap, ◌∙◌, arith}
 use Rattle.std.specs.Prelude.{Result}
 use Rattle.bio.specs.declared.outcome.DevError.{DevError}
 use Rattle.bio.specs.declared.outcome.DevError.TheVariants.{Io, Memory}
@@ -27,7 +29,8 @@ start = view_of 8 (all 0) []
 -- its past begins with that
 begins : Begins 8 (all 0) start
 unfolding start
-begins = record { size = refl; content = λ sector h. refl; only = syncs_start 8 (all 0); moment = refl }
+begins =
+    record { size = refl; content = λ sector h. refl; only = syncs_start 8 (all 0); moment = refl }
 
 -- not with another size, nor with other content
 size : Begins 9 (all 0) start → ⊥
@@ -48,61 +51,86 @@ moment : Begins 8 (all 0) (view_of 8 (all 0) (Flushes ∷ [])) → ⊥
 moment told = let same = told.moment in omega arith
 
 -- a disk of another size, of another start, and of a past that lost a step
-sectors : (old new : SectorDisk) (steps : List Step) → HasPast old new steps → new.sectors ≡ suc old.sectors → ⊥
+sectors : (old new : SectorDisk) (steps : List Step) → HasPast old new steps
+    → new.sectors ≡ suc old.sectors → ⊥
 sectors old new steps has more = let same = has.sectors in omega arith
 
-started : (old new : SectorDisk) (steps : List Step) → HasPast old new steps → start_of old 0 ≡ replicate 512 0 → start_of new 0 ≡ replicate 512 1 → ⊥
+started : (old new : SectorDisk) (steps : List Step) → HasPast old new steps
+    → start_of old 0 ≡ replicate 512 0 → start_of new 0 ≡ replicate 512 1 → ⊥
 started old new steps has zeroes ones =
-    let same = one_value 1 0 (sym ones ∙ ap (λ (c : Content). c 0) has.start ∙ zeroes) in omega arith
+    let same = one_value 1 0 (sym ones ∙ ap (λ (c : Content). c 0) has.start ∙ zeroes) in
+    omega arith
 
-past : (old new : SectorDisk) → HasPast old new (Flushes ∷ steps_of old) → steps_of new ≡ steps_of old → ⊥
-past old new has same = let lengths = ap (λ (steps : List Step). length steps) (sym has.past ∙ same) in omega arith
+past : (old new : SectorDisk) → HasPast old new (Flushes ∷ steps_of old)
+    → steps_of new ≡ steps_of old → ⊥
+past old new has same =
+    let lengths = ap (λ (steps : List Step). length steps) (sym has.past ∙ same) in omega arith
 
 -- a disk that fails, one that ends later than it began, and one that refuses a read or a flush
-fails : (old new : SectorDisk) (first now : ℕ) (bytes : List ℕ) (fua : Bool) → Does old (Writes first bytes fua) now (Err Io) new → ⊥
+fails : (old new : SectorDisk) (first now : ℕ) (bytes : List ℕ) (fua : Bool)
+    → Does old (Writes first bytes fua) now (Err Io) new → ⊥
 fails old new first now bytes fua done = done
 
-discard_fails : (old new : SectorDisk) (first count now : ℕ) → Does old (Discards first count) now (Err Io) new → ⊥
+discard_fails : (old new : SectorDisk) (first count now : ℕ)
+    → Does old (Discards first count) now (Err Io) new → ⊥
 discard_fails old new first count now done = done
 
-late : (old new : SectorDisk) (first now : ℕ) (bytes : List ℕ) (fua : Bool) → Does old (Writes first bytes fua) now (Ok (suc now)) new → ⊥
+late : (old new : SectorDisk) (first now : ℕ) (bytes : List ℕ) (fua : Bool)
+    → Does old (Writes first bytes fua) now (Ok (suc now)) new → ⊥
 late old new first now bytes fua done = let same = done.0 in omega arith
 
-discard_late : (old new : SectorDisk) (first count now : ℕ) → Does old (Discards first count) now (Ok (suc now)) new → ⊥
+discard_late : (old new : SectorDisk) (first count now : ℕ)
+    → Does old (Discards first count) now (Ok (suc now)) new → ⊥
 discard_late old new first count now done = let same = done.0 in omega arith
 
-refuses_read : (old new : SectorDisk) (first now : ℕ) (before after : List ℕ) → Does old (Reads first before after) now (Err Memory) new → ⊥
+refuses_read : (old new : SectorDisk) (first now : ℕ) (before after : List ℕ)
+    → Does old (Reads first before after) now (Err Memory) new → ⊥
 refuses_read old new first now before after done = let same = done.0 in cc
 
 refuses_flush : (old new : SectorDisk) (now : ℕ) → Does old flush now (Err Memory) new → ⊥
 refuses_flush old new now done = let same = done.0 in cc
 
 -- two reads of one disk that find different bytes
-reads_one : (old new : SectorDisk) (first now : ℕ) (before a b : List ℕ) (result : Result ℕ DevError)
-    → Does old (Reads first before a) now result new → Does old (Reads first before b) now result new → a ≡ b
+reads_one : (old new : SectorDisk) (first now : ℕ) (before a b : List ℕ)
+    (result : Result ℕ DevError)
+    → Does old (Reads first before a) now result new
+    → Does old (Reads first before b) now result new → a ≡ b
 reads_one old new first now before a b result one other = one.2 ∙ sym other.2
 
--- a call that is refused as out of memory and that something came of, and one that ends well and that nothing came of
-refused_write : (old new : SectorDisk) (first now : ℕ) (bytes : List ℕ) (fua : Bool) → Does old (Writes first bytes fua) now (Err Memory) new
+-- a call that is refused as out of memory and that something
+-- came of, and one that ends well and that nothing came of
+refused_write : (old new : SectorDisk) (first now : ℕ) (bytes : List ℕ) (fua : Bool)
+    → Does old (Writes first bytes fua) now (Err Memory) new
     → steps_of new ≡ Flushes ∷ steps_of old → ⊥
-refused_write old new first now bytes fua done more = let lengths = ap (λ (steps : List Step). length steps) (sym more ∙ done.past) in omega arith
+refused_write old new first now bytes fua done more =
+    let lengths = ap (λ (steps : List Step). length steps) (sym more ∙ done.past) in omega arith
 
-refused_discard : (old new : SectorDisk) (first count now : ℕ) → Does old (Discards first count) now (Err Memory) new → steps_of new ≡ Flushes ∷ steps_of old → ⊥
-refused_discard old new first count now done more = let lengths = ap (λ (steps : List Step). length steps) (sym more ∙ done.past) in omega arith
+refused_discard : (old new : SectorDisk) (first count now : ℕ)
+    → Does old (Discards first count) now (Err Memory) new
+    → steps_of new ≡ Flushes ∷ steps_of old → ⊥
+refused_discard old new first count now done more =
+    let lengths = ap (λ (steps : List Step). length steps) (sym more ∙ done.past) in omega arith
 
-lost_write : (old new : SectorDisk) (first now : ℕ) (bytes : List ℕ) (fua : Bool) → Does old (Writes first bytes fua) now (Ok now) new
+lost_write : (old new : SectorDisk) (first now : ℕ) (bytes : List ℕ) (fua : Bool)
+    → Does old (Writes first bytes fua) now (Ok now) new
     → steps_of new ≡ steps_of old → ⊥
-lost_write old new first now bytes fua done same = let lengths = ap (λ (steps : List Step). length steps) (sym same ∙ done.1.past) in omega arith
+lost_write old new first now bytes fua done same =
+    let lengths = ap (λ (steps : List Step). length steps) (sym same ∙ done.1.past) in omega arith
 
-lost_discard : (old new : SectorDisk) (first count now : ℕ) → Does old (Discards first count) now (Ok now) new → steps_of new ≡ steps_of old → ⊥
-lost_discard old new first count now done same = let lengths = ap (λ (steps : List Step). length steps) (sym same ∙ done.1.past) in omega arith
+lost_discard : (old new : SectorDisk) (first count now : ℕ)
+    → Does old (Discards first count) now (Ok now) new → steps_of new ≡ steps_of old → ⊥
+lost_discard old new first count now done same =
+    let lengths = ap (λ (steps : List Step). length steps) (sym same ∙ done.1.past) in omega arith
 
 -- a read that is a step, and a first flush that is none
-read_step : (old new : SectorDisk) (first now : ℕ) (before after : List ℕ) → Does old (Reads first before after) now (Ok now) new
+read_step : (old new : SectorDisk) (first now : ℕ) (before after : List ℕ)
+    → Does old (Reads first before after) now (Ok now) new
     → steps_of new ≡ Flushes ∷ steps_of old → ⊥
-read_step old new first now before after done more = let lengths = ap (λ (steps : List Step). length steps) (sym more ∙ done.1.past) in omega arith
+read_step old new first now before after done more =
+    let lengths = ap (λ (steps : List Step). length steps) (sym more ∙ done.1.past) in omega arith
 
-lost_flush : (old new : SectorDisk) (now : ℕ) → Does old flush now (Ok now) new → steps_of old ≡ [] → steps_of new ≡ [] → ⊥
+lost_flush : (old new : SectorDisk) (now : ℕ) → Does old flush now (Ok now) new → steps_of old ≡ []
+    → steps_of new ≡ [] → ⊥
 lost_flush old new now done none still =
     let past : [] ≡ flushed_after [] = sym still ∙ done.1.past ∙ ap flushed_after none in
     cc

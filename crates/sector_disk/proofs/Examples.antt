@@ -1,5 +1,6 @@
 -- Worked crashes, by computation.
-use Rattle.std.proofs.Common.{◌≡◌, ℕ, suc, zero, ◌<◌, false, true, List, [], ◌∷◌, replicate, refl, ap, sym, ◌∙◌, inl, inr, arith}
+use Rattle.std.proofs.Common.{◌≡◌, ℕ, suc, zero, ◌<◌, false, true, List, [], ◌∷◌, replicate, refl}
+use Rattle.std.proofs.Common.{ap, sym, ◌∙◌, inl, inr, arith}
 use Rattle.std.specs.Prelude.{◌⊎◌, slice_index_or}
 use Rattle.sectors.specs.Content.{Content, discards, over, writes}
 use Rattle.sector_disk.specs.Candidates.{Cache, Flushes, MayLeave, Puts, Step, cache_after, left_by}
@@ -94,8 +95,10 @@ may-these : (content : Content) → MayLeave after_two content
 unfolding two put zeroes over
 may-these content may = at (may 3).0 (may 3).1 (may 3).2
   where
-    at : (k : ℕ) → k < 3 → slice_index_or (replicate 512 0 ∷ replicate 512 1 ∷ replicate 512 2 ∷ []) k (content 3) ≡ content 3
-        → (content 3 ≡ replicate 512 0) ⊎ (content 3 ≡ replicate 512 1) ⊎ (content 3 ≡ replicate 512 2)
+    at : (k : ℕ) → k < 3 → slice_index_or
+        (replicate 512 0 ∷ replicate 512 1 ∷ replicate 512 2 ∷ []) k (content 3) ≡ content 3
+        → (content 3 ≡ replicate 512 0) ⊎ (content 3 ≡ replicate 512 1)
+        ⊎ (content 3 ≡ replicate 512 2)
     at zero h same = inl (sym same)
     at (suc zero) h same = inr (inl (sym same))
     at (suc (suc zero)) h same = inr (inr (sym same))

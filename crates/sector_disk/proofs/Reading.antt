@@ -1,18 +1,22 @@
 -- Sectors as calls left them.
-use Rattle.std.proofs.Common.{◌≡◌, ℕ, suc, ◌+◌, ◌-◌, ◌*◌, ◌/◌, ◌<◌, ◌≤◌, Some, None, List, ◌++◌, length, take, drop, replicate, refl, ap, ◌∙◌, inl, inr, arith}
+use Rattle.std.proofs.Common.{◌≡◌, ℕ, suc, ◌+◌, ◌-◌, ◌*◌, ◌/◌, ◌<◌, ◌≤◌, Some, None, List, ◌++◌}
+use Rattle.std.proofs.Common.{length, take, drop, replicate, refl, ap, ◌∙◌, inl, inr, arith}
 use Rattle.std.proofs.lemmas.Bool.{cases_lt}
 use Rattle.std.specs.Prelude.{◌⊎◌, Option, slice_get, unwrap_or}
 use borrow.Rule.Slice.PartMut.{put_mid}
 use Rattle.std.proofs.lemmas.Slice.{take-put_mid}
-use Rattle.sectors.specs.Content.{Content, HasWholeValues, discards, gather, over, sector_of, writes}
-use Rattle.sectors.specs.ContentLaws.{over-after, over-before, over-in, over_cases, discards-whole, writes-whole}
+use Rattle.sectors.specs.Content.{Content, HasWholeValues, discards, gather, over, sector_of}
+use Rattle.sectors.specs.Content.{writes}
+use Rattle.sectors.specs.ContentLaws.{over-after, over-before, over-in, over_cases, discards-whole}
+use Rattle.sectors.specs.ContentLaws.{writes-whole}
 use Rattle.sector_disk.specs.declared.call.Call.{Call}
 use Rattle.sector_disk.specs.declared.call.Change.{Change}
 use Rattle.sector_disk.specs.declared.call.Change.TheVariants.{Write, Discard}
 use Rattle.sector_disk.specs.inside.Storage.{change_values, value_at, value_in, values_of}
 
 -- a sector before or after a write's range has no bytes of it
-pub written-none : (first sector : ℕ) (bytes : List ℕ) → (sector < first) ⊎ (length bytes / 512 ≤ sector - first) → writes first bytes sector ≡ None
+pub written-none : (first sector : ℕ) (bytes : List ℕ)
+    → (sector < first) ⊎ (length bytes / 512 ≤ sector - first) → writes first bytes sector ≡ None
 written-none first sector bytes outside = elim outside [
   | inl before ↦ over-before first (length bytes / 512) (sector_of bytes) sector before
   | inr after ↦ early after
@@ -25,8 +29,11 @@ written-none first sector bytes outside = elim outside [
     ]
 
 -- a sector within it has its part
-pub written-some : (first sector : ℕ) (bytes : List ℕ) → first ≤ sector → sector - first < length bytes / 512
-    → writes first bytes sector ≡ Some (take ((sector - first) * 512 + 512 - (sector - first) * 512) (drop ((sector - first) * 512) bytes))
+pub written-some : (first sector : ℕ) (bytes : List ℕ) → first ≤ sector
+    → sector - first < length bytes / 512
+    → writes first bytes sector
+    ≡ Some (take ((sector - first) * 512 + 512 - (sector - first) * 512)
+    (drop ((sector - first) * 512) bytes))
 written-some first sector bytes low high =
     let place : sector ≡ first + (sector - first) = omega arith in
     let from : 512 * (sector - first) ≡ (sector - first) * 512 = omega arith in
@@ -37,7 +44,8 @@ written-some first sector bytes low high =
     ∙ ap (λ (n : ℕ). Some (take n (drop ((sector - first) * 512) bytes))) count
 
 -- a discard leaves zeroes, where it has no value too
-pub discarded : (first count sector : ℕ) → unwrap_or (discards first count sector) (replicate 512 0) ≡ replicate 512 0
+pub discarded : (first count sector : ℕ)
+    → unwrap_or (discards first count sector) (replicate 512 0) ≡ replicate 512 0
 discarded first count sector = elim (over_cases first count (λ _. replicate 512 0) sector) [
   | inl within ↦
       let place = within.2 in
@@ -48,22 +56,27 @@ discarded first count sector = elim (over_cases first count (λ _. replicate 512
 ]
 
 -- the next sector that is read comes after those before it
-pub gather-next : (content : Content) (first index : ℕ) (old new value : List ℕ) → 512 * (index + 1) ≤ length old → length value ≡ 512
-    → new ≡ put_mid (index * 512) (index * 512 + 512 - index * 512) old value → value ≡ content (first + index)
-    → take (512 * index) old ≡ gather content first index → take (512 * (index + 1)) new ≡ gather content first (index + 1)
+pub gather-next : (content : Content) (first index : ℕ) (old new value : List ℕ)
+    → 512 * (index + 1) ≤ length old → length value ≡ 512
+    → new ≡ put_mid (index * 512) (index * 512 + 512 - index * 512) old value
+    → value ≡ content (first + index)
+    → take (512 * index) old ≡ gather content first index
+    → take (512 * (index + 1)) new ≡ gather content first (index + 1)
 gather-next content first index old new value within size is read earlier =
     let place : 512 * (index + 1) ≡ index * 512 + length value = omega arith in
     let turned : index * 512 ≡ 512 * index = omega arith in
     let more : suc index ≡ index + 1 = omega arith in
     ap (take (512 * (index + 1))) is
-    ∙ take-put_mid (index * 512) (index * 512 + 512 - index * 512) old value (512 * (index + 1)) place (omega arith)
+    ∙ take-put_mid (index * 512) (index * 512 + 512 - index * 512) old value
+    (512 * (index + 1)) place (omega arith)
     ∙ ap (λ (n : ℕ). take n old ++ value) turned
     ∙ ap (λ (xs : List ℕ). xs ++ value) earlier
     ∙ ap (λ (xs : List ℕ). gather content first index ++ xs) read
     ∙ ap (gather content first) more
 
 -- each value of a call is a whole sector
-pub length-value_at : (calls : List Call) (place sector : ℕ) → length (value_at calls place sector) ≡ 512
+pub length-value_at : (calls : List Call) (place sector : ℕ)
+    → length (value_at calls place sector) ≡ 512
 length-value_at calls place sector = at (slice_get calls place)
   where
     values : (call : Call) → HasWholeValues (values_of call)
@@ -73,7 +86,8 @@ length-value_at calls place sector = at (slice_get calls place)
         by_change from (Write bytes) = writes-whole from bytes.items
         by_change from (Discard count) = discards-whole from count
 
-    there : (o : Option (List ℕ)) → ((x : List ℕ) → o ≡ Some x → length x ≡ 512) → length (unwrap_or o (replicate 512 0)) ≡ 512
+    there : (o : Option (List ℕ)) → ((x : List ℕ) → o ≡ Some x → length x ≡ 512)
+        → length (unwrap_or o (replicate 512 0)) ≡ 512
     there None whole = refl
     there (Some x) whole = whole x refl
 

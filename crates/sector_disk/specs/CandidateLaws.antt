@@ -1,13 +1,18 @@
 -- A disk that is its candidates keeps the law of a device.
-use Rattle.std.proofs.Common.{◌≡◌, ℕ, suc, zero, ◌<◌, ◌≤◌, Bool, true, false, IsTrue, Option, None, Some, List, [], ◌∷◌, length, refl, ap, subst, sym, ◌∙◌, inl, inr, arith, lit<}
+use Rattle.std.proofs.Common.{◌≡◌, ℕ, suc, zero, ◌<◌, ◌≤◌, Bool, true, false, IsTrue, Option, None}
+use Rattle.std.proofs.Common.{Some, List, [], ◌∷◌, length, refl, ap, subst, sym, ◌∙◌, inl, inr}
+use Rattle.std.proofs.Common.{arith, lit<}
 use Rattle.std.proofs.lemmas.Bool.{cases_lt, le-ltb, lt-ltb}
-use Rattle.std.proofs.lemmas.List.Elements.{Contains-append_cases, Contains-append_left, Contains-append_right}
+use Rattle.std.proofs.lemmas.List.Elements.{Contains-append_cases, Contains-append_left}
+use Rattle.std.proofs.lemmas.List.Elements.{Contains-append_right}
 use Rattle.std.specs.Prelude.{◌⊎◌, nat_lt, slice_index_or, unwrap_or, Contains, MatchBool}
 use Rattle.sectors.specs.Content.{Content, HasWholeSectors, HasWholeValues, Patch, nothing}
 use Rattle.sectors.specs.ContentLaws.{patched-same, patched-whole, whole-patched}
 use Rattle.blockdev.specs.Law.{AfterPatch, AfterWhole, DeviceFrame, WriteDone, FlushDone}
 use Rattle.blockdev.specs.View.{IsLawful}
-use Rattle.sector_disk.specs.Candidates.{Cache, Flushes, LeftDuring, LeftSince, MayLeave, Puts, Step, after_step, cache_after, candidates_after, settled, view_of}
+use Rattle.sector_disk.specs.Candidates.{Cache, Flushes, LeftDuring, LeftSince, MayLeave, Puts}
+use Rattle.sector_disk.specs.Candidates.{Step, after_step, cache_after, candidates_after, settled}
+use Rattle.sector_disk.specs.Candidates.{view_of}
 
 -- a list of one has that one
 pub contains_one : {X : Type 0} (x : X) → Contains (x ∷ []) x
@@ -25,33 +30,41 @@ abbrev pub IsCurrent : Cache → Type 0
 IsCurrent cache = (sector : ℕ) → Contains (cache.may sector) (cache.now sector)
 
 -- of a sector's candidates after a call: each was one before, or is the call's value
-candidate_torn : (value : Option (List ℕ)) (fua : Bool) (old : List (List ℕ)) (now left : List ℕ) → Contains old now
+candidate_torn : (value : Option (List ℕ)) (fua : Bool) (old : List (List ℕ)) (now left : List ℕ)
+    → Contains old now
     → Contains (candidates_after value fua old) left
     → (before : List ℕ) × Contains old before × ((left ≡ before) ⊎ (left ≡ unwrap_or value before))
 candidate_torn None fua old now left current has = (left, has, inl refl)
-candidate_torn (Some value) true old now left current has = (now, current, inr (one_contains value left has))
-candidate_torn (Some value) false old now left current has = elim (Contains-append_cases old (value ∷ []) left has) [
-  | inl before ↦ (left, before, inl refl)
-  | inr after ↦ (now, current, inr (one_contains value left after))
-]
+candidate_torn (Some value) true old now left current has =
+    (now, current, inr (one_contains value left has))
+candidate_torn (Some value) false old now left current has =
+    elim (Contains-append_cases old (value ∷ []) left has) [
+      | inl before ↦ (left, before, inl refl)
+      | inr after ↦ (now, current, inr (one_contains value left after))
+    ]
 
 -- and with FUA it is the call's value
-candidate_durable : (value : Option (List ℕ)) (fua : Bool) (old : List (List ℕ)) (now left : List ℕ) → IsTrue fua → Contains old now
+candidate_durable : (value : Option (List ℕ)) (fua : Bool) (old : List (List ℕ)) (now left : List ℕ)
+    → IsTrue fua → Contains old now
     → Contains (candidates_after value fua old) left
     → (before : List ℕ) × Contains old before × (left ≡ unwrap_or value before)
 candidate_durable None fua old now left is current has = (left, has, refl)
-candidate_durable (Some value) true old now left is current has = (now, current, one_contains value left has)
+candidate_durable (Some value) true old now left is current has =
+    (now, current, one_contains value left has)
 candidate_durable (Some value) false old now left is current has = cc
 
 -- the value of a sector after a call is one of its candidates
-candidate_current : (value : Option (List ℕ)) (fua : Bool) (old : List (List ℕ)) (now : List ℕ) → Contains old now
+candidate_current : (value : Option (List ℕ)) (fua : Bool) (old : List (List ℕ)) (now : List ℕ)
+    → Contains old now
     → Contains (candidates_after value fua old) (unwrap_or value now)
 candidate_current None fua old now current = current
 candidate_current (Some value) true old now current = contains_one value
-candidate_current (Some value) false old now current = Contains-append_right old (value ∷ []) value (contains_one value)
+candidate_current (Some value) false old now current =
+    Contains-append_right old (value ∷ []) value (contains_one value)
 
 -- what was a candidate before a call without FUA still is one
-candidate_kept : (value : Option (List ℕ)) (old : List (List ℕ)) (before : List ℕ) → Contains old before
+candidate_kept : (value : Option (List ℕ)) (old : List (List ℕ)) (before : List ℕ)
+    → Contains old before
     → Contains (candidates_after value false old) before
 candidate_kept None old before has = has
 candidate_kept (Some value) old before has = Contains-append_left old (value ∷ []) before has
@@ -65,7 +78,8 @@ left-torn patch fua cache left current may =
     (λ sector. (at sector).0, λ sector. (at sector).1, λ sector. (at sector).2)
 
 -- with FUA, wholly
-pub left-durable : (patch : Patch) (fua : Bool) (cache : Cache) (left : Content) → IsTrue fua → IsCurrent cache
+pub left-durable : (patch : Patch) (fua : Bool) (cache : Cache) (left : Content) → IsTrue fua
+    → IsCurrent cache
     → MayLeave (after_step (Puts patch fua) cache) left → AfterWhole patch (MayLeave cache) left
 left-durable patch fua cache left is current may =
     let at : (sector : ℕ) → (before : List ℕ) × Contains (cache.may sector) before × (left sector ≡ unwrap_or (patch sector) before) =
@@ -73,15 +87,19 @@ left-durable patch fua cache left is current may =
     (λ sector. (at sector).0, λ sector. (at sector).1, λ sector. (at sector).2)
 
 -- after a call without FUA a crash may still leave what it could leave before
-pub left-kept : (patch : Patch) (cache : Cache) (left : Content) → MayLeave cache left → MayLeave (after_step (Puts patch false) cache) left
-left-kept patch cache left may = λ sector. candidate_kept (patch sector) (cache.may sector) (left sector) (may sector)
+pub left-kept : (patch : Patch) (cache : Cache) (left : Content) → MayLeave cache left
+    → MayLeave (after_step (Puts patch false) cache) left
+left-kept patch cache left may =
+    λ sector. candidate_kept (patch sector) (cache.may sector) (left sector) (may sector)
 
 -- a crash of a synced disk leaves its content
-pub left-settled : (content left : Content) → MayLeave (settled content) left → (sector : ℕ) → left sector ≡ content sector
+pub left-settled : (content left : Content) → MayLeave (settled content) left → (sector : ℕ)
+    → left sector ≡ content sector
 left-settled content left may sector = one_contains (content sector) (left sector) (may sector)
 
 -- which it could leave before the flush too
-pub left-flushed : (cache : Cache) (left : Content) → IsCurrent cache → MayLeave (settled cache.now) left → MayLeave cache left
+pub left-flushed : (cache : Cache) (left : Content) → IsCurrent cache
+    → MayLeave (settled cache.now) left → MayLeave cache left
 left-flushed cache left current may = λ sector.
     let Has : List ℕ → Type 0 = λ value. Contains (cache.may sector) value in
     subst Has (sym (left-settled cache.now left may sector)) (current sector)
@@ -91,14 +109,18 @@ pub is_current : (start : Content) (past : List Step) → IsCurrent (cache_after
 is_current start [] = λ sector. contains_one (start sector)
 is_current start (Puts patch fua ∷ past) = λ sector.
     let cache = cache_after start past in
-    candidate_current (patch sector) fua (cache.may sector) (cache.now sector) (is_current start past sector)
+    candidate_current (patch sector) fua (cache.may sector) (cache.now sector)
+    (is_current start past sector)
 is_current start (Flushes ∷ past) = λ sector. contains_one ((cache_after start past).now sector)
 
 -- what a crash after a step leaves, one during it may leave
-during : (start : Content) (step : Step) (past : List Step) (left : Content) → MayLeave (cache_after start (step ∷ past)) left
+during : (start : Content) (step : Step) (past : List Step) (left : Content)
+    → MayLeave (cache_after start (step ∷ past)) left
     → LeftDuring step (cache_after start past) left
-during start (Puts patch fua) past left may = left-torn patch fua (cache_after start past) left (is_current start past) may
-during start Flushes past left may = left-flushed (cache_after start past) left (is_current start past) may
+during start (Puts patch fua) past left may =
+    left-torn patch fua (cache_after start past) left (is_current start past) may
+during start Flushes past left may =
+    left-flushed (cache_after start past) left (is_current start past) may
 
 -- either of two facts, by a test
 match_intro : (b : Bool) (P Q : Type 0) → (b ≡ true → P) → (b ≡ false → Q) → MatchBool b P Q
@@ -114,7 +136,8 @@ match_false true P Q is has = cc
 match_false false P Q is has = has
 
 -- what a crash now may leave, one since an earlier moment may have left
-pub since-nested : (start : Content) (past : List Step) (moment : ℕ) (left : Content) → moment ≤ length past
+pub since-nested : (start : Content) (past : List Step) (moment : ℕ) (left : Content)
+    → moment ≤ length past
     → MayLeave (cache_after start past) left → LeftSince start past moment left
 since-nested start [] moment left h may = may
 since-nested start (step ∷ past) moment left h may =
@@ -123,24 +146,29 @@ since-nested start (step ∷ past) moment left h may =
     (λ after. may) (λ before. inr (during start step past left may))
 
 -- since now there was no other
-pub since-now : (start : Content) (past : List Step) (left : Content) → LeftSince start past (length past) left
+pub since-now : (start : Content) (past : List Step) (left : Content)
+    → LeftSince start past (length past) left
     → MayLeave (cache_after start past) left
 since-now start [] left may = may
 since-now start (step ∷ past) left may =
-    match_true (nat_lt (length past) (suc (length past))) (MayLeave (cache_after start (step ∷ past)) left)
+    match_true (nat_lt (length past) (suc (length past)))
+    (MayLeave (cache_after start (step ∷ past)) left)
     (LeftSince start past (suc (length past)) left ⊎ LeftDuring step (cache_after start past) left)
     (lt-ltb (length past) (suc (length past)) (omega arith)) may
 
 -- since a moment before a step, what could be left before, and what the step leaves
-pub since-step : (start : Content) (step : Step) (past : List Step) (moment : ℕ) (left : Content) → moment ≤ length past
-    → LeftSince start (step ∷ past) moment left → LeftSince start past moment left ⊎ LeftDuring step (cache_after start past) left
+pub since-step : (start : Content) (step : Step) (past : List Step) (moment : ℕ) (left : Content)
+    → moment ≤ length past
+    → LeftSince start (step ∷ past) moment left
+    → LeftSince start past moment left ⊎ LeftDuring step (cache_after start past) left
 since-step start step past moment left h may =
     match_false (nat_lt (length past) moment) (MayLeave (cache_after start (step ∷ past)) left)
     (LeftSince start past moment left ⊎ LeftDuring step (cache_after start past) left)
     (le-ltb (length past) moment h) may
 
 -- what may have been left stays so
-pub since-kept : (start : Content) (step : Step) (past : List Step) (moment : ℕ) (left : Content) → moment ≤ length past
+pub since-kept : (start : Content) (step : Step) (past : List Step) (moment : ℕ) (left : Content)
+    → moment ≤ length past
     → LeftSince start past moment left → LeftSince start (step ∷ past) moment left
 since-kept start step past moment left h may =
     match_intro (nat_lt (length past) moment) (MayLeave (cache_after start (step ∷ past)) left)
@@ -148,10 +176,12 @@ since-kept start step past moment left h may =
     (λ after. let before = le-ltb (length past) moment h in cc) (λ before. inl may)
 
 -- what a step leaves while it runs may have been left since the moment at which it began
-pub since-during : (start : Content) (step : Step) (past : List Step) (left : Content) → LeftDuring step (cache_after start past) left
+pub since-during : (start : Content) (step : Step) (past : List Step) (left : Content)
+    → LeftDuring step (cache_after start past) left
     → LeftSince start (step ∷ past) (length past) left
 since-during start step past left during_it =
-    match_intro (nat_lt (length past) (length past)) (MayLeave (cache_after start (step ∷ past)) left)
+    match_intro (nat_lt (length past) (length past))
+    (MayLeave (cache_after start (step ∷ past)) left)
     (LeftSince start past (length past) left ⊎ LeftDuring step (cache_after start past) left)
     (λ after. let before = le-ltb (length past) (length past) (omega arith) in cc) (λ before. inr during_it)
 
@@ -177,7 +207,9 @@ pub lands_puts : (size : ℕ) (start : Content) (past : List Step) (patch : Patc
     → WriteDone patch fua (view_of size start past) (view_of size start (Puts patch fua ∷ past))
 lands_puts size start past patch fua = record {
   content = λ sector. refl;
-  durable = λ is left may. left-durable patch fua (cache_after start past) left is (is_current start past) may;
+  durable =
+      λ is left may. left-durable patch fua (cache_after start past) left is
+      (is_current start past) may;
 }
 
 -- a flush goes as the law has it
@@ -187,7 +219,12 @@ goes_flush size start past = record {
   size = refl;
   place = refl;
   content = λ sector. inl refl;
-  crash = λ left may. (left, left-flushed (cache_after start past) left (is_current start past) may, patched-same nothing left);
+  crash =
+      λ left may. (
+        left,
+        left-flushed (cache_after start past) left (is_current start past) may,
+        patched-same nothing left,
+      );
   moment = omega arith;
   gains = λ moment left h may. elim (since-step start Flushes past moment left h may) [
     | inl before ↦ inl before
@@ -201,8 +238,10 @@ goes_flush size start past = record {
 }
 
 -- and syncs
-pub syncs_flush : (size : ℕ) (start : Content) (past : List Step) → FlushDone (view_of size start (Flushes ∷ past))
-syncs_flush size start past = record { only = λ left may. left-settled (cache_after start past).now left may }
+pub syncs_flush : (size : ℕ) (start : Content) (past : List Step)
+    → FlushDone (view_of size start (Flushes ∷ past))
+syncs_flush size start past =
+    record { only = λ left may. left-settled (cache_after start past).now left may }
 
 -- a disk of which nothing happened is synced
 pub syncs_start : (size : ℕ) (start : Content) → FlushDone (view_of size start [])
@@ -221,57 +260,73 @@ AreWhole values = (value : List ℕ) → Contains values value → length value 
 one-whole : (value : List ℕ) → length value ≡ 512 → AreWhole (value ∷ [])
 one-whole value whole = λ other has. ap length (one_contains value other has) ∙ whole
 
-candidates-whole : (value : Option (List ℕ)) (fua : Bool) (old : List (List ℕ)) → ((x : List ℕ) → value ≡ Some x → length x ≡ 512)
+candidates-whole : (value : Option (List ℕ)) (fua : Bool) (old : List (List ℕ))
+    → ((x : List ℕ) → value ≡ Some x → length x ≡ 512)
     → AreWhole old → AreWhole (candidates_after value fua old)
 candidates-whole None fua old values whole = whole
 candidates-whole (Some x) true old values whole = one-whole x (values x refl)
-candidates-whole (Some x) false old values whole = λ other has. elim (Contains-append_cases old (x ∷ []) other has) [
-  | inl before ↦ whole other before
-  | inr after ↦ one-whole x (values x refl) other after
-]
+candidates-whole (Some x) false old values whole =
+    λ other has. elim (Contains-append_cases old (x ∷ []) other has) [
+      | inl before ↦ whole other before
+      | inr after ↦ one-whole x (values x refl) other after
+    ]
 
-may-whole : (size : ℕ) (start : Content) (past : List Step) → HasWholeSectors size start → HasWholeSteps past
+may-whole : (size : ℕ) (start : Content) (past : List Step) → HasWholeSectors size start
+    → HasWholeSteps past
     → (sector : ℕ) → sector < size → AreWhole ((cache_after start past).may sector)
 may-whole size start [] whole steps sector h = one-whole (start sector) (whole sector h)
 may-whole size start (Puts patch fua ∷ past) whole steps sector h =
-    candidates-whole (patch sector) fua ((cache_after start past).may sector) (steps.0 sector) (may-whole size start past whole steps.1 sector h)
+    candidates-whole (patch sector) fua ((cache_after start past).may sector) (steps.0 sector)
+    (may-whole size start past whole steps.1 sector h)
 may-whole size start (Flushes ∷ past) whole steps sector h =
     let now = (cache_after start past).now sector in
-    one-whole now (may-whole size start past whole steps sector h now (is_current start past sector))
+    one-whole now (may-whole size start past whole steps sector h now
+    (is_current start past sector))
 
-left-whole : (size : ℕ) (start : Content) (past : List Step) (left : Content) → HasWholeSectors size start → HasWholeSteps past
+left-whole : (size : ℕ) (start : Content) (past : List Step) (left : Content)
+    → HasWholeSectors size start → HasWholeSteps past
     → MayLeave (cache_after start past) left → HasWholeSectors size left
-left-whole size start past left whole steps may = λ sector h. may-whole size start past whole steps sector h (left sector) (may sector)
+left-whole size start past left whole steps may =
+    λ sector h. may-whole size start past whole steps sector h (left sector) (may sector)
 
-during-whole : (size : ℕ) (start : Content) (step : Step) (past : List Step) (left : Content) → HasWholeSectors size start
-    → HasWholeSteps (step ∷ past) → LeftDuring step (cache_after start past) left → HasWholeSectors size left
+during-whole : (size : ℕ) (start : Content) (step : Step) (past : List Step) (left : Content)
+    → HasWholeSectors size start
+    → HasWholeSteps (step ∷ past) → LeftDuring step (cache_after start past) left
+    → HasWholeSectors size left
 during-whole size start (Puts patch fua) past left whole steps during_it =
-    whole-patched size patch during_it.0 left steps.0 during_it.2 (left-whole size start past during_it.0 whole steps.1 during_it.1)
-during-whole size start Flushes past left whole steps during_it = left-whole size start past left whole steps during_it
+    whole-patched size patch during_it.0 left steps.0 during_it.2
+    (left-whole size start past during_it.0 whole steps.1 during_it.1)
+during-whole size start Flushes past left whole steps during_it =
+    left-whole size start past left whole steps during_it
 
 earlier-whole : (step : Step) (past : List Step) → HasWholeSteps (step ∷ past) → HasWholeSteps past
 earlier-whole (Puts patch fua) past steps = steps.1
 earlier-whole Flushes past steps = steps
 
 -- whatever was left has whole sectors
-pub since-whole : (size : ℕ) (start : Content) (past : List Step) → HasWholeSectors size start → HasWholeSteps past
+pub since-whole : (size : ℕ) (start : Content) (past : List Step) → HasWholeSectors size start
+    → HasWholeSteps past
     → (moment : ℕ) (left : Content) → LeftSince start past moment left → HasWholeSectors size left
-since-whole size start [] whole steps moment left may = left-whole size start [] left whole steps may
-since-whole size start (step ∷ past) whole steps moment left may = elim (cases_lt (length past) moment) [
-  | inl after ↦
-      left-whole size start (step ∷ past) left whole steps (
-      match_true (nat_lt (length past) moment) (MayLeave (cache_after start (step ∷ past)) left)
-      (LeftSince start past moment left ⊎ LeftDuring step (cache_after start past) left)
-      (lt-ltb (length past) moment after) may
-      )
-  | inr before ↦ elim (since-step start step past moment left before may) [
-    | inl earlier ↦ since-whole size start past whole (earlier-whole step past steps) moment left earlier
-    | inr during_it ↦ during-whole size start step past left whole steps during_it
-  ]
-]
+since-whole size start [] whole steps moment left may =
+    left-whole size start [] left whole steps may
+since-whole size start (step ∷ past) whole steps moment left may =
+    elim (cases_lt (length past) moment) [
+      | inl after ↦
+          left-whole size start (step ∷ past) left whole steps (
+          match_true (nat_lt (length past) moment) (MayLeave (cache_after start (step ∷ past)) left)
+          (LeftSince start past moment left ⊎ LeftDuring step (cache_after start past) left)
+          (lt-ltb (length past) moment after) may
+          )
+      | inr before ↦ elim (since-step start step past moment left before may) [
+        | inl earlier ↦
+            since-whole size start past whole (earlier-whole step past steps) moment left earlier
+        | inr during_it ↦ during-whole size start step past left whole steps during_it
+      ]
+    ]
 
 -- the disk is lawful
-pub view-lawful : (size : ℕ) (start : Content) (past : List Step) → 0 < size → size ≤ 1048576 → HasWholeSectors size start
+pub view-lawful : (size : ℕ) (start : Content) (past : List Step) → 0 < size → size ≤ 1048576
+    → HasWholeSectors size start
     → HasWholeSteps past → IsLawful (view_of size start past)
 view-lawful size start past some few whole steps = record {
   some_sectors = some;

@@ -1,6 +1,8 @@
 -- Which values a crash may leave in each sector of a disk, after its calls or during one, and
 -- which of them the picks of `crash` leave.
-use Rattle.std.specs.Prelude.{ℕ, suc, zero, ◌+◌, ◌%◌, ◌⊎◌, nat_lt, Bool, true, false, Option, None, Some, unwrap_or, List, [], ◌∷◌, ◌++◌, length, slice_get, Contains, MatchBool, if◌then◌else◌}
+use Rattle.std.specs.Prelude.{ℕ, suc, zero, ◌+◌, ◌%◌, ◌⊎◌, nat_lt, Bool, true, false, Option, None}
+use Rattle.std.specs.Prelude.{Some, unwrap_or, List, [], ◌∷◌, ◌++◌, length, slice_get, Contains}
+use Rattle.std.specs.Prelude.{MatchBool, if◌then◌else◌}
 use Rattle.sectors.specs.Content.{Content, Patch, put}
 use Rattle.blockdev.specs.Law.{AfterPatch}
 use Rattle.blockdev.specs.View.{View}
@@ -9,10 +11,12 @@ use Rattle.blockdev.specs.View.{View}
 pub record Cache : Type 0 where
   -- the value of each, which a read finds
   pub now : Content
-  -- its candidates, of which a crash may leave any: the durable value first, then those written since, in order
+  -- its candidates, of which a crash may leave any: the
+  -- durable value first, then those written since, in order
   pub may : ℕ → List (List ℕ)
 
--- What happens to a disk: a write or a discard puts values, with FUA or without; a flush makes them durable.
+-- What happens to a disk: a write or a discard puts values,
+-- with FUA or without; a flush makes them durable.
 pub data Step : Type 0 where
   Puts : (patch : Patch) (fua : Bool) → Step
   Flushes : Step
@@ -21,7 +25,8 @@ pub data Step : Type 0 where
 abbrev pub settled : Content → Cache
 settled content = record { now = content; may = λ sector. content sector ∷ [] }
 
--- the candidates of a sector after a call: a value written with FUA is durable, another one comes last
+-- the candidates of a sector after a call: a value written
+-- with FUA is durable, another one comes last
 abbrev pub candidates_after : Option (List ℕ) → Bool → List (List ℕ) → List (List ℕ)
 candidates_after None fua old = old
 candidates_after (Some value) true old = value ∷ []
@@ -30,7 +35,10 @@ candidates_after (Some value) false old = old ++ value ∷ []
 -- a disk after one step
 abbrev pub after_step : Step → Cache → Cache
 after_step (Puts patch fua) cache =
-    record { now = put patch cache.now; may = λ sector. candidates_after (patch sector) fua (cache.may sector) }
+    record {
+      now = put patch cache.now;
+      may = λ sector. candidates_after (patch sector) fua (cache.may sector);
+    }
 after_step Flushes cache = settled cache.now
 
 -- a disk that started from this content, after its past, of which the newest step comes first
@@ -47,14 +55,16 @@ abbrev pub LeftDuring : Step → Cache → Content → Type 0
 LeftDuring (Puts patch fua) cache = AfterPatch patch (MayLeave cache)
 LeftDuring Flushes cache = MayLeave cache
 
--- What a crash from a moment on may have left, between two steps or during one. The clock counts the steps.
+-- What a crash from a moment on may have left, between two
+-- steps or during one. The clock counts the steps.
 abbrev pub LeftSince : Content → List Step → ℕ → Content → Type 0
 LeftSince start [] moment left = MayLeave (settled start) left
 LeftSince start (step ∷ past) moment left = MatchBool (nat_lt (length past) moment)
     (MayLeave (cache_after start (step ∷ past)) left)
     (LeftSince start past moment left ⊎ LeftDuring step (cache_after start past) left)
 
--- a disk of this size, with this start and this past, as contracts see a device: it never fails and never lies
+-- a disk of this size, with this start and this past, as
+-- contracts see a device: it never fails and never lies
 abbrev pub view_of : ℕ → Content → List Step → View
 view_of size start past = record {
   size = size;
@@ -77,11 +87,14 @@ abbrev pub unsynced_below : Cache → ℕ → ℕ
 unsynced_below cache zero = 0
 unsynced_below cache (suc sector) = unsynced_below cache sector + unsynced_at cache sector
 
--- which of its candidates a sector takes: the n-th unsynced one takes the n-th pick, modulo the number of its
--- candidates, and the durable value where there is no pick; a sector that is synced has no other candidate
+-- which of its candidates a sector takes: the n-th unsynced one takes the
+-- n-th pick, modulo the number of its candidates, and the durable value
+-- where there is no pick; a sector that is synced has no other candidate
 abbrev pub choice_of : Cache → List ℕ → ℕ → ℕ
-choice_of cache picks sector = unwrap_or (slice_get picks (unsynced_below cache sector)) 0 % length (cache.may sector)
+choice_of cache picks sector =
+    unwrap_or (slice_get picks (unsynced_below cache sector)) 0 % length (cache.may sector)
 
 -- what a crash leaves by these picks
 abbrev pub left_by : Cache → List ℕ → Content
-left_by cache picks sector = unwrap_or (slice_get (cache.may sector) (choice_of cache picks sector)) []
+left_by cache picks sector =
+    unwrap_or (slice_get (cache.may sector) (choice_of cache picks sector)) []

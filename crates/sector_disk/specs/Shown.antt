@@ -39,7 +39,8 @@ flushed_after [] = Flushes ∷ []
 flushed_after (Flushes ∷ past) = Flushes ∷ past
 flushed_after (Puts patch fua ∷ past) = Flushes ∷ Puts patch fua ∷ past
 
--- A call that takes memory is done, and ends at once; or there is no memory, and nothing is changed.
+-- A call that takes memory is done, and ends at once; or
+-- there is no memory, and nothing is changed.
 abbrev pub IsDoneOrRefused : ℕ → Result ℕ DevError → Type 0 → Type 0 → Type 0
 IsDoneOrRefused now (Ok end) done unchanged = (end ≡ now) × done
 IsDoneOrRefused now (Err Memory) done unchanged = unchanged
@@ -48,9 +49,13 @@ IsDoneOrRefused now (Err Io) done unchanged = ⊥
 -- What a call does to a disk, and answers, exactly.
 abbrev pub Does : SectorDisk → Call → ℕ → Result ℕ DevError → SectorDisk → Type 0
 Does old (calls.Reads first before after) now result new =
-    (result ≡ Ok now) × HasPast old new (steps_of old) × (after ≡ gather (cache_of old).now first (length before / 512))
+    (result ≡ Ok now) × HasPast old new (steps_of old)
+    × (after ≡ gather (cache_of old).now first (length before / 512))
 Does old (calls.Writes first bytes fua) now result new =
-    IsDoneOrRefused now result (HasPast old new (Puts (writes first bytes) fua ∷ steps_of old)) (HasPast old new (steps_of old))
+    IsDoneOrRefused now result (HasPast old new (Puts (writes first bytes) fua ∷ steps_of old))
+    (HasPast old new (steps_of old))
 Does old (calls.Discards first count) now result new =
-    IsDoneOrRefused now result (HasPast old new (Puts (discards first count) false ∷ steps_of old)) (HasPast old new (steps_of old))
-Does old calls.Flushes now result new = (result ≡ Ok now) × HasPast old new (flushed_after (steps_of old))
+    IsDoneOrRefused now result (HasPast old new (Puts (discards first count) false ∷ steps_of old))
+    (HasPast old new (steps_of old))
+Does old calls.Flushes now result new =
+    (result ≡ Ok now) × HasPast old new (flushed_after (steps_of old))

@@ -1,8 +1,11 @@
 //! The writes and discards that a disk keeps, and how its sectors are read back from them.
-ghost use Rattle.std.specs.Prelude.{true, ◌∷◌, ◌++◌, ◌≡◌, ◌%◌, ◌*◌, ◌+◌, ◌/◌, ◌≤◌, IfOk, MatchOption, None, OnErr, OnOk, Some, [], drop, length, slice_get, take, ℕ};
+ghost use Rattle.std.specs.Prelude.{true, ◌∷◌, ◌++◌, ◌≡◌, ◌%◌, ◌*◌, ◌+◌, ◌/◌, ◌≤◌, IfOk};
+ghost use Rattle.std.specs.Prelude.{MatchOption, None, OnErr, OnOk, Some, [], drop, length};
+ghost use Rattle.std.specs.Prelude.{slice_get, take, ℕ};
 ghost use Rattle.sector_disk.specs.inside.Added.{IsFilled, count_of};
 ghost use Rattle.sector_disk.specs.inside.Given.{is_image_in, is_write_of, put_over};
-ghost use Rattle.sector_disk.specs.inside.Storage.{before_at, content_at, is_open, place_of, value_at, value_in};
+ghost use Rattle.sector_disk.specs.inside.Storage.{before_at, content_at, is_open, place_of};
+ghost use Rattle.sector_disk.specs.inside.Storage.{value_at, value_in};
 ghost use Rattle.sectors.specs.Content.{gather, writes};
 
 use sectors::SECTOR_BYTES;
@@ -95,7 +98,8 @@ fn place_of(places: &[usize], sector: usize) -> usize
 pub fn read_places(calls: &[Call], places: &[usize], first: usize, buffer: &mut [u8])
     requires whole { length buffer.old % 512 ≡ 0 }
     requires within { first + length buffer.old / 512 ≤ 1048576 }
-    ensures { buffer.new ≡ gather (content_at calls.now places.now) first (length buffer.old / 512) }
+    ensures { buffer.new ≡ gather (content_at calls.now places.now) first
+        (length buffer.old / 512) }
 {
     for index in 0..buffer.len() / SECTOR {
         let sector = first + index;
@@ -160,7 +164,8 @@ fn put_in(later: &[Call], places: &[usize], sectors: usize, image: &mut Vec<u8>)
     put_later(later, places, sectors, image);
 }
 
-/// The bytes of all sectors, each as the call at its place left it, in the bytes of the first call, which is a write of all of them.
+/// The bytes of all sectors, each as the call at its place left it, in the bytes of the first call,
+/// which is a write of all of them.
 pub fn take_image(alloc: Global, calls: &mut [Call], places: &[usize], sectors: usize) -> Vec<u8>
     requires image { is_image_in (slice_get calls.old 0) sectors ≡ true }
     requires few { sectors ≤ 1048576 }
@@ -197,7 +202,8 @@ fn fill_places(places: &mut Vec<usize>, first: usize, count: usize, place: usize
     places[first..first + count].fill(place);
 }
 
-/// Adds a call, which is then the newest of its sectors. Where there is no memory, nothing is changed.
+/// Adds a call, which is then the newest of its sectors.
+/// Where there is no memory, nothing is changed.
 pub fn add_call(
     calls: &mut Vec<Call>,
     newest: &mut Vec<usize>,

@@ -6,7 +6,8 @@ ghost use Rattle.sector_disk.specs.inside.Storage.{ArePlaced, is_chain, walk};
 
 use crate::call::{Call, before, is_open};
 
-// How many candidates a sector has: the calls that aren't durable, from its newest back to the first that is.
+// How many candidates a sector has: the calls that aren't
+// durable, from its newest back to the first that is.
 fn count_candidates(calls: &[Call], synced: usize, sector: usize, newest: usize) -> usize
     ensures some { 0 < result }
     ensures count { (count : ℕ) → count ≤ length calls.now →
@@ -50,7 +51,8 @@ pub fn choose(
 )
     requires { length chosen.old.items ≡ length newest.now }
     ensures length { length chosen.new.items ≡ length newest.now }
-    ensures chosen { (cache : Cache) → ArePlaced calls.now synced (length newest.now) newest.now cache →
+    ensures chosen { (cache : Cache)
+        → ArePlaced calls.now synced (length newest.now) newest.now cache →
         AreChosen calls.now cache picks.now (length newest.now) chosen.new.items }
 {
     let mut unsynced = 0;

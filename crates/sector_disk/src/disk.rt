@@ -12,16 +12,17 @@ mod power;
 
 /// A disk in memory, of 1 to 1,048,576 sectors of 512 bytes, with a cache that `crash` loses.
 ///
-/// It keeps its past, for as long as it lives: each call's bytes stand in memory once, with about 115
-/// bytes a call and 8 a sector that was written or discarded, and, from the first such call on, 16 bytes for
-/// each sector of the disk.
+/// It keeps its past, for as long as it lives: each call's bytes stand in memory once, with about
+/// 115 bytes a call and 8 a sector that was written or discarded, and, from the first such call on,
+/// 16 bytes for each sector of the disk.
 #[derive(Debug, Drop)]
 pub struct SectorDisk {
     alloc: Global,
     sectors: u64,
     // The writes and discards since the disk was made; the first one is what it was made of.
     calls: Vec<Call>,
-    // For each sector the place of the call that has its value; empty before the second call, when each has the first's.
+    // For each sector the place of the call that has its value;
+    // empty before the second call, when each has the first's.
     newest: Vec<usize>,
     // And of the one that had it when the past began, at the last crash; empty where that is.
     base: Vec<usize>,

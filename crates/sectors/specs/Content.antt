@@ -1,6 +1,8 @@
 -- What a device has in each sector, and the values that a write or a discard puts there.
 -- The law of block devices and the replay of logs are said in these words.
-use Rattle.std.specs.Prelude.{◌≡◌, ℕ, ◌+◌, ◌-◌, ◌*◌, ◌/◌, ◌<◌, ◌≤◌, ◌&&◌, nat_le, nat_lt, Option, Some, None, unwrap_or, List, length, take, drop, replicate, ◌⊎◌, if◌then◌else◌}
+use Rattle.std.specs.Prelude.{◌≡◌, ℕ, ◌+◌, ◌-◌, ◌*◌, ◌/◌, ◌<◌, ◌≤◌, ◌&&◌, nat_le, nat_lt, Option}
+use Rattle.std.specs.Prelude.{Some, None, unwrap_or, List, length, take, drop, replicate, ◌⊎◌}
+use Rattle.std.specs.Prelude.{if◌then◌else◌}
 use Rattle.sectors.specs.Places.{collect}
 
 -- what a device has in each sector of 512 bytes
@@ -17,7 +19,8 @@ gather content first count = collect (λ place. content (first + place)) count
 
 -- the whole sectors of these bytes stand in the content from this sector on
 abbrev pub HasBytes : Content → ℕ → List ℕ → Type 0
-HasBytes content first bytes = (sector : ℕ) → sector < length bytes / 512 → content (first + sector) ≡ sector_of bytes sector
+HasBytes content first bytes =
+    (sector : ℕ) → sector < length bytes / 512 → content (first + sector) ≡ sector_of bytes sector
 
 -- the contents are one below this sector
 abbrev pub AgreeBelow : ℕ → Content → Content → Type 0
@@ -45,12 +48,14 @@ HasNoneBelow end patch = (sector : ℕ) → sector < end → patch sector ≡ No
 
 -- each value of a call has 512 bytes
 abbrev pub HasWholeValues : Patch → Type 0
-HasWholeValues patch = (sector : ℕ) (value : List ℕ) → patch sector ≡ Some value → length value ≡ 512
+HasWholeValues patch =
+    (sector : ℕ) (value : List ℕ) → patch sector ≡ Some value → length value ≡ 512
 
 -- the values for a range of sectors, the first of them counted as 0
 unfoldable pub over : ℕ → ℕ → (ℕ → List ℕ) → Patch
 over first count value sector =
-    if nat_le first sector && nat_lt sector (first + count) then Some (value (sector - first)) else None
+    if nat_le first sector && nat_lt sector (first + count) then Some
+    (value (sector - first)) else None
 
 -- the values that a write has for its sectors
 abbrev pub writes : ℕ → List ℕ → Patch
@@ -68,6 +73,8 @@ nothing sector = None
 abbrev pub put : Patch → Content → Content
 put patch content sector = unwrap_or (patch sector) (content sector)
 
--- the new content is the old one with the call's values in some of their sectors, none or all included
+-- the new content is the old one with the call's values in
+-- some of their sectors, none or all included
 abbrev pub Patched : Patch → Content → Content → Type 0
-Patched patch old new = (sector : ℕ) → (new sector ≡ old sector) ⊎ (new sector ≡ put patch old sector)
+Patched patch old new =
+    (sector : ℕ) → (new sector ≡ old sector) ⊎ (new sector ≡ put patch old sector)

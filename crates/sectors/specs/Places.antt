@@ -1,6 +1,7 @@
 -- Tests and lists over the places below a number: the first that passes, all, any, and a join.
 -- `Content` gathers sectors with `collect`; the laws of these words are in `PlaceLaws`.
-use Rattle.std.specs.Prelude.{ℕ, zero, suc, Bool, true, false, ◌&&◌, ◌||◌, Option, Some, None, List, [], ◌++◌}
+use Rattle.std.specs.Prelude.{ℕ, zero, suc, Bool, true, false, ◌&&◌, ◌||◌, Option, Some, None, List}
+use Rattle.std.specs.Prelude.{[], ◌++◌}
 
 -- the lists that f gives for the places below n, one after another
 abbrev pub collect : {A : Type 0} → (ℕ → List A) → ℕ → List A

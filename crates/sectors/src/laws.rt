@@ -1,7 +1,9 @@
 //! Laws of sectors, apart from the code: each function does nothing, and its clause is the law.
 //! They say what a write and a discard leave in each sector.
-ghost use Rattle.std.specs.Prelude.{◌≡◌, ◌⊎◌, ◌+◌, ◌-◌, ◌/◌, ◌<◌, ◌≤◌, List, None, Some, length, replicate, ℕ};
-ghost use Rattle.sectors.specs.Content.{Content, HasBytes, HasWholeSectors, HasWholeValues, Patch, Patched, discards, put, sector_of, writes};
+ghost use Rattle.std.specs.Prelude.{◌≡◌, ◌⊎◌, ◌+◌, ◌-◌, ◌/◌, ◌<◌, ◌≤◌, List, None, Some, length};
+ghost use Rattle.std.specs.Prelude.{replicate, ℕ};
+ghost use Rattle.sectors.specs.Content.{Content, HasBytes, HasWholeSectors, HasWholeValues, Patch};
+ghost use Rattle.sectors.specs.Content.{Patched, discards, put, sector_of, writes};
 
 use crate::{MAX_DEVICE_SECTORS, SECTOR_BYTES};
 
@@ -11,8 +13,8 @@ pub fn sizes()
     ensures device { MAX_DEVICE_SECTORS ≡ 1048576 }
 {}
 
-/// After a write its bytes stand from its first sector on, as many as are whole sectors: each sector of
-/// the write has its 512 bytes of them. Each other sector has what it had.
+/// After a write its bytes stand from its first sector on, as many as are whole sectors: each
+/// sector of the write has its 512 bytes of them. Each other sector has what it had.
 pub fn writes_put_their_bytes()
     ensures bytes { (first : ℕ) (bytes : List ℕ) (content : Content) →
         HasBytes (put (writes first bytes) content) first bytes }

@@ -26,7 +26,8 @@ const LISTED: [&str; 4] = [
 // What is told of a log that is too short.
 const CUT: &str = "dmlw: 21 CutShort\n";
 
-// The length of a sector, of the data disk, and of the part of a log that is changed byte by byte, in bytes; and the sectors of a log.
+// The length of a sector, of the data disk, and of the part of a log that is changed byte by byte,
+// in bytes; and the sectors of a log.
 const SECTOR: usize = 512;
 
 const DATA_BYTES: usize = 8192;
@@ -60,8 +61,9 @@ struct Seen {
     flushed: Faults,
 }
 
-/// Reads images of chosen fields, cuts a log to each of its sectors, changes each byte of another one's first two sectors, replays the first log onto
-/// devices that fail or lie, and reports what is told of these.
+/// Reads images of chosen fields, cuts a log to each of its sectors,
+/// changes each byte of another one's first two sectors, replays the first
+/// log onto devices that fail or lie, and reports what is told of these.
 pub fn run<H: Threads + Wait + Sync>(
     rt: &H,
     alloc: Global,
@@ -111,7 +113,8 @@ fn run_cuts<H: Threads + Wait + Sync>(
     report.line(line.as_str())
 }
 
-// A log with too few sectors for its count is refused at once; one that lacks its last entry's sector lists the two before it; a longer one lists all.
+// A log with too few sectors for its count is refused at once; one that lacks its last entry's
+// sector lists the two before it; a longer one lists all.
 fn check_cut<H: Threads + Wait + Sync>(
     rt: &H,
     alloc: Global,
@@ -202,7 +205,8 @@ fn damage_place<H: Threads + Wait + Sync>(
     Ok(())
 }
 
-// Puts a log with a byte set to another value in a folder, and answers the command that replays all entries that its super counts then.
+// Puts a log with a byte set to another value in a folder, and answers the command that replays all
+// entries that its super counts then.
 fn damage_log(
     alloc: Global,
     log: &[u8],
@@ -288,7 +292,8 @@ fn count_of(log: &[u8]) -> u64 {
     }
 }
 
-// Does a command that reads the log, and counts how it ended. It is to end with status 0 and no fault, or with status 1 and a fault that there can be.
+// Does a command that reads the log, and counts how it ended. It is to end with status 0 and no
+// fault, or with status 1 and a fault that there can be.
 fn read<H: Threads + Wait + Sync>(
     rt: &H,
     alloc: Global,

@@ -1,4 +1,5 @@
-// A run under each stack of layers, with a fuse on top, and a loss of power at its end: what it tells, and what its log lists.
+// A run under each stack of layers, with a fuse on top, and a loss of power at its end: what it
+// tells, and what its log lists.
 use crate::asking::{Told, ask, folder_of};
 use crate::layers::{LATE, Layer, STACKS, WHOLE_RUN, passed, stack_of};
 use crate::report::Report;
@@ -211,7 +212,8 @@ fn push_ending(text: &mut String, ending: Ending) -> Result<(), AllocError> {
     Ok(())
 }
 
-// What a run tells, where so many of its calls passed: 19 where its log couldn't be made, and else its two requests and its status.
+// What a run tells, where so many of its calls passed: 19 where its log couldn't be made, and else
+// its two requests and its status.
 fn check_told(
     alloc: Global,
     script: &str,
@@ -234,7 +236,8 @@ fn check_told(
     Ok(())
 }
 
-// What its log lists: all entries where the super that counts them was written, which is the last call of all, and else none.
+// What its log lists: all entries where the super that counts them was written, which is the last
+// call of all, and else none.
 fn check_listed(
     alloc: Global,
     script: &str,

@@ -39,7 +39,8 @@ impl Faults {
         }
     }
 
-    /// Counts a command that ended with this status and these lines of faults; false where it can't end so.
+    /// Counts a command that ended with this status and
+    /// these lines of faults; false where it can't end so.
     pub fn count(&mut self, status: u8, err: &str) -> bool {
         if err.is_empty() {
             self.whole = self.whole.saturating_add(1);

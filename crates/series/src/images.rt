@@ -6,9 +6,11 @@ use std::sync::Wait;
 use std::thread::Threads;
 use test_files::Folder;
 
-// Each row is an image: its length in bytes, its log sector size, its count of entries, and of its first entry the sector, the number of sectors, the flags and the length of its data.
-// Behind `=` stand, each behind a `;`, what is listed after the super's line, where % is the text of 480 zero bytes and `-` says that not even that line is listed; the
-// fault; the status, where there is no fault; and what a replay of all that is counted tells over 16 sectors.
+// Each row is an image: its length in bytes, its log sector size, its count of entries, and of its
+// first entry the sector, the number of sectors, the flags and the length of its data. Behind `=`
+// stand, each behind a `;`, what is listed after the super's line, where % is the text of 480 zero
+// bytes and `-` says that not even that line is listed; the fault; the status, where there is no
+// fault; and what a replay of all that is counted tells over 16 sectors.
 const IMAGES: &str = "4096 512 7 0 6 0 0=0 @1 write 0+6;21 CutShort;;21 CutShort after 1 entries
 4096 512 1 0 7 0 0=;21 CutShort;;21 CutShort after 0 entries
 4096 512 1 0 0 8 480=0 @1 mark %;;1 1;

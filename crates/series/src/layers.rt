@@ -30,8 +30,9 @@ const DEPTH: u64 = 3;
 /// A moment at which the flakey layer is down.
 pub const LATE: u64 = 12_000;
 
-/// The calls of a run that change the log's disk: one makes the log, two write the write's entry and its data, two the entries of the flush
-/// and of the end mark, and two settle these three: a flush and a write of the super.
+/// The calls of a run that change the log's disk: one makes the log, two write the write's entry
+/// and its data, two the entries of the flush and of the end mark, and two settle these three: a
+/// flush and a write of the super.
 pub const WHOLE_RUN: u64 = 7;
 
 impl Layer {
@@ -46,8 +47,8 @@ impl Layer {
         }
     }
 
-    // How many of a run's calls it passes before it fails one, where the log is made at moment 0 and the rest is done at this one. The log's
-    // sector 3 is first written by the fourth call.
+    // How many of a run's calls it passes before it fails one, where the log is made at moment 0
+    // and the rest is done at this one. The log's sector 3 is first written by the fourth call.
     fn passes(self, moment: u64) -> u64 {
         match self {
             Layer::Linear | Layer::Delay => WHOLE_RUN,

@@ -1,7 +1,8 @@
 //! Series of commands over files in memory, each compared with what was worked out apart.
 //!
-//! Each word of this program names a series: `layers`, `logs` or `seats`. A series goes through all cases of its kind, and prints a line with its
-//! counts, and of each case that came out otherwise what was told and what was wanted.
+//! Each word of this program names a series: `layers`, `logs` or `seats`. A series goes through all
+//! cases of its kind, and prints a line with its counts, and of each case that came out otherwise
+//! what was told and what was wanted.
 #![tactic(auto)]
 
 mod asking;

@@ -38,7 +38,8 @@ impl Report {
         Ok(())
     }
 
-    /// Counts a case that came out otherwise, and notes the case, what was told and what was wanted.
+    /// Counts a case that came out otherwise, and notes the
+    /// case, what was told and what was wanted.
     pub fn differs(&mut self, case: &str, told: &Told, wanted: &str) -> Result<(), AllocError> {
         self.differ = self.differ.saturating_add(1);
         writeln!(self.text, "differs:\n{case}\ntold [{}]:", told.status)?;
@@ -48,7 +49,8 @@ impl Report {
     }
 }
 
-/// Does each command line over a folder's files, and notes each that tells something else than is wanted, with the name of the case.
+/// Does each command line over a folder's files, and notes each that tells something else than is
+/// wanted, with the name of the case.
 pub fn check<H: Threads + Wait + Sync>(
     rt: &H,
     alloc: Global,

@@ -1,4 +1,5 @@
-// Four seats that write and mark at once, with a fuse on the log: what each is told, and what the log lists.
+// Four seats that write and mark at once, with a fuse on
+// the log: what each is told, and what the log lists.
 use crate::asking::{Told, ask, folder_of};
 use crate::report::Report;
 use std::alloc::{AllocError, Global};
@@ -69,7 +70,8 @@ fn run_fuse<H: Threads + Wait + Sync>(
     Ok(())
 }
 
-// The script: each seat writes a hundred sectors of its own, one after another, and marks its number.
+// The script: each seat writes a hundred sectors of its
+// own, one after another, and marks its number.
 fn script_of(alloc: Global, calls: u64) -> Result<String, AllocError> {
     let mut text = String::from_str(alloc, "data 400\nlog 807\nseats 4\n")?;
     writeln!(text, "log-layer 0 807 fuse disk 0 {calls}")?;
@@ -88,12 +90,14 @@ fn push_seat(text: &mut String, seat: u64) -> Result<(), AllocError> {
     writeln!(text, "s{seat} mark seat {seat}")
 }
 
-// How many marks are logged: the first call makes the log, and each mark's entry is written, flushed and counted by three more. The writes wait for the close.
+// How many marks are logged: the first call makes the log, and each mark's entry is written,
+// flushed and counted by three more. The writes wait for the close.
 fn marks_of(calls: u64) -> u64 {
     (calls.saturating_sub(1) / 3).min(SEATS)
 }
 
-// Whether each seat was told 100 done and its mark as logged or not logged, as many logged as the fuse has calls for, and logging ended.
+// Whether each seat was told 100 done and its mark as logged or not logged, as many logged as the
+// fuse has calls for, and logging ended.
 fn is_told(alloc: Global, told: &Told, calls: u64) -> Result<bool, AllocError> {
     let mut logged: u64 = 0;
     let mut is_good = told.status == 3 && told.err.is_empty();

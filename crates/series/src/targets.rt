@@ -1,4 +1,5 @@
-// Replays of a log onto devices that fail or lie: how many entries are told of, and what each device holds then.
+// Replays of a log onto devices that fail or lie: how many
+// entries are told of, and what each device holds then.
 use crate::damage::plain_log;
 use crate::report::Report;
 use bio::Ms;
@@ -21,7 +22,8 @@ const SECTOR: usize = 512;
 // The longest log that is read here, in bytes.
 const MOST_BYTES: usize = 16_384;
 
-// The entries of the log: a write of 65 at sector 5, a flush and a mark. A replay makes one call of the device for them, the write.
+// The entries of the log: a write of 65 at sector 5, a flush and a mark. A replay makes one call of
+// the device for them, the write.
 const ENTRIES: u64 = 3;
 
 // A flakey layer that is down all the time.
@@ -29,7 +31,8 @@ const UP: u64 = 0;
 
 const DOWN: u64 = 1;
 
-/// Replays the log onto a device that fails at once, one that takes a call, and one that drops each write, and reports what is told.
+/// Replays the log onto a device that fails at once, one that takes a call, and one that drops each
+/// write, and reports what is told.
 pub fn run<H: Threads + Wait + Sync>(
     rt: &H,
     alloc: Global,

@@ -1,5 +1,8 @@
--- For each clause of what a call is answered, and of what a close compares and hands back, what breaks it, and is refused by it.
-use Rattle.std.proofs.Common.{◌≡◌, ◌==◌, ◌<◌, ℕ, Bool, true, false, true≢false, List, [], ◌∷◌, Global, Option, Some, None, Vec, ap, arith, inl, inr, length, refl, sym, take}
+-- For each clause of what a call is answered, and of what a close compares and hands back, what
+-- breaks it, and is refused by it.
+use Rattle.std.proofs.Common.{◌≡◌, ◌==◌, ◌<◌, ℕ, Bool, true, false, true≢false, List, [], ◌∷◌}
+use Rattle.std.proofs.Common.{Global, Option, Some, None, Vec, ap, arith, inl, inr, length, refl}
+use Rattle.std.proofs.Common.{sym, take}
 use Rattle.std.specs.Prelude.{slice_get}
 use Rattle.bio.specs.declared.event.CoreEvent.{CoreEvent}
 use Rattle.bio.specs.declared.event.CoreEvent.TheVariants as events
@@ -26,7 +29,8 @@ use Rattle.shared.specs.Answers.{Answered, Marked}
 use Rattle.shared.specs.Closing.{Agrees, Differs, IfBusy, IfForeign, IsReceipt, LeavesLog}
 use Rattle.shared.specs.Posting.{ArePosted}
 use Rattle.shared.specs.Seats.{AreNewReaders, AreNewSeats}
-use Rattle.shared.specs.declared.answer.Answer.TheVariants.{Done as done, Failed, Logged, NotLogged, Read, Refused}
+use Rattle.shared.specs.declared.answer.Answer.TheVariants.{Done as done, Failed, Logged, NotLogged}
+use Rattle.shared.specs.declared.answer.Answer.TheVariants.{Read, Refused}
 use Rattle.shared.specs.declared.answer.MarkAnswer.TheVariants as marks
 use Rattle.shared.specs.declared.answer.MarkRefusal.TheVariants.{BadText, Memory}
 use Rattle.shared.specs.declared.closing.Unclosed.TheVariants.{Busy, Foreign}
@@ -79,7 +83,8 @@ read_done : (new : Part) → Answered (new_part 0) (bios.Read 0 1) done new → 
 read_done new answered = true≢false (sym answered.0)
 
 -- it has the bytes of its sectors, and notes nothing; and a write reads none
-read_short : (bytes : Vec ℕ Global) → Answered (new_part 0) (bios.Read 0 1) (Read bytes) (new_part 0) → length bytes.items ≡ 0 → ⊥
+read_short : (bytes : Vec ℕ Global)
+    → Answered (new_part 0) (bios.Read 0 1) (Read bytes) (new_part 0) → length bytes.items ≡ 0 → ⊥
 read_short bytes answered none = let long = answered.1 in absurd (omega arith)
 
 read_noted : (bytes : Vec ℕ Global) → Answered (new_part 0) (bios.Read 0 1) (Read bytes) marked → ⊥
@@ -89,10 +94,12 @@ read_write : (bytes : Vec ℕ Global) (new : Part) → Answered (new_part 0) pla
 read_write bytes new answered = true≢false answered.0
 
 -- a receipt is of the call's own id, and of a write with FUA alone
-logged_other : Answered (new_part 0) fua (Logged (record { id = 1; number = 7 })) (after fua true) → ⊥
+logged_other : Answered (new_part 0) fua (Logged (record { id = 1; number = 7 }))
+    (after fua true) → ⊥
 logged_other answered = true≢false (ap (λ (part : Part). first_place part.own == 0) answered.1.1)
 
-logged_plain : (receipt : Receipt) (new : Part) → Answered (new_part 0) plain (Logged receipt) new → ⊥
+logged_plain : (receipt : Receipt) (new : Part)
+    → Answered (new_part 0) plain (Logged receipt) new → ⊥
 logged_plain receipt new answered = true≢false (sym answered.0)
 
 -- a request that the device failed is noted, as one that failed
@@ -139,8 +146,10 @@ mark_noted answered = true≢false (sym (ap (λ (part : Part). length part.own =
 good_text : (old new : Part) → Marked old (1 ∷ []) (marks.Refused BadText) new → ⊥
 good_text old new answered = answered.1 refl
 
--- a seat's list, a receipt or a call that isn't the history's own, placed items that weren't taken, and a log that is short
-module _ (queue : Queue) (placed : List Item) (settled : ℕ) (end : Option End) (calls : List Done) (seats : List Part) (receipts : List Receipt)
+-- a seat's list, a receipt or a call that isn't the history's
+-- own, placed items that weren't taken, and a log that is short
+module _ (queue : Queue) (placed : List Item) (settled : ℕ) (end : Option End) (calls : List Done)
+    (seats : List Part) (receipts : List Receipt)
     (agrees : Agrees queue placed settled end calls seats receipts)
   where
     other_seat : Fails (IsOwn queue end) seats → ⊥
@@ -170,25 +179,33 @@ module _ (queue : Queue) (placed : List Item) (settled : ℕ) (end : Option End)
 receipt_unsettled : IsReceipt (sized_state 512) 0 (record { id = 0; number = 0 }) → ⊥
 receipt_unsettled is = let within = is.within in absurd (omega arith)
 
-receipt_entry : (core : CoreState) (settled : ℕ) (receipt : Receipt) → (is : IsReceipt core settled receipt) → slice_get (items_of core) receipt.number ≡ Some (receipt.id, is.entry)
+receipt_entry : (core : CoreState) (settled : ℕ) (receipt : Receipt)
+    → (is : IsReceipt core settled receipt)
+    → slice_get (items_of core) receipt.number ≡ Some (receipt.id, is.entry)
 receipt_entry core settled receipt is = is.item
 
--- a log that a close leaves has what is settled, and all of the list where logging went on to the end
-log_lost : (bytes size few : ℕ) (core : CoreState) (end : Option End) (left : Content) → (is : LeavesLog bytes size few core end left) → is.count < few → ⊥
+-- a log that a close leaves has what is settled, and all of
+-- the list where logging went on to the end
+log_lost : (bytes size few : ℕ) (core : CoreState) (end : Option End) (left : Content)
+    → (is : LeavesLog bytes size few core end left) → is.count < few → ⊥
 log_lost bytes size few core end left is fewer = let least = is.least in absurd (omega arith)
 
-log_entries : (bytes size few : ℕ) (core : CoreState) (end : Option End) (left : Content) → (is : LeavesLog bytes size few core end left)
+log_entries : (bytes size few : ℕ) (core : CoreState) (end : Option End) (left : Content)
+    → (is : LeavesLog bytes size few core end left)
     → IsLogOf size left bytes (take is.count (entries_of (items_of core)))
 log_entries bytes size few core end left is = is.log
 
-log_short : (bytes size few : ℕ) (core : CoreState) (left : Content) → (is : LeavesLog bytes size few core None left) → is.count < length (items_of core) → ⊥
+log_short : (bytes size few : ℕ) (core : CoreState) (left : Content)
+    → (is : LeavesLog bytes size few core None left) → is.count < length (items_of core) → ⊥
 log_short bytes size few core left is fewer = let whole = is.whole refl in absurd (omega arith)
 
 -- what is said of what is handed back
-busy_back : (A B : Type 0) (back : A) (P : A → Type 0) → IfBusy {A = A} {B = B} (Busy back) P → P back
+busy_back : (A B : Type 0) (back : A) (P : A → Type 0) → IfBusy {A = A} {B = B} (Busy back) P
+    → P back
 busy_back A B back P is = is
 
-foreign_back : (A B : Type 0) (back : B) (P : B → Type 0) → IfForeign {A = A} {B = B} (Foreign back) P → P back
+foreign_back : (A B : Type 0) (back : B) (P : B → Type 0)
+    → IfForeign {A = A} {B = B} (Foreign back) P → P back
 foreign_back A B back P is = is
 
 -- a status of an entry that isn't placed, and one that goes back
@@ -201,7 +218,8 @@ posted_more posted =
 abbrev ending : Item
 ending = record { id = 0; entry = end_mark }
 
-posted_back : ArePosted 512 (ending ∷ []) (record { entries = 1; sector = 1; end = None } ∷ opening ∷ []) → ⊥
+posted_back : ArePosted 512 (ending ∷ [])
+    (record { entries = 1; sector = 1; end = None } ∷ opening ∷ []) → ⊥
 posted_back posted =
     let goes = posted.rising.rises 0 1 _ _ (omega arith) refl refl in
     let entries = goes.entries in
@@ -212,7 +230,8 @@ seat_missing : AreNewSeats 1 [] → ⊥
 seat_missing seats = let count = seats.count in absurd (omega arith)
 
 seat_used : AreNewSeats 1 (marked ∷ []) → ⊥
-seat_used seats = true≢false (sym (ap (λ (part : Part). length part.own == 0) (seats.each 0 marked refl)))
+seat_used seats =
+    true≢false (sym (ap (λ (part : Part). length part.own == 0) (seats.each 0 marked refl)))
 
 -- one that lacks a reader, and one of which a reader has seen nothing
 reader_missing : AreNewReaders 1 [] → ⊥

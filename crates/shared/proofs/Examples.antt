@@ -1,5 +1,6 @@
 -- Worked answers: some that hold, and some that don't.
-use Rattle.std.proofs.Common.{◌==◌, ℕ, Bool, true, false, List, [], ◌∷◌, length, None, inl, inr, refl, ap, true≢false, arith}
+use Rattle.std.proofs.Common.{◌==◌, ℕ, Bool, true, false, List, [], ◌∷◌, length, None, inl, inr}
+use Rattle.std.proofs.Common.{refl, ap, true≢false, arith}
 use Rattle.bio.specs.declared.event.CoreEvent.TheVariants as events
 use Rattle.bio.specs.declared.request.Bio.{Bio}
 use Rattle.bio.specs.declared.request.Bio.TheVariants as bios
@@ -38,11 +39,13 @@ fua_logged : Answered (new_part 0) fua (Logged (record { id = 0; number = 7 })) 
 fua_logged = (refl, (1, refl))
 
 -- a mark is answered so where it stands in the list
-mark_logged : Marked (new_part 0) (1 ∷ []) (marks.Logged (record { id = 3; number = 0 })) (noted (new_part 0) 3 (events.Mark (1 ∷ [])))
+mark_logged : Marked (new_part 0) (1 ∷ []) (marks.Logged (record { id = 3; number = 0 }))
+    (noted (new_part 0) 3 (events.Mark (1 ∷ [])))
 mark_logged = refl
 
 -- and not where its seat's list didn't grow
-mark_missing : Marked (new_part 0) (1 ∷ []) (marks.Logged (record { id = 3; number = 0 })) (new_part 0) → ⊥
+mark_missing : Marked (new_part 0) (1 ∷ []) (marks.Logged (record { id = 3; number = 0 }))
+    (new_part 0) → ⊥
 mark_missing answered = true≢false (ap (λ (part : Part). length part.own == 0) answered)
 
 -- the item of a flush, whose entry takes one sector of the log

@@ -13,7 +13,8 @@ pub enum Answer {
     Logged(Receipt),
     /// The device failed it, or there was no memory.
     Failed(DevError),
-    /// A write with FUA: it succeeded, and logging ended by this cause before its entry was made sure. The entry may stand in the log.
+    /// A write with FUA: it succeeded, and logging ended by this cause before its entry was made
+    /// sure. The entry may stand in the log.
     NotLogged(End),
     /// It may not be sent to the device: nothing was recorded, and the device wasn't called.
     Refused(BadBio),

@@ -1,5 +1,6 @@
 // The close of a recorder: what it compares, and what it hands back.
-ghost use Rattle.std.specs.Prelude.{◌≡◌, ◌⊎◌, ◌<◌, ◌≤◌, ℕ, List, [], ◌∷◌, length, IfErr, IfOk, MatchBool, None, true, false};
+ghost use Rattle.std.specs.Prelude.{◌≡◌, ◌⊎◌, ◌<◌, ◌≤◌, ℕ, List, [], ◌∷◌, length, IfErr, IfOk};
+ghost use Rattle.std.specs.Prelude.{MatchBool, None, true, false};
 ghost use Rattle.bio.specs.Lawful.{has_no_close};
 ghost use Rattle.log_format.specs.LogOf.{status_of};
 ghost use Rattle.sectors.specs.Content.{Content};
@@ -37,7 +38,8 @@ pub struct Closed<D: Drop, L: Drop> {
     pub log: L,
     /// How far the log came.
     pub status: Status,
-    /// Why logging ended: the cause of the first Stop, else that of the log itself. None where all was written.
+    /// Why logging ended: the cause of the first Stop, else
+    /// that of the log itself. None where all was written.
     pub end: Option<End>,
     /// The core, with the history (`Core::events`).
     pub core: Core,
@@ -45,7 +47,8 @@ pub struct Closed<D: Drop, L: Drop> {
     pub by: Vec<Option<u64>>,
     /// The first hazard, if there is one.
     pub hazard: Option<Hazard>,
-    /// The requests that were handed to the recorded device, in order, also those that aren't recorded.
+    /// The requests that were handed to the recorded
+    /// device, in order, also those that aren't recorded.
     pub done: Vec<Done>,
     /// The items that were placed in the log, in order.
     pub placed: Vec<Item>,
@@ -91,48 +94,81 @@ pub struct Strangers<D: Drop, L: Drop, R: Run + Names> {
 pub enum Unclosed<B, F> {
     /// `ask_close` hasn't succeeded.
     Busy(B),
-    /// A seat, a receipt, the placed items or the device's calls aren't what the history has of them.
+    /// A seat, a receipt, the placed items or the device's
+    /// calls aren't what the history has of them.
     Foreign(F),
 }
 
 impl<D: BlockDev + Drop, L: BlockDev + Drop, R: Run + Names> Shared<D, L, R> {
-    /// Closes the recorder, once `ask_close` has succeeded and all threads have left it. Compares all that is handed in, and the placed items and the device's
-    /// calls, with the history; then writes what the writer left.
+    /// Closes the recorder, once `ask_close` has succeeded and all threads have left it. Compares
+    /// all that is handed in, and the placed items and the device's calls, with the history; then
+    /// writes what the writer left.
     pub fn close(
         self,
         seats: Vec<Seat<R>>,
         writer: WriterSeat<R>,
         receipts: Vec<Receipt>,
     ) -> Result<Ending<D, L, R>, Unclosed<Open<D, L, R>, Strangers<D, L, R>>>
-        ensures agrees { IfOk result (λ c. Agrees (record { core = c.closed.core.state; by = c.closed.by.items; stop = c.closed.stop })
-            c.closed.placed.items c.closed.settled c.closed.store_end c.closed.done.items seats.items receipts.items) }
-        ensures legal { IfOk result (λ c. LegalHistory R.sector_bytes R.sectors c.closed.core.state.events c.closed.by.items seats.items) }
+        ensures agrees { IfOk result
+            (λ c. Agrees (record {
+              core = c.closed.core.state;
+              by = c.closed.by.items;
+              stop = c.closed.stop;
+            })
+            c.closed.placed.items c.closed.settled c.closed.store_end c.closed.done.items
+            seats.items receipts.items) }
+        ensures legal { IfOk result
+            (λ c. LegalHistory R.sector_bytes R.sectors c.closed.core.state.events c.closed.by.items
+            seats.items) }
         ensures closed { IfOk result (λ c. has_no_close c.closed.core.state.events ≡ false) }
-        ensures counts { IfOk result (λ c. length seats.items ≡ R.parts → 0 < R.parts → named c.closed.by.items ≡ owned seats.items) }
-        ensures receipts { IfOk result (λ c. Each (IsReceipt c.closed.core.state c.closed.settled) receipts.items) }
-        ensures crash { IfOk result (λ c. (L.shown c.closed.log).lies ≡ 0 → (left : Content) → (L.shown c.closed.log).crash left →
-            LeavesLog R.sector_bytes (L.shown c.closed.log).size c.closed.settled c.closed.core.state c.closed.end left) }
+        ensures counts { IfOk result
+            (λ c. length seats.items ≡ R.parts → 0 < R.parts
+            → named c.closed.by.items ≡ owned seats.items) }
+        ensures receipts { IfOk result
+            (λ c. Each (IsReceipt c.closed.core.state c.closed.settled) receipts.items) }
+        ensures crash { IfOk result
+            (λ c. (L.shown c.closed.log).lies ≡ 0 → (left : Content)
+            → (L.shown c.closed.log).crash left →
+            LeavesLog R.sector_bytes
+            (L.shown c.closed.log).size c.closed.settled c.closed.core.state c.closed.end left) }
         ensures log { IfOk result (λ c. (L.shown c.closed.log).lies ≡ 0 →
-            LeavesLog R.sector_bytes (L.shown c.closed.log).size c.closed.settled c.closed.core.state c.closed.end (L.shown c.closed.log).content) }
+            LeavesLog R.sector_bytes
+            (L.shown c.closed.log).size c.closed.settled c.closed.core.state c.closed.end
+            (L.shown c.closed.log).content) }
         ensures stands { IfOk result (λ c. StandsOn R.log (L.shown c.closed.log)) }
-        ensures status { IfOk result (λ c. c.closed.status ≡ status_of R.sector_bytes (entries_in c.closed.placed.items) c.closed.end) }
-        ensures holds { IfOk result (λ c. (D.shown c.closed.device).lies ≡ 0 → Holds (D.shown c.closed.device).content c.closed.done.items) }
-        ensures end { IfOk result (λ c. c.closed.end ≡ first_cause c.closed.stop c.closed.store_end) }
+        ensures status { IfOk result
+            (λ c. c.closed.status ≡ status_of R.sector_bytes
+            (entries_in c.closed.placed.items) c.closed.end) }
+        ensures holds { IfOk result
+            (λ c. (D.shown c.closed.device).lies ≡ 0
+            → Holds (D.shown c.closed.device).content c.closed.done.items) }
+        ensures end { IfOk result
+            (λ c. c.closed.end ≡ first_cause c.closed.stop c.closed.store_end) }
         ensures hazard { IfOk result (λ c. c.closed.hazard ≡ None) }
         ensures taken { IfOk result (λ c. c.closed.taken ≡ c.closed.core.state.taken) }
         ensures posted { IfOk result (λ c. ArePosted R.sector_bytes c.closed.placed.items c.posts) }
-        ensures foreign { IfErr result (λ e. IfForeign e (λ f. Differs (record { core = f.closed.core.state; by = f.closed.by.items; stop = f.closed.stop })
-            f.closed.placed.items f.closed.settled f.closed.store_end f.closed.done.items seats.items receipts.items)) }
-        ensures foreign_legal { IfErr result (λ e. IfForeign e (λ f. (has_no_close f.closed.core.state.events ≡ false)
-            × LegalHistory R.sector_bytes R.sectors f.closed.core.state.events f.closed.by.items [])) }
-        ensures foreign_stands { IfErr result (λ e. IfForeign e (λ f. StandsOn R.log (L.shown f.closed.log))) }
-        ensures foreign_posted { IfErr result (λ e. IfForeign e (λ f. ArePosted R.sector_bytes f.closed.placed.items f.posts)) }
+        ensures foreign { IfErr result
+            (λ e. IfForeign e (λ f. Differs
+            (record { core = f.closed.core.state; by = f.closed.by.items; stop = f.closed.stop })
+            f.closed.placed.items f.closed.settled f.closed.store_end f.closed.done.items
+            seats.items receipts.items)) }
+        ensures foreign_legal { IfErr result
+            (λ e. IfForeign e (λ f. (has_no_close f.closed.core.state.events ≡ false)
+            × LegalHistory R.sector_bytes R.sectors f.closed.core.state.events f.closed.by.items
+            [])) }
+        ensures foreign_stands { IfErr result
+            (λ e. IfForeign e (λ f. StandsOn R.log (L.shown f.closed.log))) }
+        ensures foreign_posted { IfErr result
+            (λ e. IfForeign e (λ f. ArePosted R.sector_bytes f.closed.placed.items f.posts)) }
         ensures foreign_counts { IfErr result (λ e. IfForeign e (λ f.
-            length seats.items ≡ R.parts → 0 < R.parts → named f.closed.by.items ≡ owned seats.items)) }
+            length seats.items ≡ R.parts → 0 < R.parts
+            → named f.closed.by.items ≡ owned seats.items)) }
         ensures foreign_back { IfErr result (λ e. IfForeign e (λ f.
-            (f.seats.items ≡ seats.items) × (f.writer ≡ writer) × (f.receipts.items ≡ receipts.items))) }
+            (f.seats.items ≡ seats.items) × (f.writer ≡ writer)
+            × (f.receipts.items ≡ receipts.items))) }
         ensures busy { IfErr result (λ e. IfBusy e (λ o.
-            (o.seats.items ≡ seats.items) × (o.writer ≡ writer) × (o.receipts.items ≡ receipts.items))) }
+            (o.seats.items ≡ seats.items) × (o.writer ≡ writer)
+            × (o.receipts.items ≡ receipts.items))) }
     {
         let Held {
             desk,
@@ -230,7 +266,8 @@ struct Held<D: BlockDev + Drop, L: BlockDev + Drop, R: Run + Names> {
     device: DataState<D, R>,
 }
 
-// Whether all agrees with the history. There is to be a note for each event; what the notes were doesn't matter.
+// Whether all agrees with the history. There is to be a
+// note for each event; what the notes were doesn't matter.
 fn agree<D: BlockDev + Drop, L: BlockDev + Drop, R: Run>(
     queue: &QueueState<R>,
     log: &LogState<L, R>,
@@ -241,9 +278,12 @@ fn agree<D: BlockDev + Drop, L: BlockDev + Drop, R: Run>(
 ) -> bool
     requires { length queue.now.core.events ≤ length notes.old }
     ensures agrees { MatchBool result
-        (Agrees queue.now log.now.placed log.now.settled log.now.end device.now.calls seats.now receipts.now)
-        (Differs queue.now log.now.placed log.now.settled log.now.end device.now.calls seats.now receipts.now) }
-    ensures legal { result ≡ true → LegalHistory R.sector_bytes R.sectors queue.now.core.events queue.now.by seats.now }
+        (Agrees queue.now log.now.placed log.now.settled log.now.end device.now.calls seats.now
+        receipts.now)
+        (Differs queue.now log.now.placed log.now.settled log.now.end device.now.calls seats.now
+        receipts.now) }
+    ensures legal { result ≡ true
+        → LegalHistory R.sector_bytes R.sectors queue.now.core.events queue.now.by seats.now }
 {
     let end = log.end();
     if !queue.has_all(seats, end) {
@@ -270,16 +310,21 @@ fn finish<D: BlockDev + Drop, L: BlockDev + Drop, R: Run>(
     requires closed { has_no_close queue.core.events ≡ false }
     requires begins { BeginsTaken queue.core log.placed }
     requires whole { IsShort queue log.placed log.end → ⊥ }
-    ensures agrees { (seats : List Part) (receipts : List Naming) → Agrees queue log.placed log.settled log.end device.calls seats receipts →
+    ensures agrees { (seats : List Part) (receipts : List Naming)
+        → Agrees queue log.placed log.settled log.end device.calls seats receipts →
         Agrees (record { core = result.core.state; by = result.by.items; stop = result.stop })
         result.placed.items result.settled result.store_end result.done.items seats receipts }
     ensures stay { Stay log.placed result.placed.items }
     ensures same { (result.core.state.events ≡ queue.core.events) × (result.by.items ≡ queue.by) }
-    ensures crash { (L.shown result.log).lies ≡ 0 → (left : Content) → (L.shown result.log).crash left →
-        LeavesLog R.sector_bytes (L.shown result.log).size result.settled result.core.state result.end left }
+    ensures crash { (L.shown result.log).lies ≡ 0 → (left : Content)
+        → (L.shown result.log).crash left →
+        LeavesLog R.sector_bytes
+        (L.shown result.log).size result.settled result.core.state result.end left }
     ensures stands { StandsOn R.log (L.shown result.log) }
-    ensures status { result.status ≡ status_of R.sector_bytes (entries_in result.placed.items) result.end }
-    ensures holds { (D.shown result.device).lies ≡ 0 → Holds (D.shown result.device).content result.done.items }
+    ensures status { result.status
+        ≡ status_of R.sector_bytes (entries_in result.placed.items) result.end }
+    ensures holds { (D.shown result.device).lies ≡ 0
+        → Holds (D.shown result.device).content result.done.items }
     ensures end { result.end ≡ first_cause result.stop result.store_end }
     ensures hazard { result.hazard ≡ None }
     ensures taken { result.taken ≡ result.core.state.taken }
@@ -296,16 +341,22 @@ fn take_apart<D: BlockDev + Drop, L: BlockDev + Drop, R: Run>(
     log: LogState<L, R>,
     device: DataState<D, R>,
 ) -> Closed<D, L>
-    ensures queue { (record { core = result.core.state; by = result.by.items; stop = result.stop }) ≡ queue }
+    ensures queue { (record { core = result.core.state; by = result.by.items; stop = result.stop })
+        ≡ queue }
     ensures placed { (result.placed.items ≡ log.placed) × (result.settled ≡ log.settled) }
     ensures store_end { result.store_end ≡ log.end }
     ensures calls { result.done.items ≡ device.calls }
-    ensures legal { LegalHistory R.sector_bytes R.sectors result.core.state.events result.by.items [] }
-    ensures leaves { (L.shown result.log).lies ≡ 0 → (left : Content) → (L.shown result.log).crash left →
-        LeavesBeginning R.sector_bytes (L.shown result.log).size result.settled (entries_in result.placed.items) left }
+    ensures legal { LegalHistory R.sector_bytes R.sectors result.core.state.events result.by.items
+        [] }
+    ensures leaves { (L.shown result.log).lies ≡ 0 → (left : Content)
+        → (L.shown result.log).crash left →
+        LeavesBeginning R.sector_bytes (L.shown result.log).size result.settled
+        (entries_in result.placed.items) left }
     ensures stands { StandsOn R.log (L.shown result.log) }
-    ensures status { result.status ≡ status_of R.sector_bytes (entries_in result.placed.items) result.end }
-    ensures holds { (D.shown result.device).lies ≡ 0 → Holds (D.shown result.device).content result.done.items }
+    ensures status { result.status
+        ≡ status_of R.sector_bytes (entries_in result.placed.items) result.end }
+    ensures holds { (D.shown result.device).lies ≡ 0
+        → Holds (D.shown result.device).content result.done.items }
     ensures end { result.end ≡ first_cause result.stop result.store_end }
     ensures hazard { result.hazard ≡ None }
     ensures taken { result.taken ≡ result.core.state.taken }

@@ -40,11 +40,12 @@ impl<R: Names> Posts<R> {
         self.writer.last()
     }
 
-    /// What a status seat has seen is a beginning of what was posted. So where each posted status is
-    /// that of a prefix of some items, and none goes back, that is so of each that was seen.
+    /// What a status seat has seen is a beginning of what was posted. So where each posted status
+    /// is that of a prefix of some items, and none goes back, that is so of each that was seen.
     pub fn agree(&mut self, mine: &mut StatusSeat<R>)
         ensures begins { Begins mine.old self.old }
-        ensures seen { (bytes : ℕ) (placed : List Placing) → ArePosted bytes placed self.old → ArePosted bytes placed mine.old }
+        ensures seen { (bytes : ℕ) (placed : List Placing) → ArePosted bytes placed self.old
+            → ArePosted bytes placed mine.old }
         ensures same { (self.new ≡ self.old) × (mine.new ≡ mine.old) }
     {
         self.board.agree(&mut self.writer, mine);

@@ -5,8 +5,8 @@ use holders::Fresh;
 use std::alloc::{AllocError, Global};
 use std::sync::ledger::Blank;
 
-/// The ledger of a recorder's seats, the table on which its queue and seats agree, and the board of its status. They name the recorder: its seats are of
-/// its type alone.
+/// The ledger of a recorder's seats, the table on which its queue and seats agree, and the board of
+/// its status. They name the recorder: its seats are of its type alone.
 #[derive(Drop)]
 pub struct Unnamed {
     /// The ledger, which has a part for each seat.

@@ -4,4 +4,10 @@ use Rattle.lock_state.specs.Placed.{Ground}
 
 -- a disk of so many sectors, under no layers
 abbrev pub disk_ground : ℕ → Ground
-disk_ground sectors = record { size = sectors; place = record { origin = 0; disk = sectors }; can_lie = false; lies = 0 }
+disk_ground sectors =
+    record {
+      size = sectors;
+      place = record { origin = 0; disk = sectors };
+      can_lie = false;
+      lies = 0;
+    }

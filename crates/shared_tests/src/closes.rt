@@ -1,4 +1,5 @@
-//! A recorder of one seat: its calls, a close that wasn't asked for, and one that writes all by itself.
+//! A recorder of one seat: its calls, a close that wasn't
+//! asked for, and one that writes all by itself.
 ghost use Rattle.std.specs.Prelude.{◌≡◌};
 ghost use Rattle.sector_disk.specs.Shown.{shown_of};
 ghost use Rattle.shared_tests.specs.Disks.{disk_ground};
@@ -21,7 +22,8 @@ fn start<R: Run + Names>(
     alloc: Global,
     unnamed: Unnamed,
 ) -> Result<Option<Started<SectorDisk, SectorDisk, R>>, AllocError>
-    requires ledger { (unnamed.ledger.name ≡ R.name) × (unnamed.ledger.parts ≡ R.parts) × (unnamed.ledger.parts ≡ 1) }
+    requires ledger { (unnamed.ledger.name ≡ R.name) × (unnamed.ledger.parts ≡ R.parts)
+        × (unnamed.ledger.parts ≡ 1) }
     requires table { unnamed.table ≡ R.table }
     requires board { unnamed.board ≡ R.board }
     requires sectors { (R.sectors ≡ 16) × (R.log ≡ disk_ground 16) }
@@ -43,13 +45,15 @@ fn write(alloc: Global, first: u64) -> Result<Bio, AllocError> {
     })
 }
 
-// A recorder that wasn't asked to close is handed back with its seat. Once it was asked, the close itself writes all, with no writer's thread.
+// A recorder that wasn't asked to close is handed back with its seat. Once it was asked, the close
+// itself writes all, with no writer's thread.
 fn unasked<R: Run + Names, H: Wait>(
     rt: &H,
     alloc: Global,
     unnamed: Unnamed,
 ) -> Result<bool, AllocError>
-    requires ledger { (unnamed.ledger.name ≡ R.name) × (unnamed.ledger.parts ≡ R.parts) × (unnamed.ledger.parts ≡ 1) }
+    requires ledger { (unnamed.ledger.name ≡ R.name) × (unnamed.ledger.parts ≡ R.parts)
+        × (unnamed.ledger.parts ≡ 1) }
     requires table { unnamed.table ≡ R.table }
     requires board { unnamed.board ≡ R.board }
     requires sectors { (R.sectors ≡ 16) × (R.log ≡ disk_ground 16) }
@@ -91,7 +95,8 @@ fn recorded<R: Run + Names, H: Wait>(
     alloc: Global,
     unnamed: Unnamed,
 ) -> Result<bool, AllocError>
-    requires ledger { (unnamed.ledger.name ≡ R.name) × (unnamed.ledger.parts ≡ R.parts) × (unnamed.ledger.parts ≡ 1) }
+    requires ledger { (unnamed.ledger.name ≡ R.name) × (unnamed.ledger.parts ≡ R.parts)
+        × (unnamed.ledger.parts ≡ 1) }
     requires table { unnamed.table ≡ R.table }
     requires board { unnamed.board ≡ R.board }
     requires sectors { (R.sectors ≡ 16) × (R.log ≡ disk_ground 16) }
@@ -136,14 +141,16 @@ struct Wrote<R: Run + Names> {
     writer: WriterSeat<R>,
 }
 
-// Starts a recorder, makes a write of this sector, and asks to close. None where that couldn't be done.
+// Starts a recorder, makes a write of this sector, and asks
+// to close. None where that couldn't be done.
 fn start_and_write<R: Run + Names, H: Wait>(
     rt: &H,
     alloc: Global,
     unnamed: Unnamed,
     first: u64,
 ) -> Result<Option<Wrote<R>>, AllocError>
-    requires ledger { (unnamed.ledger.name ≡ R.name) × (unnamed.ledger.parts ≡ R.parts) × (unnamed.ledger.parts ≡ 1) }
+    requires ledger { (unnamed.ledger.name ≡ R.name) × (unnamed.ledger.parts ≡ R.parts)
+        × (unnamed.ledger.parts ≡ 1) }
     requires table { unnamed.table ≡ R.table }
     requires board { unnamed.board ≡ R.board }
     requires sectors { (R.sectors ≡ 16) × (R.log ≡ disk_ground 16) }
@@ -173,7 +180,8 @@ fn start_and_write<R: Run + Names, H: Wait>(
     }))
 }
 
-// Closes a recorder. Says whether it found that its seat isn't its own, and handed it back with nothing placed.
+// Closes a recorder. Says whether it found that its seat
+// isn't its own, and handed it back with nothing placed.
 fn is_foreign<R: Run + Names>(alloc: Global, wrote: Wrote<R>) -> Result<bool, AllocError> {
     let Wrote {
         recorder,
@@ -189,19 +197,22 @@ fn is_foreign<R: Run + Names>(alloc: Global, wrote: Wrote<R>) -> Result<bool, Al
     Ok(back.seats.len() == 1 && back.closed.placed.is_empty() && is_unposted)
 }
 
-// The seats of two recorders change their calls: each recorder finds that its seat isn't its own, and hands it back.
+// The seats of two recorders change their calls: each recorder
+// finds that its seat isn't its own, and hands it back.
 fn foreign_seats<B: Run + Names, C: Run + Names, H: Wait>(
     rt: &H,
     alloc: Global,
     unnamed: Unnamed,
     other: Unnamed,
 ) -> Result<bool, AllocError>
-    requires ledger { (unnamed.ledger.name ≡ B.name) × (unnamed.ledger.parts ≡ B.parts) × (unnamed.ledger.parts ≡ 1) }
+    requires ledger { (unnamed.ledger.name ≡ B.name) × (unnamed.ledger.parts ≡ B.parts)
+        × (unnamed.ledger.parts ≡ 1) }
     requires table { (unnamed.table ≡ B.table) × (unnamed.board ≡ B.board) }
     requires sectors { (B.sectors ≡ 16) × (C.sectors ≡ 16) }
     requires logs { (B.log ≡ disk_ground 16) × (C.log ≡ disk_ground 16) }
     requires sector_size { (B.sector_bytes ≡ 512) × (C.sector_bytes ≡ 512) }
-    requires other_ledger { (other.ledger.name ≡ C.name) × (other.ledger.parts ≡ C.parts) × (other.ledger.parts ≡ 1) }
+    requires other_ledger { (other.ledger.name ≡ C.name) × (other.ledger.parts ≡ C.parts)
+        × (other.ledger.parts ≡ 1) }
     requires other_table { (other.table ≡ C.table) × (other.board ≡ C.board) }
 {
     let Some(mut one) = start_and_write::<B, H>(rt, alloc, unnamed, 1)? else {

@@ -80,7 +80,8 @@ pub struct Gate<D: BlockDev + Drop, C: Clock + Drop> {
     clock: C,
     sign: Sign,
     sector: u64,
-    // How many writes to the sector pass before the one that is held; none is held from 2^64 - 1 on.
+    // How many writes to the sector pass before the one
+    // that is held; none is held from 2^64 - 1 on.
     passes: u64,
 }
 

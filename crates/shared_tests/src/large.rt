@@ -101,8 +101,10 @@ fn read_back(alloc: Global, log: SectorDisk) -> u64 {
     count
 }
 
-// Four seats write a hundred sectors each and mark their numbers, over a log of so many sectors, while four readers look at the status. Says whether the
-// answers, the receipts, the status and the log that is read back are these, no reader saw a status go back, and each sees the last one in the end.
+// Four seats write a hundred sectors each and mark their numbers, over a log of so many sectors,
+// while four readers look at the status. Says whether the answers, the receipts, the status and the
+// log that is read back are these, no reader saw a status go back, and each sees the last one in
+// the end.
 fn four_seats<H: Threads + Wait + Clock + Print + Sync + Send + Copy + Drop>(
     rt: &H,
     alloc: Global,
@@ -161,8 +163,9 @@ fn four_seats_find_a_log_full(rt: HostRuntime) -> Result<(), Fail> {
     Ok(())
 }
 
-// The calls of a seat that writes each of its sectors, reads it back at once, and then flushes. Once it was asked to close it writes its first sector again and
-// reads that back, writes its second one with FUA, and marks.
+// The calls of a seat that writes each of its sectors, reads it back at once, and then flushes.
+// Once it was asked to close it writes its first sector again and reads that back, writes its
+// second one with FUA, and marks.
 fn writes_read_back(alloc: Global, seat: u64) -> Result<Table, AllocError>
     requires { seat < 4 }
 {
@@ -235,8 +238,9 @@ fn have_byte(disk: &mut SectorDisk, alloc: Global, byte: u8) -> Result<bool, All
     Ok(have)
 }
 
-// Four seats write and read back, flush, and write again after the close was asked for. Says whether each read found what was written, the device has the last
-// writes, and after a crash those that were flushed.
+// Four seats write and read back, flush, and write again after the close
+// was asked for. Says whether each read found what was written, the
+// device has the last writes, and after a crash those that were flushed.
 fn readback<H: Threads + Wait + Clock + Print + Sync + Send + Copy + Drop>(
     rt: &H,
     alloc: Global,

@@ -1,4 +1,5 @@
-//! Tests of `shared`. They see what is public alone. They stand apart from the crate that they test, so that it isn't proved a second time with its tests.
+//! Tests of `shared`. They see what is public alone. They stand apart from the crate that they
+//! test, so that it isn't proved a second time with its tests.
 #![tactic(auto)]
 
 #[cfg(test)]

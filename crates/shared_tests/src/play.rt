@@ -71,8 +71,9 @@ struct Called<R: Run + Names> {
     watches: Vec<Watch<R>>,
 }
 
-// Starts the writer, makes all calls, a thread for each seat, asks to close, and makes the late calls. None where not all that was begun; then logging ends,
-// so that the writer doesn't wait for more.
+// Starts the writer, makes all calls, a thread for each seat, asks to
+// close, and makes the late calls. None where not all that was begun;
+// then logging ends, so that the writer doesn't wait for more.
 fn run_all<
     D: BlockDev + Drop + Send,
     L: BlockDev + Drop + Send,
@@ -263,7 +264,8 @@ fn last_looks<D: BlockDev + Drop, L: BlockDev + Drop, R: Run + Names>(
     Ok((seen, rises))
 }
 
-/// Plays the tables, a seat for each. None where the recorder couldn't be started, or didn't close as its own.
+/// Plays the tables, a seat for each. None where the
+/// recorder couldn't be started, or didn't close as its own.
 pub fn play<
     D: BlockDev + Drop + Send,
     L: BlockDev + Drop + Send,
@@ -281,7 +283,8 @@ pub fn play<
 ) -> Result<Option<Played<D, L>>, AllocError>
     requires seats { (0 < count) × (count ≤ 64) }
     requires readers { readers ≤ 64 }
-    requires ledger { (unnamed.ledger.name ≡ R.name) × (unnamed.ledger.parts ≡ R.parts) × (unnamed.ledger.parts ≡ count) }
+    requires ledger { (unnamed.ledger.name ≡ R.name) × (unnamed.ledger.parts ≡ R.parts)
+        × (unnamed.ledger.parts ≡ count) }
     requires table { unnamed.table ≡ R.table }
     requires board { unnamed.board ≡ R.board }
     requires sectors { (D.shown device).size ≡ R.sectors }

@@ -79,8 +79,9 @@ enum Held {
     Log,
 }
 
-// What two seats are to do: the first one's call is held at the device or at the log, at the write to this sector after so many, until the second one's was
-// answered. Both are to be answered by these tallies.
+// What two seats are to do: the first one's call is held at the device
+// or at the log, at the write to this sector after so many, until the
+// second one's was answered. Both are to be answered by these tallies.
 #[derive(Clone, Copy, Debug)]
 struct Scene {
     held: Held,
@@ -107,7 +108,8 @@ fn are_answered(rt: &impl Print, found: &[Tally], wanted: (Tally, Tally)) -> boo
     is_same(rt, other, &wanted.1, "the other call") && is_one
 }
 
-// Plays the scene. Says whether the first call was still held once the second one was answered, and both had their answers.
+// Plays the scene. Says whether the first call was still held
+// once the second one was answered, and both had their answers.
 fn gated<H: Threads + Wait + Clock + Print + Sync + Send + Copy + Drop>(
     rt: &H,
     alloc: Global,
@@ -134,7 +136,8 @@ fn gated<H: Threads + Wait + Clock + Print + Sync + Send + Copy + Drop>(
     Ok(are_answered(rt, played.tallies.as_slice(), scene.tallies) && is_let_go)
 }
 
-// The log's first write after its creation, which is a flush's entry, until another thread's write was answered.
+// The log's first write after its creation, which is a
+// flush's entry, until another thread's write was answered.
 #[test]
 fn a_write_is_answered_while_the_log_is_written(rt: HostRuntime) -> Result<(), Fail> {
     let scene = Scene {
@@ -197,7 +200,8 @@ fn a_mark_is_answered_while_the_device_writes(rt: HostRuntime) -> Result<(), Fai
     Ok(())
 }
 
-// One seat makes one call, over a log of so many sectors. Says whether the answer and the status are these.
+// One seat makes one call, over a log of so many sectors.
+// Says whether the answer and the status are these.
 fn small_log<H: Threads + Wait + Clock + Print + Sync + Send + Copy + Drop>(
     rt: &H,
     alloc: Global,

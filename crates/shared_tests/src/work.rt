@@ -64,7 +64,8 @@ pub struct Work<R: Run + Names> {
     pub calls: Vec<Call>,
     /// The calls that are made once it was asked to close.
     pub late: Vec<Call>,
-    /// The gate that has to hold a call before this seat's first, and that is let go after its last.
+    /// The gate that has to hold a call before this seat's
+    /// first, and that is let go after its last.
     pub after: Option<Sign>,
     /// Whether the gate still held its call then.
     pub let_go: bool,
@@ -114,7 +115,8 @@ impl<R: Run + Names> Player<R> {
         }
     }
 
-    // Makes a call, and counts its answer. Want of memory of the test's own counts as a failed call.
+    // Makes a call, and counts its answer. Want of memory
+    // of the test's own counts as a failed call.
     fn make<D: BlockDev + Drop, L: BlockDev + Drop, H: Wait>(
         &mut self,
         rt: &H,

@@ -1,11 +1,14 @@
 -- The definitions on lines: those that ask for a layer, and each first test that fails.
-use Rattle.std.proofs.Common.{◌≡◌, ◌||◌, List, ℕ, true, false, [], ◌∷◌, ◌++◌, Some, None, Option, refl, sym, true≢false, arith}
+use Rattle.std.proofs.Common.{◌≡◌, ◌||◌, List, ℕ, true, false, [], ◌∷◌, ◌++◌, Some, None, Option}
+use Rattle.std.proofs.Common.{refl, sym, true≢false, arith}
 use Rattle.std.specs.Prelude.{codes, decimal}
 use Rattle.text_words.specs.Words.{words_of}
 use Rattle.table_line.specs.declared.feature.Feature.TheVariants as features
 use Rattle.table_line.specs.declared.layer_spec.Target.TheVariants as targets
 use Rattle.table_line.specs.declared.table_error.TableError.{TableError}
-use Rattle.table_line.specs.declared.table_error.TableError.TheVariants.{BadFeature, BadNumber, OutOfRange, UnknownTarget, WrongCount}
+use Rattle.table_line.specs.declared.table_error.TableError.TheVariants.{BadFeature, BadNumber}
+use Rattle.table_line.specs.declared.table_error.TableError.TheVariants.{OutOfRange, UnknownTarget}
+use Rattle.table_line.specs.declared.table_error.TableError.TheVariants.{WrongCount}
 use Rattle.table_line.specs.Ranges.{IsBlockSize, IsCycle, IsLayerSpec}
 use Rattle.table_line.specs.Standing.{drops_writes, top_origin, top_sectors, CanStand}
 use Rattle.table_line.specs.declared.layer_spec.LayerSpec.{LayerSpec}
@@ -19,7 +22,8 @@ refused line = refusal_of (words_of line)
 
 -- ---- words that ask for a layer
 
-linear : IsTableLine (words_of (codes " 0  16 linear disk 8 ")) (record { length = 16; offset = 8; target = targets.Linear })
+linear : IsTableLine (words_of (codes " 0  16 linear disk 8 "))
+    (record { length = 16; offset = 8; target = targets.Linear })
 linear = record {
   start_word = codes "0";
   length_word = codes "16";
@@ -27,12 +31,20 @@ linear = record {
   start = (refl, refl);
   sectors = (refl, refl);
   range = record { some = omega arith; few = omega arith };
-  asks = record { device_word = codes "disk"; offset_word = codes "8"; number = (refl, refl); spelled = refl };
+  asks =
+      record {
+        device_word = codes "disk";
+        offset_word = codes "8";
+        number = (refl, refl);
+        spelled = refl;
+      };
   spelled = refl;
 }
 
--- two sets of words: reads begin 1 millisecond later, and writes and flushes 2; the sector may be spelled in two ways
-delays : IsTableLine (words_of (codes "0 16 delay a 08 1 a 8 2")) (record { length = 16; offset = 8; target = targets.Delay 1 2 2 })
+-- two sets of words: reads begin 1 millisecond later, and
+-- writes and flushes 2; the sector may be spelled in two ways
+delays : IsTableLine (words_of (codes "0 16 delay a 08 1 a 8 2"))
+    (record { length = 16; offset = 8; target = targets.Delay 1 2 2 })
 delays = record {
   start_word = codes "0";
   length_word = codes "16";
@@ -45,8 +57,24 @@ delays = record {
     delays = 1 ∷ 2 ∷ [];
     sets = (
       codes "a" ∷ codes "8" ∷ codes "2" ∷ [],
-      record { offset_word = codes "08"; delay_word = codes "1"; number = (refl, refl); delays = (refl, refl); spelled = refl },
-      ([], record { offset_word = codes "8"; delay_word = codes "2"; number = (refl, refl); delays = (refl, refl); spelled = refl }, refl),
+      record {
+        offset_word = codes "08";
+        delay_word = codes "1";
+        number = (refl, refl);
+        delays = (refl, refl);
+        spelled = refl;
+      },
+      (
+        [],
+        record {
+          offset_word = codes "8";
+          delay_word = codes "2";
+          number = (refl, refl);
+          delays = (refl, refl);
+          spelled = refl;
+        },
+        refl,
+      ),
     );
     kinds = (refl, refl, refl);
     range = record { reads = omega arith; writes = omega arith; flushes = omega arith };
@@ -59,12 +87,25 @@ not-three : AreFor (1 ∷ 2 ∷ []) 1 2 3 → ⊥
 not-three kinds = let last = kinds.2 in absurd (omega arith)
 
 -- one space between two words, and no count of features where there is none
-plain_text : line_text (record { length = 16; offset = 0; target = targets.Flakey 10 5 features.None })
-    ≡ codes "0 " ++ (decimal 16 ++ (codes " flakey disk " ++ (decimal 0 ++ (codes " " ++ (decimal 10 ++ (codes " " ++ decimal 5))))))
+plain_text : line_text (record {
+  length = 16;
+  offset = 0;
+  target = targets.Flakey 10 5 features.None;
+})
+    ≡ codes "0 " ++ (decimal 16
+    ++ (codes " flakey disk "
+    ++ (decimal 0 ++ (codes " " ++ (decimal 10 ++ (codes " " ++ decimal 5))))))
 plain_text = refl
 
-lying_text : line_text (record { length = 16; offset = 0; target = targets.Flakey 10 5 features.DropWrites })
-    ≡ codes "0 " ++ (decimal 16 ++ (codes " flakey disk " ++ (decimal 0 ++ (codes " " ++ (decimal 10 ++ (codes " " ++ (decimal 5 ++ codes " 1 drop_writes")))))))
+lying_text : line_text (record {
+  length = 16;
+  offset = 0;
+  target = targets.Flakey 10 5 features.DropWrites;
+})
+    ≡ codes "0 " ++ (decimal 16
+    ++ (codes " flakey disk "
+    ++ (decimal 0 ++ (codes " "
+    ++ (decimal 10 ++ (codes " " ++ (decimal 5 ++ codes " 1 drop_writes")))))))
 lying_text = refl
 
 fine : refused (codes "0 16 linear disk 8") ≡ None
@@ -99,7 +140,8 @@ start = refl
 no_second : refused (codes "0 16 flakey disk 0 0 0") ≡ Some OutOfRange
 no_second = refl
 
--- a target that there is none of comes before the number of words, that before a number, that before a feature, and that before a range
+-- a target that there is none of comes before the number of words, that before a number, that
+-- before a feature, and that before a range
 unknown_first : refused (codes "x y zero a b c d e f g") ≡ Some UnknownTarget
 unknown_first = refl
 
@@ -186,9 +228,21 @@ no-layers = refl
 
 they-stand : CanStand 12 (eight ∷ three ∷ [])
 they-stand = (
-  record { sectors = record { some = omega arith; few = omega arith }; place = omega arith; has = tt },
+  record {
+    sectors = record { some = omega arith; few = omega arith };
+    place = omega arith;
+    has = tt;
+  },
   omega arith,
-  (record { sectors = record { some = omega arith; few = omega arith }; place = omega arith; has = omega arith }, omega arith, tt),
+  (
+    record {
+      sectors = record { some = omega arith; few = omega arith };
+      place = omega arith;
+      has = omega arith;
+    },
+    omega arith,
+    tt,
+  ),
 )
 
 -- past the device's end, and past the end of the layer beneath
@@ -199,7 +253,8 @@ not-on-three : CanStand 16 (three ∷ eight ∷ []) → ⊥
 not-on-three stand = let within = stand.2.1 in omega arith
 
 -- each is one that a line may ask for
-each-is-asked : (sectors : ℕ) (layer : LayerSpec) (layers : List LayerSpec) → CanStand sectors (layer ∷ layers) → IsLayerSpec layer
+each-is-asked : (sectors : ℕ) (layer : LayerSpec) (layers : List LayerSpec)
+    → CanStand sectors (layer ∷ layers) → IsLayerSpec layer
 each-is-asked sectors layer layers stand = stand.0
 
 -- ---- which layers may drop writes: a flakey one with that feature, and no other
@@ -207,8 +262,13 @@ each-is-asked sectors layer layers stand = stand.0
 flakey-drops : drops_writes (targets.Flakey 0 1 features.DropWrites) ≡ true
 flakey-drops = refl
 
-flakey-errs : drops_writes (targets.Flakey 0 1 features.ErrorWrites) || (drops_writes (targets.Flakey 0 1 features.ErrorReads) || drops_writes (targets.Flakey 0 1 features.None)) ≡ false
+flakey-errs : drops_writes (targets.Flakey 0 1 features.ErrorWrites)
+    || (drops_writes (targets.Flakey 0 1 features.ErrorReads)
+    || drops_writes (targets.Flakey 0 1 features.None)) ≡ false
 flakey-errs = refl
 
-others-pass : drops_writes targets.Linear || (drops_writes targets.Error || (drops_writes (targets.Fuse 0) || (drops_writes (targets.Dust 512) || drops_writes (targets.Delay 1 2 3)))) ≡ false
+others-pass : drops_writes targets.Linear
+    || (drops_writes targets.Error
+    || (drops_writes (targets.Fuse 0)
+    || (drops_writes (targets.Dust 512) || drops_writes (targets.Delay 1 2 3)))) ≡ false
 others-pass = refl

@@ -5,7 +5,8 @@ use Rattle.table_line.specs.declared.layer_spec.LayerSpec.{LayerSpec}
 use Rattle.table_line.specs.declared.layer_spec.Target.{Target}
 use Rattle.table_line.specs.declared.layer_spec.Target.TheVariants as targets
 
--- how long a flakey device is up and down, in seconds: at least one together, and not more than 32 bits hold
+-- how long a flakey device is up and down, in seconds: at
+-- least one together, and not more than 32 bits hold
 pub record IsCycle (up down : ℕ) : Type 0 where
   pub some : 1 ≤ up + down
   pub few : up + down ≤ 4294967295
@@ -50,7 +51,8 @@ abbrev pub is_block_size : ℕ → Bool
 is_block_size bytes = is_power_of_two bytes && (nat_le 512 bytes && nat_le bytes 1073741824)
 
 abbrev pub are_delays : ℕ → ℕ → ℕ → Bool
-are_delays read write flush = nat_le read 4294967295 && (nat_le write 4294967295 && nat_le flush 4294967295)
+are_delays read write flush =
+    nat_le read 4294967295 && (nat_le write 4294967295 && nat_le flush 4294967295)
 
 abbrev pub is_target : Target → Bool
 is_target targets.Linear = true

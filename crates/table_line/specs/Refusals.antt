@@ -1,12 +1,15 @@
 -- Why a line asks for no layer: the first test of its words that fails.
-use Rattle.std.specs.Prelude.{ℕ, ◌+◌, ◌++◌, Bool, true, false, ◌&&◌, ◌||◌, not, List, [], ◌∷◌, Option, Some, None, codes, drop, is_none, length, nat_eq, nat_le, nat_lt, slice_get, unwrap_or, if◌then◌else◌}
+use Rattle.std.specs.Prelude.{ℕ, ◌+◌, ◌++◌, Bool, true, false, ◌&&◌, ◌||◌, not, List, [], ◌∷◌}
+use Rattle.std.specs.Prelude.{Option, Some, None, codes, drop, is_none, length, nat_eq, nat_le}
+use Rattle.std.specs.Prelude.{nat_lt, slice_get, unwrap_or, if◌then◌else◌}
 use Rattle.std.specs.List.{list_all}
 use Rattle.std.specs.Str.{bytes_eq}
 use Rattle.refusals.specs.declared.refusal.Refusal.{Refusal}
 use Rattle.refusals.specs.declared.refusal.Refusal.TheVariants as refusals
 use Rattle.text_words.specs.Words.{is_number, number_of, number_value}
 use Rattle.table_line.specs.declared.name.Name.{Name}
-use Rattle.table_line.specs.declared.name.Name.TheVariants.{Linear, Error, Flakey, Fuse, Dust, Delay}
+use Rattle.table_line.specs.declared.name.Name.TheVariants.{Linear, Error, Flakey, Fuse, Dust}
+use Rattle.table_line.specs.declared.name.Name.TheVariants.{Delay}
 use Rattle.table_line.specs.declared.table_error.TableError.{TableError}
 use Rattle.table_line.specs.declared.table_error.TableError.TheVariants as errors
 use Rattle.table_line.specs.Ranges.{are_delays, is_block_size, is_cycle, is_length}
@@ -40,8 +43,8 @@ may_have (Some Dust) count = nat_eq count 6
 may_have (Some Delay) count = nat_eq count 6 || (nat_eq count 9 || nat_eq count 12)
 may_have None count = false
 
--- at which places a line of so many words has numbers: start, length, offset, and the target's own; a delay line has a sector and a delay
--- in each set of words
+-- at which places a line of so many words has numbers: start, length, offset, and the target's own;
+-- a delay line has a sector and a delay in each set of words
 abbrev pub number_places : Option Name → ℕ → List ℕ
 number_places (Some Linear) count = 0 ∷ 1 ∷ 4 ∷ []
 number_places (Some Error) count = 0 ∷ 1 ∷ []
@@ -49,12 +52,15 @@ number_places (Some Flakey) count = 0 ∷ 1 ∷ 4 ∷ 5 ∷ 6 ∷ []
 number_places (Some Fuse) count = 0 ∷ 1 ∷ 4 ∷ 5 ∷ []
 number_places (Some Dust) count = 0 ∷ 1 ∷ 4 ∷ 5 ∷ []
 number_places (Some Delay) count =
-    0 ∷ 1 ∷ 4 ∷ 5 ∷ ((if nat_lt 6 count then 7 ∷ 8 ∷ [] else []) ++ (if nat_lt 9 count then 10 ∷ 11 ∷ [] else []))
+    0 ∷ 1 ∷ 4 ∷ 5 ∷ ((if nat_lt 6 count then 7 ∷ 8 ∷ [] else [])
+    ++ (if nat_lt 9 count then 10 ∷ 11 ∷ [] else []))
 number_places None count = []
 
 -- the name of a feature
 abbrev pub is_feature_name : List ℕ → Bool
-is_feature_name word = bytes_eq word (codes "error_reads") || bytes_eq word (codes "error_writes") || bytes_eq word (codes "drop_writes")
+is_feature_name word =
+    bytes_eq word (codes "error_reads") || bytes_eq word (codes "error_writes")
+    || bytes_eq word (codes "drop_writes")
 
 -- the words of a feature: none, the word `0`, or the word `1` and a name
 abbrev pub is_feature : List (List ℕ) → Bool
@@ -70,7 +76,8 @@ has_feature name words = true
 
 -- the delay of the set of words from this place on, or, where there is none, that of the set before
 abbrev pub delay_at : List (List ℕ) → ℕ → ℕ → ℕ
-delay_at words place before = if is_none (slice_get words place) then before else number_value (word_in words (place + 2))
+delay_at words place before =
+    if is_none (slice_get words place) then before else number_value (word_in words (place + 2))
 
 abbrev pub read_delay : List (List ℕ) → ℕ
 read_delay words = number_value (word_in words 5)
@@ -83,9 +90,11 @@ flush_delay words = delay_at words 9 (write_delay words)
 
 -- what the target has is in its range: seconds, bytes of a block, delays
 abbrev pub has_values : Option Name → List (List ℕ) → Bool
-has_values (Some Flakey) words = is_cycle (number_value (word_in words 5)) (number_value (word_in words 6))
+has_values (Some Flakey) words =
+    is_cycle (number_value (word_in words 5)) (number_value (word_in words 6))
 has_values (Some Dust) words = is_block_size (number_value (word_in words 5))
-has_values (Some Delay) words = are_delays (read_delay words) (write_delay words) (flush_delay words)
+has_values (Some Delay) words =
+    are_delays (read_delay words) (write_delay words) (flush_delay words)
 has_values name words = true
 
 -- both are there, and one number
@@ -93,11 +102,13 @@ abbrev pub are_same : Option ℕ → Option ℕ → Bool
 are_same (Some one) (Some two) = nat_eq one two
 are_same one two = false
 
--- the set of words from this place on, where there is one, names the first set's device and its sector
+-- the set of words from this place on, where there is one,
+-- names the first set's device and its sector
 abbrev pub is_same_place : List (List ℕ) → ℕ → Bool
 is_same_place words place =
     is_none (slice_get words place)
-    || (bytes_eq (word_in words 3) (word_in words place) && are_same (number_of (word_in words 4)) (number_of (word_in words (place + 1))))
+    || (bytes_eq (word_in words 3) (word_in words place)
+    && are_same (number_of (word_in words 4)) (number_of (word_in words (place + 1))))
 
 -- all sets of a delay line name one device and one sector there
 abbrev pub has_one_place : Option Name → List (List ℕ) → Bool
@@ -120,18 +131,21 @@ has_wrong_count words = not (may_have (target_of words) (length words))
 
 -- a word in a number's place is none
 abbrev pub has_bad_number : List (List ℕ) → Bool
-has_bad_number words = not (list_all (λ place. is_number (word_in words place)) (number_places (target_of words) (length words)))
+has_bad_number words =
+    not (list_all (λ place. is_number (word_in words place))
+    (number_places (target_of words) (length words)))
 
 -- the words of its feature aren't in the table
 abbrev pub has_bad_feature : List (List ℕ) → Bool
 has_bad_feature words = not (has_feature (target_of words) words)
 
--- a value is out of its range: the start isn't 0, the length isn't 1 to 1,048,576, what the target has isn't in its range, or the sets of a
--- delay line name more than one place
+-- a value is out of its range: the start isn't 0, the length isn't 1 to 1,048,576, what the target
+-- has isn't in its range, or the sets of a delay line name more than one place
 abbrev pub is_out_of_range : List (List ℕ) → Bool
 is_out_of_range words =
     not (nat_eq (number_value (word_in words 0)) 0
-    && ((is_length (number_value (word_in words 1)) && has_values (target_of words) words) && has_one_place (target_of words) words))
+    && ((is_length (number_value (word_in words 1)) && has_values (target_of words) words)
+    && has_one_place (target_of words) words))
 
 -- the first test that fails
 abbrev pub refusal_of : List (List ℕ) → Option TableError

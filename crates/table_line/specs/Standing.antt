@@ -13,17 +13,21 @@ abbrev pub top_sectors : ℕ → List LayerSpec → ℕ
 top_sectors sectors [] = sectors
 top_sectors sectors (layer ∷ layers) = top_sectors layer.length layers
 
--- where the first sector of the top lies on a device, where that of what stands beneath the layers lies here
+-- where the first sector of the top lies on a device, where
+-- that of what stands beneath the layers lies here
 abbrev pub top_origin : ℕ → List LayerSpec → ℕ
 top_origin origin [] = origin
 top_origin origin (layer ∷ layers) = top_origin (origin + layer.offset) layers
 
--- layers may stand one over another over a device of so many sectors: each is one that a line may ask for, within what is beneath
+-- layers may stand one over another over a device of so many sectors: each is one that a line may
+-- ask for, within what is beneath
 abbrev pub CanStand : ℕ → List LayerSpec → Type 0
 CanStand sectors [] = Unit {0}
-CanStand sectors (layer ∷ layers) = IsLayerSpec layer × (layer.offset + layer.length ≤ sectors) × CanStand layer.length layers
+CanStand sectors (layer ∷ layers) =
+    IsLayerSpec layer × (layer.offset + layer.length ≤ sectors) × CanStand layer.length layers
 
--- with this feature a flakey layer, while it is down, answers Ok to writes, discards and flushes, and drops them
+-- with this feature a flakey layer, while it is down,
+-- answers Ok to writes, discards and flushes, and drops them
 abbrev pub is_drop_writes : Feature → Bool
 is_drop_writes features.None = false
 is_drop_writes features.ErrorReads = false

@@ -56,7 +56,8 @@ pub record IsDust (words : List (List ℕ)) (offset bytes : ℕ) : Type 0 where
   pub size : IsBlockSize bytes
 
 -- one set of words: a device, a sector there, and a delay
-pub record IsSet (words : List (List ℕ)) (device : List ℕ) (offset delay : ℕ) (more : List (List ℕ)) : Type 0 where
+pub record IsSet (words : List (List ℕ)) (device : List ℕ) (offset delay : ℕ)
+    (more : List (List ℕ)) : Type 0 where
   pub offset_word : List ℕ
   pub delay_word : List ℕ
   pub number : IsNumber offset_word offset
@@ -66,14 +67,18 @@ pub record IsSet (words : List (List ℕ)) (device : List ℕ) (offset delay : �
 -- sets of words one behind another, all of one device and one sector there, with these delays
 abbrev pub AreSets : List (List ℕ) → List ℕ → ℕ → List ℕ → Type 0
 AreSets words device offset [] = words ≡ []
-AreSets words device offset (delay ∷ delays) = (more : List (List ℕ)) × IsSet words device offset delay more × AreSets more device offset delays
+AreSets words device offset (delay ∷ delays) =
+    (more : List (List ℕ)) × IsSet words device offset delay more
+    × AreSets more device offset delays
 
--- one delay is for all calls; two are for reads, and for writes and flushes; three are for reads, for writes, and for flushes
+-- one delay is for all calls; two are for reads, and for writes and flushes; three are for reads,
+-- for writes, and for flushes
 abbrev pub AreFor : List ℕ → ℕ → ℕ → ℕ → Type 0
 AreFor [] read write flush = ⊥
 AreFor (all ∷ []) read write flush = (read ≡ all) × (write ≡ all) × (flush ≡ all)
 AreFor (reads ∷ others ∷ []) read write flush = (read ≡ reads) × (write ≡ others) × (flush ≡ others)
-AreFor (reads ∷ writes ∷ flushes ∷ []) read write flush = (read ≡ reads) × (write ≡ writes) × (flush ≡ flushes)
+AreFor (reads ∷ writes ∷ flushes ∷ []) read write flush =
+    (read ≡ reads) × (write ≡ writes) × (flush ≡ flushes)
 AreFor (reads ∷ writes ∷ flushes ∷ more ∷ delays) read write flush = ⊥
 
 -- one to three sets of words, and what their delays are for
@@ -93,7 +98,8 @@ IsTarget words offset (targets.Fuse calls) = IsFuse words offset calls
 IsTarget words offset (targets.Dust bytes) = IsDust words offset bytes
 IsTarget words offset (targets.Delay read write flush) = IsDelay words offset read write flush
 
--- the words ask for this layer: the start, which is 0, the number of sectors, the target's name, and what belongs to it
+-- the words ask for this layer: the start, which is 0, the
+-- number of sectors, the target's name, and what belongs to it
 pub record IsTableLine (words : List (List ℕ)) (spec : LayerSpec) : Type 0 where
   pub start_word : List ℕ
   pub length_word : List ℕ

@@ -1,5 +1,6 @@
 -- The one text of a layer.
-use Rattle.std.specs.Prelude.{ℕ, ◌&&◌, List, [], ◌∷◌, ◌++◌, codes, decimal, flat_map, nat_eq, if◌then◌else◌}
+use Rattle.std.specs.Prelude.{ℕ, ◌&&◌, List, [], ◌∷◌, ◌++◌, codes, decimal, flat_map, nat_eq}
+use Rattle.std.specs.Prelude.{if◌then◌else◌}
 use Rattle.std.specs.List.{join_with_byte}
 use Rattle.table_line.specs.declared.feature.Feature.{Feature}
 use Rattle.table_line.specs.declared.feature.Feature.TheVariants as features
@@ -18,7 +19,8 @@ feature_words features.DropWrites = codes "1" ∷ codes "drop_writes" ∷ []
 abbrev pub set_words : ℕ → ℕ → List (List ℕ)
 set_words offset delay = codes "disk" ∷ decimal offset ∷ decimal delay ∷ []
 
--- the sets behind the first: none where one delay is for all calls, one where writes and flushes have one delay, and else two
+-- the sets behind the first: none where one delay is for all calls, one where writes and flushes
+-- have one delay, and else two
 abbrev pub later_sets : ℕ → ℕ → ℕ → ℕ → List (List ℕ)
 later_sets offset read write flush =
     if nat_eq read write && nat_eq write flush then []
@@ -29,10 +31,14 @@ abbrev pub target_words : ℕ → Target → List (List ℕ)
 target_words offset targets.Linear = codes "linear" ∷ codes "disk" ∷ decimal offset ∷ []
 target_words offset targets.Error = codes "error" ∷ []
 target_words offset (targets.Flakey up down feature) =
-    codes "flakey" ∷ codes "disk" ∷ decimal offset ∷ decimal up ∷ decimal down ∷ feature_words feature
-target_words offset (targets.Fuse calls) = codes "fuse" ∷ codes "disk" ∷ decimal offset ∷ decimal calls ∷ []
-target_words offset (targets.Dust bytes) = codes "dust" ∷ codes "disk" ∷ decimal offset ∷ decimal bytes ∷ []
-target_words offset (targets.Delay read write flush) = codes "delay" ∷ (set_words offset read ++ later_sets offset read write flush)
+    codes "flakey" ∷ codes "disk" ∷ decimal offset ∷ decimal up ∷ decimal down ∷ feature_words
+    feature
+target_words offset (targets.Fuse calls) =
+    codes "fuse" ∷ codes "disk" ∷ decimal offset ∷ decimal calls ∷ []
+target_words offset (targets.Dust bytes) =
+    codes "dust" ∷ codes "disk" ∷ decimal offset ∷ decimal bytes ∷ []
+target_words offset (targets.Delay read write flush) =
+    codes "delay" ∷ (set_words offset read ++ later_sets offset read write flush)
 
 -- the words of a layer, with no leading zeroes
 abbrev pub line_words : LayerSpec → List (List ℕ)

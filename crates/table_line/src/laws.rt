@@ -1,4 +1,5 @@
-//! Laws of the lines of a table, apart from the code: each function does nothing, and its clause is the law.
+//! Laws of the lines of a table, apart from the code: each
+//! function does nothing, and its clause is the law.
 ghost use Rattle.std.specs.Prelude.{◌≡◌, ◌⊎◌, Some, None, ℕ, List};
 ghost use Rattle.text_words.specs.Words.{words_of};
 ghost use Rattle.table_line.specs.declared.layer_spec.LayerSpec.{LayerSpec};
@@ -11,16 +12,20 @@ ghost use Rattle.table_line.specs.Texts.{line_text};
 /// Words ask for one layer, and then fail no test, or they fail a test.
 #[tactic(auto, using(crate::specs::LineLaws::one_layer))]
 pub fn words_ask_for_one_layer()
-    ensures one { (words : List (List ℕ)) (spec other : LayerSpec) → IsTableLine words spec → IsTableLine words other → spec ≡ other }
+    ensures one { (words : List (List ℕ)) (spec other : LayerSpec) → IsTableLine words spec
+        → IsTableLine words other → spec ≡ other }
     ensures each { (words : List (List ℕ)) →
-        ((spec : LayerSpec) × IsTableLine words spec) ⊎ ((error : TableError) × (refusal_of words ≡ Some error)) }
-    ensures apart { (words : List (List ℕ)) (spec : LayerSpec) → IsTableLine words spec → refusal_of words ≡ None }
+        ((spec : LayerSpec) × IsTableLine words spec)
+        ⊎ ((error : TableError) × (refusal_of words ≡ Some error)) }
+    ensures apart { (words : List (List ℕ)) (spec : LayerSpec) → IsTableLine words spec
+        → refusal_of words ≡ None }
 {}
 
 /// The values that words ask for are in their ranges.
 #[tactic(auto, using(crate::specs::LineLaws::asks_in_range))]
 pub fn layers_asked_for_are_in_range()
-    ensures { (words : List (List ℕ)) (spec : LayerSpec) → IsTableLine words spec → IsLayerSpec spec }
+    ensures { (words : List (List ℕ)) (spec : LayerSpec) → IsTableLine words spec
+        → IsLayerSpec spec }
 {}
 
 /// What is printed of a layer whose values are in their ranges asks for that layer.

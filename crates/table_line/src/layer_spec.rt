@@ -1,7 +1,8 @@
 //! The layer that a line of a table asks for: its length, its offset and its target.
 //! `parse_line` reads one, `push_line` prints one, and scripts keep them for their disks.
 ghost use Rattle.std.specs.Prelude.{◌≡◌};
-ghost use Rattle.table_line.specs.Ranges.{are_delays, is_block_size, is_cycle, is_in_range as is_within, is_target};
+ghost use Rattle.table_line.specs.Ranges.{are_delays, is_block_size, is_cycle};
+ghost use Rattle.table_line.specs.Ranges.{is_in_range as is_within, is_target};
 
 use crate::feature::Feature;
 use sectors::MAX_DEVICE_SECTORS;
@@ -35,13 +36,15 @@ pub enum Target {
     Linear,
     /// It fails each call.
     Error,
-    /// It works for `up` seconds and is unreliable for `down` seconds, in turn, 1 to 4294967295 together.
+    /// It works for `up` seconds and is unreliable for
+    /// `down` seconds, in turn, 1 to 4294967295 together.
     Flakey {
         up: u64,
         down: u64,
         feature: Feature,
     },
-    /// It passes so many writes, discards and flushes, and fails each later one. A target of this project's own.
+    /// It passes so many writes, discards and flushes, and
+    /// fails each later one. A target of this project's own.
     Fuse {
         calls: u64,
     },
@@ -49,7 +52,8 @@ pub enum Target {
     Dust {
         block_bytes: u64,
     },
-    /// Its reads begin `read` milliseconds later, its writes and discards `write`, and its flushes `flush`, each at most 4294967295.
+    /// Its reads begin `read` milliseconds later, its writes and discards `write`, and its flushes
+    /// `flush`, each at most 4294967295.
     Delay {
         read: u64,
         write: u64,

@@ -5,9 +5,12 @@ ghost use Rattle.text_words.specs.Words.{number_of, words_of};
 ghost use Rattle.table_line.specs.declared.layer_spec.LayerSpec.{LayerSpec};
 ghost use Rattle.table_line.specs.declared.table_error.TableError.{TableError};
 ghost use Rattle.table_line.specs.Ranges.{IsLayerSpec};
-ghost use Rattle.table_line.specs.Refusals.{are_same, has_one_place, is_same_place, refusal_of, word_in};
+ghost use Rattle.table_line.specs.Refusals.{are_same, has_one_place, is_same_place, refusal_of};
+ghost use Rattle.table_line.specs.Refusals.{word_in};
 ghost use Rattle.table_line.specs.TableLines.{IsTableLine};
-ghost use Rattle.table_line.specs.inside.Readings.{delay_in, feature_in, feature_named, later_delay, name_in, number_in, offset_in, read_words, spec_in, target_in};
+ghost use Rattle.table_line.specs.inside.Readings.{delay_in, feature_in, feature_named};
+ghost use Rattle.table_line.specs.inside.Readings.{later_delay, name_in, number_in, offset_in};
+ghost use Rattle.table_line.specs.inside.Readings.{read_words, spec_in, target_in};
 
 use crate::feature::Feature;
 use crate::layer_spec::{LayerSpec, Target, is_in_range};
@@ -15,13 +18,14 @@ use crate::name::Name;
 use crate::table_error::TableError;
 use text_words::{count_words, number_of, word_at};
 
-/// Reads a line: the layer that its words ask for, or the first thing that is wrong with it. Words stand between
-/// spaces, one or more; spaces before the first word and behind the last say nothing.
+/// Reads a line: the layer that its words ask for, or the first thing that is wrong with it. Words
+/// stand between spaces, one or more; spaces before the first word and behind the last say nothing.
 pub fn parse_line(line: &[u8]) -> Result<LayerSpec, TableError>
     ensures layer { (spec : LayerSpec) → (result ≡ Ok spec) ↔ IsTableLine (words_of line.now) spec }
     // Its values are in their ranges.
     ensures range { IfOk result IsLayerSpec }
-    ensures refused { (error : TableError) → (result ≡ Err error) ↔ (refusal_of (words_of line.now) ≡ Some error) }
+    ensures refused { (error : TableError)
+        → (result ≡ Err error) ↔ (refusal_of (words_of line.now) ≡ Some error) }
 {
     read_words(line)
 }
@@ -116,7 +120,8 @@ fn delay_in(line: &[u8]) -> Result<Target, TableError>
     Ok(Target::Delay { read, write, flush })
 }
 
-// The delay of the set of words from this place on: a device, a sector there, and the delay. Where there is no such set, it is that of the set before.
+// The delay of the set of words from this place on: a device, a sector there, and the delay. Where
+// there is no such set, it is that of the set before.
 fn later_delay(line: &[u8], place: usize, before: u64) -> Result<u64, TableError>
     requires { place < 2 ^ 32 }
     ensures { result ≡ later_delay (words_of line.now) place before }
@@ -135,7 +140,8 @@ fn has_one_place(line: &[u8], name: Name) -> bool
     name != Name::Delay || (is_same_place(line, 6) && is_same_place(line, 9))
 }
 
-// Whether the set of words from this place on, if there is one, names the first set's device and its sector.
+// Whether the set of words from this place on, if there is
+// one, names the first set's device and its sector.
 fn is_same_place(line: &[u8], place: usize) -> bool
     requires { place < 2 ^ 32 }
     ensures { result ≡ is_same_place (words_of line.now) place }
@@ -149,7 +155,8 @@ fn is_same_place(line: &[u8], place: usize) -> bool
 
 // Whether the words at these places are numbers, and one number.
 fn is_same_number(line: &[u8], place: usize, other: usize) -> bool
-    ensures { result ≡ are_same (number_of (word_in (words_of line.now) place)) (number_of (word_in (words_of line.now) other)) }
+    ensures { result ≡ are_same (number_of (word_in (words_of line.now) place))
+        (number_of (word_in (words_of line.now) other)) }
 {
     match (number_in(line, place), number_in(line, other)) {
         (Ok(one), Ok(two)) => one == two,

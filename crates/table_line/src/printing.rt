@@ -1,16 +1,18 @@
 //! Prints a layer as the one line that asks for it: `push_line`.
 //! The printer of scripts calls it.
 ghost use Rattle.std.specs.Prelude.{◌≡◌, ◌++◌, ◌∷◌, [], decimal, OnOk};
-ghost use Rattle.table_line.specs.Texts.{behind_spaces, feature_words, later_sets, line_text, set_words, target_words};
+ghost use Rattle.table_line.specs.Texts.{behind_spaces, feature_words, later_sets, line_text};
+ghost use Rattle.table_line.specs.Texts.{set_words, target_words};
 
 use crate::feature::Feature;
 use crate::layer_spec::{LayerSpec, Target};
 use std::alloc::AllocError;
 use text_words::push_number;
 
-/// Puts the one spelling of a layer behind a text, as `0 16 flakey disk 0 10 5 1 drop_writes`: no leading zeroes, one
-/// space between two words, `disk` for the device's word, and no count of features where there is none. `parse_line`
-/// reads it as that layer, where its values are in their ranges. Want of memory is an error.
+/// Puts the one spelling of a layer behind a text, as `0 16 flakey disk 0 10 5 1 drop_writes`: no
+/// leading zeroes, one space between two words, `disk` for the device's word, and no count of
+/// features where there is none. `parse_line` reads it as that layer, where its values are in their
+/// ranges. Want of memory is an error.
 pub fn push_line(out: &mut Vec<u8>, spec: &LayerSpec) -> Result<(), AllocError>
     ensures { OnOk result (out.new.items ≡ out.old.items ++ line_text spec.now) }
 {
@@ -21,7 +23,8 @@ pub fn push_line(out: &mut Vec<u8>, spec: &LayerSpec) -> Result<(), AllocError>
 
 // A target's words, each behind a space.
 fn push_target(out: &mut Vec<u8>, offset: u64, target: Target) -> Result<(), AllocError>
-    ensures { OnOk result (out.new.items ≡ out.old.items ++ behind_spaces (target_words offset target)) }
+    ensures { OnOk result (out.new.items
+        ≡ out.old.items ++ behind_spaces (target_words offset target)) }
 {
     match target {
         Target::Linear => push_place(out, b" linear disk", offset),
@@ -54,7 +57,8 @@ fn push_delays(
     write: u64,
     flush: u64,
 ) -> Result<(), AllocError>
-    ensures { OnOk result (out.new.items ≡ out.old.items ++ behind_spaces (later_sets offset read write flush)) }
+    ensures { OnOk result (out.new.items
+        ≡ out.old.items ++ behind_spaces (later_sets offset read write flush)) }
 {
     if read == write && write == flush {
         return Ok(());
@@ -68,7 +72,8 @@ fn push_delays(
 
 // A set of words of a delay device.
 fn push_set(out: &mut Vec<u8>, offset: u64, delay: u64) -> Result<(), AllocError>
-    ensures { OnOk result (out.new.items ≡ out.old.items ++ behind_spaces (set_words offset delay)) }
+    ensures { OnOk result (out.new.items
+        ≡ out.old.items ++ behind_spaces (set_words offset delay)) }
 {
     push_place(out, b" disk", offset)?;
     push_value(out, delay)
@@ -76,7 +81,8 @@ fn push_set(out: &mut Vec<u8>, offset: u64, delay: u64) -> Result<(), AllocError
 
 // What a flakey device has beside its place.
 fn push_turns(out: &mut Vec<u8>, up: u64, down: u64, feature: Feature) -> Result<(), AllocError>
-    ensures { OnOk result (out.new.items ≡ out.old.items ++ behind_spaces (decimal up ∷ decimal down ∷ feature_words feature)) }
+    ensures { OnOk result (out.new.items
+        ≡ out.old.items ++ behind_spaces (decimal up ∷ decimal down ∷ feature_words feature)) }
 {
     push_value(out, up)?;
     push_value(out, down)?;
@@ -85,7 +91,8 @@ fn push_turns(out: &mut Vec<u8>, up: u64, down: u64, feature: Feature) -> Result
 
 // A target's name and the device's word, and the offset there.
 fn push_place(out: &mut Vec<u8>, place: &[u8], offset: u64) -> Result<(), AllocError>
-    ensures { OnOk result (out.new.items ≡ out.old.items ++ (place.now ++ behind_spaces (decimal offset ∷ []))) }
+    ensures { OnOk result (out.new.items
+        ≡ out.old.items ++ (place.now ++ behind_spaces (decimal offset ∷ []))) }
 {
     out.extend_from_slice(place)?;
     push_value(out, offset)

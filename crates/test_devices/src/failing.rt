@@ -5,7 +5,8 @@ ghost use Rattle.blockdev.specs.Counted.{counted, lawful_counted};
 use bio::{DevError, Ms};
 use blockdev::BlockDev;
 
-/// A device that passes so many calls of some kinds, and answers Io to each later one of these. The other kinds pass.
+/// A device that passes so many calls of some kinds, and
+/// answers Io to each later one of these. The other kinds pass.
 #[derive(Drop)]
 pub struct Failing<D: BlockDev + Drop> {
     pub lower: D,
@@ -111,5 +112,6 @@ impl<D: BlockDev + Drop> BlockDev for Failing<D> {
         self.lower.lies()
     }
 
-    ghost lawful = { λ device. lawful_counted (D.shown device.lower) device.faults 0 false (D.lawful device.lower) };
+    ghost lawful = { λ device. lawful_counted (D.shown device.lower) device.faults 0 false
+        (D.lawful device.lower) };
 }

@@ -89,5 +89,6 @@ impl<D: BlockDev + Drop> BlockDev for FailingOnce<D> {
         self.lower.lies()
     }
 
-    ghost lawful = { λ device. lawful_counted (D.shown device.lower) device.faults 0 false (D.lawful device.lower) };
+    ghost lawful = { λ device. lawful_counted (D.shown device.lower) device.faults 0 false
+        (D.lawful device.lower) };
 }

@@ -1,5 +1,5 @@
-//! Devices for tests, over another device: three that fail, one that lies, and one that notes its calls. Each keeps the law of `blockdev`.
-//! And what rows of tests are held against (`rows`).
+//! Devices for tests, over another device: three that fail, one that lies, and one that notes its
+//! calls. Each keeps the law of `blockdev`. And what rows of tests are held against (`rows`).
 #![tactic(auto)]
 
 mod failing;

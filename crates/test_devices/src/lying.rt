@@ -54,5 +54,6 @@ impl<D: BlockDev + Drop> BlockDev for Lying<D> {
         self.lower.lies().saturating_add(self.lies)
     }
 
-    ghost lawful = { λ device. lawful_counted (D.shown device.lower) 0 device.lies true (D.lawful device.lower) };
+    ghost lawful = { λ device. lawful_counted (D.shown device.lower) 0 device.lies true
+        (D.lawful device.lower) };
 }

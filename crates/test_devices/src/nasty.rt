@@ -5,7 +5,8 @@ ghost use Rattle.blockdev.specs.Counted.{counted, lawful_counted};
 use bio::{DevError, Ms};
 use blockdev::BlockDev;
 
-/// A device that passes so many writes, discards and flushes, and does each later one too, but answers Io.
+/// A device that passes so many writes, discards and
+/// flushes, and does each later one too, but answers Io.
 #[derive(Drop)]
 pub struct Nasty<D: BlockDev + Drop> {
     pub lower: D,
@@ -74,5 +75,6 @@ impl<D: BlockDev + Drop> BlockDev for Nasty<D> {
         self.lower.lies()
     }
 
-    ghost lawful = { λ device. lawful_counted (D.shown device.lower) device.faults 0 false (D.lawful device.lower) };
+    ghost lawful = { λ device. lawful_counted (D.shown device.lower) device.faults 0 false
+        (D.lawful device.lower) };
 }

@@ -1,4 +1,5 @@
-//! What rows of tests are held against. A text beside an assertion is dear to prove, and here it is proved once.
+//! What rows of tests are held against. A text beside an
+//! assertion is dear to prove, and here it is proved once.
 ghost use Rattle.std.specs.Prelude.{◌≡◌};
 
 use std::fmt::Debug;
@@ -32,7 +33,8 @@ pub fn holds(rt: &impl Print, test: bool, row: &str) -> bool
     test
 }
 
-/// Whether what is told of each row is what stands behind its first `=`, where what stands before that is handed on. It prints each row of which it isn't.
+/// Whether what is told of each row is what stands behind its first `=`, where what stands before
+/// that is handed on. It prints each row of which it isn't.
 pub fn rows_are_told<E, F: FnMut(&str) -> Result<String, E>>(
     rt: &impl Print,
     rows: &str,

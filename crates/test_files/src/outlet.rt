@@ -27,8 +27,9 @@ impl Outlet {
         }
     }
 
-    /// The stream that a word names: `full:<n>`, `memory:<n>` and `pipe:<n>` have room for so many bytes, and say then that there is no room, no memory, or nobody that
-    /// reads; `stuck:full` and `stuck:memory` take all and say so where they are flushed.
+    /// The stream that a word names: `full:<n>`, `memory:<n>` and `pipe:<n>` have room for so many
+    /// bytes, and say then that there is no room, no memory, or nobody that reads; `stuck:full` and
+    /// `stuck:memory` take all and say so where they are flushed.
     pub fn named(alloc: Global, word: &str) -> Option<Outlet> {
         let (how, what) = word.split_once(':')?;
         let is_stuck = how == "stuck";

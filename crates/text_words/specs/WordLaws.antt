@@ -1,10 +1,12 @@
 -- Laws of words and numbers.
-use Rattle.std.proofs.Common.{◌≡◌, ℕ, ◌^◌, ◌<◌, true, List, ◌∷◌, length, Some, ap, subst, sym, ◌∙◌, arith, rules, lit<}
+use Rattle.std.proofs.Common.{◌≡◌, ℕ, ◌^◌, ◌<◌, true, List, ◌∷◌, length, Some, ap, subst, sym, ◌∙◌}
+use Rattle.std.proofs.Common.{arith, rules, lit<}
 use Rattle.std.specs.Prelude.{decimal, nat_lt, nat_le}
 use Rattle.std.specs.Char.{is_ascii_digit}
 use Rattle.std.specs.List.{list_all}
 use Rattle.std.proofs.lemmas.Bool.{and_from, and_parts, cond-true, le-leb, lt-ltb, ltb-true}
-use Rattle.std.proofs.lemmas.Fmt.{decimal_nonempty, digits_decimal, digits_value-decimal, length-decimal-le}
+use Rattle.std.proofs.lemmas.Fmt.{decimal_nonempty, digits_decimal, digits_value-decimal}
+use Rattle.std.proofs.lemmas.Fmt.{length-decimal-le}
 use Rattle.std.proofs.lemmas.Option.{cond_some}
 use Rattle.std.proofs.lemmas.Str.Parse.{numerals_by_fold, IsNumeralModel}
 use Rattle.text_words.specs.Words.{number_after, number_of, number_value, IsNumber}
@@ -30,13 +32,16 @@ pub decimal_number : (n : ℕ) → n < 2 ^ 64 → IsNumber (decimal n) n
 decimal_number n low =
     let value : number_value (decimal n) ≡ n = digits_value-decimal number_model n low in
     let some : nat_lt 0 (length (decimal n)) ≡ true = lt-ltb _ _ (decimal_nonempty n low) in
-    let short : nat_le (length (decimal n)) 20 ≡ true = le-leb _ _ (length-decimal-le 20 n (lit< tt) (omega (arith, low)) low) in
+    let short : nat_le (length (decimal n)) 20 ≡ true =
+    le-leb _ _ (length-decimal-le 20 n (lit< tt) (omega (arith, low)) low) in
     let digits : list_all is_ascii_digit (decimal n) ≡ true = digits_decimal number_model n low in
-    let below : nat_lt (number_value (decimal n)) (2 ^ 64) ≡ true = lt-ltb _ _ (subst (λ (k : ℕ). k < 2 ^ 64) (sym value) low) in
+    let below : nat_lt (number_value (decimal n)) (2 ^ 64) ≡ true =
+    lt-ltb _ _ (subst (λ (k : ℕ). k < 2 ^ 64) (sym value) low) in
     (and_from _ _ (and_from _ _ (and_from _ _ some short) digits) below, value)
 
 -- a zero in front of a number doesn't count
-pub zero_in_front : (word : List ℕ) (n : ℕ) → IsNumber word n → length word < 20 → IsNumber (48 ∷ word) n
+pub zero_in_front : (word : List ℕ) (n : ℕ) → IsNumber word n → length word < 20
+    → IsNumber (48 ∷ word) n
 zero_in_front word n number short =
     let some : nat_lt 0 (length (48 ∷ word)) ≡ true = lt-ltb _ _ (omega arith) in
     let lens : nat_le (length (48 ∷ word)) 20 ≡ true = le-leb _ _ (omega arith) in

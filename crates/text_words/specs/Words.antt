@@ -1,5 +1,6 @@
 -- Words: how a line is cut into them, and numbers.
-use Rattle.std.specs.Prelude.{◌≡◌, ℕ, ◌+◌, ◌-◌, ◌*◌, ◌^◌, ◌==◌, Bool, true, not, ◌&&◌, List, [], ◌∷◌, Option, Some, None, length, nat_lt, nat_le, if◌then◌else◌}
+use Rattle.std.specs.Prelude.{◌≡◌, ℕ, ◌+◌, ◌-◌, ◌*◌, ◌^◌, ◌==◌, Bool, true, not, ◌&&◌, List, []}
+use Rattle.std.specs.Prelude.{◌∷◌, Option, Some, None, length, nat_lt, nat_le, if◌then◌else◌}
 use Rattle.std.specs.Char.{is_ascii_digit}
 use Rattle.std.specs.List.{filter, list_all, slice_split}
 
@@ -27,7 +28,9 @@ is_word word = is_filled word && list_all (λ byte. not (byte == 32)) word
 
 -- the number that a digit after n makes, if it is a digit and the number is below 2 ^ 64
 abbrev pub with_digit : ℕ → ℕ → Option ℕ
-with_digit n digit = if is_ascii_digit digit && nat_lt (10 * n + (digit - 48)) (2 ^ 64) then Some (10 * n + (digit - 48)) else None
+with_digit n digit =
+    if is_ascii_digit digit && nat_lt (10 * n + (digit - 48)) (2 ^ 64) then Some
+    (10 * n + (digit - 48)) else None
 
 -- the number that decimal digits write after those of n
 abbrev pub number_after : ℕ → List ℕ → ℕ
@@ -41,7 +44,8 @@ number_value word = number_after 0 word
 -- 1 to 20 decimal digits, of a value below 2 ^ 64
 abbrev pub is_number : List ℕ → Bool
 is_number word =
-    nat_lt 0 (length word) && nat_le (length word) 20 && list_all is_ascii_digit word && nat_lt (number_value word) (2 ^ 64)
+    nat_lt 0 (length word) && nat_le (length word) 20 && list_all is_ascii_digit word
+    && nat_lt (number_value word) (2 ^ 64)
 
 -- the number that a word is, if it is one
 abbrev pub number_of : List ℕ → Option ℕ

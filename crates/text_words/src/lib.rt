@@ -1,7 +1,7 @@
 //! The words of a line: how a text is cut at a byte, and numbers in decimal digits.
 //!
-//! `specs/Words` says what stands before and after a byte and which words are numbers, `specs/WordLaws` has
-//! the laws of these words for the proofs of the crates above.
+//! `specs/Words` says what stands before and after a byte and which words are numbers,
+//! `specs/WordLaws` has the laws of these words for the proofs of the crates above.
 #![tactic(auto)]
 
 pub use cutting::cut;

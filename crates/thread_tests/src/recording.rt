@@ -1,4 +1,5 @@
-//! Two seats record requests through the values behind the locks, what was queued is placed, and all is compared at the end.
+//! Two seats record requests through the values behind the locks, what was queued is placed, and
+//! all is compared at the end.
 ghost use Rattle.std.specs.Prelude.{◌≡◌};
 ghost use Rattle.bio.specs.Sizes.{bytes_of};
 ghost use Rattle.lock_state.specs.Placed.{ground_of};
@@ -102,7 +103,8 @@ fn is_served<R: Run>(
     Ok(queue.is_served(data_state.done(), notes.as_mut_slice()))
 }
 
-// Places what is left of a closed recorder's log. Says whether that could be done, and so many items are placed and settled then.
+// Places what is left of a closed recorder's log. Says whether that could be done, and so many
+// items are placed and settled then.
 pub fn writes_rest<R: Run>(
     queue: &mut QueueState<R>,
     log: &mut LogState<SectorDisk, R>,
@@ -151,7 +153,8 @@ fn agree<R: Run>(
     Ok(has_both && is_served(alloc, queue, data_state)?)
 }
 
-// Two seats' requests: their lists and passed calls are what the history has of them, and so are the placed items.
+// Two seats' requests: their lists and passed calls are what
+// the history has of them, and so are the placed items.
 fn two_seats_record<R: Run>(
     rt: &impl Print,
     alloc: Global,
@@ -165,7 +168,8 @@ fn two_seats_record<R: Run>(
     requires holders { fresh ≡ R.table }
     requires size { bytes_of size ≡ R.sector_bytes }
     requires sectors { R.sectors ≡ 64 }
-    requires store { ((store_of store).sector_bytes ≡ R.sector_bytes) × (R.log ≡ ground_of (store_of store).device) }
+    requires store { ((store_of store).sector_bytes ≡ R.sector_bytes)
+        × (R.log ≡ ground_of (store_of store).device) }
     requires empty { (store_of store).placed ≡ 0 }
     requires device { (shown_of device).size ≡ 64 }
 {

@@ -1,8 +1,8 @@
 // Bytes as they are written in a transcript.
 use std::alloc::{AllocError, Global};
 
-/// Appends what a file holds: its length, and each sector of 512 bytes that isn't zeroes, by its number. A byte that stands several times in a row is written once, with
-/// a star and its count.
+/// Appends what a file holds: its length, and each sector of 512 bytes that isn't zeroes, by its
+/// number. A byte that stands several times in a row is written once, with a star and its count.
 pub fn push_sectors(text: &mut String, bytes: &[u8]) -> Result<(), AllocError> {
     writeln!(text, "{} bytes", bytes.len())?;
     for (number, sector) in bytes.chunks(512).enumerate() {
@@ -52,7 +52,8 @@ enum Escape {
     Digit(u8),
 }
 
-/// Bytes by a text that isn't all text: `\r`, `\t`, `\0`, `\n` and `\\` stand for these bytes, `\xHH` for any, and a backslash at the end of a line takes its line feed away.
+/// Bytes by a text that isn't all text: `\r`, `\t`, `\0`, `\n` and `\\` stand for these bytes,
+/// `\xHH` for any, and a backslash at the end of a line takes its line feed away.
 pub fn unescaped(alloc: Global, text: &str) -> Result<Vec<u8>, AllocError> {
     let mut bytes = Vec::new(alloc);
     let mut escape = Escape::None;

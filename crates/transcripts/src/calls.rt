@@ -11,8 +11,9 @@ use table_line::parse_line;
 // The most sectors that a call may name.
 const MAX_SECTORS: u64 = 4096;
 
-/// Makes the calls of these lines on a disk under the layers that `layer` lines name, the lowest first, loaded at moment 0 or, behind `layer@<ms>`, at that one. From a line `off` on
-/// the layers are taken off, and the disk itself is asked. What each call tells is appended.
+/// Makes the calls of these lines on a disk under the layers that `layer` lines name, the lowest
+/// first, loaded at moment 0 or, behind `layer@<ms>`, at that one. From a line `off` on the layers
+/// are taken off, and the disk itself is asked. What each call tells is appended.
 pub fn ask_stack(
     alloc: Global,
     disk: SectorDisk,
@@ -24,7 +25,8 @@ pub fn ask_stack(
     ask_disk(alloc, &mut disk, beneath, shown)
 }
 
-/// Makes the calls of these lines on a disk under no layer; `disk` shows what it holds, `crash <pick> ..` takes its power.
+/// Makes the calls of these lines on a disk under no layer; `disk` shows what it holds,
+/// `crash <pick> ..` takes its power.
 pub fn ask_disk(
     alloc: Global,
     disk: &mut SectorDisk,
@@ -94,7 +96,8 @@ fn ask_all<D: Message + Drop>(
     Ok(())
 }
 
-// Makes the call of a line: `at <ms> <call>`, `message <layer> <text>`, `counts` for the faults and the lies, or `sectors`.
+// Makes the call of a line: `at <ms> <call>`, `message <layer> <text>`,
+// `counts` for the faults and the lies, or `sectors`.
 fn ask<D: Message + Drop>(
     alloc: Global,
     device: &mut D,
@@ -153,7 +156,8 @@ impl Range {
     }
 }
 
-// Makes a call at a moment: `write <first> <count> <byte> [fua]`, `read <first> <count>`, `discard <first> <count>` or `flush`.
+// Makes a call at a moment: `write <first> <count> <byte> [fua]`, `read <first> <count>`,
+// `discard <first> <count>` or `flush`.
 fn ask_at<D: BlockDev + Drop>(
     alloc: Global,
     device: &mut D,

@@ -5,7 +5,9 @@ use std::alloc::AllocError;
 // The largest image that a word may ask for, in bytes.
 const MAX_IMAGE: usize = 536_870_912;
 
-/// Makes an image so many bytes long, and puts in it what the words say: `<byte>:=<hex>` or `<byte>:=<hex>*<count>` bytes from there on, `<byte>:<n>,<n>,..` numbers of eight bytes, little endian.
+/// Makes an image so many bytes long, and puts in it what the words
+/// say: `<byte>:=<hex>` or `<byte>:=<hex>*<count>` bytes from there
+/// on, `<byte>:<n>,<n>,..` numbers of eight bytes, little endian.
 pub fn change(image: &mut Vec<u8>, length: usize, words: &str) -> Result<(), AllocError> {
     image.truncate(length.min(MAX_IMAGE));
     image.resize(length.min(MAX_IMAGE), 0)?;

@@ -1,9 +1,10 @@
 //! Runs transcripts: commands over files in memory, each with what it shows.
 //!
-//! A transcript is a text. A line at the margin is prose; `  $ ` begins a command, `  > ` a line that is given to it, and any other line that
-//! is indented by two spaces is what it shows. Each word of this program names a transcript. It prints each command that shows something else, as it shows
-//! now, a line for each transcript, and a last line for all. With `again` as its first word it prints each transcript as it runs now.
-//! `verb` has the commands.
+//! A transcript is a text. A line at the margin is prose; `  $ ` begins a command, `  > ` a line
+//! that is given to it, and any other line that is indented by two spaces is what it shows. Each
+//! word of this program names a transcript. It prints each command that shows something else, as it
+//! shows now, a line for each transcript, and a last line for all. With `again` as its first word
+//! it prints each transcript as it runs now. `verb` has the commands.
 #![tactic(auto)]
 
 mod bytes;
@@ -48,7 +49,8 @@ fn transcript_of<R: std::rt::Files + AllocGlobal>(rt: &R, name: &str) -> io::Res
     Ok(String::from_utf8(bytes).unwrap_or(String::new(rt.alloc())))
 }
 
-// What is to be printed of a transcript: the whole of it as it runs now, or what differs and its line.
+// What is to be printed of a transcript: the whole of it as
+// it runs now, or what differs and its line.
 fn run<R: AllocGlobal + Threads + Wait + Sync>(
     rt: &R,
     name: &str,

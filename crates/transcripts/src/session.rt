@@ -70,7 +70,8 @@ impl<'a, H: Threads + Wait + Sync> Session<'a, H> {
         self.folder.put(self.alloc, name, bytes)
     }
 
-    // `more NAME COUNT`: appends the given lines so often, with the number of the time in place of each `%`.
+    // `more NAME COUNT`: appends the given lines so often,
+    // with the number of the time in place of each `%`.
     fn more(&mut self, words: &str, given: &str) -> Result<(), AllocError> {
         let (name, count) = words.split_once(' ').unwrap_or((words, "1"));
         let mut bytes = self.taken(name)?;
@@ -153,7 +154,8 @@ impl<'a, H: Threads + Wait + Sync> Session<'a, H> {
         }
     }
 
-    // `stack SECTORS` or `stack NAME`: a disk of zeroes of so many sectors, or one that holds a file's bytes, under layers.
+    // `stack SECTORS` or `stack NAME`: a disk of zeroes of so many sectors, or one that holds a
+    // file's bytes, under layers.
     fn stack(&mut self, what: &str, given: &str) -> Result<(), AllocError> {
         match self.disk_of(what) {
             Some(disk) => ask_stack(self.alloc, disk, given, &mut self.shown),
@@ -188,7 +190,8 @@ impl<'a, H: Threads + Wait + Sync> Session<'a, H> {
         SectorDisk::from_bytes(self.alloc, bytes).ok()
     }
 
-    // A command line of dmlw, perhaps behind the word of an output that fails, `deaf` for a stream of faults that can't be flushed, or `quiet`.
+    // A command line of dmlw, perhaps behind the word of an output that fails, `deaf` for a stream
+    // of faults that can't be flushed, or `quiet`.
     fn dmlw(&mut self, verb: &str, command: &str, rest: &str) -> Result<(), AllocError> {
         match verb {
             "dmlw" => self.execute(Outlet::open(self.alloc), Outlet::open(self.alloc), command),
@@ -237,8 +240,9 @@ impl<'a, H: Threads + Wait + Sync> Session<'a, H> {
         )
     }
 
-    // `narrow dmlw ..`: executes a command line, whose whole output is given, over outputs with room for no byte of it, for one and so on, up to one byte too few. It shows
-    // how many these are, and each thing that is told behind the beginning of the output, once.
+    // `narrow dmlw ..`: executes a command line, whose whole output is given, over outputs with
+    // room for no byte of it, for one and so on, up to one byte too few. It shows how many these
+    // are, and each thing that is told behind the beginning of the output, once.
     fn narrow(&mut self, line: &str, whole: &str) -> Result<(), AllocError> {
         let mut seen = String::new(self.alloc);
         for room in 0..whole.len() {
@@ -339,7 +343,8 @@ fn push_ending(
     Ok(())
 }
 
-// Appends a text, with `\r` for each carriage return, and with a word where it doesn't end with a line feed.
+// Appends a text, with `\r` for each carriage return, and
+// with a word where it doesn't end with a line feed.
 fn push_text(shown: &mut String, bytes: &[u8]) -> Result<(), AllocError> {
     let text = str::from_utf8(bytes).unwrap_or("no text\n");
     if text.is_empty() {

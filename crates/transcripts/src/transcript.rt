@@ -43,7 +43,8 @@ struct Report {
     is_again: bool,
 }
 
-/// Runs a transcript's commands in turn, and answers what is printed of it: all of it with what each command shows now, or the commands that show something else.
+/// Runs a transcript's commands in turn, and answers what is printed of it: all of it with what
+/// each command shows now, or the commands that show something else.
 pub fn run<H: Threads + Wait + Sync>(
     alloc: Global,
     text: &str,

@@ -1,5 +1,6 @@
 -- Submissions and ends in the list of calls, and the events that they are.
-use Rattle.std.proofs.Common.{◌≡◌, ℕ, zero, suc, ◌<◌, ◌==◌, Bool, true, false, ◌&&◌, ◌||◌, Option, Some, None, List, [], ◌∷◌, ◌++◌, refl, ap, sym, ◌∙◌, inl, inr, arith}
+use Rattle.std.proofs.Common.{◌≡◌, ℕ, zero, suc, ◌<◌, ◌==◌, Bool, true, false, ◌&&◌, ◌||◌, Option}
+use Rattle.std.proofs.Common.{Some, None, List, [], ◌∷◌, ◌++◌, refl, ap, sym, ◌∙◌, inl, inr, arith}
 use Rattle.std.proofs.lemmas.Bool.{and_parts, eq-eqb, eqb-true}
 use Rattle.std.proofs.lemmas.List.Folds.{list_all-append, list_any-append}
 use Rattle.std.specs.List.{list_all, list_any}
@@ -22,7 +23,8 @@ is_good_end id _ = false
 -- of these steps, newest first, one that passes `late` has one that passes `early` behind it
 abbrev pub came_before : (Step → Bool) → (Step → Bool) → List Step → Bool
 came_before early late [] = false
-came_before early late (call ∷ calls) = (late call && list_any early calls) || came_before early late calls
+came_before early late (call ∷ calls) =
+    (late call && list_any early calls) || came_before early late calls
 
 -- an end with success is an end
 pub good_end : (id : ℕ) (step : Step) → is_good_end id step ≡ true → is_end id step ≡ true
@@ -33,7 +35,8 @@ good_end id (Destage sector) good = cc
 good_end id Power good = cc
 
 -- where one step of each kind is also of the other, a list with one has one
-pub any_weaker : (s t : Step → Bool) → ((step : Step) → s step ≡ true → t step ≡ true) → (steps : List Step) → list_any s steps ≡ true → list_any t steps ≡ true
+pub any_weaker : (s t : Step → Bool) → ((step : Step) → s step ≡ true → t step ≡ true)
+    → (steps : List Step) → list_any s steps ≡ true → list_any t steps ≡ true
 any_weaker s t weaker [] h = cc
 any_weaker s t weaker (step ∷ steps) h = elim (or_cases (s step) (list_any s steps) h) [
   | inl here ↦ ap (λ b. b || list_any t steps) (weaker step here)
@@ -41,69 +44,92 @@ any_weaker s t weaker (step ∷ steps) h = elim (or_cases (s step) (list_any s s
 ]
 
 -- and so is what came before
-pub came_weaker : (s t late : Step → Bool) → ((step : Step) → s step ≡ true → t step ≡ true) → (steps : List Step)
+pub came_weaker : (s t late : Step → Bool) → ((step : Step) → s step ≡ true → t step ≡ true)
+    → (steps : List Step)
     → came_before s late steps ≡ true → came_before t late steps ≡ true
 came_weaker s t late weaker [] h = cc
-came_weaker s t late weaker (step ∷ steps) h = elim (or_cases (late step && list_any s steps) (came_before s late steps) h) [
-  | inl here ↦
-      let parts = and_parts (late step) (list_any s steps) here in
-      ap (λ b. (b && list_any t steps) || came_before t late steps) parts.0
-      ∙ ap (λ b. b || came_before t late steps) (any_weaker s t weaker steps parts.1)
-  | inr there ↦ or_second (late step && list_any t steps) (came_before t late steps) (came_weaker s t late weaker steps there)
-]
+came_weaker s t late weaker (step ∷ steps) h =
+    elim (or_cases (late step && list_any s steps) (came_before s late steps) h) [
+      | inl here ↦
+          let parts = and_parts (late step) (list_any s steps) here in
+          ap (λ b. (b && list_any t steps) || came_before t late steps) parts.0
+          ∙ ap (λ b. b || came_before t late steps) (any_weaker s t weaker steps parts.1)
+      | inr there ↦
+          or_second (late step && list_any t steps) (came_before t late steps)
+          (came_weaker s t late weaker steps there)
+    ]
 
 -- what came before has happened
-pub came_early : (early late : Step → Bool) (steps : List Step) → came_before early late steps ≡ true → list_any early steps ≡ true
+pub came_early : (early late : Step → Bool) (steps : List Step)
+    → came_before early late steps ≡ true → list_any early steps ≡ true
 came_early early late [] h = cc
-came_early early late (step ∷ steps) h = elim (or_cases (late step && list_any early steps) (came_before early late steps) h) [
-  | inl here ↦ or_second (early step) (list_any early steps) (and_parts (late step) (list_any early steps) here).1
-  | inr there ↦ or_second (early step) (list_any early steps) (came_early early late steps there)
-]
+came_early early late (step ∷ steps) h =
+    elim (or_cases (late step && list_any early steps) (came_before early late steps) h) [
+      | inl here ↦
+          or_second (early step) (list_any early steps)
+          (and_parts (late step) (list_any early steps) here).1
+      | inr there ↦
+          or_second (early step) (list_any early steps) (came_early early late steps there)
+    ]
 
 -- what came before a step that was taken is before it in a longer list too
-came_append : (early late : Step → Bool) (front calls : List Step) → came_before early late calls ≡ true → came_before early late (front ++ calls) ≡ true
+came_append : (early late : Step → Bool) (front calls : List Step)
+    → came_before early late calls ≡ true → came_before early late (front ++ calls) ≡ true
 came_append early late [] calls h = h
 came_append early late (step ∷ front) calls h =
-    or_second (late step && list_any early (front ++ calls)) (came_before early late (front ++ calls)) (came_append early late front calls h)
+    or_second (late step && list_any early (front ++ calls))
+    (came_before early late (front ++ calls)) (came_append early late front calls h)
 
 -- a call that an event below the place is stands in the list
-pub any_call : (test : Step → Bool) (events : List CoreEvent) (n k : ℕ) (step : Step) → k < n → call_of k (slice_get events k) ≡ step ∷ []
+pub any_call : (test : Step → Bool) (events : List CoreEvent) (n k : ℕ) (step : Step) → k < n
+    → call_of k (slice_get events k) ≡ step ∷ []
     → test step ≡ true → list_any test (calls_below events n) ≡ true
 any_call test events zero k step h is passes = absurd (omega arith)
 any_call test events (suc n) k step h is passes = elim (last_or_below k n h) [
   | inl same ↦
       list_any-append test (call_of n (slice_get events n)) (calls_below events n)
       ∙ ap (λ b. b || list_any test (calls_below events n)) (
-      ap (λ j. list_any test (call_of j (slice_get events j))) (sym same) ∙ ap (list_any test) is ∙ ap (λ b. b || false) passes)
+      ap (λ j. list_any test (call_of j (slice_get events j))) (sym same) ∙ ap (list_any test) is
+      ∙ ap (λ b. b || false) passes)
   | inr below ↦
       list_any-append test (call_of n (slice_get events n)) (calls_below events n)
-      ∙ or_second (list_any test (call_of n (slice_get events n))) (list_any test (calls_below events n)) (any_call test events n k step below is passes)
+      ∙ or_second (list_any test (call_of n (slice_get events n)))
+      (list_any test (calls_below events n)) (any_call test events n k step below is passes)
 ]
 
 -- and of two such calls the earlier one came before
-pub calls_before : (early late : Step → Bool) (events : List CoreEvent) (n k j : ℕ) (first second : Step) → k < j → j < n
+pub calls_before : (early late : Step → Bool) (events : List CoreEvent) (n k j : ℕ)
+    (first second : Step) → k < j → j < n
     → call_of k (slice_get events k) ≡ first ∷ [] → call_of j (slice_get events j) ≡ second ∷ []
     → early first ≡ true → late second ≡ true → came_before early late (calls_below events n) ≡ true
 calls_before early late events zero k j first second order h is_first is_second passes_first passes_second = absurd (omega arith)
 calls_before early late events (suc n) k j first second order h is_first is_second passes_first passes_second = elim (last_or_below j n h) [
   | inl same ↦
-      ap (λ front. came_before early late (front ++ calls_below events n)) (ap (λ i. call_of i (slice_get events i)) (sym same) ∙ is_second)
-      ∙ ap (λ b. (b && list_any early (calls_below events n)) || came_before early late (calls_below events n)) passes_second
-      ∙ ap (λ b. b || came_before early late (calls_below events n)) (any_call early events n k first (omega arith) is_first passes_first)
+      ap (λ front. came_before early late (front ++ calls_below events n))
+      (ap (λ i. call_of i (slice_get events i)) (sym same) ∙ is_second)
+      ∙ ap (λ b. (b && list_any early (calls_below events n))
+      || came_before early late (calls_below events n)) passes_second
+      ∙ ap (λ b. b || came_before early late (calls_below events n))
+      (any_call early events n k first (omega arith) is_first passes_first)
   | inr below ↦
       came_append early late (call_of n (slice_get events n)) (calls_below events n)
-      (calls_before early late events n k j first second order below is_first is_second passes_first passes_second)
+      (calls_before early late events n k j first second order below is_first is_second passes_first
+      passes_second)
 ]
 
 -- a call that stands in the list is that of an event
-call_from : (test : Step → Bool) (events : List CoreEvent) (n : ℕ) → list_any test (calls_below events n) ≡ true
+call_from : (test : Step → Bool) (events : List CoreEvent) (n : ℕ)
+    → list_any test (calls_below events n) ≡ true
     → (k : ℕ) × (k < n) × (list_any test (call_of k (slice_get events k)) ≡ true)
 call_from test events zero h = cc
 call_from test events (suc n) h =
-    elim (or_cases (list_any test (call_of n (slice_get events n))) (list_any test (calls_below events n))
+    elim (or_cases (list_any test (call_of n (slice_get events n)))
+    (list_any test (calls_below events n))
     (sym (list_any-append test (call_of n (slice_get events n)) (calls_below events n)) ∙ h)) [
       | inl here ↦ (n, omega arith, here)
-      | inr there ↦ let found = call_from test events n there in let less = found.1 in (found.0, omega arith, found.2)
+      | inr there ↦
+          let found = call_from test events n there in
+          let less = found.1 in (found.0, omega arith, found.2)
     ]
 
 -- one of two is the first where the second isn't
@@ -112,9 +138,11 @@ first_of_two true h = refl
 first_of_two false h = cc
 
 -- an event whose call submits a request is its submission
-submit_call : (id k : ℕ) (event : Option CoreEvent) → list_any (is_submit id) (call_of k event) ≡ true
+submit_call : (id k : ℕ) (event : Option CoreEvent)
+    → list_any (is_submit id) (call_of k event) ≡ true
     → (bio : Bio) × (k ≡ id) × (event ≡ Some (core_events.Submit bio))
-submit_call id k (Some (core_events.Submit bio)) h = (bio, eqb-true k id (first_of_two (k == id) h), refl)
+submit_call id k (Some (core_events.Submit bio)) h =
+    (bio, eqb-true k id (first_of_two (k == id) h), refl)
 submit_call id k (Some (core_events.Complete ended ok)) h = cc
 submit_call id k (Some (core_events.Mark text)) h = cc
 submit_call id k (Some (core_events.Stop cause)) h = cc
@@ -125,15 +153,19 @@ submit_call id k None h = cc
 end_call : (id k : ℕ) (event : Option CoreEvent) → list_any (is_end id) (call_of k event) ≡ true
     → (ok : Bool) × (event ≡ Some (core_events.Complete id ok))
 end_call id k (Some (core_events.Submit bio)) h = cc
-end_call id k (Some (core_events.Complete ended ok)) h =
-    (ok, ap (λ (n : ℕ). Some (core_events.Complete n ok)) (eqb-true ended id (first_of_two (ended == id) h)))
+end_call id k (Some (core_events.Complete ended ok)) h = (
+  ok,
+  ap (λ (n : ℕ). Some (core_events.Complete n ok))
+      (eqb-true ended id (first_of_two (ended == id) h)),
+)
 end_call id k (Some (core_events.Mark text)) h = cc
 end_call id k (Some (core_events.Stop cause)) h = cc
 end_call id k (Some core_events.Close) h = cc
 end_call id k None h = cc
 
 -- a request whose submission stands among the calls was submitted at its place
-pub submit_from : (events : List CoreEvent) (n id : ℕ) → list_any (is_submit id) (calls_below events n) ≡ true
+pub submit_from : (events : List CoreEvent) (n id : ℕ)
+    → list_any (is_submit id) (calls_below events n) ≡ true
     → (bio : Bio) × (id < n) × (slice_get events id ≡ Some (core_events.Submit bio))
 submit_from events n id h =
     let found = call_from (is_submit id) events n h in
@@ -143,16 +175,20 @@ submit_from events n id h =
     (call.0, omega arith, ap (slice_get events) (sym same) ∙ call.2)
 
 -- and one whose end does ended at some place
-pub end_from : (events : List CoreEvent) (n id : ℕ) → list_any (is_end id) (calls_below events n) ≡ true
-    → (place : ℕ) × (ok : Bool) × (place < n) × (slice_get events place ≡ Some (core_events.Complete id ok))
+pub end_from : (events : List CoreEvent) (n id : ℕ)
+    → list_any (is_end id) (calls_below events n) ≡ true
+    → (place : ℕ) × (ok : Bool) × (place < n)
+    × (slice_get events place ≡ Some (core_events.Complete id ok))
 end_from events n id h =
     let found = call_from (is_end id) events n h in
     let call = end_call id found.0 (slice_get events found.0) found.2 in
     (found.0, call.0, found.1, call.1)
 
 -- a call of another place doesn't submit the request
-other_submit : (id k : ℕ) (event : Option CoreEvent) (calls : List Step) → (k ≡ id → ⊥) → before_submit id (call_of k event ++ calls) ≡ before_submit id calls
-other_submit id k (Some (core_events.Submit bio)) calls differ = ap (λ b. if b then calls else before_submit id calls) (differ-eqb k id differ)
+other_submit : (id k : ℕ) (event : Option CoreEvent) (calls : List Step) → (k ≡ id → ⊥)
+    → before_submit id (call_of k event ++ calls) ≡ before_submit id calls
+other_submit id k (Some (core_events.Submit bio)) calls differ =
+    ap (λ b. if b then calls else before_submit id calls) (differ-eqb k id differ)
 other_submit id k (Some (core_events.Complete ended ok)) calls differ = refl
 other_submit id k (Some (core_events.Mark text)) calls differ = refl
 other_submit id k (Some (core_events.Stop cause)) calls differ = refl
@@ -160,21 +196,24 @@ other_submit id k (Some core_events.Close) calls differ = refl
 other_submit id k None calls differ = refl
 
 -- what came before a request's submission are the calls below its place
-pub before_submit_at : (events : List CoreEvent) (n id : ℕ) (bio : Bio) → id < n → slice_get events id ≡ Some (core_events.Submit bio)
+pub before_submit_at : (events : List CoreEvent) (n id : ℕ) (bio : Bio) → id < n
+    → slice_get events id ≡ Some (core_events.Submit bio)
     → before_submit id (calls_below events n) ≡ calls_below events id
 before_submit_at events zero id bio h is = absurd (omega arith)
 before_submit_at events (suc n) id bio h is = elim (last_or_below id n h) [
   | inl same ↦
       ap (λ j. before_submit id (call_of j (slice_get events j) ++ calls_below events j)) (sym same)
       ∙ ap (λ event. before_submit id (call_of id event ++ calls_below events id)) is
-      ∙ ap (λ b. if b then calls_below events id else before_submit id (calls_below events id)) (eq-eqb id id refl)
+      ∙ ap (λ b. if b then calls_below events id else before_submit id (calls_below events id))
+      (eq-eqb id id refl)
   | inr below ↦
       other_submit id n (slice_get events n) (calls_below events n) (λ same. omega arith)
       ∙ before_submit_at events n id bio below is
 ]
 
 -- what each call below a place passes, all of them do
-pub all_calls : (test : Step → Bool) (events : List CoreEvent) (n : ℕ) → ((k : ℕ) → k < n → list_all test (call_of k (slice_get events k)) ≡ true)
+pub all_calls : (test : Step → Bool) (events : List CoreEvent) (n : ℕ)
+    → ((k : ℕ) → k < n → list_all test (call_of k (slice_get events k)) ≡ true)
     → list_all test (calls_below events n) ≡ true
 all_calls test events zero each = refl
 all_calls test events (suc n) each =

@@ -1,5 +1,6 @@
 -- Each content that the device could hold is left by a run.
-use Rattle.std.proofs.Common.{◌≡◌, ℕ, Bool, true, false, Option, Some, None, List, ap, sym, ◌∙◌, inl, inr, arith}
+use Rattle.std.proofs.Common.{◌≡◌, ℕ, Bool, true, false, Option, Some, None, List, ap, sym, ◌∙◌}
+use Rattle.std.proofs.Common.{inl, inr, arith}
 use Rattle.std.specs.Prelude.{slice_get, unwrap_or}
 use Rattle.sectors.specs.Content.{Content}
 use Rattle.bio.specs.declared.event.CoreEvent.{CoreEvent}
@@ -11,36 +12,47 @@ use Rattle.world.specs.inside.Plan.{IsChoice, plan}
 use Rattle.world.proofs.Finishing.{plan_leaves}
 
 -- the request whose value a sector has, by the reason why it could hold it
-abbrev pub chosen : (events : List CoreEvent) (first now : Content) (sector : ℕ) → PossibleAt events first now sector → Option ℕ
+abbrev pub chosen : (events : List CoreEvent) (first now : Content) (sector : ℕ)
+    → PossibleAt events first now sector → Option ℕ
 chosen events first now sector (inl same) = None
 chosen events first now sector (inr from) = Some from.0
 
-chosen_covers : (events : List CoreEvent) (first now : Content) (sector : ℕ) (why : PossibleAt events first now sector) (id : ℕ) → chosen events first now sector why ≡ Some id
+chosen_covers : (events : List CoreEvent) (first now : Content) (sector : ℕ)
+    (why : PossibleAt events first now sector) (id : ℕ)
+    → chosen events first now sector why ≡ Some id
     → covers_at sector (slice_get events id) ≡ true
 chosen_covers events first now sector (inl same) id is = cc
 chosen_covers events first now sector (inr from) id is =
     let one : from.0 ≡ id = ap (λ o. unwrap_or o 0) is in
-    ap (λ i. covers_at sector (slice_get events i)) (sym one) ∙ value_covers (slice_get events from.0) sector (now sector) from.1
+    ap (λ i. covers_at sector (slice_get events i)) (sym one)
+    ∙ value_covers (slice_get events from.0) sector (now sector) from.1
 
-chosen_stays : (events : List CoreEvent) (first now : Content) (sector : ℕ) (why : PossibleAt events first now sector) (id : ℕ) → chosen events first now sector why ≡ Some id
+chosen_stays : (events : List CoreEvent) (first now : Content) (sector : ℕ)
+    (why : PossibleAt events first now sector) (id : ℕ)
+    → chosen events first now sector why ≡ Some id
     → is_replaced events sector id ≡ false
 chosen_stays events first now sector (inl same) id is = cc
 chosen_stays events first now sector (inr from) id is =
     let one : from.0 ≡ id = ap (λ o. unwrap_or o 0) is in
     ap (is_replaced events sector) (sym one) ∙ from.2
 
-chosen_bare : (events : List CoreEvent) (first now : Content) (sector : ℕ) (why : PossibleAt events first now sector) → chosen events first now sector why ≡ None
+chosen_bare : (events : List CoreEvent) (first now : Content) (sector : ℕ)
+    (why : PossibleAt events first now sector) → chosen events first now sector why ≡ None
     → has_kept events sector ≡ false
 chosen_bare events first now sector (inl same) is = same.1
 chosen_bare events first now sector (inr from) is = cc
 
-chosen_value : (events : List CoreEvent) (first now : Content) (sector : ℕ) (why : PossibleAt events first now sector)
-    → unwrap_or (values_of_id events (chosen events first now sector why) sector) (first sector) ≡ now sector
+chosen_value : (events : List CoreEvent) (first now : Content) (sector : ℕ)
+    (why : PossibleAt events first now sector)
+    → unwrap_or (values_of_id events (chosen events first now sector why) sector) (first sector)
+    ≡ now sector
 chosen_value events first now sector (inl same) = sym same.0
-chosen_value events first now sector (inr from) = ap (λ (o : Option (List ℕ)). unwrap_or o (first sector)) from.1
+chosen_value events first now sector (inr from) =
+    ap (λ (o : Option (List ℕ)). unwrap_or o (first sector)) from.1
 
 -- a possible content is left by a run
-pub possible_reachable : (events : List CoreEvent) (first now : Content) → is_well_formed events ≡ true → Possible events first now → IsReachable events first now
+pub possible_reachable : (events : List CoreEvent) (first now : Content)
+    → is_well_formed events ≡ true → Possible events first now → IsReachable events first now
 possible_reachable events first now well_formed possible =
     let wanted : ℕ → Option ℕ = λ sector. chosen events first now sector (possible sector) in
     let sure : ℕ → ℕ → Bool = λ id sector. is_kept events sector id in
@@ -50,5 +62,8 @@ possible_reachable events first now well_formed possible =
       bare = λ sector is. chosen_bare events first now sector (possible sector) is;
       kept = λ sector id kept. kept;
       before = λ sector id needs. (id, omega arith, needs);
-    } in
-    (plan events wanted sure, plan_leaves events first now wanted sure well_formed choice (λ sector. chosen_value events first now sector (possible sector)))
+    } in (
+      plan events wanted sure,
+      plan_leaves events first now wanted sure well_formed choice
+          (λ sector. chosen_value events first now sector (possible sector)),
+    )

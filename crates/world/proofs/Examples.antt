@@ -1,5 +1,7 @@
--- Runs and refused steps by computation: two writes of sector 3, both ended, and a flush after them.
-use Rattle.std.proofs.Common.{◌≡◌, ℕ, ◌==◌, Bool, true, false, Some, List, [], ◌∷◌, length, get_or, take, replicate, refl, ap, sym, ◌∙◌, subst, inl, inr, arith}
+-- Runs and refused steps by computation: two writes of
+-- sector 3, both ended, and a flush after them.
+use Rattle.std.proofs.Common.{◌≡◌, ℕ, ◌==◌, Bool, true, false, Some, List, [], ◌∷◌, length, get_or}
+use Rattle.std.proofs.Common.{take, replicate, refl, ap, sym, ◌∙◌, subst, inl, inr, arith}
 use Rattle.std.proofs.lemmas.Bool.Decides.{eqb_tells}
 use Rattle.std.specs.Prelude.{codes, slice_get, unwrap_or, if◌then◌else◌}
 use Rattle.sectors.specs.Content as contents
@@ -11,35 +13,44 @@ use Rattle.world.specs.declared.step.Step.{Step}
 use Rattle.world.specs.declared.step.Step.TheVariants.{Submit, Land, Destage, End, Power}
 use Rattle.refusals.specs.declared.refusal.Refusal.TheVariants as refusals
 use Rattle.world.specs.declared.step_error.StepError.TheVariants as step_errors
-use Rattle.world.specs.Cells.{AllSteps, CellState, IsFresh, IsPut, IsRun, Steps, WorldState, empty_cell, landed_of, landing, put_at, settling}
+use Rattle.world.specs.Cells.{AllSteps, CellState, IsFresh, IsPut, IsRun, Steps, WorldState}
+use Rattle.world.specs.Cells.{empty_cell, landed_of, landing, put_at, settling}
 use Rattle.world.specs.Refusals.{step_refusal}
 use Rattle.world.proofs.Replacing.{put_none}
 use Rattle.world.specs.Machine.{Machine, before_submit, has_step, newest, start}
 use Rattle.world.specs.Texts.{end_text, step_text}
 use Rattle.world.specs.Runs.{IsReachable, Leaves, calls_below, durable, is_run, taken, values_of_id}
 
--- the writes have the bytes 1 and 2; the flush is submitted at the fourth moment and has ended at the sixth
+-- the writes have the bytes 1 and 2; the flush is submitted
+-- at the fourth moment and has ended at the sixth
 abbrev list : List CoreEvent
 list =
-    core_events.Submit (Write 3 (replicate 512 1) false false false) ∷ core_events.Submit (Write 3 (replicate 512 2) false false false)
-    ∷ core_events.Complete 0 true ∷ core_events.Complete 1 true ∷ core_events.Submit Flush ∷ core_events.Complete 4 true ∷ []
+    core_events.Submit (Write 3 (replicate 512 1) false false false) ∷ core_events.Submit
+    (Write 3 (replicate 512 2) false false false)
+    ∷ core_events.Complete 0 true ∷ core_events.Complete 1 true ∷ core_events.Submit
+    Flush ∷ core_events.Complete 4 true ∷ []
 
 -- sector 3 has this byte, and the others are zeroes
 abbrev holding : ℕ → Content
 holding byte sector = replicate 512 (if sector == 3 then byte else 0)
 
--- the second write lands first, so that the first one's value is the newest when the sector is destaged
+-- the second write lands first, so that the first one's
+-- value is the newest when the sector is destaged
 abbrev run : List Step
 run =
-    Submit 0 ∷ Submit 1 ∷ Land 1 3 ∷ Land 0 3 ∷ End 0 true ∷ End 1 true ∷ Submit 4 ∷ Destage 3 ∷ End 4 true ∷ Power ∷ []
+    Submit 0 ∷ Submit 1 ∷ Land 1 3 ∷ Land 0 3 ∷ End 0 true ∷ End 1 true ∷ Submit 4 ∷ Destage 3 ∷ End
+    4 true ∷ Power ∷ []
 
 -- the sector that was destaged has the value, and each other one what it had
 run-left : (sector : ℕ) → durable list (holding 0) (taken start run) sector ≡ holding 1 sector
 unfolding contents.over
 run-left sector = elim (eqb_tells sector 3) [
-  | inl same ↦ subst (λ (s : ℕ). durable list (holding 0) (taken start run) s ≡ holding 1 s) (sym same.1) here
+  | inl same ↦
+      subst (λ (s : ℕ). durable list (holding 0) (taken start run) s ≡ holding 1 s)
+      (sym same.1) here
   | inr other ↦
-      ap (λ (b : Bool). unwrap_or (values_of_id list (newest (if b then 0 ∷ 1 ∷ [] else [])) sector) (replicate 512 (if b then 0 else 0))) other.0
+      ap (λ (b : Bool). unwrap_or (values_of_id list (newest (if b then 0 ∷ 1 ∷ [] else [])) sector)
+      (replicate 512 (if b then 0 else 0))) other.0
       ∙ sym (ap (λ (b : Bool). replicate 512 (if b then 1 else 0)) other.0)
 ]
   where
@@ -131,7 +142,9 @@ end-both = refl
 
 -- with FUA the sector is destaged after it landed there
 abbrev fua : List CoreEvent
-fua = core_events.Submit (Write 3 (replicate 512 1) false true false) ∷ core_events.Submit (Write 3 (replicate 512 2) false false false) ∷ []
+fua =
+    core_events.Submit (Write 3 (replicate 512 1) false true false) ∷ core_events.Submit
+    (Write 3 (replicate 512 2) false false false) ∷ []
 
 end-destaged : has_step fua (taken start (Submit 0 ∷ Land 0 3 ∷ Destage 3 ∷ [])) (End 0 true) ≡ true
 end-destaged = refl
@@ -139,7 +152,8 @@ end-destaged = refl
 end-cached : has_step fua (taken start (Submit 0 ∷ Land 0 3 ∷ [])) (End 0 true) ≡ false
 end-cached = refl
 
-end-destaged-before : has_step fua (taken start (Submit 0 ∷ Submit 1 ∷ Land 1 3 ∷ Destage 3 ∷ Land 0 3 ∷ [])) (End 0 true) ≡ false
+end-destaged-before : has_step fua
+    (taken start (Submit 0 ∷ Submit 1 ∷ Land 1 3 ∷ Destage 3 ∷ Land 0 3 ∷ [])) (End 0 true) ≡ false
 end-destaged-before = refl
 
 -- a flush ends with success where what ended so before its submission is settled
@@ -152,14 +166,18 @@ flush-cached = refl
 flush-failed : has_step list (taken start ended) (End 4 false) ≡ true
 flush-failed = refl
 
-flush-destaged : has_step list (taken start (Submit 0 ∷ Submit 1 ∷ Land 0 3 ∷ Destage 3 ∷ End 0 true ∷ Submit 4 ∷ Land 1 3 ∷ End 1 true ∷ [])) (End 4 true) ≡ true
+flush-destaged : has_step list
+    (taken start (Submit 0 ∷ Submit 1 ∷ Land 0 3 ∷ Destage 3 ∷ End 0 true ∷ Submit 4 ∷ Land 1
+    3 ∷ End 1 true ∷ [])) (End 4 true) ≡ true
 flush-destaged = refl
 
 -- a request that ended after the flush's submission, or that failed before it, needn't be
-flush-later : has_step list (taken start (Submit 0 ∷ Submit 4 ∷ Land 0 3 ∷ End 0 true ∷ [])) (End 4 true) ≡ true
+flush-later : has_step list (taken start (Submit 0 ∷ Submit 4 ∷ Land 0 3 ∷ End 0 true ∷ []))
+    (End 4 true) ≡ true
 flush-later = refl
 
-flush-after-failed : has_step list (taken start (Submit 0 ∷ Land 0 3 ∷ End 0 false ∷ Submit 4 ∷ [])) (End 4 true) ≡ true
+flush-after-failed : has_step list (taken start (Submit 0 ∷ Land 0 3 ∷ End 0 false ∷ Submit 4 ∷ []))
+    (End 4 true) ≡ true
 flush-after-failed = refl
 
 -- power goes at any time, and nothing comes after it
@@ -184,14 +202,16 @@ calls-close : calls_below (core_events.Close ∷ []) 1 ≡ []
 calls-close = refl
 
 -- what came before a submission
-before-flush : before_submit 4 (calls_below list 6) ≡ End 1 true ∷ End 0 true ∷ Submit 1 ∷ Submit 0 ∷ []
+before-flush : before_submit 4 (calls_below list 6)
+    ≡ End 1 true ∷ End 0 true ∷ Submit 1 ∷ Submit 0 ∷ []
 before-flush = refl
 
 before-none : before_submit 7 (calls_below list 6) ≡ []
 before-none = refl
 
 -- what lands later in the cache isn't durable until the sector is destaged again
-durable-cached : durable list (holding 0) (taken start (Submit 0 ∷ Submit 1 ∷ Land 0 3 ∷ Destage 3 ∷ Land 1 3 ∷ [])) 3 ≡ holding 1 3
+durable-cached : durable list (holding 0)
+    (taken start (Submit 0 ∷ Submit 1 ∷ Land 0 3 ∷ Destage 3 ∷ Land 1 3 ∷ [])) 3 ≡ holding 1 3
 unfolding contents.over
 durable-cached = refl
 
@@ -227,10 +247,15 @@ fresh-off : IsFresh (replicate 512 7) (record fresh { off = true }) → ⊥
 fresh-off told = let contra : true ≡ false = told.off in cc
 
 fresh-landed : IsFresh (replicate 512 7) (record fresh { cells = landing 0 empty_cell ∷ [] }) → ⊥
-fresh-landed told = let contra = number_is 1 0 (ap (λ (cells : List CellState). length (landed_of (slice_get cells 0))) told.cells) in omega arith
+fresh-landed told =
+    let contra =
+    number_is 1 0 (ap (λ (cells : List CellState). length
+    (landed_of (slice_get cells 0))) told.cells) in
+    omega arith
 
 fresh-called : IsFresh (replicate 512 7) (record fresh { calls = Power ∷ [] }) → ⊥
-fresh-called told = let contra = number_is 1 0 (ap (λ (calls : List Step). length calls) told.calls) in omega arith
+fresh-called told =
+    let contra = number_is 1 0 (ap (λ (calls : List Step). length calls) told.calls) in omega arith
 
 fresh-image : IsFresh (replicate 512 7) (record fresh { image = replicate 512 8 }) → ⊥
 fresh-image told = let contra = byte_is 8 7 told.image in absurd (omega arith)
@@ -279,7 +304,8 @@ run-of-power = record { runs = refl; reached = refl; left = λ sector within. re
 run-of-nothing : IsRun [] [] (Submit 0 ∷ []) (record bare { calls = Submit 0 ∷ [] }) → ⊥
 run-of-nothing told = let contra : false ≡ true = told.runs in cc
 
-run-of-other : IsRun [] (replicate 512 7) (Power ∷ []) (record fresh { off = true; image = replicate 512 8 }) → ⊥
+run-of-other : IsRun [] (replicate 512 7) (Power ∷ [])
+    (record fresh { off = true; image = replicate 512 8 }) → ⊥
 run-of-other told = let contra = byte_is 8 7 (told.left 0 (omega arith)) in absurd (omega arith)
 
 -- no run has gone on where power is there

@@ -1,5 +1,6 @@
 -- Lists that are kept oldest first, seen newest first.
-use Rattle.std.proofs.Common.{◌≡◌, ℕ, zero, suc, Bool, true, false, ◌&&◌, ◌||◌, Some, List, [], ◌∷◌, ◌++◌, take, refl, ap, sym, ◌∙◌, arith}
+use Rattle.std.proofs.Common.{◌≡◌, ℕ, zero, suc, Bool, true, false, ◌&&◌, ◌||◌, Some, List, [], ◌∷◌}
+use Rattle.std.proofs.Common.{◌++◌, take, refl, ap, sym, ◌∙◌, arith}
 use Rattle.std.proofs.lemmas.List.{reverse-append}
 use Rattle.std.proofs.lemmas.List.Folds.{list_all-append, list_any-append}
 use Rattle.std.specs.List.{list_all, list_any}
@@ -13,7 +14,8 @@ pub reverse_snoc : {A : Type 0} (xs : List A) (x : A) → reverse (xs ++ x ∷ [
 reverse_snoc xs x = reverse-append xs (x ∷ [])
 
 -- a list has the same elements both ways round
-pub any_reverse : {A : Type 0} (test : A → Bool) (xs : List A) → list_any test (reverse xs) ≡ list_any test xs
+pub any_reverse : {A : Type 0} (test : A → Bool) (xs : List A)
+    → list_any test (reverse xs) ≡ list_any test xs
 any_reverse test [] = refl
 any_reverse test (x ∷ xs) =
     ap (list_any test) (reverse-append (x ∷ []) xs) ∙ list_any-append test (reverse xs) (x ∷ [])
@@ -26,7 +28,8 @@ any_reverse test (x ∷ xs) =
     swapped false false = refl
 
 -- and all of them pass both ways round
-pub all_reverse : {A : Type 0} (test : A → Bool) (xs : List A) → list_all test (reverse xs) ≡ list_all test xs
+pub all_reverse : {A : Type 0} (test : A → Bool) (xs : List A)
+    → list_all test (reverse xs) ≡ list_all test xs
 all_reverse test [] = refl
 all_reverse test (x ∷ xs) =
     ap (list_all test) (reverse-append (x ∷ []) xs) ∙ list_all-append test (reverse xs) (x ∷ [])
@@ -39,13 +42,15 @@ all_reverse test (x ∷ xs) =
     swapped false false = refl
 
 -- a longer beginning the other way round
-take_next : {A : Type 0} (xs : List A) (k : ℕ) (x : A) → slice_get xs k ≡ Some x → take (suc k) xs ≡ take k xs ++ x ∷ []
+take_next : {A : Type 0} (xs : List A) (k : ℕ) (x : A) → slice_get xs k ≡ Some x
+    → take (suc k) xs ≡ take k xs ++ x ∷ []
 take_next [] k x is = cc
 take_next (y ∷ xs) zero x is = ap (λ o. unwrap_or o y ∷ []) is
 take_next (y ∷ xs) (suc k) x is = ap (λ rest. y ∷ rest) (take_next xs k x is)
 
 -- one more call that submits the request, or that doesn't
-pub before_here : (calls : List Step) (id place next end : ℕ) (call : Step) → next ≡ suc place → slice_get calls place ≡ Some call → is_submit id call ≡ true
+pub before_here : (calls : List Step) (id place next end : ℕ) (call : Step) → next ≡ suc place
+    → slice_get calls place ≡ Some call → is_submit id call ≡ true
     → IsBefore calls id place end → IsBefore calls id next place
 before_here calls id place next end call is there here before = record {
   within = omega arith;
@@ -53,10 +58,12 @@ before_here calls id place next end call is there here before = record {
       ap (λ n. before_submit id (reverse (take n calls))) is
       ∙ ap (λ steps. before_submit id (reverse steps)) (take_next calls place call there)
       ∙ ap (before_submit id) (reverse_snoc (take place calls) call)
-      ∙ ap (λ b. if b then reverse (take place calls) else before_submit id (reverse (take place calls))) here);
+      ∙ ap (λ b. if b then reverse (take place calls) else before_submit id
+      (reverse (take place calls))) here);
 }
 
-pub before_other : (calls : List Step) (id place next end : ℕ) (call : Step) → next ≡ suc place → slice_get calls place ≡ Some call → is_submit id call ≡ false
+pub before_other : (calls : List Step) (id place next end : ℕ) (call : Step) → next ≡ suc place
+    → slice_get calls place ≡ Some call → is_submit id call ≡ false
     → IsBefore calls id place end → IsBefore calls id next end
 before_other calls id place next end call is there other before = record {
   within = let within = before.within in omega arith;
@@ -64,11 +71,13 @@ before_other calls id place next end call is there other before = record {
       ap (λ n. before_submit id (reverse (take n calls))) is
       ∙ ap (λ steps. before_submit id (reverse steps)) (take_next calls place call there)
       ∙ ap (before_submit id) (reverse_snoc (take place calls) call)
-      ∙ ap (λ b. if b then reverse (take place calls) else before_submit id (reverse (take place calls))) other);
+      ∙ ap (λ b. if b then reverse (take place calls) else before_submit id
+      (reverse (take place calls))) other);
 }
 
 -- where one element fails a test not all pass
-pub some_fails : {A : Type 0} (test : A → Bool) (xs : List A) (k : ℕ) (x : A) → slice_get xs k ≡ Some x → test x ≡ false → list_all test xs ≡ false
+pub some_fails : {A : Type 0} (test : A → Bool) (xs : List A) (k : ℕ) (x : A)
+    → slice_get xs k ≡ Some x → test x ≡ false → list_all test xs ≡ false
 some_fails test [] k x is fails = cc
 some_fails test (y ∷ xs) zero x is fails =
     ap (λ b. b && list_all test xs) (ap (λ o. test (unwrap_or o y)) is ∙ fails)
@@ -80,7 +89,8 @@ some_fails test (y ∷ xs) (suc k) x is fails =
     and_false false = refl
 
 -- where a beginning passes and the next element does, the longer beginning passes
-pub all_more : {A : Type 0} (test : A → Bool) (xs : List A) (k next : ℕ) (x : A) → next ≡ suc k → slice_get xs k ≡ Some x → test x ≡ true
+pub all_more : {A : Type 0} (test : A → Bool) (xs : List A) (k next : ℕ) (x : A) → next ≡ suc k
+    → slice_get xs k ≡ Some x → test x ≡ true
     → list_all test (take k xs) ≡ true → list_all test (take next xs) ≡ true
 all_more test xs k next x is there passes before =
     ap (λ n. list_all test (take n xs)) is

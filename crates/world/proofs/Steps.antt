@@ -1,5 +1,6 @@
 -- What steps leave as it was, and what the tests of a step come to.
-use Rattle.std.proofs.Common.{◌≡◌, ℕ, ◌+◌, ◌-◌, ◌==◌, Bool, true, false, not, ◌||◌, Option, Some, None, List, ◌∷◌, refl, ap, sym, ◌∙◌, subst, inl, inr, arith}
+use Rattle.std.proofs.Common.{◌≡◌, ℕ, ◌+◌, ◌-◌, ◌==◌, Bool, true, false, not, ◌||◌, Option, Some}
+use Rattle.std.proofs.Common.{None, List, ◌∷◌, refl, ap, sym, ◌∙◌, subst, inl, inr, arith}
 use Rattle.std.proofs.lemmas.Bool.{eq-eqb, eqb-true}
 use Rattle.std.proofs.lemmas.Bool.Decides.{eqb_tells}
 use Rattle.std.specs.Prelude.{◌⊎◌, if◌then◌else◌}
@@ -20,7 +21,8 @@ not_true false h = refl
 pub clash : {A : Type 0} (b : Bool) → b ≡ true → b ≡ false → A
 clash b yes_so not_so = absurd (let contra : true ≡ false = sym yes_so ∙ not_so in cc)
 
--- a list that one sector alone has another of: what holds there of the one, and elsewhere of the old ones, holds in each
+-- a list that one sector alone has another of: what holds there
+-- of the one, and elsewhere of the old ones, holds in each
 pub with_cases : (P : List ℕ → Type 0) (sector : ℕ) (ids : List ℕ) (old : ℕ → List ℕ) (other : ℕ)
     → (other ≡ sector → P ids) → P (old other) → P (with_sector sector ids old other)
 with_cases P sector ids old other here there = elim (eqb_tells other sector) [
@@ -29,25 +31,31 @@ with_cases P sector ids old other here there = elim (eqb_tells other sector) [
 ]
 
 -- the sector has the list
-pub with_here : (sector : ℕ) (ids : List ℕ) (old : ℕ → List ℕ) → with_sector sector ids old sector ≡ ids
-with_here sector ids old = ap (λ (b : Bool). if b then ids else old sector) (eq-eqb sector sector refl)
+pub with_here : (sector : ℕ) (ids : List ℕ) (old : ℕ → List ℕ)
+    → with_sector sector ids old sector ≡ ids
+with_here sector ids old =
+    ap (λ (b : Bool). if b then ids else old sector) (eq-eqb sector sector refl)
 
 -- another sector has what it had
-pub with_other : (sector : ℕ) (ids : List ℕ) (old : ℕ → List ℕ) (other : ℕ) → (other == sector) ≡ false → with_sector sector ids old other ≡ old other
+pub with_other : (sector : ℕ) (ids : List ℕ) (old : ℕ → List ℕ) (other : ℕ)
+    → (other == sector) ≡ false → with_sector sector ids old other ≡ old other
 with_other sector ids old other differ = ap (λ (b : Bool). if b then ids else old other) differ
 
 -- a request is among these and one more just where it is that one or among these
-pub among_cases : (new id : ℕ) (ids : List ℕ) → is_among (new ∷ ids) id ≡ true → (new ≡ id) ⊎ (is_among ids id ≡ true)
+pub among_cases : (new id : ℕ) (ids : List ℕ) → is_among (new ∷ ids) id ≡ true
+    → (new ≡ id) ⊎ (is_among ids id ≡ true)
 among_cases new id ids h = elim (or_cases (new == id) (is_among ids id) h) [ inl same ↦ inl (eqb-true new id same) | inr older ↦ inr older ]
 
-pub among_more : (new id : ℕ) (ids : List ℕ) → is_among ids id ≡ true → is_among (new ∷ ids) id ≡ true
+pub among_more : (new id : ℕ) (ids : List ℕ) → is_among ids id ≡ true
+    → is_among (new ∷ ids) id ≡ true
 among_more new id ids h = or_second (new == id) (is_among ids id) h
 
 pub among_new : (id : ℕ) (ids : List ℕ) → is_among (id ∷ ids) id ≡ true
 among_new id ids = ap (λ b. b || is_among ids id) (eq-eqb id id refl)
 
 -- a test of each sector of a request holds at a sector that it covers
-pub each_covered : (test : ℕ → Bool) (event : Option CoreEvent) (sector : ℕ) → each_sector test event ≡ true → covers_at sector event ≡ true
+pub each_covered : (test : ℕ → Bool) (event : Option CoreEvent) (sector : ℕ)
+    → each_sector test event ≡ true → covers_at sector event ≡ true
     → test sector ≡ true
 each_covered test (Some (core_events.Submit bio)) sector each covered =
     let range = covers-parts bio sector covered in
@@ -55,7 +63,8 @@ each_covered test (Some (core_events.Submit bio)) sector each covered =
     let high = range.2 in
     let place : first_sector bio + (sector - first_sector bio) ≡ sector = omega arith in
     ap test (sym place)
-    ∙ all_below-each (λ place. test (first_sector bio + place)) (sector_count bio) each (sector - first_sector bio) (omega arith)
+    ∙ all_below-each (λ place. test (first_sector bio + place)) (sector_count bio) each
+    (sector - first_sector bio) (omega arith)
 each_covered test (Some (core_events.Complete id ok)) sector each covered = cc
 each_covered test (Some (core_events.Mark text)) sector each covered = cc
 each_covered test (Some (core_events.Stop cause)) sector each covered = cc

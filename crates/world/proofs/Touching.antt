@@ -1,5 +1,6 @@
 -- What the steps of one request for its sectors do, sector by sector.
-use Rattle.std.proofs.Common.{◌≡◌, ℕ, zero, suc, ◌+◌, ◌<◌, ◌≤◌, ◌==◌, Bool, true, false, not, ◌&&◌, Some, List, [], ◌∷◌, ◌++◌, refl, ap, sym, ◌∙◌, subst, inl, inr, arith}
+use Rattle.std.proofs.Common.{◌≡◌, ℕ, zero, suc, ◌+◌, ◌<◌, ◌≤◌, ◌==◌, Bool, true, false, not, ◌&&◌}
+use Rattle.std.proofs.Common.{Some, List, [], ◌∷◌, ◌++◌, refl, ap, sym, ◌∙◌, subst, inl, inr, arith}
 use Rattle.std.proofs.lemmas.Bool.{and_parts, cases_lt, le-leb, le-ltb, leb-true, lt-ltb, ltb-true}
 use Rattle.std.proofs.lemmas.Bool.Decides.{eqb_tells}
 use Rattle.std.specs.List.{list_any}
@@ -14,21 +15,25 @@ use Rattle.bio.specs.RequestLaws.{covers-within}
 use Rattle.bio.specs.Requests.{covers, first_sector, is_tracked, sector_count}
 use Rattle.world.specs.declared.step.Step.{Step}
 use Rattle.world.specs.declared.step.Step.TheVariants.{Land, Destage}
-use Rattle.world.specs.Machine.{Machine, after, has_step, is_among, is_end, is_pending, is_submit, newest, with_sector}
+use Rattle.world.specs.Machine.{Machine, after, has_step, is_among, is_end, is_pending, is_submit}
+use Rattle.world.specs.Machine.{newest, with_sector}
 use Rattle.world.specs.Runs.{is_run, taken}
 use Rattle.world.specs.inside.Plan.{by_sector, touch}
 use Rattle.world.proofs.Steps.{among_cases, among_more, clash, with_here}
 
 -- the steps are a run from the one machine to the other
-pub record StepsFrame (events : List CoreEvent) (old : Machine) (steps : List Step) (new : Machine) : Type 0 where
+pub record StepsFrame (events : List CoreEvent) (old : Machine) (steps : List Step)
+    (new : Machine) : Type 0 where
   pub runs : is_run events old steps ≡ true
   pub ends : taken old steps ≡ new
 
-run_append : (events : List CoreEvent) (m : Machine) (xs ys : List Step) → is_run events m (xs ++ ys) ≡ (is_run events m xs && is_run events (taken m xs) ys)
+run_append : (events : List CoreEvent) (m : Machine) (xs ys : List Step)
+    → is_run events m (xs ++ ys) ≡ (is_run events m xs && is_run events (taken m xs) ys)
 run_append events m [] ys = refl
 run_append events m (step ∷ xs) ys =
     ap (λ b. has_step events m step && b) (run_append events (after m step) xs ys)
-    ∙ joined (has_step events m step) (is_run events (after m step) xs) (is_run events (taken (after m step) xs) ys)
+    ∙ joined (has_step events m step) (is_run events (after m step) xs)
+    (is_run events (taken (after m step) xs) ys)
   where
     joined : (a b c : Bool) → (a && (b && c)) ≡ ((a && b) && c)
     joined true b c = refl
@@ -39,7 +44,8 @@ taken_append m [] ys = refl
 taken_append m (step ∷ xs) ys = taken_append (after m step) xs ys
 
 -- two runs, one after the other, are one
-pub go_on : (events : List CoreEvent) (a b c : Machine) (xs ys : List Step) → StepsFrame events a xs b → StepsFrame events b ys c → StepsFrame events a (xs ++ ys) c
+pub go_on : (events : List CoreEvent) (a b c : Machine) (xs ys : List Step)
+    → StepsFrame events a xs b → StepsFrame events b ys c → StepsFrame events a (xs ++ ys) c
 go_on events a b c xs ys front back = record {
   runs =
       run_append events a xs ys
@@ -54,7 +60,8 @@ pub go_none : (events : List CoreEvent) (m : Machine) → StepsFrame events m []
 go_none events m = record { runs = refl; ends = refl }
 
 -- one step is, where the machine has it
-pub go_one : (events : List CoreEvent) (m : Machine) (step : Step) → has_step events m step ≡ true → StepsFrame events m (step ∷ []) (after m step)
+pub go_one : (events : List CoreEvent) (m : Machine) (step : Step) → has_step events m step ≡ true
+    → StepsFrame events m (step ∷ []) (after m step)
 go_one events m step has = record { runs = ap (λ b. b && true) has; ends = refl }
 
 -- the request on top of the one list, where the test holds, and else the other list
@@ -62,102 +69,130 @@ abbrev pub by_test : Bool → ℕ → List ℕ → List ℕ → List ℕ
 by_test test id landed other = if test then id ∷ landed else other
 
 -- what holds of both holds by the test
-pub by_cases : (P : List ℕ → Type 0) (test : Bool) (id : ℕ) (landed other : List ℕ) → (test ≡ true → P (id ∷ landed)) → (test ≡ false → P other)
+pub by_cases : (P : List ℕ → Type 0) (test : Bool) (id : ℕ) (landed other : List ℕ)
+    → (test ≡ true → P (id ∷ landed)) → (test ≡ false → P other)
     → P (by_test test id landed other)
 by_cases P true id landed other yes_so not_so = yes_so refl
 by_cases P false id landed other yes_so not_so = not_so refl
 
--- in the sectors that are done the request has landed where it lands, and they were destaged where it settles; all else is as it was
+-- in the sectors that are done the request has landed where it lands, and they were destaged where
+-- it settles; all else is as it was
 pub record Touched (done lands settles : ℕ → Bool) (id : ℕ) (old new : Machine) : Type 0 where
-  pub landed : (sector : ℕ) → new.landed sector ≡ by_test (done sector && lands sector) id (old.landed sector) (old.landed sector)
-  pub settled : (sector : ℕ) → new.settled sector ≡ by_test (done sector && (lands sector && settles sector)) id (old.landed sector) (old.settled sector)
+  pub landed : (sector : ℕ)
+      → new.landed sector ≡ by_test (done sector && lands sector) id (old.landed sector)
+      (old.landed sector)
+  pub settled : (sector : ℕ)
+      → new.settled sector ≡ by_test (done sector && (lands sector && settles sector)) id
+      (old.landed sector) (old.settled sector)
   pub calls : new.calls ≡ old.calls
   pub off : new.off ≡ old.off
 
 -- a list with another one for a sector where the test holds
-with_is : (test : ℕ → Bool) (sector id : ℕ) (landed other : ℕ → List ℕ) (at : ℕ) → test sector ≡ true
-    → with_sector sector (id ∷ landed sector) other at ≡ by_test (at == sector && test at) id (landed at) (other at)
+with_is : (test : ℕ → Bool) (sector id : ℕ) (landed other : ℕ → List ℕ) (at : ℕ)
+    → test sector ≡ true
+    → with_sector sector (id ∷ landed sector) other at
+    ≡ by_test (at == sector && test at) id (landed at) (other at)
 with_is test sector id landed other at holds = elim (eqb_tells at sector) [
   | inl same ↦
       ap (λ (b : Bool). if b then id ∷ landed sector else other at) same.0
       ∙ ap (λ s. id ∷ landed s) (sym same.1)
-      ∙ sym (ap (λ b. by_test (b && test at) id (landed at) (other at)) same.0 ∙ ap (λ b. by_test b id (landed at) (other at)) (ap test same.1 ∙ holds))
+      ∙ sym (ap (λ b. by_test (b && test at) id (landed at) (other at)) same.0
+      ∙ ap (λ b. by_test b id (landed at) (other at)) (ap test same.1 ∙ holds))
   | inr differ ↦
       ap (λ (b : Bool). if b then id ∷ landed sector else other at) differ.0
       ∙ sym (ap (λ b. by_test (b && test at) id (landed at) (other at)) differ.0)
 ]
 
 -- and as it is where the test fails
-with_not : (test : ℕ → Bool) (sector id : ℕ) (landed other : ℕ → List ℕ) (at : ℕ) → test sector ≡ false
+with_not : (test : ℕ → Bool) (sector id : ℕ) (landed other : ℕ → List ℕ) (at : ℕ)
+    → test sector ≡ false
     → other at ≡ by_test (at == sector && test at) id (landed at) (other at)
 with_not test sector id landed other at fails = elim (eqb_tells at sector) [
   | inl same ↦
-      sym (ap (λ b. by_test (b && test at) id (landed at) (other at)) same.0 ∙ ap (λ b. by_test b id (landed at) (other at)) (ap test same.1 ∙ fails))
+      sym (ap (λ b. by_test (b && test at) id (landed at) (other at)) same.0
+      ∙ ap (λ b. by_test b id (landed at) (other at)) (ap test same.1 ∙ fails))
   | inr differ ↦ sym (ap (λ b. by_test (b && test at) id (landed at) (other at)) differ.0)
 ]
 
 -- what one request does in one sector
-touch_one : (events : List CoreEvent) (m : Machine) (lands settles : ℕ → Bool) (id sector : ℕ) → m.off ≡ false → is_pending m id ≡ true
-    → covers_at sector (slice_get events id) ≡ true → (lands sector ≡ true → is_among (m.landed sector) id ≡ false)
-    → (new : Machine) × StepsFrame events m (touch (lands sector) (settles sector) id sector) new × Touched (λ at. at == sector) lands settles id m new
-touch_one events m lands settles id sector on pending covered fresh = elim (bool_cases (lands sector)) [
-  | inr stays ↦ (
-    m,
-    subst (λ b. StepsFrame events m (touch b (settles sector) id sector) m) (sym stays) (go_none events m),
-    record {
-      landed = λ at. with_not lands sector id m.landed m.landed at stays;
-      settled = λ at. with_not (λ s. lands s && settles s) sector id m.landed m.settled at (ap (λ b. b && settles sector) stays);
-      calls = refl;
-      off = refl;
-    },
-  )
-  | inl goes ↦
-      let may : has_step events m (Land id sector) ≡ true =
-      ap (λ b. not b && ((is_pending m id && covers_at sector (slice_get events id)) && not (is_among (m.landed sector) id))) on
-      ∙ ap (λ b. (b && covers_at sector (slice_get events id)) && not (is_among (m.landed sector) id)) pending
-      ∙ ap (λ b. b && not (is_among (m.landed sector) id)) covered
-      ∙ ap not (fresh goes) in
-      let landed = after m (Land id sector) in
-      elim (bool_cases (settles sector)) [
-        | inr keeps ↦ (
-          landed,
-          subst (λ b. StepsFrame events m (touch b (settles sector) id sector) landed) (sym goes)
-              (subst (λ b. StepsFrame events m (touch true b id sector) landed) (sym keeps) (go_one events m (Land id sector) may)),
-          record {
-            landed = λ at. with_is lands sector id m.landed m.landed at goes;
-            settled = λ at. with_not (λ s. lands s && settles s) sector id m.landed m.settled at
-                (ap (λ b. b && settles sector) goes ∙ keeps);
-            calls = refl;
-            off = refl;
-          },
-        )
-        | inl destages ↦
-            let new = after landed (Destage sector) in
-            let top = with_here sector (id ∷ m.landed sector) m.landed in
-            let may_too : has_step events landed (Destage sector) ≡ true =
-            ap (λ b. not b && is_some (newest (with_sector sector (id ∷ m.landed sector) m.landed sector))) on
-            ∙ ap (λ (ids : List ℕ). is_some (newest ids)) top in (
-              new,
-              subst (λ b. StepsFrame events m (touch b (settles sector) id sector) new) (sym goes)
-                  (subst (λ b. StepsFrame events m (touch true b id sector) new) (sym destages)
-                  (go_on events m landed new (Land id sector ∷ []) (Destage sector ∷ []) (go_one events m (Land id sector) may)
-                  (go_one events landed (Destage sector) may_too))),
+touch_one : (events : List CoreEvent) (m : Machine) (lands settles : ℕ → Bool) (id sector : ℕ)
+    → m.off ≡ false → is_pending m id ≡ true
+    → covers_at sector (slice_get events id) ≡ true
+    → (lands sector ≡ true → is_among (m.landed sector) id ≡ false)
+    → (new : Machine) × StepsFrame events m (touch (lands sector) (settles sector) id sector) new
+    × Touched (λ at. at == sector) lands settles id m new
+touch_one events m lands settles id sector on pending covered fresh =
+    elim (bool_cases (lands sector)) [
+      | inr stays ↦ (
+        m,
+        subst (λ b. StepsFrame events m (touch b (settles sector) id sector) m) (sym stays)
+            (go_none events m),
+        record {
+          landed = λ at. with_not lands sector id m.landed m.landed at stays;
+          settled =
+              λ at. with_not (λ s. lands s && settles s) sector id m.landed m.settled at
+              (ap (λ b. b && settles sector) stays);
+          calls = refl;
+          off = refl;
+        },
+      )
+      | inl goes ↦
+          let may : has_step events m (Land id sector) ≡ true =
+          ap (λ b. not b && ((is_pending m id && covers_at sector (slice_get events id))
+          && not (is_among (m.landed sector) id))) on
+          ∙ ap (λ b. (b && covers_at sector (slice_get events id))
+          && not (is_among (m.landed sector) id)) pending
+          ∙ ap (λ b. b && not (is_among (m.landed sector) id)) covered
+          ∙ ap not (fresh goes) in
+          let landed = after m (Land id sector) in
+          elim (bool_cases (settles sector)) [
+            | inr keeps ↦ (
+              landed,
+              subst (λ b. StepsFrame events m (touch b (settles sector) id sector) landed)
+                  (sym goes)
+                  (subst (λ b. StepsFrame events m (touch true b id sector) landed) (sym keeps)
+                  (go_one events m (Land id sector) may)),
               record {
                 landed = λ at. with_is lands sector id m.landed m.landed at goes;
-                settled = λ at.
-                    ap (λ (ids : List ℕ). with_sector sector ids m.settled at) top
-                    ∙ with_is (λ s. lands s && settles s) sector id m.landed m.settled at (ap (λ b. b && settles sector) goes ∙ destages);
+                settled = λ at. with_not (λ s. lands s && settles s) sector id m.landed m.settled at
+                    (ap (λ b. b && settles sector) goes ∙ keeps);
                 calls = refl;
                 off = refl;
               },
             )
-      ]
-]
+            | inl destages ↦
+                let new = after landed (Destage sector) in
+                let top = with_here sector (id ∷ m.landed sector) m.landed in
+                let may_too : has_step events landed (Destage sector) ≡ true =
+                ap (λ b. not b && is_some
+                (newest (with_sector sector (id ∷ m.landed sector) m.landed sector))) on
+                ∙ ap (λ (ids : List ℕ). is_some (newest ids)) top in (
+                  new,
+                  subst (λ b. StepsFrame events m (touch b (settles sector) id sector) new)
+                      (sym goes)
+                      (subst (λ b. StepsFrame events m (touch true b id sector) new) (sym destages)
+                      (go_on events m landed new (Land id sector ∷ []) (Destage sector ∷ [])
+                      (go_one events m (Land id sector) may)
+                      (go_one events landed (Destage sector) may_too))),
+                  record {
+                    landed = λ at. with_is lands sector id m.landed m.landed at goes;
+                    settled = λ at.
+                        ap (λ (ids : List ℕ). with_sector sector ids m.settled at) top
+                        ∙ with_is (λ s. lands s && settles s) sector id m.landed m.settled at
+                        (ap (λ b. b && settles sector) goes ∙ destages);
+                    calls = refl;
+                    off = refl;
+                  },
+                )
+          ]
+    ]
 
 -- two parts of the sectors, one after the other
 touched_both : (first second both lands settles : ℕ → Bool) (id : ℕ) (old mid new : Machine)
-    → ((at : ℕ) → first at ≡ true → (second at ≡ false) × (both at ≡ true)) → ((at : ℕ) → first at ≡ false → both at ≡ second at)
-    → Touched first lands settles id old mid → Touched second lands settles id mid new → Touched both lands settles id old new
+    → ((at : ℕ) → first at ≡ true → (second at ≡ false) × (both at ≡ true))
+    → ((at : ℕ) → first at ≡ false → both at ≡ second at)
+    → Touched first lands settles id old mid → Touched second lands settles id mid new
+    → Touched both lands settles id old new
 touched_both first second both lands settles id old mid new yes_so not_so a b = record {
   landed = λ at. elim (bool_cases (first at)) [
     | inl done ↦
@@ -167,7 +202,9 @@ touched_both first second both lands settles id old mid new yes_so not_so a b = 
         ∙ a.landed at
         ∙ ap (λ t. by_test (t && lands at) id (old.landed at) (old.landed at)) (done ∙ sym parts.1)
     | inr yet ↦
-        let same : mid.landed at ≡ old.landed at = a.landed at ∙ ap (λ t. by_test (t && lands at) id (old.landed at) (old.landed at)) yet in
+        let same : mid.landed at ≡ old.landed at =
+        a.landed at ∙ ap (λ t. by_test (t && lands at) id (old.landed at)
+        (old.landed at)) yet in
         b.landed at
         ∙ ap (λ ids. by_test (second at && lands at) id ids ids) same
         ∙ ap (λ t. by_test (t && lands at) id (old.landed at) (old.landed at)) (sym (not_so at yet))
@@ -176,17 +213,22 @@ touched_both first second both lands settles id old mid new yes_so not_so a b = 
     | inl done ↦
         let parts = yes_so at done in
         b.settled at
-        ∙ ap (λ t. by_test (t && (lands at && settles at)) id (mid.landed at) (mid.settled at)) parts.0
+        ∙ ap (λ t. by_test (t && (lands at && settles at)) id (mid.landed at)
+        (mid.settled at)) parts.0
         ∙ a.settled at
-        ∙ ap (λ t. by_test (t && (lands at && settles at)) id (old.landed at) (old.settled at)) (done ∙ sym parts.1)
+        ∙ ap (λ t. by_test (t && (lands at && settles at)) id (old.landed at) (old.settled at))
+        (done ∙ sym parts.1)
     | inr yet ↦
-        let same : mid.landed at ≡ old.landed at = a.landed at ∙ ap (λ t. by_test (t && lands at) id (old.landed at) (old.landed at)) yet in
+        let same : mid.landed at ≡ old.landed at =
+        a.landed at ∙ ap (λ t. by_test (t && lands at) id (old.landed at)
+        (old.landed at)) yet in
         let stays : mid.settled at ≡ old.settled at =
         a.settled at ∙ ap (λ t. by_test (t && (lands at && settles at)) id (old.landed at) (old.settled at)) yet in
         b.settled at
         ∙ ap (λ ids. by_test (second at && (lands at && settles at)) id ids (mid.settled at)) same
         ∙ ap (λ ids. by_test (second at && (lands at && settles at)) id (old.landed at) ids) stays
-        ∙ ap (λ t. by_test (t && (lands at && settles at)) id (old.landed at) (old.settled at)) (sym (not_so at yet))
+        ∙ ap (λ t. by_test (t && (lands at && settles at)) id (old.landed at) (old.settled at))
+        (sym (not_so at yet))
   ];
   calls = b.calls ∙ a.calls;
   off = b.off ∙ a.off;
@@ -197,22 +239,27 @@ abbrev pub is_in : ℕ → ℕ → ℕ → Bool
 is_in first count at = nat_le first at && nat_lt at (first + count)
 
 past_range : (first n at : ℕ) → first + n ≤ at → is_in first n at ≡ false
-past_range first n at h = ap (λ b. nat_le first at && b) (le-ltb at (first + n) h) ∙ and_false (nat_le first at)
+past_range first n at h =
+    ap (λ b. nat_le first at && b) (le-ltb at (first + n) h) ∙ and_false (nat_le first at)
   where
     and_false : (a : Bool) → (a && false) ≡ false
     and_false true = refl
     and_false false = refl
 
 in_range : (first n at : ℕ) → first ≤ at → at < first + n → is_in first n at ≡ true
-in_range first n at low high = ap (λ b. b && nat_lt at (first + n)) (le-leb first at low) ∙ lt-ltb at (first + n) high
+in_range first n at low high =
+    ap (λ b. b && nat_lt at (first + n)) (le-leb first at low) ∙ lt-ltb at (first + n) high
 
 -- a sector of a range that is one longer is in the range before, or is the one more
-longer_in : (first n at : ℕ) → is_in first n at ≡ true → ((at == first + n) ≡ false) × (is_in first (suc n) at ≡ true)
+longer_in : (first n at : ℕ) → is_in first n at ≡ true
+    → ((at == first + n) ≡ false) × (is_in first (suc n) at ≡ true)
 longer_in first n at within = elim (cases_lt at (first + n)) [
   | inl less ↦ elim (eqb_tells at (first + n)) [
     | inl same ↦ absurd (let is = same.1 in omega arith)
     | inr differ ↦ elim (cases_lt at first) [
-      | inl before ↦ clash (is_in first n at) within (ap (λ b. b && nat_lt at (first + n)) (below first at before))
+      | inl before ↦
+          clash (is_in first n at) within
+          (ap (λ b. b && nat_lt at (first + n)) (below first at before))
       | inr from ↦ (differ.0, in_range first (suc n) at from (omega arith))
     ]
   ]
@@ -225,7 +272,8 @@ longer_in first n at within = elim (cases_lt at (first + n)) [
       | inr fails ↦ fails
     ]
 
-longer_not : (first n at : ℕ) → is_in first n at ≡ false → is_in first (suc n) at ≡ (at == first + n)
+longer_not : (first n at : ℕ) → is_in first n at ≡ false
+    → is_in first (suc n) at ≡ (at == first + n)
 longer_not first n at out = elim (eqb_tells at (first + n)) [
   | inl same ↦ let is = same.1 in in_range first (suc n) at (omega arith) (omega arith) ∙ sym same.0
   | inr differ ↦ elim (bool_cases (is_in first (suc n) at)) [
@@ -240,17 +288,21 @@ longer_not first n at out = elim (eqb_tells at (first + n)) [
 ]
 
 -- what one request does in a range of sectors
-touch_range : (events : List CoreEvent) (m : Machine) (lands settles : ℕ → Bool) (id first n : ℕ) → m.off ≡ false → is_pending m id ≡ true
+touch_range : (events : List CoreEvent) (m : Machine) (lands settles : ℕ → Bool) (id first n : ℕ)
+    → m.off ≡ false → is_pending m id ≡ true
     → ((k : ℕ) → k < n → covers_at (first + k) (slice_get events id) ≡ true)
     → ((k : ℕ) → k < n → lands (first + k) ≡ true → is_among (m.landed (first + k)) id ≡ false)
-    → (new : Machine) × StepsFrame events m (collect (λ k. touch (lands (first + k)) (settles (first + k)) id (first + k)) n) new
+    → (new : Machine) × StepsFrame events m
+    (collect (λ k. touch (lands (first + k)) (settles (first + k)) id (first + k)) n) new
     × Touched (is_in first n) lands settles id m new
 touch_range events m lands settles id first zero on pending covered fresh = (
   m,
   go_none events m,
   record {
     landed = λ at. sym (ap (λ t. by_test (t && lands at) id (m.landed at) (m.landed at)) (none at));
-    settled = λ at. sym (ap (λ t. by_test (t && (lands at && settles at)) id (m.landed at) (m.settled at)) (none at));
+    settled =
+        λ at. sym (ap (λ t. by_test (t && (lands at && settles at)) id (m.landed at) (m.settled at))
+        (none at));
     calls = refl;
     off = refl;
   },
@@ -266,72 +318,104 @@ touch_range events m lands settles id first zero on pending covered fresh = (
       | inr fails ↦ fails
     ]
 touch_range events m lands settles id first (suc n) on pending covered fresh =
-    let front = touch_range events m lands settles id first n on pending (λ k h. covered k (omega arith)) (λ k h. fresh k (omega arith)) in
+    let front =
+    touch_range events m lands settles id first n on pending
+    (λ k h. covered k (omega arith)) (λ k h. fresh k (omega arith)) in
     let mid = front.0 in
     let touched = front.2 in
     let same : mid.landed (first + n) ≡ m.landed (first + n) =
     touched.landed (first + n)
     ∙ ap (λ t. by_test (t && lands (first + n)) id (m.landed (first + n)) (m.landed (first + n))) (past_range first n (first + n) (omega arith)) in
     let last = touch_one events mid lands settles id (first + n) (touched.off ∙ on)
-    (ap (λ calls. list_any (is_submit id) calls && not (list_any (is_end id) calls)) touched.calls ∙ pending)
+    (ap (λ calls. list_any (is_submit id) calls && not (list_any (is_end id) calls)) touched.calls
+    ∙ pending)
     (covered n (omega arith)) (λ goes. ap (λ ids. is_among ids id) same ∙ fresh n (omega arith) goes) in (
       last.0,
-      go_on events m mid last.0 (collect (λ k. touch (lands (first + k)) (settles (first + k)) id (first + k)) n)
+      go_on events m mid last.0
+          (collect (λ k. touch (lands (first + k)) (settles (first + k)) id (first + k)) n)
           (touch (lands (first + n)) (settles (first + n)) id (first + n)) front.1 last.1,
-      touched_both (is_in first n) (λ at. at == first + n) (is_in first (suc n)) lands settles id m mid last.0 (longer_in first n) (longer_not first n) touched last.2,
+      touched_both (is_in first n) (λ at. at == first + n)
+          (is_in first (suc n)) lands settles id m mid last.0 (longer_in first n)
+          (longer_not first n) touched last.2,
     )
 
 -- what one request does in all its sectors
-pub touch_all : (events : List CoreEvent) (m : Machine) (lands settles : ℕ → Bool) (id : ℕ) (bio : Bio) → slice_get events id ≡ Some (core_events.Submit bio)
+pub touch_all : (events : List CoreEvent) (m : Machine) (lands settles : ℕ → Bool) (id : ℕ)
+    (bio : Bio) → slice_get events id ≡ Some (core_events.Submit bio)
     → is_tracked bio ≡ true → m.off ≡ false → is_pending m id ≡ true
-    → ((sector : ℕ) → covers bio sector ≡ true → lands sector ≡ true → is_among (m.landed sector) id ≡ false)
-    → (new : Machine) × StepsFrame events m (by_sector (λ sector. touch (lands sector) (settles sector) id sector) (Some (core_events.Submit bio))) new
+    → ((sector : ℕ) → covers bio sector ≡ true → lands sector ≡ true
+    → is_among (m.landed sector) id ≡ false)
+    → (new : Machine) × StepsFrame events m
+    (by_sector (λ sector. touch (lands sector) (settles sector) id sector)
+    (Some (core_events.Submit bio))) new
     × Touched (covers bio) lands settles id m new
 touch_all events m lands settles id bio is tracked on pending fresh =
     let first = first_sector bio in
     let n = sector_count bio in
-    let within : (k : ℕ) → k < n → covers bio (first + k) ≡ true = λ k h. covers-within bio (first + k) tracked (omega arith) (omega arith) in
-    let range = touch_range events m lands settles id first n on pending (λ k h. ap (covers_at (first + k)) is ∙ within k h) (λ k h. fresh (first + k) (within k h)) in
+    let within : (k : ℕ) → k < n → covers bio (first + k) ≡ true =
+    λ k h. covers-within bio (first + k) tracked (omega arith) (omega arith) in
+    let range =
+    touch_range events m lands settles id first n on pending
+    (λ k h. ap (covers_at (first + k)) is ∙ within k h)
+    (λ k h. fresh (first + k) (within k h)) in
     let touched = range.2 in
-    let same : (at : ℕ) → is_in first n at ≡ covers bio at = λ at. sym (ap (λ t. (t && nat_le first at) && nat_lt at (first + n)) tracked) in (
+    let same : (at : ℕ) → is_in first n at ≡ covers bio at =
+    λ at. sym (ap (λ t. (t && nat_le first at) && nat_lt at (first + n)) tracked) in (
       range.0,
       range.1,
       record {
-        landed = λ at. touched.landed at ∙ ap (λ t. by_test (t && lands at) id (m.landed at) (m.landed at)) (same at);
-        settled = λ at. touched.settled at ∙ ap (λ t. by_test (t && (lands at && settles at)) id (m.landed at) (m.settled at)) (same at);
+        landed =
+            λ at. touched.landed at ∙ ap
+            (λ t. by_test (t && lands at) id (m.landed at) (m.landed at)) (same at);
+        settled =
+            λ at. touched.settled at
+            ∙ ap (λ t. by_test (t && (lands at && settles at)) id (m.landed at) (m.settled at))
+            (same at);
         calls = touched.calls;
         off = touched.off;
       },
     )
 
 -- what stood in a sector stands there afterwards
-pub more_landed : (done lands settles : ℕ → Bool) (id : ℕ) (old new : Machine) (sector other : ℕ) → Touched done lands settles id old new
+pub more_landed : (done lands settles : ℕ → Bool) (id : ℕ) (old new : Machine) (sector other : ℕ)
+    → Touched done lands settles id old new
     → is_among (old.landed sector) other ≡ true → is_among (new.landed sector) other ≡ true
 more_landed done lands settles id old new sector other touched among =
     subst (λ ids. is_among ids other ≡ true) (sym (touched.landed sector))
-    (by_cases (λ ids. is_among ids other ≡ true) (done sector && lands sector) id (old.landed sector) (old.landed sector)
+    (by_cases (λ ids. is_among ids other ≡ true) (done sector && lands sector) id
+    (old.landed sector) (old.landed sector)
     (λ lands_here. among_more id other (old.landed sector) among) (λ stays. among))
 
 -- what stands there stood there, or is the request itself, where it lands
-pub landed_from : (done lands settles : ℕ → Bool) (id : ℕ) (old new : Machine) (sector other : ℕ) → Touched done lands settles id old new
-    → is_among (new.landed sector) other ≡ true → (((done sector && lands sector) ≡ true) × (id ≡ other)) ⊎ (is_among (old.landed sector) other ≡ true)
+pub landed_from : (done lands settles : ℕ → Bool) (id : ℕ) (old new : Machine) (sector other : ℕ)
+    → Touched done lands settles id old new
+    → is_among (new.landed sector) other ≡ true
+    → (((done sector && lands sector) ≡ true) × (id ≡ other))
+    ⊎ (is_among (old.landed sector) other ≡ true)
 landed_from done lands settles id old new sector other touched among =
-    by_cases (λ ids. is_among ids other ≡ true → (((done sector && lands sector) ≡ true) × (id ≡ other)) ⊎ (is_among (old.landed sector) other ≡ true))
+    by_cases (λ ids. is_among ids other ≡ true
+    → (((done sector && lands sector) ≡ true) × (id ≡ other))
+    ⊎ (is_among (old.landed sector) other ≡ true))
     (done sector && lands sector) id (old.landed sector) (old.landed sector)
     (λ lands_here h. elim (among_cases id other (old.landed sector) h) [ inl same ↦ inl (lands_here, same) | inr older ↦ inr older ])
     (λ stays h. inr h)
     (subst (λ ids. is_among ids other ≡ true) (touched.landed sector) among)
 
 -- what was settled, and had landed, is settled afterwards
-pub more_settled : (done lands settles : ℕ → Bool) (id : ℕ) (old new : Machine) (sector other : ℕ) → Touched done lands settles id old new
-    → is_among (old.landed sector) other ≡ true → is_among (old.settled sector) other ≡ true → is_among (new.settled sector) other ≡ true
+pub more_settled : (done lands settles : ℕ → Bool) (id : ℕ) (old new : Machine) (sector other : ℕ)
+    → Touched done lands settles id old new
+    → is_among (old.landed sector) other ≡ true → is_among (old.settled sector) other ≡ true
+    → is_among (new.settled sector) other ≡ true
 more_settled done lands settles id old new sector other touched landed among =
     subst (λ ids. is_among ids other ≡ true) (sym (touched.settled sector))
-    (by_cases (λ ids. is_among ids other ≡ true) (done sector && (lands sector && settles sector)) id (old.landed sector) (old.settled sector)
+    (by_cases (λ ids. is_among ids other ≡ true)
+    (done sector && (lands sector && settles sector)) id (old.landed sector)
+    (old.settled sector)
     (λ lands_here. among_more id other (old.landed sector) landed) (λ stays. among))
 
 -- what is settled has landed
-pub still_within : (done lands settles : ℕ → Bool) (id : ℕ) (old new : Machine) (sector other : ℕ) → Touched done lands settles id old new
+pub still_within : (done lands settles : ℕ → Bool) (id : ℕ) (old new : Machine) (sector other : ℕ)
+    → Touched done lands settles id old new
     → (is_among (old.settled sector) other ≡ true → is_among (old.landed sector) other ≡ true)
     → is_among (new.settled sector) other ≡ true → is_among (new.landed sector) other ≡ true
 still_within done lands settles id old new sector other touched within among =
@@ -341,13 +425,15 @@ still_within done lands settles id old new sector other touched within among =
     let both = and_parts (done sector) (lands sector && settles sector) lands_here in
     let goes = and_parts (lands sector) (settles sector) both.1 in
     subst (λ ids. is_among ids other ≡ true)
-    (sym (touched.landed sector ∙ ap (λ t. by_test (t && lands sector) id (old.landed sector) (old.landed sector)) both.0
+    (sym (touched.landed sector
+    ∙ ap (λ t. by_test (t && lands sector) id (old.landed sector) (old.landed sector)) both.0
     ∙ ap (λ t. by_test t id (old.landed sector) (old.landed sector)) goes.0)) h)
     (λ stays h. more_landed done lands settles id old new sector other touched (within h))
     (subst (λ ids. is_among ids other ≡ true) (touched.settled sector) among)
 
 -- where the request lands in a sector that is done it stands there
-pub lands_there : (done lands settles : ℕ → Bool) (id : ℕ) (old new : Machine) (sector : ℕ) → Touched done lands settles id old new
+pub lands_there : (done lands settles : ℕ → Bool) (id : ℕ) (old new : Machine) (sector : ℕ)
+    → Touched done lands settles id old new
     → done sector ≡ true → lands sector ≡ true → new.landed sector ≡ id ∷ old.landed sector
 lands_there done lands settles id old new sector touched is goes =
     touched.landed sector
@@ -355,10 +441,13 @@ lands_there done lands settles id old new sector touched is goes =
     ∙ ap (λ t. by_test t id (old.landed sector) (old.landed sector)) goes
 
 -- and where it settles it is the newest that is settled
-pub settles_there : (done lands settles : ℕ → Bool) (id : ℕ) (old new : Machine) (sector : ℕ) → Touched done lands settles id old new
-    → done sector ≡ true → lands sector ≡ true → settles sector ≡ true → new.settled sector ≡ id ∷ old.landed sector
+pub settles_there : (done lands settles : ℕ → Bool) (id : ℕ) (old new : Machine) (sector : ℕ)
+    → Touched done lands settles id old new
+    → done sector ≡ true → lands sector ≡ true → settles sector ≡ true
+    → new.settled sector ≡ id ∷ old.landed sector
 settles_there done lands settles id old new sector touched is goes destages =
     touched.settled sector
-    ∙ ap (λ t. by_test (t && (lands sector && settles sector)) id (old.landed sector) (old.settled sector)) is
+    ∙ ap (λ t. by_test (t && (lands sector && settles sector)) id (old.landed sector)
+    (old.settled sector)) is
     ∙ ap (λ t. by_test (t && settles sector) id (old.landed sector) (old.settled sector)) goes
     ∙ ap (λ t. by_test t id (old.landed sector) (old.settled sector)) destages

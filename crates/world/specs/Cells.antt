@@ -1,5 +1,6 @@
 -- What a world keeps, the machine that it is, and what a step does to it.
-use Rattle.std.specs.Prelude.{◌≡◌, ℕ, ◌<◌, ◌/◌, ◌==◌, Bool, true, false, Option, Some, None, List, [], ◌∷◌, length, replicate, slice_get, if◌then◌else◌}
+use Rattle.std.specs.Prelude.{◌≡◌, ℕ, ◌<◌, ◌/◌, ◌==◌, Bool, true, false, Option, Some, None, List}
+use Rattle.std.specs.Prelude.{[], ◌∷◌, length, replicate, slice_get, if◌then◌else◌}
 use Rattle.sectors.specs.Content.{Content, Patch, put, sector_of}
 use Rattle.bio.specs.declared.event.CoreEvent.{CoreEvent}
 use Rattle.world.specs.declared.step.Step.{Step}
@@ -24,7 +25,8 @@ landing id cell = record cell { landed = id ∷ cell.landed }
 abbrev pub settling : CellState → CellState
 settling cell = record cell { settled = cell.landed }
 
--- a world: a cell for each sector, the calls so far, newest first, whether power has gone, and the image of what is durable
+-- a world: a cell for each sector, the calls so far, newest first, whether power has gone, and the
+-- image of what is durable
 pub record WorldState : Type 0 where
   pub cells : List CellState
   pub calls : List Step
@@ -61,7 +63,8 @@ pub record IsFresh (first : List ℕ) (world : WorldState) : Type 0 where
   pub off : world.off ≡ false
   pub image : world.image ≡ first
 
--- the machines have the same in each sector, and the same calls, and power is there for both or for none
+-- the machines have the same in each sector, and the same
+-- calls, and power is there for both or for none
 pub record IsLike (a b : Machine) : Type 0 where
   pub landed : (sector : ℕ) → a.landed sector ≡ b.landed sector
   pub settled : (sector : ℕ) → a.settled sector ≡ b.settled sector
@@ -72,7 +75,8 @@ pub record IsLike (a b : Machine) : Type 0 where
 abbrev pub put_at : Patch → ℕ → Content → Content
 put_at patch at old sector = if sector == at then put patch old sector else old sector
 
--- what a sector of the image has after a step: after its destage the value of the newest request that landed there
+-- what a sector of the image has after a step: after its
+-- destage the value of the newest request that landed there
 abbrev pub left_after : List CoreEvent → Machine → Step → Content → Content
 left_after events m (Destage at) old sector = put_at (values_of_id events (newest (m.landed at))) at old sector
 left_after events m _ old sector = old sector
@@ -80,9 +84,11 @@ left_after events m _ old sector = old sector
 -- of two images the new one has the call's value in this sector, and all else as it was
 pub record IsPut (patch : Patch) (at : ℕ) (old new : List ℕ) : Type 0 where
   pub size : length new ≡ length old
-  pub each : (sector : ℕ) → sector < length old / 512 → sector_of new sector ≡ put_at patch at (sector_of old) sector
+  pub each : (sector : ℕ) → sector < length old / 512
+      → sector_of new sector ≡ put_at patch at (sector_of old) sector
 
--- the world has taken the step: the machine has it, and the world is the machine after it, with an image of what is durable then
+-- the world has taken the step: the machine has it, and the world is the machine after it, with an
+-- image of what is durable then
 pub record Steps (events : List CoreEvent) (step : Step) (old new : WorldState) : Type 0 where
   pub may : has_step events (machine_of old) step ≡ true
   pub after : IsLike (machine_of new) (after (machine_of old) step)
@@ -93,10 +99,13 @@ pub record Steps (events : List CoreEvent) (step : Step) (old new : WorldState) 
 -- the world has taken these steps, one after another
 abbrev pub AllSteps : List CoreEvent → List Step → WorldState → WorldState → Type 0
 AllSteps events [] old new = old ≡ new
-AllSteps events (step ∷ steps) old new = (mid : WorldState) × Steps events step old mid × AllSteps events steps mid new
+AllSteps events (step ∷ steps) old new =
+    (mid : WorldState) × Steps events step old mid × AllSteps events steps mid new
 
--- the steps are a run of the machine, the world is the machine after it, and its image is what is durable then
-pub record IsRun (events : List CoreEvent) (first : List ℕ) (steps : List Step) (world : WorldState) : Type 0 where
+-- the steps are a run of the machine, the world is the
+-- machine after it, and its image is what is durable then
+pub record IsRun (events : List CoreEvent) (first : List ℕ) (steps : List Step)
+    (world : WorldState) : Type 0 where
   pub runs : is_run events start steps ≡ true
   pub reached : taken start steps ≡ machine_of world
   pub left : (sector : ℕ) → sector < length first / 512 → sector_of world.image sector ≡ durable events (sector_of first) (taken start steps) sector

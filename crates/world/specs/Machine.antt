@@ -1,5 +1,7 @@
--- A device with a cache, as a machine that takes steps: requests land in sectors, sectors are destaged, requests end, power goes.
-use Rattle.std.specs.Prelude.{ℕ, ◌+◌, ◌==◌, Bool, true, false, not, ◌&&◌, ◌||◌, Option, Some, None, is_some, List, [], ◌∷◌, slice_get, if◌then◌else◌}
+-- A device with a cache, as a machine that takes steps: requests land in sectors, sectors are
+-- destaged, requests end, power goes.
+use Rattle.std.specs.Prelude.{ℕ, ◌+◌, ◌==◌, Bool, true, false, not, ◌&&◌, ◌||◌, Option, Some, None}
+use Rattle.std.specs.Prelude.{is_some, List, [], ◌∷◌, slice_get, if◌then◌else◌}
 use Rattle.std.specs.List.{list_all, list_any}
 use Rattle.sectors.specs.Places.{all_below}
 use Rattle.bio.specs.declared.event.CoreEvent.{CoreEvent}
@@ -10,7 +12,8 @@ use Rattle.bio.specs.Requests.{first_sector, has_fua, sector_count}
 use Rattle.world.specs.declared.step.Step.{Step}
 use Rattle.world.specs.declared.step.Step.TheVariants.{Submit, Land, Destage, End, Power}
 
--- for each sector the requests that landed there, newest first, and those of them that had landed when it was destaged last; the
+-- for each sector the requests that landed there, newest first, and
+-- those of them that had landed when it was destaged last; the
 -- submissions and ends so far, newest first; and whether power has gone
 pub record Machine : Type 0 where
   pub landed : ℕ → List ℕ
@@ -75,23 +78,28 @@ abbrev pub before_submit : ℕ → List Step → List Step
 before_submit id [] = []
 before_submit id (call ∷ calls) = if is_submit id call then calls else before_submit id calls
 
--- where the step is an end with success, each sector of its request was destaged after it had landed there
+-- where the step is an end with success, each sector of its
+-- request was destaged after it had landed there
 abbrev pub settled_if_ended : List CoreEvent → Machine → Step → Bool
 settled_if_ended events m (End id ok) = not ok || has_settled events m id
 settled_if_ended events m _ = true
 
--- The request may end with success: it has landed on all its sectors; with FUA, each was destaged after that; and where it has a flush,
--- the same holds of each request that ended with success before its submission.
+-- The request may end with success: it has landed on all its sectors; with
+-- FUA, each was destaged after that; and where it has a flush, the same
+-- holds of each request that ended with success before its submission.
 abbrev pub may_succeed : List CoreEvent → Machine → ℕ → Bool
 may_succeed events m id =
     has_landed events m id
     && (not (submits has_fua (slice_get events id)) || has_settled events m id)
-    && (not (is_flush_submit (slice_get events id)) || list_all (settled_if_ended events m) (before_submit id m.calls))
+    && (not (is_flush_submit (slice_get events id))
+    || list_all (settled_if_ended events m) (before_submit id m.calls))
 
--- the step may be taken while power is there: a request is submitted once; one that is pending lands once on each of its sectors; a
--- sector where some landed is destaged; a request that is pending ends, with success where it may
+-- the step may be taken while power is there: a request is submitted once; one that is pending
+-- lands once on each of its sectors; a sector where some landed is destaged; a request that is
+-- pending ends, with success where it may
 abbrev pub may_take : List CoreEvent → Machine → Step → Bool
-may_take events m (Submit id) = is_request (slice_get events id) && not (list_any (is_submit id) m.calls)
+may_take events m (Submit id) =
+    is_request (slice_get events id) && not (list_any (is_submit id) m.calls)
 may_take events m (Land id sector) =
     is_pending m id && covers_at sector (slice_get events id) && not (is_among (m.landed sector) id)
 may_take events m (Destage sector) = is_some (newest (m.landed sector))

@@ -1,5 +1,6 @@
 -- Runs of the machine, the events that they fit, and what they leave.
-use Rattle.std.specs.Prelude.{◌≡◌, ℕ, zero, suc, Bool, true, ◌&&◌, Option, Some, None, List, [], ◌∷◌, ◌++◌, length, slice_get}
+use Rattle.std.specs.Prelude.{◌≡◌, ℕ, zero, suc, Bool, true, ◌&&◌, Option, Some, None, List, []}
+use Rattle.std.specs.Prelude.{◌∷◌, ◌++◌, length, slice_get}
 use Rattle.sectors.specs.Content.{Content, Patch, nothing, put}
 use Rattle.bio.specs.declared.event.CoreEvent.{CoreEvent}
 use Rattle.bio.specs.declared.event.CoreEvent.TheVariants as core_events
@@ -34,12 +35,15 @@ abbrev pub values_of_id : List CoreEvent → Option ℕ → Patch
 values_of_id events None = nothing
 values_of_id events (Some id) = values_at (slice_get events id)
 
--- what is durable: in each sector the value of the newest request that had landed when it was destaged last, else what it held at first
+-- what is durable: in each sector the value of the newest request that had landed when it was
+-- destaged last, else what it held at first
 abbrev pub durable : List CoreEvent → Content → Machine → Content
 durable events first m sector = put (values_of_id events (newest (m.settled sector))) first sector
 
--- the run is one of the machine, its submissions and ends are the events' in their order, power has gone, and this is durable
-pub record Leaves (events : List CoreEvent) (first : Content) (run : List Step) (now : Content) : Type 0 where
+-- the run is one of the machine, its submissions and ends are the events' in their order, power has
+-- gone, and this is durable
+pub record Leaves (events : List CoreEvent) (first : Content) (run : List Step)
+    (now : Content) : Type 0 where
   pub runs : is_run events start run ≡ true
   pub fits : (taken start run).calls ≡ calls_below events (length events)
   pub off : (taken start run).off ≡ true

@@ -1,6 +1,7 @@
 //! Which steps a world may take.
 //!
-//! Each test is the machine's, over the cells and over the calls so far, which are kept oldest first.
+//! Each test is the machine's, over the cells and over the
+//! calls so far, which are kept oldest first.
 ghost use Rattle.std.specs.Prelude.{◌≡◌, ℕ, ◌+◌, ◌^◌, ◌<◌, Some, length, reverse, slice_get};
 ghost use Rattle.std.specs.List.{list_all, list_any};
 ghost use Rattle.bio.specs.declared.event.CoreEvent.TheVariants as core_events;
@@ -9,7 +10,8 @@ ghost use Rattle.bio.specs.Possible.{covers_at};
 ghost use Rattle.bio.specs.Requests.{covers, first_sector, has_fua, sector_count};
 ghost use Rattle.world.specs.Cells.{landed_of, settled_of};
 ghost use Rattle.world.specs.Machine.{before_submit, is_among, is_end, is_submit, newest};
-ghost use Rattle.world.specs.inside.Allowed.{end_settled, is_allowed, is_in, is_landed, is_settled, pends, succeeds};
+ghost use Rattle.world.specs.inside.Allowed.{end_settled, is_allowed, is_in, is_landed, is_settled};
+ghost use Rattle.world.specs.inside.Allowed.{pends, succeeds};
 ghost use Rattle.world.specs.inside.Plan.{AllEnd};
 
 use crate::cell::Cell;
@@ -277,26 +279,6 @@ fn before_submit(calls: &[Step], id: u64) -> &[Step]
     &calls[..end]
 }
 
-// Whether the event submits a write with FUA.
-fn is_fua(event: &CoreEvent) -> bool
-    ensures { result ≡ submits has_fua (Some event.now) }
-{
-    match event {
-        CoreEvent::Submit(bio) => bio.has_fua(),
-        _ => false,
-    }
-}
-
-// Whether the event submits a flush, or a write that has one.
-fn is_flush(event: &CoreEvent) -> bool
-    ensures { result ≡ is_flush_submit (Some event.now) }
-{
-    match event {
-        CoreEvent::Submit(bio) => bio.has_flush(),
-        _ => false,
-    }
-}
-
 // Whether the request that this event submits may end with success.
 fn succeeds(
     cells: &[Cell],
@@ -310,14 +292,15 @@ fn succeeds(
     ensures { result ≡ succeeds events.now cells.now (reverse calls.now) id (Some event.now) }
 {
     is_landed(cells, events, event, id)
-        && (!is_fua(event) || is_settled(cells, events, event, id))
-        && (!is_flush(event) || ends_settled(cells, events, before_submit(calls, id)))
+        && (!event.submits_fua() || is_settled(cells, events, event, id))
+        && (!event.submits_flush() || ends_settled(cells, events, before_submit(calls, id)))
 }
 
 // The same of the request of this place; it may where there is none.
 fn may_succeed(cells: &[Cell], calls: &[Step], events: &[CoreEvent], id: u64) -> bool
     requires { AllEnd events.now }
-    ensures { result ≡ succeeds events.now cells.now (reverse calls.now) id (slice_get events.now id) }
+    ensures { result ≡ succeeds events.now cells.now (reverse calls.now) id
+        (slice_get events.now id) }
 {
     match events.get(id as usize) {
         Some(event) => succeeds(cells, calls, events, event, id),

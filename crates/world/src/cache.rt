@@ -1,9 +1,13 @@
 //! A device with a cache, that takes steps.
 //!
-//! A world keeps a cell for each sector, the calls so far, oldest first, and the image of what is durable.
-ghost use Rattle.std.specs.Prelude.{◌≡◌, ◌∷◌, [], ◌*◌, ◌/◌, ◌%◌, ◌<◌, ℕ, Err, IfOk, OnErr, OnOk, false, true, length, replicate, get_or, reverse, slice_get, slice_set};
+//! A world keeps a cell for each sector, the calls so far,
+//! oldest first, and the image of what is durable.
+ghost use Rattle.std.specs.Prelude.{◌≡◌, ◌∷◌, [], ◌*◌, ◌/◌, ◌%◌, ◌<◌, ℕ, Err, IfOk, OnErr, OnOk};
+ghost use Rattle.std.specs.Prelude.{false, true, length, replicate, get_or, reverse, slice_get};
+ghost use Rattle.std.specs.Prelude.{slice_set};
 ghost use Rattle.bio.specs.Lawful.{is_lawful};
-ghost use Rattle.world.specs.Cells.{CellState, IsFresh, IsPut, Steps, WorldState, empty_cell, landed_of, landing, machine_of, settling};
+ghost use Rattle.world.specs.Cells.{CellState, IsFresh, IsPut, Steps, WorldState, empty_cell};
+ghost use Rattle.world.specs.Cells.{landed_of, landing, machine_of, settling};
 ghost use Rattle.world.specs.Machine.{has_step, newest};
 ghost use Rattle.world.specs.Runs.{values_of_id};
 ghost use Rattle.world.specs.declared.step_error.StepError.TheVariants as errors;
@@ -54,8 +58,8 @@ fn empty_cells(alloc: Global, sectors: usize) -> Result<Vec<Cell>, AllocError>
 }
 
 impl World {
-    /// A device before its first step, with these bytes, whole sectors of 512. Takes memory of the bytes and of 40 for
-    /// each sector. Want of memory is the only error.
+    /// A device before its first step, with these bytes, whole sectors of 512. Takes memory of the
+    /// bytes and of 40 for each sector. Want of memory is the only error.
     pub fn new(alloc: Global, first: &[u8]) -> Result<World, AllocError>
         requires { length first.now % 512 ≡ 0 }
         ensures { IfOk result (IsFresh first.now) }
@@ -69,16 +73,19 @@ impl World {
         })
     }
 
-    /// Takes a step. `events` is a list that a recorder of the device may have recorded (`is_lawful`), the same for all
-    /// steps. `BadStep` comes just where the device has no such step then; after an error nothing has changed. Takes
-    /// memory of 24 bytes for a submission or an end and of 8 for a landing, and time by the calls so far; an end with
-    /// success takes time by the sectors of the requests that it asks for, and by what landed there.
+    /// Takes a step. `events` is a list that a recorder of the device may have recorded
+    /// (`is_lawful`), the same for all steps. `BadStep` comes just where the device has no such
+    /// step then; after an error nothing has changed. Takes memory of 24 bytes for a submission or
+    /// an end and of 8 for a landing, and time by the calls so far; an end with success takes time
+    /// by the sectors of the requests that it asks for, and by what landed there.
     pub fn step(&mut self, events: &[CoreEvent], step: &Step) -> Result<(), StepError>
         requires { is_lawful (length self.old.image / 512) events.now ≡ true }
         ensures taken { OnOk result (Steps events.now step.now self.old self.new) }
         ensures refused { OnErr result (self.new ≡ self.old) }
-        ensures bad { has_step events.now (machine_of self.old) step.now ≡ false → result ≡ Err errors.BadStep }
-        ensures good { has_step events.now (machine_of self.old) step.now ≡ true → result ≡ Err errors.BadStep → ⊥ }
+        ensures bad { has_step events.now (machine_of self.old) step.now ≡ false
+            → result ≡ Err errors.BadStep }
+        ensures good { has_step events.now (machine_of self.old) step.now ≡ true
+            → result ≡ Err errors.BadStep → ⊥ }
     {
         if !self.has_step(events, step) {
             return Err(StepError::BadStep);
@@ -120,7 +127,8 @@ impl World {
 
     // Notes a submission or an end.
     fn call(&mut self, step: &Step) -> Result<(), AllocError>
-        ensures called { OnOk result (self.new ≡ record self.old { calls = step.now ∷ self.old.calls }) }
+        ensures called { OnOk result
+            (self.new ≡ record self.old { calls = step.now ∷ self.old.calls }) }
         ensures refused { OnErr result (self.new ≡ self.old) }
     {
         self.calls.push(*step)?;
@@ -131,7 +139,8 @@ impl World {
     fn land(&mut self, id: u64, sector: usize) -> Result<(), AllocError>
         requires { sector < length self.old.cells }
         ensures landed { OnOk result (self.new ≡ record self.old {
-          cells = slice_set self.old.cells sector (landing id (get_or self.old.cells sector empty_cell));
+          cells = slice_set self.old.cells sector
+              (landing id (get_or self.old.cells sector empty_cell));
         }) }
         ensures refused { OnErr result (self.new ≡ self.old) }
     {
@@ -142,10 +151,12 @@ impl World {
     fn destage(&mut self, events: &[CoreEvent], sector: usize)
         requires { sector < length self.old.cells }
         ensures cells { self.new ≡ record self.old {
-          cells = slice_set self.old.cells sector (settling (get_or self.old.cells sector empty_cell));
+          cells = slice_set self.old.cells sector
+              (settling (get_or self.old.cells sector empty_cell));
           image = self.new.image;
         } }
-        ensures image { IsPut (values_of_id events.now (newest (landed_of (slice_get self.old.cells sector)))) sector
+        ensures image { IsPut (values_of_id events.now
+            (newest (landed_of (slice_get self.old.cells sector)))) sector
             self.old.image self.new.image }
     {
         let newest = newest_at(&self.cells, sector);

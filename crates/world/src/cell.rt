@@ -1,6 +1,7 @@
-//! What landed in one sector: the requests, oldest first, and how many of them had landed when it was destaged
-//! last.
-ghost use Rattle.std.specs.Prelude.{◌≡◌, ◌∷◌, ◌≤◌, ℕ, ◌<◌, OnErr, OnOk, get_or, length, reverse, slice_set, take};
+//! What landed in one sector: the requests, oldest first, and
+//! how many of them had landed when it was destaged last.
+ghost use Rattle.std.specs.Prelude.{◌≡◌, ◌∷◌, ◌≤◌, ℕ, ◌<◌, OnErr, OnOk, get_or, length, reverse};
+ghost use Rattle.std.specs.Prelude.{slice_set, take};
 ghost use Rattle.world.specs.Cells.{CellState, empty_cell, landing, settling};
 ghost use Rattle.world.specs.Machine.{is_among, newest};
 
@@ -17,7 +18,10 @@ pub struct Cell {
 impl Model for Cell {
     ghost Value = { CellState };
 
-    ghost view = { λ cell. record { landed = reverse cell.ids.items; settled = reverse (take cell.safe cell.ids.items) } };
+    ghost view = { λ cell. record {
+      landed = reverse cell.ids.items;
+      settled = reverse (take cell.safe cell.ids.items);
+    } };
 
     ghost invariant = { λ cell. cell.safe ≤ length cell.ids.items };
 }
@@ -35,7 +39,8 @@ impl Cell {
 
     /// A request lands.
     pub fn land(&mut self, id: u64) -> Result<(), AllocError>
-        ensures landed { OnOk result (self.new ≡ record self.old { landed = id ∷ self.old.landed }) }
+        ensures landed { OnOk result
+            (self.new ≡ record self.old { landed = id ∷ self.old.landed }) }
         ensures refused { OnErr result (self.new ≡ self.old) }
     {
         self.ids.push(id)?;
@@ -98,7 +103,8 @@ fn contains(ids: &[u64], id: u64) -> bool
 /// A request lands in a sector.
 pub fn land_in(cells: &mut [Cell], sector: usize, id: u64) -> Result<(), AllocError>
     requires { sector < length cells.old }
-    ensures landed { OnOk result (cells.new ≡ slice_set cells.old sector (landing id (get_or cells.old sector empty_cell))) }
+    ensures landed { OnOk result
+        (cells.new ≡ slice_set cells.old sector (landing id (get_or cells.old sector empty_cell))) }
     ensures refused { OnErr result (cells.new ≡ cells.old) }
 {
     cells[sector].land(id)
@@ -107,7 +113,8 @@ pub fn land_in(cells: &mut [Cell], sector: usize, id: u64) -> Result<(), AllocEr
 /// A sector is destaged.
 pub fn settle_in(cells: &mut [Cell], sector: usize)
     requires { sector < length cells.old }
-    ensures { cells.new ≡ slice_set cells.old sector (settling (get_or cells.old sector empty_cell)) }
+    ensures { cells.new ≡ slice_set cells.old sector
+        (settling (get_or cells.old sector empty_cell)) }
 {
     cells[sector].settle();
 }

@@ -5,7 +5,8 @@ ghost use Rattle.std.specs.Prelude.{◌≡◌, ℕ, ◌+◌, ◌^◌, ◌<◌, �
 ghost use Rattle.bio.specs.declared.event.CoreEvent.TheVariants as core_events;
 ghost use Rattle.bio.specs.Requests.{first_sector, sector_count};
 ghost use Rattle.judge.specs.Accounts.{place_at};
-ghost use Rattle.world.specs.inside.Plan.{by_sector, is_upto, is_wanted, lands_if, lands_late, sure_by, touch};
+ghost use Rattle.world.specs.inside.Plan.{by_sector, is_upto, is_wanted, lands_if, lands_late};
+ghost use Rattle.world.specs.inside.Plan.{sure_by, touch};
 
 use crate::step::Step;
 use bio::{Bio, Id};
@@ -61,7 +62,8 @@ fn lands_early(
     sector: u64,
 ) -> Result<(), AllocError>
     ensures { OnOk result (run.new.items ≡ run.old.items
-        ++ lands_if has_to (place_at account.now.held.items) (sure_by account.now.last.items) id sector) }
+        ++ lands_if has_to (place_at account.now.held.items)
+        (sure_by account.now.last.items) id sector) }
 {
     let lands = !is_wanted(account.held_from(sector as usize), id) && has_to;
     let settles = is_upto(id, account.last_over(sector as usize));
@@ -75,14 +77,15 @@ fn lands_late(
     id: usize,
     sector: u64,
 ) -> Result<(), AllocError>
-    ensures { OnOk result (run.new.items ≡ run.old.items ++ lands_late (place_at account.now.held.items) id sector) }
+    ensures { OnOk result (run.new.items
+        ≡ run.old.items ++ lands_late (place_at account.now.held.items) id sector) }
 {
     let lands = is_wanted(account.held_from(sector as usize), id);
     touch(run, lands, true, id, sector)
 }
 
-/// The steps of a request for all its sectors at its submission, where it has to land at all: it will end with
-/// success.
+/// The steps of a request for all its sectors at its submission,
+/// where it has to land at all: it will end with success.
 pub fn land_early(
     run: &mut Vec<Step>,
     account: &Account,
@@ -92,7 +95,8 @@ pub fn land_early(
 ) -> Result<(), AllocError>
     requires { first_sector bio.now + sector_count bio.now < 2 ^ 64 }
     ensures { OnOk result (run.new.items ≡ run.old.items
-        ++ by_sector (lands_if has_to (place_at account.now.held.items) (sure_by account.now.last.items) id)
+        ++ by_sector (lands_if has_to (place_at account.now.held.items)
+        (sure_by account.now.last.items) id)
         (Some (core_events.Submit bio.now))) }
 {
     let first = bio.first_sector();
@@ -111,7 +115,8 @@ pub fn land_late(
 ) -> Result<(), AllocError>
     requires { first_sector bio.now + sector_count bio.now < 2 ^ 64 }
     ensures { OnOk result (run.new.items ≡ run.old.items
-        ++ by_sector (lands_late (place_at account.now.held.items) id) (Some (core_events.Submit bio.now))) }
+        ++ by_sector (lands_late (place_at account.now.held.items) id)
+        (Some (core_events.Submit bio.now))) }
 {
     let first = bio.first_sector();
     for place in 0..bio.sector_count() {

@@ -80,7 +80,8 @@ fn put_zeroes(image: &mut [u8], first: u64, count: u64, sector: usize)
 fn put_bytes(image: &mut [u8], sector: usize, part: &[u8])
     requires within { sector < length image.old / 512 }
     requires part { length part.now ≡ 512 }
-    ensures { (patch : Patch) → patch sector ≡ Some part.now → IsPut patch sector image.old image.new }
+    ensures { (patch : Patch) → patch sector ≡ Some part.now
+        → IsPut patch sector image.old image.new }
 {
     let from = sector * SECTOR;
     image[from..from + SECTOR].copy_from_slice(part);

@@ -1,7 +1,9 @@
 //! A run that leaves an image, made from the judge's account of it.
 //!
-//! The plan takes the events one after another, then the requests that haven't ended, then power goes.
-ghost use Rattle.std.specs.Prelude.{◌≡◌, ℕ, ◌/◌, ◌%◌, ◌++◌, IfOk, MatchOption, OnOk, Some, length, slice_get, take, true};
+//! The plan takes the events one after another, then the
+//! requests that haven't ended, then power goes.
+ghost use Rattle.std.specs.Prelude.{◌≡◌, ℕ, ◌/◌, ◌%◌, ◌++◌, IfOk, MatchOption, OnOk, Some, length};
+ghost use Rattle.std.specs.Prelude.{slice_get, take, true};
 ghost use Rattle.bio.specs.Events.{end_of, is_open_at};
 ghost use Rattle.bio.specs.Lawful.{is_lawful};
 ghost use Rattle.bio.specs.Possible.{ended_ok, is_success};
@@ -11,7 +13,8 @@ ghost use Rattle.sectors.specs.Content.{sector_of};
 ghost use Rattle.sectors.specs.Places.{collect};
 ghost use Rattle.world.specs.Findings.{IsFinding};
 ghost use Rattle.world.specs.Runs.{IsReachable, Leaves};
-ghost use Rattle.world.specs.inside.Plan.{AllEnd, by_sector, lands_late, plan, steps_left, steps_of, sure_by};
+ghost use Rattle.world.specs.inside.Plan.{AllEnd, by_sector, lands_late, plan, steps_left};
+ghost use Rattle.world.specs.inside.Plan.{steps_of, sure_by};
 
 use crate::allowed::is_request;
 use crate::finding::Finding;
@@ -21,13 +24,14 @@ use bio::{CoreEvent, Id};
 use judge::{Account, First, Verdict, beginning};
 use std::alloc::{AllocError, Global};
 
-/// A run of the machine that fits the first `moment` of the events and leaves the image, where `first` was on the
-/// device before the first event; none where there is no such run. `events` is a list that a recorder of the device
-/// may have recorded (`is_lawful`), a later moment than its last counts as all of them; the image has the
-/// device's length in bytes, whole sectors of 512.
+/// A run of the machine that fits the first `moment` of the events and leaves the image, where
+/// `first` was on the device before the first event; none where there is no such run. `events` is a
+/// list that a recorder of the device may have recorded (`is_lawful`), a later moment than its last
+/// counts as all of them; the image has the device's length in bytes, whole sectors of 512.
 ///
-/// Takes memory of 32 bytes for each sector, 16 for each event and what the run's steps take, two for each sector
-/// that a request covers at most; and time by the sum of these. Want of memory is the only error.
+/// Takes memory of 32 bytes for each sector, 16 for each event and what
+/// the run's steps take, two for each sector that a request covers at
+/// most; and time by the sum of these. Want of memory is the only error.
 pub fn reach(
     alloc: Global,
     events: &[CoreEvent],
@@ -39,8 +43,10 @@ pub fn reach(
     requires same { IsFirstOf (length image.now) first }
     requires lawful { is_lawful (length image.now / 512) events.now ≡ true }
     ensures { IfOk result (λ found. MatchOption found
-        (IsReachable (take moment events.now) (first_on first.entry (length image.now)) (sector_of image.now) → ⊥)
-        (λ run. Leaves (take moment events.now) (first_on first.entry (length image.now)) run.items (sector_of image.now))) }
+        (IsReachable (take moment events.now) (first_on first.entry (length image.now))
+        (sector_of image.now) → ⊥)
+        (λ run. Leaves (take moment events.now) (first_on first.entry (length image.now)) run.items
+        (sector_of image.now))) }
 {
     match find(alloc, events, moment, first, image)? {
         Finding::Run(run) => Ok(Some(run)),
@@ -48,7 +54,8 @@ pub fn reach(
     }
 }
 
-/// The same run; or, where there is none, the verdict that `could_hold` gives, of one account of the image.
+/// The same run; or, where there is none, the verdict that
+/// `could_hold` gives, of one account of the image.
 pub fn find(
     alloc: Global,
     events: &[CoreEvent],
@@ -59,7 +66,8 @@ pub fn find(
     requires whole { length image.now % 512 ≡ 0 }
     requires same { IsFirstOf (length image.now) first }
     requires lawful { is_lawful (length image.now / 512) events.now ≡ true }
-    ensures { IfOk result (IsFinding (length image.now / 512) (take moment events.now) (first_on first.entry (length image.now)) (sector_of image.now)) }
+    ensures { IfOk result (IsFinding (length image.now / 512) (take moment events.now)
+        (first_on first.entry (length image.now)) (sector_of image.now)) }
 {
     let events = beginning(events, moment);
     let account = Account::of(alloc, events, image)?;
@@ -74,7 +82,8 @@ fn run_of(alloc: Global, events: &[CoreEvent], account: &Account) -> Result<Vec<
     requires ends { (id : ℕ) → place_at account.now.ends.items id ≡ end_of events.now id }
     requires within { AllEnd events.now }
     ensures { IfOk result (λ run.
-        run.items ≡ plan events.now (place_at account.now.held.items) (sure_by account.now.last.items)) }
+        run.items ≡ plan events.now (place_at account.now.held.items)
+        (sure_by account.now.last.items)) }
 {
     let mut run = Vec::new(alloc);
     follow(&mut run, events, account)?;
@@ -88,7 +97,8 @@ fn follow(run: &mut Vec<Step>, events: &[CoreEvent], account: &Account) -> Resul
     requires ends { (id : ℕ) → place_at account.now.ends.items id ≡ end_of events.now id }
     requires within { AllEnd events.now }
     ensures { OnOk result (run.new.items ≡ run.old.items ++ collect (λ place. steps_of events.now
-        (place_at account.now.held.items) (sure_by account.now.last.items) place (slice_get events.now place)) (length events.now)) }
+        (place_at account.now.held.items) (sure_by account.now.last.items) place
+        (slice_get events.now place)) (length events.now)) }
 {
     for (place, event) in events.iter().enumerate() {
         take_event(run, events, account, place, event)?;

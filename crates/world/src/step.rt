@@ -5,9 +5,9 @@ ghost use Rattle.world.specs.Texts.{end_text, step_text};
 use bio::Id;
 use std::fmt;
 
-/// A step of a device with a cache. Ids are the places of submissions in the event list, sectors are counted
-/// from 0. It is shown as `submit <id>`, `land <id> <sector>`, `destage <sector>`, `end <id> ok` or `end <id> failed`,
-/// or `power`.
+/// A step of a device with a cache. Ids are the places of submissions in the event list, sectors
+/// are counted from 0. It is shown as `submit <id>`, `land <id> <sector>`, `destage <sector>`,
+/// `end <id> ok` or `end <id> failed`, or `power`.
 #[derive(Clone, Copy, Debug, PartialEq, Eq)]
 pub enum Step {
     /// The request is submitted.

@@ -24,6 +24,7 @@ module _ {T : Type 0} where
     pub full : (r : ℕ) → 0 < times r todo → (r < length next) × (filled (value_at rows r) ≡ 1)
 
   -- what holds of a look at any moment
-  pub record IsLook (next : List ℕ) (rows : List (Option T)) (last : ℕ) (at : Option ℕ) : Type 0 where
+  pub record IsLook (next : List ℕ) (rows : List (Option T)) (last : ℕ)
+      (at : Option ℕ) : Type 0 where
     pub sized : length rows ≡ length next
     pub way : (row : ℕ) → at ≡ Some row → IsWay next rows last row

@@ -1,5 +1,6 @@
 -- How links hold chains of rows: each chain is a ring.
-use Rattle.std.specs.Prelude.{◌≡◌, ℕ, ◌+◌, ◌<◌, ◌≤◌, ◌==◌, List, [], ◌∷◌, length, Option, Some, None, slice_index_or, if◌then◌else◌}
+use Rattle.std.specs.Prelude.{◌≡◌, ℕ, ◌+◌, ◌<◌, ◌≤◌, ◌==◌, List, [], ◌∷◌, length, Option, Some}
+use Rattle.std.specs.Prelude.{None, slice_index_or, if◌then◌else◌}
 use Rattle.std.specs.List.{sum_by}
 use Rattle.chains.specs.Edits.{chain_in}
 
@@ -35,8 +36,10 @@ abbrev pub IsChain : List ℕ → Option ℕ → List ℕ → Type 0
 IsChain next None rows = rows ≡ []
 IsChain next (Some last) rows = IsRing next last rows
 
--- The links hold these chains. Each row stands just once in all of them and in the list of those that are loose.
-pub record Holds (next : List ℕ) (lasts : List (Option ℕ)) (loose : List ℕ) (chains : List (List ℕ)) : Type 0 where
+-- The links hold these chains. Each row stands just once in
+-- all of them and in the list of those that are loose.
+pub record Holds (next : List ℕ) (lasts : List (Option ℕ)) (loose : List ℕ)
+    (chains : List (List ℕ)) : Type 0 where
   pub size : length chains ≡ length lasts
   pub each : (chain : ℕ) → IsChain next (last_in lasts chain) (chain_in chains chain)
   pub once : (row : ℕ) → row < length next → times row loose + times_in row chains ≡ 1

@@ -1,9 +1,11 @@
 -- What the ways to write links ask for, and what they count.
-use Rattle.std.specs.Prelude.{◌≡◌, ℕ, ◌+◌, ◌<◌, ◌≤◌, List, ◌∷◌, ◌++◌, length, Option, Some, vec_capacity}
+use Rattle.std.specs.Prelude.{◌≡◌, ℕ, ◌+◌, ◌<◌, ◌≤◌, List, ◌∷◌, ◌++◌, length, Option, Some}
+use Rattle.std.specs.Prelude.{vec_capacity}
 use Rattle.chains.specs.declared.links.Links.{Links}
 use Rattle.chains.specs.inside.Rings.{last_in, Holds, IsRing}
 
--- At most so many changes more are counted. There is as much room, and there are as many rows and chains.
+-- At most so many changes more are counted. There is as
+-- much room, and there are as many rows and chains.
 pub record Changes (old new : Links) (most : ℕ) : Type 0 where
   pub few : new.changed ≤ old.changed + most
   pub rises : old.changed ≤ new.changed
@@ -27,7 +29,8 @@ pub record IsLast (next : List ℕ) (last : ℕ) : Type 0 where
   pub holds : Holds next lasts loose chains
   pub there : last_in lasts chain ≡ Some last
 
--- The row is loose, and the chain is there. Its last row is the one that is noted; another chain's may be seen elsewhere.
+-- The row is loose, and the chain is there. Its last row is the
+-- one that is noted; another chain's may be seen elsewhere.
 pub record IsLoose (next : List ℕ) (noted : List (Option ℕ)) (chain row : ℕ) : Type 0 where
   pub lasts : List (Option ℕ)
   pub loose : List ℕ

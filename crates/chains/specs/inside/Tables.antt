@@ -1,5 +1,8 @@
--- How a table holds the values of chains: in each row, for which there is a link, a value or nothing.
-use Rattle.std.specs.Prelude.{◌≡◌, ℕ, suc, zero, ◌+◌, ◌-◌, ◌<◌, ◌==◌, min, List, [], ◌∷◌, length, map, Option, Some, None, slice_index_or, slice_set, vec_capacity, if◌then◌else◌}
+-- How a table holds the values of chains: in each row, for
+-- which there is a link, a value or nothing.
+use Rattle.std.specs.Prelude.{◌≡◌, ℕ, suc, zero, ◌+◌, ◌-◌, ◌<◌, ◌==◌, min, List, [], ◌∷◌, length}
+use Rattle.std.specs.Prelude.{map, Option, Some, None, slice_index_or, slice_set, vec_capacity}
+use Rattle.std.specs.Prelude.{if◌then◌else◌}
 use Rattle.chains.specs.declared.links.Links.{Links}
 use Rattle.chains.specs.declared.walk.Walk.{Walk}
 use Rattle.chains.specs.Edits.{chain_in}
@@ -10,7 +13,8 @@ use Rattle.chains.specs.inside.Rings.{after, times, Holds}
 abbrev pub rows_from : List ℕ → ℕ → ℕ → ℕ → List ℕ
 rows_from next last zero row = []
 rows_from next last (suc steps) row =
-    after next row ∷ (if after next row == last then [] else rows_from next last steps (after next row))
+    after next row ∷ (if after next row == last then [] else rows_from next last steps
+    (after next row))
 
 -- the rows of a chain with this last row
 abbrev pub chain_of : List ℕ → Option ℕ → List ℕ
@@ -60,29 +64,36 @@ module _ {T : Type 0} where
   filled None = 0
   filled (Some value) = 1
 
-  -- The links hold these chains, and all rows stand in them. A row has a value just where it isn't free.
-  pub record IsTable (next : List ℕ) (lasts : List (Option ℕ)) (rows : List (Option T)) (chains : List (List ℕ)) : Type 0 where
+  -- The links hold these chains, and all rows stand in
+  -- them. A row has a value just where it isn't free.
+  pub record IsTable (next : List ℕ) (lasts : List (Option ℕ)) (rows : List (Option T))
+      (chains : List (List ℕ)) : Type 0 where
     pub holds : Holds next lasts [] chains
     pub sized : length rows ≡ length next
     pub free : 0 < length lasts
-    pub full : (row : ℕ) → row < length rows → filled (value_at rows row) + times row (chain_in chains 0) ≡ 1
+    pub full : (row : ℕ) → row < length rows
+        → filled (value_at rows row) + times row (chain_in chains 0) ≡ 1
 
   -- The same while one row is loose, which has no value.
-  pub record IsOpen (next : List ℕ) (lasts : List (Option ℕ)) (rows : List (Option T)) (row : ℕ) (chains : List (List ℕ)) : Type 0 where
+  pub record IsOpen (next : List ℕ) (lasts : List (Option ℕ)) (rows : List (Option T)) (row : ℕ)
+      (chains : List (List ℕ)) : Type 0 where
     pub holds : Holds next lasts (row ∷ []) chains
     pub sized : length rows ≡ length next
     pub free : 0 < length lasts
-    pub full : (r : ℕ) → r < length rows → filled (value_at rows r) + times r (row ∷ []) + times r (chain_in chains 0) ≡ 1
+    pub full : (r : ℕ) → r < length rows
+        → filled (value_at rows r) + times r (row ∷ []) + times r (chain_in chains 0) ≡ 1
 
   -- what holds of the table between calls
   pub record IsSound (links : Links) (rows : List (Option T)) (walk : Option Walk) : Type 0 where
-    pub table : IsTable links.next.items (seen_lasts links.lasts.items walk) rows (seen_chains links walk)
+    pub table : IsTable links.next.items (seen_lasts links.lasts.items walk) rows
+        (seen_chains links walk)
     pub walks : IsWalk links.lasts.items walk
 
   -- how many values can be put in without memory: one in each free row, and in new rows
   abbrev pub spare_in : Links → List (Option T) → ℕ → List (List ℕ) → ℕ
   spare_in links rows capacity chains =
-      length (chain_in chains 0) + min (vec_capacity links.next - length links.next.items) (capacity - length rows)
+      length (chain_in chains 0) + min (vec_capacity links.next - length links.next.items)
+      (capacity - length rows)
 
   -- what contracts see
   abbrev pub shown_of : Links → List (Option T) → ℕ → Option Walk → Shown T

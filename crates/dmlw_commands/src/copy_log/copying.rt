@@ -9,7 +9,8 @@ ghost use Rattle.dmlw_commands.specs.Endings.{TellsLine, err_stream};
 ghost use Rattle.dmlw_commands.specs.Exits.{IsRefusal, fault_line};
 ghost use Rattle.dmlw_files.specs.Files.{KeepsFiles, MatchesContents, one_more};
 ghost use Rattle.dmlw_files.specs.Images.{image_of};
-ghost use Rattle.dmlw_commands.specs.CopiesLog.{Copies, EndsCopying, FailsCopy, HoldsCopied, IsCopiedFrom, copied_line};
+ghost use Rattle.dmlw_commands.specs.CopiesLog.{Copies, EndsCopying, FailsCopy, HoldsCopied};
+ghost use Rattle.dmlw_commands.specs.CopiesLog.{IsCopiedFrom, copied_line};
 
 use crate::copy_log::ending::{end_copying, stopped_of};
 use crate::copy_log::images::{Copied, copy_image};
@@ -23,12 +24,14 @@ use sector_disk::SectorDisk;
 use std::alloc::Global;
 use std::io::Write;
 
-/// Does `copy LOG OUT SECTORS`: copies the log in a file to a new log with sectors of 4,096 bytes, on a disk of so many sectors of 512 bytes, 8 to
-/// 1,048,576, and answers how it ended. How many entries were copied goes to `out` before the disk's image is written; a fault is reported to
+/// Does `copy LOG OUT SECTORS`: copies the log in a file to a new log with sectors of 4,096 bytes,
+/// on a disk of so many sectors of 512 bytes, 8 to 1,048,576, and answers how it ended. How many
+/// entries were copied goes to `out` before the disk's image is written; a fault is reported to
 /// `err`, with what helps where it `explains`. OUT is refused as a file where it is LOG.
 ///
-/// Each entry keeps its flags, its body, and its place and length in bytes. The copy stops before an entry whose place or length in bytes is no
-/// multiple of 4,096, before one that doesn't fit, and at a fault of the log; then nothing is written.
+/// Each entry keeps its flags, its body, and its place and length in bytes. The copy stops before
+/// an entry whose place or length in bytes is no multiple of 4,096, before one that doesn't fit,
+/// and at a fault of the log; then nothing is written.
 pub fn copy<F: Files, O: Write, E: Write>(
     alloc: Global,
     explains: bool,
@@ -40,17 +43,24 @@ pub fn copy<F: Files, O: Write, E: Write>(
 ) -> Ended
     requires least { 8 ≤ sectors }
     requires most { sectors ≤ 1048576 }
-    ensures ends { EndsCopying (F.contents files.old names.entry.log.now) names.entry.out.now sectors
+    ensures ends { EndsCopying
+        (F.contents files.old names.entry.log.now) names.entry.out.now sectors
         (F.writes files.old) (F.writes files.new) (O.contents out.old) (O.contents out.new)
         (err_stream explains (E.contents err.old) (E.contents err.new)) result }
     // Where it is done, OUT holds the image of the new log's disk.
-    ensures written { result.exit ≡ Exit.Done → HoldsCopied (F.contents files.old names.entry.log.now) sectors (F.contents files.new names.entry.out.now) }
-    // It is done or refused; where it is refused each file holds what it held, and a log isn't written over.
+    ensures written { result.exit ≡ Exit.Done
+        → HoldsCopied (F.contents files.old names.entry.log.now) sectors
+        (F.contents files.new names.entry.out.now) }
+    // It is done or refused; where it is refused each file
+    // holds what it held, and a log isn't written over.
     ensures exits { (result.exit ≡ Exit.Done) ⊎ (result.exit ≡ Exit.Refused) }
-    ensures kept { IsRefusal result.exit → KeepsFiles (F.contents files.old) (F.contents files.new) }
-    ensures apart { names.entry.log.now ≡ names.entry.out.now → F.writes files.new ≡ F.writes files.old }
+    ensures kept { IsRefusal result.exit
+        → KeepsFiles (F.contents files.old) (F.contents files.new) }
+    ensures apart { names.entry.log.now ≡ names.entry.out.now
+        → F.writes files.new ≡ F.writes files.old }
     ensures same { names.entry.log.now ≡ names.entry.out.now →
-        TellsLine (err_stream explains (E.contents err.old) (E.contents err.new)) Exit.Refused (fault_line (refused_by refusals.File)) result }
+        TellsLine (err_stream explains (E.contents err.old) (E.contents err.new)) Exit.Refused
+        (fault_line (refused_by refusals.File)) result }
 {
     let done = copy_file(alloc, names, sectors, files, out);
     let more = explain_copying(alloc, explains, stopped_of(done), names, files);
@@ -69,10 +79,14 @@ fn copy_file<F: Files, O: Write>(
     requires most { sectors ≤ 1048576 }
     ensures copies { Copies (F.contents files.old names.entry.log.now) names.entry.out.now sectors
         (F.writes files.old) (F.writes files.new) (O.contents out.old) (O.contents out.new) result }
-    ensures held { OnOk result (HoldsCopied (F.contents files.old names.entry.log.now) sectors (F.contents files.new names.entry.out.now)) }
+    ensures held { OnOk result
+        (HoldsCopied (F.contents files.old names.entry.log.now) sectors
+        (F.contents files.new names.entry.out.now)) }
     ensures kept { OnErr result (KeepsFiles (F.contents files.old) (F.contents files.new)) }
-    ensures apart { names.entry.log.now ≡ names.entry.out.now → F.writes files.new ≡ F.writes files.old }
-    ensures same { names.entry.log.now ≡ names.entry.out.now → result ≡ Err (stops.Fault (refused_by refusals.File)) }
+    ensures apart { names.entry.log.now ≡ names.entry.out.now
+        → F.writes files.new ≡ F.writes files.old }
+    ensures same { names.entry.log.now ≡ names.entry.out.now
+        → result ≡ Err (stops.Fault (refused_by refusals.File)) }
 {
     if files.is_same(names.log, names.out) {
         return Err(Stop::Fault(RunError::from(Refusal::File)));
@@ -93,7 +107,9 @@ fn copy_named<F: Files>(
 ) -> Result<Copied, Stop>
     requires least { 8 ≤ sectors }
     requires most { sectors ≤ 1048576 }
-    ensures copied { IfOk result (λ done. IsCopiedFrom (F.contents files.old log.now) done.count sectors (image_of done.disk)) }
+    ensures copied { IfOk result
+        (λ done. IsCopiedFrom (F.contents files.old log.now) done.count sectors
+        (image_of done.disk)) }
     ensures fails { IfErr result (FailsCopy (F.contents files.old log.now) sectors) }
     ensures kept { KeepsFiles (F.contents files.old) (F.contents files.new) }
     ensures unwritten { F.writes files.new ≡ F.writes files.old }
@@ -111,7 +127,8 @@ fn hand_over<F: Files, O: Write>(
     files: &mut F,
     out: &mut O,
 ) -> Result<(), RunError>
-    ensures done { OnOk result (Appends (O.contents out.old) (O.contents out.new) (copied_line count)
+    ensures done { OnOk result
+        (Appends (O.contents out.old) (O.contents out.new) (copied_line count)
         × (F.writes files.new ≡ one_more (F.writes files.old) name.now (image_of disk))) }
     ensures held { OnOk result (MatchesContents (F.contents files.new name.now) (image_of disk)) }
     ensures fails { IfErr result IsFileError }
@@ -127,7 +144,8 @@ fn hand_over<F: Files, O: Write>(
 
 // Tells how many entries were copied.
 fn print_count<O: Write>(count: u64, out: &mut O) -> Result<(), RunError>
-    ensures printed { OnOk result (Appends (O.contents out.old) (O.contents out.new) (copied_line count)) }
+    ensures printed { OnOk result
+        (Appends (O.contents out.old) (O.contents out.new) (copied_line count)) }
     ensures fails { IfErr result IsFileError }
 {
     writeln!(out, "copied {count}")?;

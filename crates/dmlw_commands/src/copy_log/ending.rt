@@ -11,8 +11,8 @@ use refusals::Refusal;
 use std::alloc::Global;
 use std::io::Write;
 
-/// How a copy ends that came to this. What stopped it is reported by one line, and `more` stands behind it; where it is done and there is no
-/// more, nothing goes to `err`.
+/// How a copy ends that came to this. What stopped it is reported by one line, and `more` stands
+/// behind it; where it is done and there is no more, nothing goes to `err`.
 pub(crate) fn end_copying<O: Write, E: Write>(
     alloc: Global,
     done: Result<u64, Stop>,
@@ -23,7 +23,8 @@ pub(crate) fn end_copying<O: Write, E: Write>(
     ensures exit { result.exit ≡ copy_exit done }
     ensures kept { Keeps (O.contents out.old) (O.contents out.new) }
     ensures quiet { copy_line done ≡ [] → more.now ≡ [] → E.contents err.new ≡ E.contents err.old }
-    ensures told { result.err_taken ≡ true → Appends (E.contents err.old) (E.contents err.new) (copy_line done ++ more.now) }
+    ensures told { result.err_taken ≡ true
+        → Appends (E.contents err.old) (E.contents err.new) (copy_line done ++ more.now) }
 {
     match done {
         Ok(_) => end(alloc, Ok(()), more, out, err),

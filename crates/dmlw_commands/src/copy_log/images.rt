@@ -27,13 +27,15 @@ pub(crate) struct Copied {
     pub(crate) disk: SectorDisk,
 }
 
-/// Copies the log that an image has to a new log with sectors of 4,096 bytes, on a disk of so many sectors of 512 bytes, 8 to 1,048,576.
-/// In memory are both disks and one entry; the old log's disk is gone after it.
+/// Copies the log that an image has to a new log with sectors of 4,096
+/// bytes, on a disk of so many sectors of 512 bytes, 8 to 1,048,576. In
+/// memory are both disks and one entry; the old log's disk is gone after it.
 pub(crate) fn copy_image(alloc: Global, log: Vec<u8>, sectors: u64) -> Result<Copied, Stop>
     requires log { IsImage log.items }
     requires least { 8 ≤ sectors }
     requires most { sectors ≤ 1048576 }
-    ensures copied { IfOk result (λ done. IsCopied log.items done.count sectors (image_of done.disk)) }
+    ensures copied { IfOk result
+        (λ done. IsCopied log.items done.count sectors (image_of done.disk)) }
     ensures fails { IfErr result (FailsOnImage log.items sectors) }
 {
     let mut reader = open_log(alloc, log)?;
@@ -60,7 +62,8 @@ fn open_log(alloc: Global, log: Vec<u8>) -> Result<LogReader<SectorDisk>, RunErr
     }
 }
 
-// Begins the new log, on a disk of so many sectors of zeroes. Nothing was copied yet, so want of memory is told as such, and not as an end of logging.
+// Begins the new log, on a disk of so many sectors of zeroes. Nothing was copied yet, so want of
+// memory is told as such, and not as an end of logging.
 fn begin_log(alloc: Global, sectors: u64) -> Result<LogStore<SectorDisk>, RunError>
     requires least { 8 ≤ sectors }
     requires most { sectors ≤ 1048576 }

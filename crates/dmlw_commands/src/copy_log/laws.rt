@@ -1,4 +1,5 @@
-// What the image of a copy replays to: the law is a function whose contract it is, and which runs to nothing.
+// What the image of a copy replays to: the law is a
+// function whose contract it is, and which runs to nothing.
 ghost use Rattle.std.specs.Prelude.{◌≡◌, List, None, Option, length, take, ℕ};
 ghost use Rattle.sectors.specs.Content.{Content};
 ghost use Rattle.log_format.specs.declared.decode.Super.{Super};
@@ -8,13 +9,15 @@ ghost use Rattle.log_reader.specs.declared.fault.LogFault.{LogFault};
 ghost use Rattle.log_reader.specs.Readings.{IsReading};
 ghost use Rattle.dmlw_commands.specs.CopiesLog.{IsCopied};
 
-/// Of the image of a copy as many entries are read as of the log, and no fault. On each disk the first of them, however many, replay to what
-/// the first of the log's entries replay to.
+/// Of the image of a copy as many entries are read as of the log, and no fault. On each disk the
+/// first of them, however many, replay to what the first of the log's entries replay to.
 pub fn copies_replay_alike()
-    ensures whole { (log image : List ℕ) (count sectors : ℕ) (new : Super) (copies : List Entry) (fault : Option LogFault) →
+    ensures whole { (log image : List ℕ) (count sectors : ℕ) (new : Super) (copies : List Entry)
+        (fault : Option LogFault) →
         IsCopied log count sectors image → IsReading image new copies fault →
         (fault ≡ None) × (length copies ≡ count) × (new.sectorsize ≡ 4096) }
-    ensures alike { (log image : List ℕ) (count sectors n : ℕ) (head new : Super) (es copies : List Entry) (f g : Option LogFault) (first : Content) →
+    ensures alike { (log image : List ℕ) (count sectors n : ℕ) (head new : Super)
+        (es copies : List Entry) (f g : Option LogFault) (first : Content) →
         IsCopied log count sectors image → IsReading log head es f → IsReading image new copies g →
         replay new.sectorsize (take n copies) first ≡ replay head.sectorsize (take n es) first }
 {}

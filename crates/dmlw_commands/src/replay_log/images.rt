@@ -25,8 +25,8 @@ pub(crate) struct Replayed {
     pub(crate) disk: SectorDisk,
 }
 
-/// Replays a log on the disk that a first image is, up to the entry that is named, by the call that carries the headline; the log's disk is gone
-/// after it.
+/// Replays a log on the disk that a first image is, up to the entry that is named, by the call that
+/// carries the headline; the log's disk is gone after it.
 pub(crate) fn replay_images(
     alloc: Global,
     log: Vec<u8>,
@@ -35,7 +35,8 @@ pub(crate) fn replay_images(
 ) -> Result<Replayed, Stop>
     requires log { IsImage log.items }
     requires first { IsImage first.items }
-    ensures replayed { IfOk result (λ done. IsReplayed log.items first.items upto.now done.count (image_of done.disk)) }
+    ensures replayed { IfOk result
+        (λ done. IsReplayed log.items first.items upto.now done.count (image_of done.disk)) }
     ensures fails { IfErr result (FailsOnImages log.items first.items upto.now) }
 {
     let log = disk_of(alloc, log)?;
@@ -60,7 +61,8 @@ fn stop_of(error: ReopenError) -> Stop
 // The disk that an image is.
 fn disk_of(alloc: Global, image: Vec<u8>) -> Result<SectorDisk, RunError>
     requires { IsImage image.items }
-    ensures begins { IfOk result (λ disk. Begins (length image.items / 512) (sector_of image.items) (shown_of disk)) }
+    ensures begins { IfOk result
+        (λ disk. Begins (length image.items / 512) (sector_of image.items) (shown_of disk)) }
     ensures memory { IfErr result (λ fault. fault ≡ memory_error) }
 {
     match SectorDisk::from_bytes(alloc, image) {

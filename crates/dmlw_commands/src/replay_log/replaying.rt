@@ -9,7 +9,8 @@ ghost use Rattle.dmlw_commands.specs.Endings.{TellsLine, err_stream};
 ghost use Rattle.dmlw_commands.specs.Exits.{IsRefusal, fault_line};
 ghost use Rattle.dmlw_files.specs.Files.{KeepsFiles, MatchesContents, one_more};
 ghost use Rattle.dmlw_files.specs.Images.{image_of};
-ghost use Rattle.dmlw_commands.specs.Replays.{EndsReplaying, FailsReplay, HoldsReplayed, IsReplayedFrom, Replays, replayed_line};
+ghost use Rattle.dmlw_commands.specs.Replays.{EndsReplaying, FailsReplay, HoldsReplayed};
+ghost use Rattle.dmlw_commands.specs.Replays.{IsReplayedFrom, Replays, replayed_line};
 
 use crate::replay_log::ending::{end_replaying, stopped_of};
 use crate::replay_log::images::{Replayed, replay_images};
@@ -24,11 +25,13 @@ use sector_disk::SectorDisk;
 use std::alloc::Global;
 use std::io::Write;
 
-/// Does `replay LOG FIRST OUT WHAT`: applies the entries of a log, up to the one that is named, to a first image, and answers how it ended.
-/// How many they are goes to `out` before the image that came of it is written; a fault is reported to `err`, with what helps where it
-/// `explains`. OUT may be the file FIRST, and is refused as a file where it is LOG.
+/// Does `replay LOG FIRST OUT WHAT`: applies the entries of a log, up to the one that is named, to
+/// a first image, and answers how it ended. How many they are goes to `out` before the image that
+/// came of it is written; a fault is reported to `err`, with what helps where it `explains`. OUT
+/// may be the file FIRST, and is refused as a file where it is LOG.
 ///
-/// An entry's sectors are the log's; a FUA entry is applied as any other. Both images are whole sectors of 512 bytes, 1 to 1,048,576.
+/// An entry's sectors are the log's; a FUA entry is applied as any other. Both images are whole
+/// sectors of 512 bytes, 1 to 1,048,576.
 pub fn replay<F: Files, O: Write, E: Write>(
     alloc: Global,
     explains: bool,
@@ -38,18 +41,25 @@ pub fn replay<F: Files, O: Write, E: Write>(
     out: &mut O,
     err: &mut E,
 ) -> Ended
-    ensures ends { EndsReplaying (F.contents files.old names.entry.log.now) (F.contents files.old names.entry.first.now) names.entry.out.now upto.now
+    ensures ends { EndsReplaying (F.contents files.old names.entry.log.now)
+        (F.contents files.old names.entry.first.now) names.entry.out.now upto.now
         (F.writes files.old) (F.writes files.new) (O.contents out.old) (O.contents out.new)
         (err_stream explains (E.contents err.old) (E.contents err.new)) result }
     // Where it is done, OUT holds the image that came of it.
-    ensures written { result.exit ≡ Exit.Done → HoldsReplayed (F.contents files.old names.entry.log.now) (F.contents files.old names.entry.first.now) upto.now
+    ensures written { result.exit ≡ Exit.Done
+        → HoldsReplayed (F.contents files.old names.entry.log.now)
+        (F.contents files.old names.entry.first.now) upto.now
         (F.contents files.new names.entry.out.now) }
-    // It is done or refused; where it is refused each file holds what it held, and a log isn't written over.
+    // It is done or refused; where it is refused each file
+    // holds what it held, and a log isn't written over.
     ensures exits { (result.exit ≡ Exit.Done) ⊎ (result.exit ≡ Exit.Refused) }
-    ensures kept { IsRefusal result.exit → KeepsFiles (F.contents files.old) (F.contents files.new) }
-    ensures apart { names.entry.log.now ≡ names.entry.out.now → F.writes files.new ≡ F.writes files.old }
+    ensures kept { IsRefusal result.exit
+        → KeepsFiles (F.contents files.old) (F.contents files.new) }
+    ensures apart { names.entry.log.now ≡ names.entry.out.now
+        → F.writes files.new ≡ F.writes files.old }
     ensures same { names.entry.log.now ≡ names.entry.out.now →
-        TellsLine (err_stream explains (E.contents err.old) (E.contents err.new)) Exit.Refused (fault_line (refused_by refusals.File)) result }
+        TellsLine (err_stream explains (E.contents err.old) (E.contents err.new)) Exit.Refused
+        (fault_line (refused_by refusals.File)) result }
 {
     let done = replay_files(alloc, names, upto, files, out);
     let more = explain_replaying(alloc, explains, stopped_of(done), names, files);
@@ -64,13 +74,18 @@ fn replay_files<F: Files, O: Write>(
     files: &mut F,
     out: &mut O,
 ) -> Result<u64, Stop>
-    ensures replays { Replays (F.contents files.old names.entry.log.now) (F.contents files.old names.entry.first.now) names.entry.out.now upto.now
+    ensures replays { Replays (F.contents files.old names.entry.log.now)
+        (F.contents files.old names.entry.first.now) names.entry.out.now upto.now
         (F.writes files.old) (F.writes files.new) (O.contents out.old) (O.contents out.new) result }
-    ensures held { OnOk result (HoldsReplayed (F.contents files.old names.entry.log.now) (F.contents files.old names.entry.first.now) upto.now
+    ensures held { OnOk result
+        (HoldsReplayed (F.contents files.old names.entry.log.now)
+        (F.contents files.old names.entry.first.now) upto.now
         (F.contents files.new names.entry.out.now)) }
     ensures kept { OnErr result (KeepsFiles (F.contents files.old) (F.contents files.new)) }
-    ensures apart { names.entry.log.now ≡ names.entry.out.now → F.writes files.new ≡ F.writes files.old }
-    ensures same { names.entry.log.now ≡ names.entry.out.now → result ≡ Err (stops.Fault (refused_by refusals.File)) }
+    ensures apart { names.entry.log.now ≡ names.entry.out.now
+        → F.writes files.new ≡ F.writes files.old }
+    ensures same { names.entry.log.now ≡ names.entry.out.now
+        → result ≡ Err (stops.Fault (refused_by refusals.File)) }
 {
     if files.is_same(names.log, names.out) {
         return Err(Stop::Fault(RunError::from(Refusal::File)));
@@ -91,8 +106,10 @@ fn replay_named<F: Files>(
     files: &mut F,
 ) -> Result<Replayed, Stop>
     ensures replayed { IfOk result (λ done.
-        IsReplayedFrom (F.contents files.old log.now) (F.contents files.old first.now) upto.now done.count (image_of done.disk)) }
-    ensures fails { IfErr result (FailsReplay (F.contents files.old log.now) (F.contents files.old first.now) upto.now) }
+        IsReplayedFrom (F.contents files.old log.now)
+        (F.contents files.old first.now) upto.now done.count (image_of done.disk)) }
+    ensures fails { IfErr result
+        (FailsReplay (F.contents files.old log.now) (F.contents files.old first.now) upto.now) }
     ensures kept { KeepsFiles (F.contents files.old) (F.contents files.new) }
     ensures unwritten { F.writes files.new ≡ F.writes files.old }
 {
@@ -110,7 +127,8 @@ fn hand_over<F: Files, O: Write>(
     files: &mut F,
     out: &mut O,
 ) -> Result<(), RunError>
-    ensures done { OnOk result (Appends (O.contents out.old) (O.contents out.new) (replayed_line count)
+    ensures done { OnOk result
+        (Appends (O.contents out.old) (O.contents out.new) (replayed_line count)
         × (F.writes files.new ≡ one_more (F.writes files.old) name.now (image_of disk))) }
     ensures held { OnOk result (MatchesContents (F.contents files.new name.now) (image_of disk)) }
     ensures fails { IfErr result IsFileError }
@@ -126,7 +144,8 @@ fn hand_over<F: Files, O: Write>(
 
 // Tells how many entries were replayed.
 fn print_count<O: Write>(count: u64, out: &mut O) -> Result<(), RunError>
-    ensures printed { OnOk result (Appends (O.contents out.old) (O.contents out.new) (replayed_line count)) }
+    ensures printed { OnOk result
+        (Appends (O.contents out.old) (O.contents out.new) (replayed_line count)) }
     ensures fails { IfErr result IsFileError }
 {
     writeln!(out, "replayed {count}")?;

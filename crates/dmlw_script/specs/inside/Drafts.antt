@@ -1,5 +1,7 @@
--- The steps of the reader over a body. `Grammar` and `Reading` say in the grammar's words what they come to.
-use Rattle.std.specs.Prelude.{◌≡◌, ℕ, Bool, false, List, [], ◌∷◌, ◌++◌, Option, Some, None, Result, Ok, Err, length, nat_lt, slice_index_or, if◌then◌else◌}
+-- The steps of the reader over a body. `Grammar` and
+-- `Reading` say in the grammar's words what they come to.
+use Rattle.std.specs.Prelude.{◌≡◌, ℕ, Bool, false, List, [], ◌∷◌, ◌++◌, Option, Some, None, Result}
+use Rattle.std.specs.Prelude.{Ok, Err, length, nat_lt, slice_index_or, if◌then◌else◌}
 use Rattle.refusals.specs.declared.refusal.Refusal.{Refusal}
 use Rattle.refusals.specs.declared.refusal.Refusal.TheVariants.{BadId, BadLine}
 use Rattle.bio.specs.declared.request.BadBio.{BadBio}
@@ -14,7 +16,8 @@ use Rattle.dmlw_script.specs.declared.line.BodyLine.{BodyLine}
 use Rattle.dmlw_script.specs.declared.line.BodyLine.TheVariants as body_lines
 use Rattle.dmlw_script.specs.declared.line_error.LineError.{LineError}
 use Rattle.dmlw_script.specs.declared.line_error.LineError.TheVariants as line_errors
-use Rattle.dmlw_script.specs.Plans.{is_ended, moment_after, request_of, step_answer, submission_answer}
+use Rattle.dmlw_script.specs.Plans.{is_ended, moment_after, request_of, step_answer}
+use Rattle.dmlw_script.specs.Plans.{submission_answer}
 
 -- a script's body, as far as it was read: the ids that were submitted, and the commands
 pub record Body : Type 0 where
@@ -59,10 +62,12 @@ abbrev pub as_refusal : Result (Unit {0}) BadBio → Result (Unit {0}) Refusal
 as_refusal (Ok fine) = Ok tt
 as_refusal (Err bad) = Err (bad_bio_refusal bad)
 
--- the test of a line that names no request, at this moment: no `at` goes back, and sectors pass their test
+-- the test of a line that names no request, at this moment:
+-- no `at` goes back, and sectors pass their test
 abbrev pub step_test : (bytes sectors moment : ℕ) → Step → Result (Unit {0}) Refusal
 step_test bytes sectors moment steps.Close = Ok tt
-step_test bytes sectors moment (steps.Read first count) = as_refusal (step_answer bytes sectors (steps.Read first count))
+step_test bytes sectors moment (steps.Read first count) =
+    as_refusal (step_answer bytes sectors (steps.Read first count))
 step_test bytes sectors moment steps.Turn = Ok tt
 step_test bytes sectors moment (steps.Mark text) = Ok tt
 step_test bytes sectors moment (steps.At later) = if nat_lt later moment then Err BadLine else Ok tt
@@ -71,9 +76,11 @@ step_test bytes sectors moment (steps.Message over layer text) = Ok tt
 -- an end, whose request must be open
 abbrev pub ended_next : Option ℕ → Body → Result Body Refusal
 ended_next None b = Err BadId
-ended_next (Some request) b = if is_ended request b.body then Err BadId else Ok (with_command b (commands.Complete request))
+ended_next (Some request) b =
+    if is_ended request b.body then Err BadId else Ok (with_command b (commands.Complete request))
 
--- the body after one more line, for a log of sectors of so many bytes and a data disk of so many sectors
+-- the body after one more line, for a log of sectors of so
+-- many bytes and a data disk of so many sectors
 abbrev pub body_step : (bytes sectors : ℕ) → Body → BodyLine → Result Body Refusal
 body_step bytes sectors b (body_lines.Submit name submission) = do
   submitted ← with_name b name

@@ -1,5 +1,7 @@
--- What a line says, as the reader finds it. `Grammar` says it in the grammar's words; the two agree by proof.
-use Rattle.std.specs.Prelude.{◌≡◌, ◌⊎◌, ℕ, ◌==◌, Bool, true, false, List, [], ◌∷◌, Option, Some, None, Result, Ok, Err, codes, if◌then◌else◌}
+-- What a line says, as the reader finds it. `Grammar` says
+-- it in the grammar's words; the two agree by proof.
+use Rattle.std.specs.Prelude.{◌≡◌, ◌⊎◌, ℕ, ◌==◌, Bool, true, false, List, [], ◌∷◌, Option, Some}
+use Rattle.std.specs.Prelude.{None, Result, Ok, Err, codes, if◌then◌else◌}
 use Rattle.std.proofs.Common.{inl, inr}
 use Rattle.std.specs.List.{slice_split}
 use Rattle.std.specs.Option.{option_map, option_or}
@@ -46,7 +48,9 @@ step it = parsed_lines.Body (body_lines.Step it)
 -- whether this word stands first among others, and what is left behind it
 abbrev pub take_word : List ℕ → Option (List ℕ) → Bool × Option (List ℕ)
 take_word word None = (false, None)
-take_word word (Some words) = if bytes_eq (before_byte 32 words) word then (true, after_byte 32 words) else (false, Some words)
+take_word word (Some words) =
+    if bytes_eq (before_byte 32 words) word then (true, after_byte 32 words) else
+    (false, Some words)
 
 -- the options that were found, where no word is left
 abbrev pub found_options : Bool → Bool → Bool → Option (List ℕ) → Option WriteOptions
@@ -119,15 +123,20 @@ lone_word verb =
 abbrev pub body_words : List ℕ → List ℕ → Option LineMeaning
 body_words verb words =
     if bytes_eq verb (codes "w") then write_of words
-    else if bytes_eq verb (codes "f") then option_map (λ name. submit name submits.Flush) (id_of_word words)
+    else if bytes_eq verb (codes "f") then option_map (λ name. submit name submits.Flush)
+    (id_of_word words)
     else if bytes_eq verb (codes "d") then discard_of words
-    else if bytes_eq verb (codes "c") then option_map (λ name. parsed_lines.Body (body_lines.Complete name)) (id_of_word words)
+    else if bytes_eq verb (codes "c") then option_map
+    (λ name. parsed_lines.Body (body_lines.Complete name)) (id_of_word words)
     else if bytes_eq verb (codes "r") then read_of words
-    else if bytes_eq verb (codes "at") then option_map (λ moment. step (steps.At moment)) (number_of words)
+    else if bytes_eq verb (codes "at") then option_map (λ moment. step (steps.At moment))
+    (number_of words)
     else None
 
 -- the layer that words ask for, or the test that they fail
-abbrev pub asked_from : {words : List (List ℕ)} → ((spec : LayerSpec) × IsTableLine words spec) ⊎ ((error : TableError) × (refusal_of words ≡ Some error)) → Result LayerSpec TableError
+abbrev pub asked_from : {words : List (List ℕ)}
+    → ((spec : LayerSpec) × IsTableLine words spec)
+    ⊎ ((error : TableError) × (refusal_of words ≡ Some error)) → Result LayerSpec TableError
 asked_from (inl asks) = Ok asks.0
 asked_from (inr fails) = Err fails.0
 
@@ -162,7 +171,8 @@ head_words verb words =
 
 -- what a line of this first word says, whose other words are these
 abbrev pub parse_words : List ℕ → List ℕ → Option LineMeaning
-parse_words verb words = option_or (option_map parsed_lines.Head (head_words verb words)) (body_words verb words)
+parse_words verb words =
+    option_or (option_map parsed_lines.Head (head_words verb words)) (body_words verb words)
 
 -- the words of a text, which stand behind one space each but for the first
 abbrev pub split_words : List ℕ → List (List ℕ)
@@ -196,7 +206,8 @@ disk_of_word word =
     else if bytes_eq word (codes "log") then Some disks.Log
     else None
 
--- the message to a layer of this disk that these words say: the layer's number, and behind one space the text
+-- the message to a layer of this disk that these words say:
+-- the layer's number, and behind one space the text
 abbrev pub message_to : DiskName → List ℕ → Option LineMeaning
 message_to over words = do
   layer ← number_of (before_byte 32 words)
@@ -211,7 +222,8 @@ message_of (Some words) = do
   from_layer ← after_byte 32 words
   message_to over from_layer
 
--- what a line of this first word says that is no crash, no mark and no message, whose other words are these, if it has any
+-- what a line of this first word says that is no crash, no mark and no message, whose other words
+-- are these, if it has any
 abbrev pub plain_parts : List ℕ → Option (List ℕ) → Option LineMeaning
 plain_parts verb (Some words) = parse_words verb words
 plain_parts verb None = lone_word verb
@@ -219,7 +231,8 @@ plain_parts verb None = lone_word verb
 -- what a line of this first word says, whose other words are these, if it has any
 abbrev pub parse_parts : List ℕ → Option (List ℕ) → Option LineMeaning
 parse_parts verb words =
-    if bytes_eq verb (codes "crash") then option_map (λ picks. parsed_lines.Crash picks) (picks_of words)
+    if bytes_eq verb (codes "crash") then option_map (λ picks. parsed_lines.Crash picks)
+    (picks_of words)
     else if bytes_eq verb (codes "mark") then mark_of words
     else if bytes_eq verb (codes "message") then message_of words
     else plain_parts verb words

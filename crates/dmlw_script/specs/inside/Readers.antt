@@ -1,5 +1,7 @@
--- The steps of the reader over lines. `Grammar` and `Reading` say in the grammar's words what they come to.
-use Rattle.std.specs.Prelude.{◌≡◌, ℕ, ◌+◌, Bool, true, false, not, List, [], ◌∷◌, Option, Some, None, Result, Ok, Err, if◌then◌else◌}
+-- The steps of the reader over lines. `Grammar` and
+-- `Reading` say in the grammar's words what they come to.
+use Rattle.std.specs.Prelude.{◌≡◌, ℕ, ◌+◌, Bool, true, false, not, List, [], ◌∷◌, Option, Some}
+use Rattle.std.specs.Prelude.{None, Result, Ok, Err, if◌then◌else◌}
 use Rattle.bio.specs.Sizes.{bytes_of}
 use Rattle.refusals.specs.declared.refusal.Refusal.{Refusal}
 use Rattle.refusals.specs.declared.refusal.Refusal.TheVariants.{BadLine, Memory}
@@ -57,7 +59,8 @@ body_line (heads.Ended data_disk log_disk log_size picks) p line = Err BadLine
 
 -- a crash, which comes after a whole head
 abbrev pub crash_line : Stage → Progress → List ℕ → Result Progress Refusal
-crash_line (heads.Whole data_disk log_disk log_size) p picks = Ok (record p { head = heads.Ended data_disk log_disk log_size picks })
+crash_line (heads.Whole data_disk log_disk log_size) p picks =
+    Ok (record p { head = heads.Ended data_disk log_disk log_size picks })
 crash_line (heads.Data data_disk) p picks = Err BadLine
 crash_line heads.Empty p picks = Err BadLine
 crash_line (heads.Ended data_disk log_disk log_size ended) p picks = Err BadLine
@@ -74,7 +77,8 @@ step_if step s None = Err BadLine
 step_if step s (Some said) = step s said
 
 -- one more line, of which this is heard and then this step taken
-abbrev pub line_by : {S W : Type 0} → (List ℕ → Option W) → (S → W → Result S Refusal) → S → List ℕ → Result S Refusal
+abbrev pub line_by : {S W : Type 0} → (List ℕ → Option W) → (S → W → Result S Refusal) → S → List ℕ
+    → Result S Refusal
 line_by parse step s line =
     if not (is_ascii_line line) then Err BadLine
     else if is_skipped line then Ok s
@@ -91,9 +95,23 @@ line_step p line = line_by parse_line parsed_step p line
 -- the text ends here: a whole head stands before it
 abbrev pub finished : Stage → Body → Result ScriptValue Refusal
 finished (heads.Whole data_disk log_disk log_size) body =
-    Ok (record { data_disk = data_disk; log_disk = log_disk; log_size = log_size; names = body.names; commands = body.body; ending = None })
+    Ok (record {
+      data_disk = data_disk;
+      log_disk = log_disk;
+      log_size = log_size;
+      names = body.names;
+      commands = body.body;
+      ending = None;
+    })
 finished (heads.Ended data_disk log_disk log_size picks) body =
-    Ok (record { data_disk = data_disk; log_disk = log_disk; log_size = log_size; names = body.names; commands = body.body; ending = Some picks })
+    Ok (record {
+      data_disk = data_disk;
+      log_disk = log_disk;
+      log_size = log_size;
+      names = body.names;
+      commands = body.body;
+      ending = Some picks;
+    })
 finished (heads.Data data_disk) body = Err BadLine
 finished heads.Empty body = Err BadLine
 
@@ -111,10 +129,13 @@ abbrev pub and_then : {A B : Type 0} → Result A Fault → (A → Result B Faul
 and_then (Ok x) f = f x
 and_then (Err fault) f = Err fault
 
--- what is read of these lines, the first of which has this number, by this step for a line and this one for the end of the text
-abbrev pub read_by : {S A : Type 0} → (S → List ℕ → Result S Refusal) → (S → Result A Refusal) → S → ℕ → List (List ℕ) → Result A Fault
+-- what is read of these lines, the first of which has this number, by this step for a line and this
+-- one for the end of the text
+abbrev pub read_by : {S A : Type 0} → (S → List ℕ → Result S Refusal) → (S → Result A Refusal) → S
+    → ℕ → List (List ℕ) → Result A Fault
 read_by step finish s number [] = at_line number (finish s)
-read_by step finish s number (line ∷ lines) = and_then (at_line number (step s line)) (λ t. read_by step finish t (number + 1) lines)
+read_by step finish s number (line ∷ lines) =
+    and_then (at_line number (step s line)) (λ t. read_by step finish t (number + 1) lines)
 
 -- what is read of these lines, the first of which has this number
 abbrev pub read_lines : Progress → ℕ → List (List ℕ) → Result ScriptValue Fault

@@ -1,5 +1,7 @@
--- The steps of the reader of a run's script over lines. `RunGrammar` and `RunReading` say in the grammar's words what they come to.
-use Rattle.std.specs.Prelude.{ℕ, ◌&&◌, Bool, true, false, List, [], ◌∷◌, ◌++◌, Option, Some, None, Result, Ok, Err, nat_le, nat_lt, if◌then◌else◌}
+-- The steps of the reader of a run's script over lines. `RunGrammar` and `RunReading` say in the
+-- grammar's words what they come to.
+use Rattle.std.specs.Prelude.{ℕ, ◌&&◌, Bool, true, false, List, [], ◌∷◌, ◌++◌, Option, Some, None}
+use Rattle.std.specs.Prelude.{Result, Ok, Err, nat_le, nat_lt, if◌then◌else◌}
 use Rattle.bio.specs.Sizes.{bytes_of}
 use Rattle.refusals.specs.declared.fault.Fault.{Fault}
 use Rattle.refusals.specs.declared.refusal.Refusal.{Refusal}
@@ -19,7 +21,8 @@ use Rattle.dmlw_script.specs.inside.RunParsing.{parse_run_line}
 use Rattle.dmlw_script.specs.inside.Stages.{Stage}
 use Rattle.dmlw_script.specs.inside.Stages as heads
 
--- a run's script, as far as it was read: its head, the number of its seats, if that was read, and the lines of its body
+-- a run's script, as far as it was read: its head, the number
+-- of its seats, if that was read, and the lines of its body
 pub record RunProgress : Type 0 where
   pub head : Stage
   pub seats : Option ℕ
@@ -50,21 +53,24 @@ is_seat_count count = nat_le 1 count && nat_le count 64
 
 -- the number of seats, which comes once, behind both disks
 abbrev pub seats_line : Stage → Option ℕ → RunProgress → ℕ → Result RunProgress Refusal
-seats_line (heads.Whole data_disk log_disk log_size) None p count = if is_seat_count count then Ok (record p { seats = Some count }) else Err BadLine
+seats_line (heads.Whole data_disk log_disk log_size) None p count =
+    if is_seat_count count then Ok (record p { seats = Some count }) else Err BadLine
 seats_line (heads.Whole data_disk log_disk log_size) (Some seats) p count = Err BadLine
 seats_line heads.Empty seats p count = Err BadLine
 seats_line (heads.Data data_disk) seats p count = Err BadLine
 seats_line (heads.Ended data_disk log_disk log_size picks) seats p count = Err BadLine
 
 -- the body after one more line, of which a test of sectors answers this
-abbrev pub with_call : RunProgress → SeatCall → Result (Unit {0}) Refusal → Result RunProgress Refusal
+abbrev pub with_call : RunProgress → SeatCall → Result (Unit {0}) Refusal
+    → Result RunProgress Refusal
 with_call p line (Ok fine) = Ok (record p { calls = p.calls ++ line ∷ [] })
 with_call p line (Err refusal) = Err refusal
 
 -- one more line of the body, which comes behind the number of seats and is of one of them
 abbrev pub call_line : Stage → Option ℕ → RunProgress → SeatCall → Result RunProgress Refusal
 call_line (heads.Whole data_disk log_disk log_size) (Some seats) p line =
-    if nat_lt line.seat seats then with_call p line (as_refusal (call_answer (bytes_of log_size) (top_of data_disk) line.call)) else Err BadLine
+    if nat_lt line.seat seats then with_call p line
+    (as_refusal (call_answer (bytes_of log_size) (top_of data_disk) line.call)) else Err BadLine
 call_line (heads.Whole data_disk log_disk log_size) None p line = Err BadLine
 call_line heads.Empty seats p line = Err BadLine
 call_line (heads.Data data_disk) seats p line = Err BadLine
@@ -83,7 +89,13 @@ run_line_step p line = line_by parse_run_line said_step p line
 -- the text ends here: both disks and the number of seats stand before it
 abbrev pub finished_run : Stage → Option ℕ → List SeatCall → Result RunPlan Refusal
 finished_run (heads.Whole data_disk log_disk log_size) (Some seats) calls =
-    Ok (record { data_disk = data_disk; log_disk = log_disk; log_size = log_size; seats = seats; calls = calls })
+    Ok (record {
+      data_disk = data_disk;
+      log_disk = log_disk;
+      log_size = log_size;
+      seats = seats;
+      calls = calls;
+    })
 finished_run (heads.Whole data_disk log_disk log_size) None calls = Err BadLine
 finished_run heads.Empty seats calls = Err BadLine
 finished_run (heads.Data data_disk) seats calls = Err BadLine

@@ -1,4 +1,5 @@
--- Which order a text asks for, as the reader finds it. `Orders` says it in the words' terms; the two agree by proof.
+-- Which order a text asks for, as the reader finds it. `Orders`
+-- says it in the words' terms; the two agree by proof.
 use Rattle.std.specs.Prelude.{ℕ, List, Option, Some, None, codes, nat_lt, if◌then◌else◌}
 use Rattle.std.specs.Option.{option_map, option_and_then}
 use Rattle.std.specs.Str.{bytes_eq}
@@ -18,13 +19,15 @@ count_of (Some word) = option_and_then in_byte (number_of word)
 -- the block that these words list, and its count
 abbrev pub add_of : List ℕ → Option Order
 add_of words =
-    option_and_then (λ block. option_map (λ count. orders.Add block count) (count_of (after_byte 32 words))) (number_of (before_byte 32 words))
+    option_and_then (λ block. option_map (λ count. orders.Add block count)
+    (count_of (after_byte 32 words))) (number_of (before_byte 32 words))
 
 -- the order of this first word, whose other words are these
 abbrev pub order_with : List ℕ → List ℕ → Option Order
 order_with verb words =
     if bytes_eq verb (codes "addbadblock") then add_of words
-    else if bytes_eq verb (codes "removebadblock") then option_map (λ block. orders.Remove block) (number_of words)
+    else if bytes_eq verb (codes "removebadblock") then option_map (λ block. orders.Remove block)
+    (number_of words)
     else None
 
 -- the order of this one word

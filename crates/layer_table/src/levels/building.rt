@@ -3,8 +3,10 @@
 ghost use Rattle.std.specs.Prelude.{◌≡◌, ◌∷◌, List, false, true};
 ghost use Rattle.blockdev.specs.Calls.{IsRange};
 ghost use Rattle.table_line.specs.Ranges.{IsLayerSpec};
-ghost use Rattle.layer_table.specs.Layers.{layer_asked, layers_one, layers_three, layers_two, layers_with, IsPut, Layer};
-ghost use Rattle.layer_table.specs.Levels.{disk_one, disk_three, disk_two, shape_one, shape_three, shape_two};
+ghost use Rattle.layer_table.specs.Layers.{layer_asked, layers_one, layers_three, layers_two};
+ghost use Rattle.layer_table.specs.Layers.{layers_with, IsPut, Layer};
+ghost use Rattle.layer_table.specs.Levels.{disk_one, disk_three, disk_two, shape_one, shape_three};
+ghost use Rattle.layer_table.specs.Levels.{shape_two};
 ghost use Rattle.layer_table.specs.OneLevel.{one_shown};
 ghost use Rattle.layer_table.specs.Slots.{device_of, has_layer, has_no_gap, slot_shown};
 ghost use Rattle.layer_table.specs.ThreeLevel.{three_shown};
@@ -131,7 +133,8 @@ pub(crate) fn layer<D: BlockDev + Drop>(
     requires fits { IsRange (D.shown lower).size spec.offset spec.length }
     ensures has_layer { has_layer result ≡ true }
     ensures device { device_of result ≡ lower }
-    ensures layers { (beneath : D → List Layer) → layers_with beneath result ≡ layer_asked spec load ∷ beneath lower }
+    ensures layers { (beneath : D → List Layer)
+        → layers_with beneath result ≡ layer_asked spec load ∷ beneath lower }
     ensures shown { IsPut spec (D.shown lower) (slot_shown result) }
 {
     let range = Linear::new(lower, spec.offset, spec.length);

@@ -1,13 +1,16 @@
 //! Builds a stack: the disk alone, then layers over it, and the refusal of one that cannot stand.
 //! The clauses say which layers then stand and what the stack shows.
-ghost use Rattle.std.specs.Prelude.{◌≡◌, ◌⊎◌, ◌<◌, ◌≤◌, ◌+◌, [], ◌∷◌, IfErr, IfOk, IsOk, OnErr, OnOk, false, length, true};
+ghost use Rattle.std.specs.Prelude.{◌≡◌, ◌⊎◌, ◌<◌, ◌≤◌, ◌+◌, [], ◌∷◌, IfErr, IfOk, IsOk, OnErr};
+ghost use Rattle.std.specs.Prelude.{OnOk, false, length, true};
 ghost use Rattle.refusals.specs.declared.refusal.Refusal.TheVariants as refusals;
 ghost use Rattle.blockdev.specs.Calls.{IsRange};
 ghost use Rattle.sector_disk.specs.Shown.{shown_of};
 ghost use Rattle.table_line.specs.Ranges.{IsLayerSpec};
 ghost use Rattle.table_line.specs.Standing.{CanStand};
 ghost use Rattle.std.specs.List.{AllByRecursion};
-ghost use Rattle.layer_table.specs.Layers.{disk_of, layer_asked, layers_of, layers_three, layers_under, layers_with, stack_shown, AreOver, IsPartlyUnder, IsPut, IsSeenAs};
+ghost use Rattle.layer_table.specs.Layers.{disk_of, layer_asked, layers_of, layers_three};
+ghost use Rattle.layer_table.specs.Layers.{layers_under, layers_with, stack_shown, AreOver};
+ghost use Rattle.layer_table.specs.Layers.{IsPartlyUnder, IsPut, IsSeenAs};
 ghost use Rattle.layer_table.specs.Levels.{disk_three, shape_of};
 ghost use Rattle.layer_table.specs.Slots.{device_of, has_layer, has_no_gap, slot_shown};
 
@@ -39,16 +42,23 @@ impl Stack {
         }
     }
 
-    /// Puts a layer over what stands, loaded at the moment `load`, in milliseconds; what it lists later takes its memory from `alloc`. It is refused with OutOfRange exactly
-    /// where its last sector is past the end of what stands, or where four layers stand; then the stack is handed back as it was.
+    /// Puts a layer over what stands, loaded at the moment `load`, in milliseconds; what it lists
+    /// later takes its memory from `alloc`. It is refused with OutOfRange exactly where its last
+    /// sector is past the end of what stands, or where four layers stand; then the stack is handed
+    /// back as it was.
     #[tactic(auto, using(crate::specs::StackLaws::full_stack, crate::specs::StackLaws::free_stack))]
     pub fn over(self, alloc: Global, spec: LayerSpec, load: Ms) -> Result<Stack, (Stack, Refusal)>
         requires { IsLayerSpec spec }
-        ensures layers { IfOk result (λ stack. layers_of stack ≡ layer_asked spec load ∷ layers_of self) }
+        ensures layers { IfOk result
+            (λ stack. layers_of stack ≡ layer_asked spec load ∷ layers_of self) }
         ensures disk { IfOk result (λ stack. disk_of stack ≡ disk_of self) }
         ensures shown { IfOk result (λ stack. IsPut spec (stack_shown self) (stack_shown stack)) }
-        ensures fits { OnOk result ((spec.offset + spec.length ≤ (stack_shown self).size) × (length (layers_of self) < 4)) }
-        ensures fits_not { OnErr result (((stack_shown self).size < spec.offset + spec.length) ⊎ (length (layers_of self) ≡ 4)) }
+        ensures fits { OnOk result
+            ((spec.offset + spec.length ≤ (stack_shown self).size)
+            × (length (layers_of self) < 4)) }
+        ensures fits_not { OnErr result
+            (((stack_shown self).size < spec.offset + spec.length)
+            ⊎ (length (layers_of self) ≡ 4)) }
         ensures refused { IfErr result (λ back. (back.0 ≡ self) × (back.1 ≡ refusals.OutOfRange)) }
     {
         let sectors = self.sectors();
@@ -60,8 +70,9 @@ impl Stack {
         })
     }
 
-    /// Puts layers over what stands, the first of them lowest, each loaded at the moment `load`, in milliseconds. They are refused with OutOfRange
-    /// where `over` refuses one of them; then the stack is handed back with those beneath it.
+    /// Puts layers over what stands, the first of them lowest, each loaded at the moment `load`, in
+    /// milliseconds. They are refused with OutOfRange where `over` refuses one of them; then the
+    /// stack is handed back with those beneath it.
     pub fn under(
         self,
         alloc: Global,
@@ -69,10 +80,13 @@ impl Stack {
         load: Ms,
     ) -> Result<Stack, (Stack, Refusal)>
         requires { AllByRecursion IsLayerSpec specs.now }
-        ensures layers { IfOk result (λ stack. layers_of stack ≡ layers_under specs.now load (layers_of self)) }
+        ensures layers { IfOk result
+            (λ stack. layers_of stack ≡ layers_under specs.now load (layers_of self)) }
         ensures disk { IfOk result (λ stack. disk_of stack ≡ disk_of self) }
-        ensures shown { IfOk result (λ stack. AreOver specs.now (stack_shown self) (stack_shown stack)) }
-        ensures stand { CanStand (stack_shown self).size specs.now → length (layers_of self) + length specs.now ≤ 4 → IsOk result }
+        ensures shown { IfOk result
+            (λ stack. AreOver specs.now (stack_shown self) (stack_shown stack)) }
+        ensures stand { CanStand (stack_shown self).size specs.now
+            → length (layers_of self) + length specs.now ≤ 4 → IsOk result }
         ensures refused { IfErr result (λ back. back.1 ≡ refusals.OutOfRange) }
         ensures back { IfErr result (λ back. IsPartlyUnder specs.now load self back.0) }
     {
@@ -99,7 +113,8 @@ fn put(alloc: Global, top: Slot<Three>, spec: LayerSpec, load: Ms) -> Slot<Three
     requires fits { IsRange (slot_shown top).size spec.offset spec.length }
     requires free { has_layer top ≡ false }
     requires filled { has_no_gap (shape_of top) ≡ true }
-    ensures layers { layers_with layers_three result ≡ layer_asked spec load ∷ layers_with layers_three top }
+    ensures layers { layers_with layers_three result
+        ≡ layer_asked spec load ∷ layers_with layers_three top }
     ensures disk { disk_three (device_of result) ≡ disk_three (device_of top) }
     ensures shown { IsPut spec (slot_shown top) (slot_shown result) }
     ensures filled { has_no_gap (shape_of result) ≡ true }

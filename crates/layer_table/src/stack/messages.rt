@@ -5,8 +5,8 @@ ghost use Rattle.layer_table.specs.StackMessages.{StackAnswers};
 use crate::stack::Stack;
 use blockdev::{Message, MessageError};
 
-/// A message goes to the layer of its number, which counts from 1, the lowest. A number at which no layer stands, or one without bad blocks, is
-/// refused by BadMessage.
+/// A message goes to the layer of its number, which counts from 1, the lowest. A number at which no
+/// layer stands, or one without bad blocks, is refused by BadMessage.
 impl Message for Stack {
     ghost use Rattle.blockdev.specs.Messages.{unchanged_none};
 

@@ -28,7 +28,8 @@ addbadblock 60 1|60|1
 addbadblock 127 0|127|0
 addbadblock 00000000000000000007 00000000000000000255|7|255";
 
-// A row lists its block, which so many writes of it then take from the list; and once more, and clears the list.
+// A row lists its block, which so many writes of it then
+// take from the list; and once more, and clears the list.
 fn list_block<D: Message + Drop>(rt: &(impl Abort + Print), device: &mut D, row: &str) {
     let (text, rest) = row.split_once('|').unwrap_or_default();
     let (block, writes) = rest.split_once('|').unwrap_or_default();
@@ -75,8 +76,8 @@ fn texts_that_ask_for_none(rt: HostRuntime) -> Result<(), Fail> {
     Ok(())
 }
 
-// Messages to a layer of 99 sectors with blocks of 2, one after another: the text, the answer, and whether the device then is enabled
-// (`e`) and lists the blocks 0 (`f`) and 49 (`l`).
+// Messages to a layer of 99 sectors with blocks of 2, one after another: the text, the answer, and
+// whether the device then is enabled (`e`) and lists the blocks 0 (`f`) and 49 (`l`).
 const ANSWERS: &str = "removebadblock 0|8 NotBad|---
 clearbadblocks|ok|---
 disable|ok|---
@@ -105,7 +106,8 @@ fn is_bad<D: BlockDev + Drop>(rt: &impl Abort, device: &mut D, sector: u64) -> b
     ask(rt, device, Ms::new(0), read_of(sector)).end.is_err()
 }
 
-// Whether the device is enabled, and lists these two blocks: while it is enabled, a read of a listed block fails. Its mode stays.
+// Whether the device is enabled, and lists these two blocks: while it is enabled, a read of a
+// listed block fails. Its mode stays.
 fn state<D: BlockDev + Drop>(rt: &impl Abort, device: &mut Dust<D>) -> [bool; 3] {
     let is_enabled = device.mode() != Mode::Bypass;
     assert!(rt; device.message(1, "enable").is_ok());
@@ -147,7 +149,8 @@ fn answers_of_messages(rt: HostRuntime) -> Result<(), Fail> {
     Ok(())
 }
 
-// A layer of one or two sectors has one block of two, and one of three or four has two: as many as begin there.
+// A layer of one or two sectors has one block of two, and
+// one of three or four has two: as many as begin there.
 const ONE: &str = "m 1 addbadblock 0|ok
 m 1 addbadblock 1|6 BadMessage
 m 1 addbadblock 2|6 BadMessage";

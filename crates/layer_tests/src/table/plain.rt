@@ -4,7 +4,8 @@ use bio::Ms;
 use fault_layers::{Kind, Verdict};
 use table_line::{Feature, LayerSpec, Target};
 
-// A layer: what its line asks for, its load, how many calls it passed that a fuse counts, and how often it failed or dropped one.
+// A layer: what its line asks for, its load, how many calls it passed that a fuse counts, and how
+// often it failed or dropped one.
 #[derive(Debug, Drop)]
 pub(super) struct Plain {
     spec: LayerSpec,

@@ -17,10 +17,12 @@ use std::process::Abort;
 use std::test::Fail;
 use test_devices::{Failing, rows_are_told};
 
-// Copies, a line each: how many sectors the new log's disk has, how many writes and flushes its device does before it fails, the first of them as the log
-// begins, and the entries of a log with sectors of 512 bytes. `w` writes sectors 8 to 15, `u` does with FUA, `p` writes sectors 4 to 11, `l` sectors 8
-// to 11, `d` discards sectors 16 to 31, `f` flushes, `m` is a mark. After `=` stand the answer, the new log's status, and the entries that a crash leaves, which keeps only
-// what is settled: place, length, flags and first byte of each.
+// Copies, a line each: how many sectors the new log's disk has, how many writes and flushes its
+// device does before it fails, the first of them as the log begins, and the entries of a log with
+// sectors of 512 bytes. `w` writes sectors 8 to 15, `u` does with FUA, `p` writes sectors 4 to 11,
+// `l` sectors 8 to 11, `d` discards sectors 16 to 31, `f` flushes, `m` is a mark. After `=` stand
+// the answer, the new log's status, and the entries that a crash leaves, which keeps only what is
+// settled: place, length, flags and first byte of each.
 const COPIES: &str = "64 99 =0;0 0;
 64 99 wm=2;2 31;1+1 0 65;0+0 8 100;
 72 99 wudfm=5;5 63;1+1 0 65;1+1 2 65;2+2 4 0;0+0 1 0;0+0 8 100;
@@ -34,8 +36,8 @@ const COPIES: &str = "64 99 =0;0 0;
 64 6 wm=19 Device after 2;2 31 logging_disabled;1+1 0 65;0+0 8 100;
 64 8 wm=2;2 31;1+1 0 65;0+0 8 100;";
 
-// Copies of logs with sectors of 4,096 bytes, and of such as have so many reads of their device before it fails: the super block, and of each entry its own sector and a
-// write's data.
+// Copies of logs with sectors of 4,096 bytes, and of such as have so many reads of their device
+// before it fails: the super block, and of each entry its own sector and a write's data.
 const READS: &str = "99 wdum=4;4 55;1+1 0 65;2+2 4 0;1+1 2 65;0+0 8 100;
 1 wm=1 Io after 0;0 0;
 2 um=1 Io after 0;0 0;
@@ -156,7 +158,8 @@ fn number(word: Option<&str>) -> u64 {
     word.unwrap_or_default().parse::<u64>().unwrap_or(0)
 }
 
-// What is told of a copy: how many sectors its disk has, how many calls its device does, and the log's entries.
+// What is told of a copy: how many sectors its disk has,
+// how many calls its device does, and the log's entries.
 fn copy_told(rt: &impl Abort, alloc: Global, row: &str) -> Result<String, Fail> {
     let mut words = row.split(' ');
     let disk = SectorDisk::new(alloc, number(words.next()).clamp(8, 8192))?;
@@ -177,7 +180,8 @@ fn logs_are_copied(rt: HostRuntime) -> Result<(), Fail> {
     Ok(())
 }
 
-// What is told of a copy of a log whose device fails: how many reads it does, and the log's entries.
+// What is told of a copy of a log whose device fails: how
+// many reads it does, and the log's entries.
 fn reads_told(rt: &impl Abort, alloc: Global, row: &str) -> Result<String, Fail> {
     let (reads, kinds) = row.split_once(' ').unwrap_or_default();
     let log = log_of(rt, alloc, SectorSize::B4096, kinds)?;

@@ -17,7 +17,8 @@ struct Pair {
     target: Watched<Failing<SectorDisk>>,
 }
 
-// The log of an image of so many bytes, and a target of so many sectors of zeroes; each passes so many calls.
+// The log of an image of so many bytes, and a target of so
+// many sectors of zeroes; each passes so many calls.
 fn pair_of(
     rt: &impl Abort,
     alloc: Global,
@@ -50,7 +51,8 @@ fn step(alloc: Global, pair: &mut Pair, upto: &Upto) -> Result<String, AllocErro
     Ok(text)
 }
 
-// Writes with no flag, with FUA, with FLUSH and FUA, and of no sectors; a flush; discards of three sectors and of none; a mark; a write with META.
+// Writes with no flag, with FUA, with FLUSH and FUA, and of no sectors; a flush; discards of three
+// sectors and of none; a mark; a write with META.
 const CALLS: &str =
     "8 1 9 512 0 512 5 1 0 0 1536 6 2 2 0 3072 8 1 3 0 4096 0 0 0 0 4608 0 0 1 0 5120 9 3 4 0 5632 0 0 4 0 6144 0 0 8 0 6656 1 1 16 0";
 
@@ -89,7 +91,8 @@ fn image_named(alloc: Global, name: &str) -> Result<Vec<u8>, AllocError> {
     }
 }
 
-// The pair of a row: the name of an image, the calls that its device passes, how many sectors the target has, and the calls that it passes.
+// The pair of a row: the name of an image, the calls that its device passes, how many sectors the
+// target has, and the calls that it passes.
 fn pair_in(rt: &impl Abort, alloc: Global, row: &str) -> Result<Pair, Fail> {
     let mut words = row.split(' ');
     let image = image_named(alloc, words.next().unwrap_or_default())?;
@@ -171,7 +174,8 @@ fn long_text(rt: &impl Abort, alloc: Global, text: &str) -> Result<String, Fail>
     Ok(step(alloc, &mut pair, &Upto::Flush)?)
 }
 
-// Each of thousands of discards is one call, in their order; where the time of each grew with its place, the test would not end in time.
+// Each of thousands of discards is one call, in their order; where the time of each grew with its
+// place, the test would not end in time.
 #[test]
 fn thousands_of_entries_are_replayed(rt: HostRuntime) -> Result<(), Fail> {
     let alloc = rt.alloc();
@@ -201,7 +205,8 @@ calls - 16 5;9=9:w5+1 w6+2 w8+1 d9+3 w1+1",
     )
 }
 
-// A log device that fails does so too: in a search nothing is applied, in reading an entry's own sector or its data that one isn't.
+// A log device that fails does so too: in a search nothing is applied, in reading an entry's own
+// sector or its data that one isn't.
 #[test]
 fn log_devices_that_fail_end_a_replay(rt: HostRuntime) -> Result<(), Fail> {
     assert_replays(
@@ -274,7 +279,8 @@ fn stale_entries_are_not_replayed(rt: HostRuntime) -> Result<(), Fail> {
     )
 }
 
-// After a refusal of its own a reader refuses by 22, but for more entries than there are; after another one it goes on.
+// After a refusal of its own a reader refuses by 22, but for
+// more entries than there are; after another one it goes on.
 #[test]
 fn readers_refuse_after_a_refusal(rt: HostRuntime) -> Result<(), Fail> {
     assert_replays(

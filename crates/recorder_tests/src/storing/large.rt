@@ -14,8 +14,9 @@ use std::process::Abort;
 use std::test::Fail;
 use test_devices::{Watched, rows_are_told};
 
-// Logs on disks of so many sectors, a line each. `w` appends a write of 8 sectors, `m` a mark, `s` settles; after `=` stand the status, and how many
-// entries and which sector size the super block has after a crash that keeps only what is settled.
+// Logs on disks of so many sectors, a line each. `w` appends a write of 8 sectors, `m` a mark, `s`
+// settles; after `=` stand the status, and how many entries and which sector size the super block
+// has after a crash that keeps only what is settled.
 const LOGS: &str = "64 =0 0;0 of 4096
 64 wms=2 31;2 of 4096
 64 msw=2 31;1 of 4096
@@ -26,7 +27,8 @@ const LOGS: &str = "64 =0 0;0 of 4096
 16 ms=0 0 logging_disabled;0 of 4096
 24 ms=1 15;1 of 4096";
 
-// The calls of the device that a log on 64 sectors makes: `w8+8` writes sectors 8 to 15, `F` with FUA, and `f` flushes.
+// The calls of the device that a log on 64 sectors makes:
+// `w8+8` writes sectors 8 to 15, `F` with FUA, and `f` flushes.
 const CALLS: &str = "64 =F0+8
 64 m=F0+8 w8+8
 64 w=F0+8 w8+8 w16+8

@@ -13,4 +13,5 @@ count_of (Discard count) = count
 pub record IsFilled (first count place : ℕ) (old new : List ℕ) : Type 0 where
   pub size : length new ≡ length old
   pub within : (sector : ℕ) → first ≤ sector → sector < first + count → place_of new sector ≡ place
-  pub outside : (sector : ℕ) → (sector < first) ⊎ (first + count ≤ sector) → place_of new sector ≡ place_of old sector
+  pub outside : (sector : ℕ) → (sector < first) ⊎ (first + count ≤ sector)
+      → place_of new sector ≡ place_of old sector

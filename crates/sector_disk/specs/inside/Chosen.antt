@@ -6,6 +6,8 @@ use Rattle.sector_disk.specs.Candidates.{Cache, left_by}
 use Rattle.sector_disk.specs.inside.Storage.{place_of, value_at}
 
 -- each sector below a number has the place of a call that left it what the picks leave
-pub record AreChosen (calls : List Call) (cache : Cache) (picks : List ℕ) (count : ℕ) (chosen : List ℕ) : Type 0 where
-  pub value : (sector : ℕ) → sector < count → value_at calls (place_of chosen sector) sector ≡ left_by cache picks sector
+pub record AreChosen (calls : List Call) (cache : Cache) (picks : List ℕ) (count : ℕ)
+    (chosen : List ℕ) : Type 0 where
+  pub value : (sector : ℕ) → sector < count
+      → value_at calls (place_of chosen sector) sector ≡ left_by cache picks sector
   pub within : (sector : ℕ) → sector < count → place_of chosen sector < length calls

@@ -1,5 +1,6 @@
 -- An image over which the calls after the first one have put their sectors.
-use Rattle.std.specs.Prelude.{ℕ, suc, zero, ◌*◌, ◌&&◌, ◌==◌, Bool, false, List, Option, None, Some, length}
+use Rattle.std.specs.Prelude.{ℕ, suc, zero, ◌*◌, ◌&&◌, ◌==◌, Bool, false, List, Option, None, Some}
+use Rattle.std.specs.Prelude.{length}
 use Rattle.sectors.specs.Content.{Content, sector_of}
 use Rattle.sector_disk.specs.declared.call.Call.{Call}
 use Rattle.sector_disk.specs.declared.call.Change.{Change}
@@ -16,11 +17,13 @@ abbrev pub is_image_in : Option Call → ℕ → Bool
 is_image_in None count = false
 is_image_in (Some call) count = (call.first == 0) && is_write_of call.change count
 
--- a sector as the call at a place left it: the first call left what the image has, and these are the calls after it
+-- a sector as the call at a place left it: the first call
+-- left what the image has, and these are the calls after it
 abbrev pub left_at : List Call → List ℕ → ℕ → Content
 left_at later image zero sector = sector_of image sector
 left_at later image (suc place) sector = value_at later place sector
 
--- the image, and over it what the calls after the first one left in the sectors of which they are the newest
+-- the image, and over it what the calls after the first one
+-- left in the sectors of which they are the newest
 abbrev pub put_over : List Call → List ℕ → List ℕ → Content
 put_over later places image sector = left_at later image (place_of places sector) sector

@@ -1,5 +1,8 @@
--- How a disk stores its past: its calls in order, and for each sector the place of the newest call that put a value there.
-use Rattle.std.specs.Prelude.{◌≡◌, ℕ, suc, zero, ◌+◌, ◌-◌, ◌<◌, ◌≤◌, ◌==◌, ◌&&◌, not, nat_le, nat_lt, Bool, true, false, Option, None, Some, unwrap_or, List, [], ◌∷◌, ◌++◌, length, replicate, slice_get}
+-- How a disk stores its past: its calls in order, and for each
+-- sector the place of the newest call that put a value there.
+use Rattle.std.specs.Prelude.{◌≡◌, ℕ, suc, zero, ◌+◌, ◌-◌, ◌<◌, ◌≤◌, ◌==◌, ◌&&◌, not, nat_le}
+use Rattle.std.specs.Prelude.{nat_lt, Bool, true, false, Option, None, Some, unwrap_or, List, []}
+use Rattle.std.specs.Prelude.{◌∷◌, ◌++◌, length, replicate, slice_get}
 use Rattle.sectors.specs.Content.{Content, Patch, discards, writes}
 use Rattle.sector_disk.specs.declared.call.Call.{Call}
 use Rattle.sector_disk.specs.declared.call.Change.{Change}
@@ -70,7 +73,8 @@ content_at calls places sector = value_at calls (place_of places sector) sector
 
 -- what a disk knows of its sectors
 abbrev pub cache_of : List Call → List ℕ → ℕ → Bool → Cache
-cache_of calls base begun flushed = cache_after (content_at calls base) (past_of calls begun flushed)
+cache_of calls base begun flushed =
+    cache_after (content_at calls base) (past_of calls begun flushed)
 
 -- the place that is so many calls back from a place
 abbrev pub walk : List Call → ℕ → ℕ → ℕ → ℕ
@@ -80,24 +84,30 @@ walk calls sector (suc n) place = walk calls sector n (before_at calls place sec
 -- the last so many values of a sector up to a place, in order
 abbrev pub back : List Call → ℕ → ℕ → ℕ → List (List ℕ)
 back calls sector zero place = []
-back calls sector (suc n) place = back calls sector n (before_at calls place sector) ++ value_at calls place sector ∷ []
+back calls sector (suc n) place =
+    back calls sector n (before_at calls place sector) ++ value_at calls place sector ∷ []
 
 -- so many calls back from a place stands the durable value, and all after it are open
 abbrev pub is_chain : List Call → ℕ → ℕ → ℕ → ℕ → Bool
 is_chain calls synced sector zero place = false
-is_chain calls synced sector (suc zero) place = nat_lt place (length calls) && not (is_open calls synced place)
+is_chain calls synced sector (suc zero) place =
+    nat_lt place (length calls) && not (is_open calls synced place)
 is_chain calls synced sector (suc (suc n)) place =
-    nat_lt place (length calls) && (is_open calls synced place && is_chain calls synced sector (suc n) (before_at calls place sector))
+    nat_lt place (length calls)
+    && (is_open calls synced place
+    && is_chain calls synced sector (suc n) (before_at calls place sector))
 
 -- a sector with this value and these candidates has its newest call at this place
-pub record IsPlaced (calls : List Call) (synced sector place : ℕ) (now : List ℕ) (may : List (List ℕ)) : Type 0 where
+pub record IsPlaced (calls : List Call) (synced sector place : ℕ) (now : List ℕ)
+    (may : List (List ℕ)) : Type 0 where
   pub value : value_at calls place sector ≡ now
   pub values : back calls sector (length may) place ≡ may
   pub chain : is_chain calls synced sector (length may) place ≡ true
   pub few : length may ≤ length calls
 
 -- each of so many sectors of a disk has its newest call at its place
-pub record ArePlaced (calls : List Call) (synced sectors : ℕ) (newest : List ℕ) (cache : Cache) : Type 0 where
+pub record ArePlaced (calls : List Call) (synced sectors : ℕ) (newest : List ℕ)
+    (cache : Cache) : Type 0 where
   pub each : (sector : ℕ) → sector < sectors
       → IsPlaced calls synced sector (place_of newest sector) (cache.now sector) (cache.may sector)
 
@@ -111,7 +121,8 @@ is_table sectors zero = true
 is_table sectors (suc n) = suc n == sectors
 
 -- what always holds of a disk's fields
-pub record IsKept (sectors : ℕ) (calls : List Call) (newest base : List ℕ) (begun synced : ℕ) (flushed : Bool) : Type 0 where
+pub record IsKept (sectors : ℕ) (calls : List Call) (newest base : List ℕ) (begun synced : ℕ)
+    (flushed : Bool) : Type 0 where
   pub some : 0 < sectors
   pub few : sectors ≤ 1048576
   pub table : is_table sectors (length newest) ≡ true

@@ -13,7 +13,8 @@ use blockdev::BlockDev;
 use std::alloc::AllocError;
 
 impl SectorDisk {
-    // Makes the tables of places, where there are none yet. Where there is no memory, nothing is changed.
+    // Makes the tables of places, where there are none yet.
+    // Where there is no memory, nothing is changed.
     fn open_tables(&mut self) -> Result<(), AllocError>
         ensures made { OnOk result (length self.new.newest.items ≡ self.new.sectors) }
         ensures same { HasPast self.old self.new (steps_of self.old) }
@@ -31,7 +32,8 @@ impl SectorDisk {
     fn put(&mut self, first: u64, change: Change, fua: bool) -> Result<(), AllocError>
         requires { first + count_of change ≤ self.old.sectors }
         ensures ok { OnOk result
-            (HasPast self.old self.new (Puts (change_values first change) fua ∷ steps_of self.old)) }
+            (HasPast self.old self.new
+            (Puts (change_values first change) fua ∷ steps_of self.old)) }
         ensures err { OnErr result (HasPast self.old self.new (steps_of self.old)) }
     {
         self.open_tables()?;

@@ -14,7 +14,8 @@ use std::alloc::{AllocError, Global};
 fn make(alloc: Global, change: Change) -> Result<SectorDisk, AllocError>
     requires { IsDiskSize (count_of change) }
     ensures { IfOk result (λ disk.
-        Begins (count_of change) (put (change_values 0 change) (λ _. replicate 512 0)) (shown_of disk)) }
+        Begins (count_of change) (put (change_values 0 change) (λ _. replicate 512 0))
+        (shown_of disk)) }
 {
     let sectors = change.sectors();
     let mut calls = Vec::new(alloc);
@@ -41,12 +42,14 @@ fn make(alloc: Global, change: Change) -> Result<SectorDisk, AllocError>
 fn read_all(calls: &[Call], places: &[usize], image: &mut Vec<u8>)
     requires whole { length image.old.items % 512 ≡ 0 }
     requires few { length image.old.items / 512 ≤ 1048576 }
-    ensures { image.new.items ≡ gather (content_at calls.now places.now) 0 (length image.old.items / 512) }
+    ensures { image.new.items
+        ≡ gather (content_at calls.now places.now) 0 (length image.old.items / 512) }
 {
     read_places(calls, places, 0, image);
 }
 
-// Gives the bytes of all the sectors of a disk, which goes: in the bytes of its first call, where that is a write of all sectors.
+// Gives the bytes of all the sectors of a disk, which goes: in the bytes of its first call, where
+// that is a write of all sectors.
 fn give_all(
     alloc: Global,
     calls: Vec<Call>,
@@ -54,7 +57,8 @@ fn give_all(
     sectors: usize,
 ) -> Result<Vec<u8>, AllocError>
     requires { sectors ≤ 1048576 }
-    ensures { IfOk result (λ image. image.items ≡ gather (content_at calls.items places.now) 0 sectors) }
+    ensures { IfOk result (λ image. image.items
+        ≡ gather (content_at calls.items places.now) 0 sectors) }
 {
     let mut calls = calls;
     if begins_with_image(&calls, sectors) {
@@ -74,8 +78,8 @@ impl SectorDisk {
         make(alloc, Change::Discard(sectors))
     }
 
-    /// The disk that an image is: its bytes are whole sectors, 1 to 1,048,576. They are taken as they are, with
-    /// no copy. Want of memory is an error.
+    /// The disk that an image is: its bytes are whole sectors, 1 to 1,048,576. They are taken as
+    /// they are, with no copy. Want of memory is an error.
     pub fn from_bytes(alloc: Global, bytes: Vec<u8>) -> Result<SectorDisk, AllocError>
         requires { IsImageSize (length bytes.items) }
         ensures { IfOk result (λ disk.
@@ -88,20 +92,25 @@ impl SectorDisk {
     pub fn bytes(&self) -> Result<Vec<u8>, AllocError>
         ensures content { IfOk result (λ image.
             image.items ≡ gather (shown_of self.now).content 0 (shown_of self.now).size) }
-        ensures sectors { IfOk result (λ image. AgreeBelow (shown_of self.now).size (shown_of self.now).content (sector_of image.items)) }
-        ensures length { IfOk result (λ image. length image.items ≡ 512 * (shown_of self.now).size) }
+        ensures sectors { IfOk result
+            (λ image. AgreeBelow (shown_of self.now).size (shown_of self.now).content
+            (sector_of image.items)) }
+        ensures length { IfOk result
+            (λ image. length image.items ≡ 512 * (shown_of self.now).size) }
     {
         let mut image = vec![in self.alloc; 0; self.sectors as usize * SECTOR]?;
         read_all(&self.calls, &self.newest, &mut image);
         Ok(image)
     }
 
-    /// The image of the disk, which goes. A disk that was made of an image gives that one back, with what was put since, and takes no
-    /// memory; else it may be refused as out of memory.
+    /// The image of the disk, which goes. A disk that was made of an image gives that one back,
+    /// with what was put since, and takes no memory; else it may be refused as out of memory.
     pub fn into_bytes(self) -> Result<Vec<u8>, AllocError>
         ensures content { IfOk result (λ image.
             image.items ≡ gather (shown_of self).content 0 (shown_of self).size) }
-        ensures sectors { IfOk result (λ image. AgreeBelow (shown_of self).size (shown_of self).content (sector_of image.items)) }
+        ensures sectors { IfOk result
+            (λ image. AgreeBelow (shown_of self).size (shown_of self).content
+            (sector_of image.items)) }
         ensures length { IfOk result (λ image. length image.items ≡ 512 * (shown_of self).size) }
     {
         let SectorDisk {

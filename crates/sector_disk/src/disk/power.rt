@@ -16,13 +16,15 @@ fn copy_over(places: &[usize], copy: &mut Vec<usize>)
 }
 
 impl SectorDisk {
-    /// Loses power. The n-th unsynced sector, in rising order, has k candidates: its durable value, and then
-    /// the values that were written to it since, in order. It keeps candidate `picks[n]` modulo k, and the
-    /// durable value where there is no such pick. The past begins anew then: all that is left is durable.
+    /// Loses power. The n-th unsynced sector, in rising order, has k candidates: its durable value,
+    /// and then the values that were written to it since, in order. It keeps candidate `picks[n]`
+    /// modulo k, and the durable value where there is no such pick. The past begins anew then: all
+    /// that is left is durable.
     ///
     /// Takes no memory, and gives none back: the calls before stay stored.
     pub fn crash(&mut self, picks: &[u64])
-        ensures { Begins (shown_of self.old).size (left_by (cache_of self.old) picks.now) (shown_of self.new) }
+        ensures { Begins (shown_of self.old).size (left_by (cache_of self.old) picks.now)
+            (shown_of self.new) }
     {
         choose(
             &self.calls,

@@ -1,6 +1,7 @@
--- What a line asks for, as the reader finds it, step by step. `TableLines` and `Refusals` say it in the words of the table; they agree
--- by proof.
-use Rattle.std.specs.Prelude.{ℕ, ◌+◌, ◌&&◌, Bool, List, Option, Some, None, Result, Ok, Err, codes, is_none, length, nat_eq, slice_get, if◌then◌else◌}
+-- What a line asks for, as the reader finds it, step by step. `TableLines` and `Refusals` say it in
+-- the words of the table; they agree by proof.
+use Rattle.std.specs.Prelude.{ℕ, ◌+◌, ◌&&◌, Bool, List, Option, Some, None, Result, Ok, Err, codes}
+use Rattle.std.specs.Prelude.{is_none, length, nat_eq, slice_get, if◌then◌else◌}
 use Rattle.std.specs.Str.{bytes_eq}
 use Rattle.text_words.specs.Words.{number_of}
 use Rattle.table_line.specs.declared.feature.Feature.{Feature}
@@ -17,7 +18,8 @@ use Rattle.table_line.specs.Refusals.{has_one_place, may_have, named, word_in}
 
 -- goes on with a value that is read
 infixl 10 ◌>>=◌
-abbrev pub ◌>>=◌ : {A B : Type 0} → Result A TableError → (A → Result B TableError) → Result B TableError
+abbrev pub ◌>>=◌ : {A B : Type 0} → Result A TableError → (A → Result B TableError)
+    → Result B TableError
 (Ok x) >>= f = f x
 (Err error) >>= f = Err error
 
@@ -58,8 +60,11 @@ feature_named name =
 -- the feature that these words say
 abbrev pub feature_by : Option (List ℕ) → Option (List ℕ) → Result Feature TableError
 feature_by None name = Ok features.None
-feature_by (Some count) None = if bytes_eq count (codes "0") then Ok features.None else Err errors.BadFeature
-feature_by (Some count) (Some name) = if bytes_eq count (codes "1") then or_error errors.BadFeature (feature_named name) else Err errors.BadFeature
+feature_by (Some count) None =
+    if bytes_eq count (codes "0") then Ok features.None else Err errors.BadFeature
+feature_by (Some count) (Some name) =
+    if bytes_eq count (codes "1") then or_error errors.BadFeature
+    (feature_named name) else Err errors.BadFeature
 
 abbrev pub feature_in : List (List ℕ) → Result Feature TableError
 feature_in words = feature_by (slice_get words 7) (slice_get words 8)
@@ -67,7 +72,8 @@ feature_in words = feature_by (slice_get words 7) (slice_get words 8)
 -- the delay of the set of words from this place on, or, where there is none, that of the set before
 abbrev pub later_delay : List (List ℕ) → ℕ → ℕ → Result ℕ TableError
 later_delay words place before =
-    if is_none (slice_get words place) then Ok before else (number_in words (place + 1) >>= λ offset. number_in words (place + 2))
+    if is_none (slice_get words place) then Ok before else
+    (number_in words (place + 1) >>= λ offset. number_in words (place + 2))
 
 abbrev pub delay_in : List (List ℕ) → Result Target TableError
 delay_in words = do
@@ -103,7 +109,8 @@ spec_in name words = do
 
 -- the layer, where its values are in their ranges, and its line names one place
 abbrev pub in_range : Bool → ℕ → LayerSpec → Result LayerSpec TableError
-in_range one start spec = if nat_eq start 0 && (is_in_range spec && one) then Ok spec else Err errors.OutOfRange
+in_range one start spec =
+    if nat_eq start 0 && (is_in_range spec && one) then Ok spec else Err errors.OutOfRange
 
 -- what a line of this target asks for
 abbrev pub read_named : Name → List (List ℕ) → Result LayerSpec TableError
@@ -114,7 +121,8 @@ read_named name words = do
 
 -- where it has a number of words that the target has
 abbrev pub read_counted : Name → List (List ℕ) → Result LayerSpec TableError
-read_counted name words = if may_have (Some name) (length words) then read_named name words else Err errors.WrongCount
+read_counted name words =
+    if may_have (Some name) (length words) then read_named name words else Err errors.WrongCount
 
 abbrev pub read_words : List (List ℕ) → Result LayerSpec TableError
 read_words words = do

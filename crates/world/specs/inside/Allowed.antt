@@ -1,5 +1,6 @@
 -- The machine's tests of a step, over the cells and the calls that a world keeps.
-use Rattle.std.specs.Prelude.{◌≡◌, ℕ, ◌+◌, ◌≤◌, Bool, true, not, ◌&&◌, ◌||◌, Option, is_some, List, nat_le, nat_lt, reverse, slice_get, take}
+use Rattle.std.specs.Prelude.{◌≡◌, ℕ, ◌+◌, ◌≤◌, Bool, true, not, ◌&&◌, ◌||◌, Option, is_some, List}
+use Rattle.std.specs.Prelude.{nat_le, nat_lt, reverse, slice_get, take}
 use Rattle.std.specs.List.{list_all, list_any}
 use Rattle.bio.specs.declared.event.CoreEvent.{CoreEvent}
 use Rattle.bio.specs.Events.{is_flush_submit, is_request, submits}
@@ -12,18 +13,21 @@ use Rattle.world.specs.Machine.{before_submit, each_sector, is_among, is_end, is
 
 -- the request that this event submits has landed on all its sectors
 abbrev pub is_landed : List CellState → ℕ → Option CoreEvent → Bool
-is_landed cells id event = each_sector (λ sector. is_among (landed_of (slice_get cells sector)) id) event
+is_landed cells id event =
+    each_sector (λ sector. is_among (landed_of (slice_get cells sector)) id) event
 
 -- and each was destaged after that
 abbrev pub is_settled : List CellState → ℕ → Option CoreEvent → Bool
-is_settled cells id event = each_sector (λ sector. is_among (settled_of (slice_get cells sector)) id) event
+is_settled cells id event =
+    each_sector (λ sector. is_among (settled_of (slice_get cells sector)) id) event
 
 -- where the call is an end with success, its request is settled
 abbrev pub end_settled : List CoreEvent → List CellState → Step → Bool
 end_settled events cells (End id ok) = not ok || is_settled cells id (slice_get events id)
 end_settled events cells _ = true
 
--- of the calls below a place, oldest first, those below this end came before the request's last submission
+-- of the calls below a place, oldest first, those below
+-- this end came before the request's last submission
 pub record IsBefore (calls : List Step) (id place end : ℕ) : Type 0 where
   pub within : end ≤ place
   pub same : reverse (take end calls) ≡ before_submit id (reverse (take place calls))
@@ -45,9 +49,13 @@ is_in first count sector = nat_le first sector && nat_lt sector (first + count)
 
 -- the step may be taken while power is there
 abbrev pub is_allowed : List CoreEvent → List CellState → List Step → Step → Bool
-is_allowed events cells calls (Submit id) = is_request (slice_get events id) && not (list_any (is_submit id) calls)
+is_allowed events cells calls (Submit id) =
+    is_request (slice_get events id) && not (list_any (is_submit id) calls)
 is_allowed events cells calls (Land id sector) =
-    pends calls id && covers_at sector (slice_get events id) && not (is_among (landed_of (slice_get cells sector)) id)
-is_allowed events cells calls (Destage sector) = is_some (newest (landed_of (slice_get cells sector)))
-is_allowed events cells calls (End id ok) = pends calls id && (not ok || succeeds events cells calls id (slice_get events id))
+    pends calls id && covers_at sector (slice_get events id)
+    && not (is_among (landed_of (slice_get cells sector)) id)
+is_allowed events cells calls (Destage sector) =
+    is_some (newest (landed_of (slice_get cells sector)))
+is_allowed events cells calls (End id ok) =
+    pends calls id && (not ok || succeeds events cells calls id (slice_get events id))
 is_allowed events cells calls Power = true

@@ -13,8 +13,13 @@ split_seat-told-requires g c =
 pub join_seat-requires : goal.join_seat-requires
 join_seat-requires g c =
     let b = c.args.self.now in
-    let s = c.split_seat-told.ensures in
-    (c.writer.invariant.0 ∙ sym b.named, s.3 ∙ c.mine.invariant.0 ∙ sym b.named, ap (λ (m : Me (Unit {0}) Knows). m.1) s.4, omega (arith, b.one_word), joins _ _ _ _)
+    let s = c.split_seat-told.ensures in (
+      c.writer.invariant.0 ∙ sym b.named,
+      s.3 ∙ c.mine.invariant.0 ∙ sym b.named,
+      ap (λ (m : Me (Unit {0}) Knows). m.1) s.4,
+      omega (arith, b.one_word),
+      joins _ _ _ _,
+    )
 
 pub load-requires : goal.load-requires
 load-requires g c =
@@ -23,6 +28,8 @@ load-requires g c =
     let j = c.join_seat.ensures in (
       j.0 ∙ i.0 ∙ sym b.named,
       omega (arith, b.one_word),
-      compares _ _ _ _ (alone c.join_seat.new.seat.me (ap (λ (m : Me (Unit {0}) Knows). m.1) j.2 ∙ ap (λ (m : Me (Unit {0}) Knows). m.1) i.1))
-          (ap (λ (m : Me (Unit {0}) Knows). m.0.writes) j.2 ∙ ap (λ (m : Me (Unit {0}) Knows). m.0.writes) i.1),
+      compares _ _ _ _ (alone c.join_seat.new.seat.me
+          (ap (λ (m : Me (Unit {0}) Knows). m.1) j.2 ∙ ap (λ (m : Me (Unit {0}) Knows). m.1) i.1))
+          (ap (λ (m : Me (Unit {0}) Knows). m.0.writes) j.2
+          ∙ ap (λ (m : Me (Unit {0}) Knows). m.0.writes) i.1),
     )

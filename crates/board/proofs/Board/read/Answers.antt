@@ -17,7 +17,9 @@ returns-clause-later g c =
     let l = c.load.ensures.2 in
     let seen = c.load.new.seat.me.0.seen in
     let is = c.status_of.ensures (last_of seen) (last_fits seen l.1) l.3 in
-    subst (MayFollow (last_of c.args.mine.now)) (sym is) (subst (λ (old : List Status). MayFollow (last_of old) (last_of seen)) c.mine.view_is (start_follows _ seen l.1 l.0))
+    subst (MayFollow (last_of c.args.mine.now)) (sym is)
+    (subst (λ (old : List Status). MayFollow (last_of old) (last_of seen)) c.mine.view_is
+    (start_follows _ seen l.1 l.0))
 
 pub returns-clause-last : goal.returns-clause-last
 returns-clause-last g c =

@@ -25,6 +25,7 @@ returns-clause-holds c = λ lasts loose chains chain h there.
     let next = c.args.links.now.next.items in
     let last = c.args.last in
     let second = c.next-second.ensures ∙ ap (λ row. after next row) c.next-first.ensures in
-    holds-same (set next last (after next (after next last))) c.write.new.self.next.items (set lasts chain (Some last))
+    holds-same (set next last (after next (after next last))) c.write.new.self.next.items
+    (set lasts chain (Some last))
     (c.write.ensures.next ∙ ap (λ row. set next last row) second) refl
     (holds-cut h chain last there (λ e. c.if-first-last.false (c.next-first.ensures ∙ e)))

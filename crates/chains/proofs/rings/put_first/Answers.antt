@@ -7,14 +7,18 @@ use Rattle.chains.proofs.HoldsLaws.{holds-preceded, holds-begun, last-is-row, is
 use Rattle.chains.proofs.rings.put_first.Goals as goal
 
 pub next-first-requires : goal.next-first-requires
-next-first-requires c = last-is-row c.requires.holds c.args.chain c.in-Some.last (c.requires.same ∙ sym c.last.ensures ∙ c.in-Some.is)
+next-first-requires c =
+    last-is-row c.requires.holds c.args.chain c.in-Some.last
+    (c.requires.same ∙ sym c.last.ensures ∙ c.in-Some.is)
 
 pub write-requires : goal.write-requires
 write-requires c = is-row c.requires.holds c.args.chain c.args.row (let one = times-same c.args.row c.args.row c.requires.loose refl in omega arith)
 
 pub write-requires-in-Some : goal.write-requires-in-Some
 write-requires-in-Some c =
-    let small = last-is-row c.requires.holds c.args.chain c.in-Some.last (c.requires.same ∙ sym c.last.ensures ∙ c.in-Some.is) in
+    let small =
+    last-is-row c.requires.holds c.args.chain c.in-Some.last
+    (c.requires.same ∙ sym c.last.ensures ∙ c.in-Some.is) in
     let e = ap length c.write.ensures.next in
     omega (arith, length-set c.args.links.now.next.items c.args.row c.next-first.result)
 
@@ -29,9 +33,12 @@ returns-in-Some-clause-holds c = λ lasts loose chains h within same.
     let row = c.args.row in
     let noted = sym c.last.ensures ∙ c.in-Some.is in
     let first = ap (λ r. set next row r) c.next-first.ensures in
-    holds-same (set (set next row (after next last)) last row) c.write-in-Some.new.self.next.items (set lasts chain (last_in c.write-in-Some.new.self.lasts.items chain))
+    holds-same (set (set next row (after next last)) last row) c.write-in-Some.new.self.next.items
+    (set lasts chain (last_in c.write-in-Some.new.self.lasts.items chain))
     (c.write-in-Some.ensures.next ∙ ap (λ n. set n last row) (c.write.ensures.next ∙ first))
-    (ap (λ l. set lasts chain l) (ap (λ ls. last_in ls chain) (c.write-in-Some.ensures.lasts ∙ c.write.ensures.lasts) ∙ noted))
+    (ap (λ l. set lasts chain l)
+    (ap (λ ls. last_in ls chain) (c.write-in-Some.ensures.lasts ∙ c.write.ensures.lasts)
+    ∙ noted))
     (holds-preceded h chain last (same ∙ noted))
 
 pub returns-in-None-clause-holds : goal.returns-in-None-clause-holds
@@ -41,8 +48,13 @@ returns-in-None-clause-holds c = λ lasts loose chains h within same.
     let chain = c.args.chain in
     let row = c.args.row in
     let empty = sym c.last.ensures ∙ c.in-None.is in
-    let written = c.write-in-None-2.ensures.lasts ∙ ap (λ ls. set ls chain (Some row)) c.write-in-None.ensures.lasts in
-    holds-same (set next row row) c.write-in-None-2.new.self.next.items (set lasts chain (last_in c.write-in-None-2.new.self.lasts.items chain))
+    let written =
+    c.write-in-None-2.ensures.lasts
+    ∙ ap (λ ls. set ls chain (Some row)) c.write-in-None.ensures.lasts in
+    holds-same (set next row row) c.write-in-None-2.new.self.next.items
+    (set lasts chain (last_in c.write-in-None-2.new.self.lasts.items chain))
     (c.write-in-None-2.ensures.next ∙ c.write-in-None.ensures.next)
-    (ap (λ l. set lasts chain l) (ap (λ ls. last_in ls chain) written ∙ get_or-set_same noted chain (Some row) None c.requires.there))
+    (ap (λ l. set lasts chain l)
+    (ap (λ ls. last_in ls chain) written
+    ∙ get_or-set_same noted chain (Some row) None c.requires.there))
     (holds-begun h chain within (same ∙ empty))

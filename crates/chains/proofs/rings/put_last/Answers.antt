@@ -9,7 +9,10 @@ returns-clause-holds c = λ loose chains h.
     let chain = c.args.chain in
     let row = c.args.row in
     let between = c.put_first.new.links.lasts.items in
-    let preceding = holds-same c.put_first.new.links.next.items c.put_first.new.links.next.items between refl c.put_first.ensures.lasts
+    let preceding =
+    holds-same c.put_first.new.links.next.items c.put_first.new.links.next.items between
+    refl c.put_first.ensures.lasts
     (c.put_first.ensures.holds noted loose chains h c.requires.there refl) in
-    holds-same c.put_first.new.links.next.items c.write.new.self.next.items c.write.new.self.lasts.items c.write.ensures.next c.write.ensures.lasts
+    holds-same c.put_first.new.links.next.items c.write.new.self.next.items
+    c.write.new.self.lasts.items c.write.ensures.next c.write.ensures.lasts
     (holds-lengthened c.put_first.new.links.next.items between loose chains chain row (let e = h.size in let there = c.requires.there in omega arith) preceding)

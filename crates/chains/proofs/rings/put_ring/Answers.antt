@@ -2,11 +2,13 @@
 use Rattle.std.proofs.Common.{length, set, Some, ap, sym, ◌∙◌, arith, length-set}
 use Rattle.chains.proofs.RingLaws.{times-append, last-counts}
 use Rattle.chains.specs.inside.Rings.{after}
-use Rattle.chains.proofs.HoldsLaws.{holds-embraced, holds-named, last-again, last-is-row, is-row, holds-same}
+use Rattle.chains.proofs.HoldsLaws.{holds-embraced, holds-named, last-again, last-is-row, is-row}
+use Rattle.chains.proofs.HoldsLaws.{holds-same}
 use Rattle.chains.proofs.rings.put_ring.Goals as goal
 
 pub next-first-requires : goal.next-first-requires
-next-first-requires c = last-is-row c.requires.holds c.args.chain c.in-Some.kept (sym c.last.ensures ∙ c.in-Some.is)
+next-first-requires c =
+    last-is-row c.requires.holds c.args.chain c.in-Some.kept (sym c.last.ensures ∙ c.in-Some.is)
 
 pub next-second-requires : goal.next-second-requires
 next-second-requires c = is-row c.requires.holds c.args.chain c.args.moved (
@@ -14,7 +16,8 @@ next-second-requires c = is-row c.requires.holds c.args.chain c.args.moved (
     omega (arith, times-append c.args.moved c.requires.rows c.requires.loose))
 
 pub write-requires : goal.write-requires
-write-requires c = last-is-row c.requires.holds c.args.chain c.in-Some.kept (sym c.last.ensures ∙ c.in-Some.is)
+write-requires c =
+    last-is-row c.requires.holds c.args.chain c.in-Some.kept (sym c.last.ensures ∙ c.in-Some.is)
 
 pub write-requires-in-Some : goal.write-requires-in-Some
 write-requires-in-Some c =
@@ -34,9 +37,12 @@ returns-in-Some-clause-holds c = λ rows loose chains h ring.
     let noted = sym c.last.ensures ∙ c.in-Some.is in
     let first = ap (λ r. set next one r) c.next-second.ensures in
     let second = ap (λ r. set (set next one (after next two)) two r) c.next-first.ensures in
-    holds-same (set (set next one (after next two)) two (after next one)) c.write-in-Some.new.self.next.items c.write-in-Some.new.self.lasts.items
-    (c.write-in-Some.ensures.next ∙ ap (λ n. set n two c.next-first.result) (c.write.ensures.next ∙ first) ∙ second)
-    (c.write-in-Some.ensures.lasts ∙ c.write.ensures.lasts ∙ sym (last-again lasts chain (Some one) noted))
+    holds-same (set (set next one (after next two)) two
+    (after next one)) c.write-in-Some.new.self.next.items c.write-in-Some.new.self.lasts.items
+    (c.write-in-Some.ensures.next
+    ∙ ap (λ n. set n two c.next-first.result) (c.write.ensures.next ∙ first) ∙ second)
+    (c.write-in-Some.ensures.lasts ∙ c.write.ensures.lasts
+    ∙ sym (last-again lasts chain (Some one) noted))
     (holds-embraced two rows h ring chain one noted)
 
 pub returns-in-None-clause-holds : goal.returns-in-None-clause-holds
@@ -45,4 +51,5 @@ returns-in-None-clause-holds c = λ rows loose chains h ring.
     let lasts = c.args.links.now.lasts.items in
     holds-same next c.write-in-None.new.self.next.items c.write-in-None.new.self.lasts.items
     c.write-in-None.ensures.next c.write-in-None.ensures.lasts
-    (holds-named c.args.moved rows h ring c.args.chain c.requires.there (sym c.last.ensures ∙ c.in-None.is))
+    (holds-named c.args.moved rows h ring c.args.chain c.requires.there
+    (sym c.last.ensures ∙ c.in-None.is))

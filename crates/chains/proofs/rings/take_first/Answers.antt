@@ -1,5 +1,6 @@
 -- Answers to the goals of `take_first` (src/rings.rt) that the search leaves.
-use Rattle.std.proofs.Common.{ℕ, List, ◌∷◌, length, set, Some, None, refl, ap, sym, ◌∙◌, subst, arith, length-set}
+use Rattle.std.proofs.Common.{ℕ, List, ◌∷◌, length, set, Some, None, refl, ap, sym, ◌∙◌, subst}
+use Rattle.std.proofs.Common.{arith, length-set}
 use Rattle.chains.specs.declared.links.Links.{Links}
 use Rattle.chains.proofs.RingLaws.{none-of, some-of}
 use Rattle.chains.specs.Edits.{shortened}
@@ -8,7 +9,9 @@ use Rattle.chains.proofs.HoldsLaws.{last-again, last-is-row, holds-same}
 use Rattle.chains.proofs.rings.take_first.Goals as goal
 
 pub next-first-requires : goal.next-first-requires
-next-first-requires c = last-is-row c.requires.kept.holds c.args.chain c.in_ok-last.last (sym c.last.ensures ∙ c.in_ok-last.was)
+next-first-requires c =
+    last-is-row c.requires.kept.holds c.args.chain c.in_ok-last.last
+    (sym c.last.ensures ∙ c.in_ok-last.was)
 
 pub returns-then-is_none-clause-changes : goal.returns-then-is_none-clause-changes
 returns-then-is_none-clause-changes c =
@@ -23,7 +26,9 @@ returns-then-is_none-clause-changes c =
       row_room = c.write.ensures.row_room ∙ kept.row_room;
       chain_room = c.write.ensures.chain_room ∙ kept.chain_room;
       rows = ap length c.write.ensures.next ∙ kept.rows;
-      chains = ap length c.write.ensures.lasts ∙ length-set c.cut.new.links.lasts.items c.args.chain None ∙ kept.chains;
+      chains =
+          ap length c.write.ensures.lasts ∙ length-set c.cut.new.links.lasts.items c.args.chain None
+          ∙ kept.chains;
     }
 
 pub returns-then-is_none-clause-holds : goal.returns-then-is_none-clause-holds
@@ -32,9 +37,13 @@ returns-then-is_none-clause-holds c = λ loose chains h.
     let none = none-of c.cut.result c.if-is_none.ensures in
     let noted = c.args.links.now.lasts.items in
     let row = ap (λ r. r ∷ loose) c.next-first.ensures in
-    let P : List ℕ → Type 0 = λ rows. Holds c.write.new.self.next.items c.write.new.self.lasts.items rows (shortened chains c.args.chain) in
-    subst P (sym row) (holds-same c.cut.new.links.next.items c.write.new.self.next.items c.write.new.self.lasts.items c.write.ensures.next
-    (c.write.ensures.lasts ∙ ap (λ ls. set ls c.args.chain None) c.cut.ensures.lasts ∙ ap (λ l. set noted c.args.chain l) (sym none))
+    let P : List ℕ → Type 0 =
+    λ rows. Holds c.write.new.self.next.items c.write.new.self.lasts.items rows
+    (shortened chains c.args.chain) in
+    subst P (sym row) (holds-same c.cut.new.links.next.items c.write.new.self.next.items
+    c.write.new.self.lasts.items c.write.ensures.next
+    (c.write.ensures.lasts ∙ ap (λ ls. set ls c.args.chain None) c.cut.ensures.lasts
+    ∙ ap (λ l. set noted c.args.chain l) (sym none))
     (c.cut.ensures.holds noted loose chains c.args.chain h there))
 
 pub returns-else-is_none-clause-holds : goal.returns-else-is_none-clause-holds
@@ -43,7 +52,12 @@ returns-else-is_none-clause-holds c = λ loose chains h.
     let some = some-of c.cut.result c.in_ok-last.last c.if-is_none.ensures c.cut.ensures.left in
     let noted = c.args.links.now.lasts.items in
     let row = ap (λ r. r ∷ loose) c.next-first.ensures in
-    let P : List ℕ → Type 0 = λ rows. Holds c.cut.new.links.next.items c.cut.new.links.lasts.items rows (shortened chains c.args.chain) in
-    subst P (sym row) (holds-same c.cut.new.links.next.items c.cut.new.links.next.items c.cut.new.links.lasts.items refl
-    (c.cut.ensures.lasts ∙ sym (ap (λ l. set noted c.args.chain l) some ∙ last-again noted c.args.chain (Some c.in_ok-last.last) there))
+    let P : List ℕ → Type 0 =
+    λ rows. Holds c.cut.new.links.next.items c.cut.new.links.lasts.items rows
+    (shortened chains c.args.chain) in
+    subst P (sym row) (holds-same c.cut.new.links.next.items c.cut.new.links.next.items
+    c.cut.new.links.lasts.items refl
+    (c.cut.ensures.lasts ∙ sym
+    (ap (λ l. set noted c.args.chain l) some
+    ∙ last-again noted c.args.chain (Some c.in_ok-last.last) there))
     (c.cut.ensures.holds noted loose chains c.args.chain h there))

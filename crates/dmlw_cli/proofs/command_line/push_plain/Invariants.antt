@@ -6,4 +6,6 @@ use Rattle.dmlw_cli.proofs.command_line.push_plain.Given as goal
 
 abbrev pub invariant-loop-word : goal.invariant-loop-word
 invariant-loop-word g l =
-    map (λ word. word.now) l.plain.items ≡ map (λ word. word.now) l.initial.plain.items ++ filter (λ word. not (is_explain word)) (map g.S.AsStr.text (take l.word-index l.words))
+    map (λ word. word.now) l.plain.items
+    ≡ map (λ word. word.now) l.initial.plain.items
+    ++ filter (λ word. not (is_explain word)) (map g.S.AsStr.text (take l.word-index l.words))

@@ -12,6 +12,8 @@ returns g c =
     let mid = g.E.Write.contents c.writeln.new.self in
     let new = g.E.Write.contents c.flush.new.self in
     appends_kept old mid new (flaw_text c.args.flaw c.args.word.now)
-    (subst (λ (forms : List ℕ). Appends old mid (codes "error: invalid value '" ++ (c.args.word.now ++ (codes "' for " ++ (forms ++ codes "\n")))))
+    (subst (λ (forms : List ℕ). Appends old mid
+    (codes "error: invalid value '"
+    ++ (c.args.word.now ++ (codes "' for " ++ (forms ++ codes "\n")))))
     c.forms-forms.ensures c.in_ok-writeln.ensures.bytes)
     c.flush.ensures.bytes

@@ -21,4 +21,5 @@ returns c =
     (chained_is _ _ status _ (c.in_ok-program-4.ensures status c.log_command-status.ensures)
     (chained_is _ _ list _ (c.in_ok-program-3.ensures list c.log_command-list.ensures)
     (chained_is _ _ run _ (c.in_ok-program-2.ensures run c.run_command.ensures)
-    (chained_is _ _ record_app _ (c.in_ok-program.ensures record_app c.record_command.ensures) c.bare_command.ensures)))))))
+    (chained_is _ _ record_app _
+    (c.in_ok-program.ensures record_app c.record_command.ensures) c.bare_command.ensures)))))))

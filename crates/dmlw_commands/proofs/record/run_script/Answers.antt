@@ -6,14 +6,16 @@ use Rattle.dmlw_commands.proofs.record.run_script.Goals as goal
 
 pub returns-clause-printed : goal.returns-clause-printed
 returns-clause-printed g c =
-    printed c.args.text.now c.args.script.now _ _ _ c.in_ok-recorded.recorded.status c.in_ok-recorded.recorded.lies
+    printed c.args.text.now c.args.script.now _ _ _ c.in_ok-recorded.recorded.status
+    c.in_ok-recorded.recorded.lies
     (image_of c.in_ok-recorded.recorded.disk) c.requires
     c.in_ok-recorded.ensures.recorded c.in_ok-print_end.ensures.printed
 
 pub returns-in_err-recorded-clause-faults : goal.returns-in_err-recorded-clause-faults
 returns-in_err-recorded-clause-faults g c =
     on_error c.from_residual.result c.from_residual.ensures.1
-    (λ fault is. fails_run _ _ c.args.text.now c.args.script.now _ fault c.requires c.in_err-recorded.ensures.faults is)
+    (λ fault is. fails_run _ _ c.args.text.now c.args.script.now _ fault c.requires
+    c.in_err-recorded.ensures.faults is)
 
 pub returns-in_err-print_end-clause-faults : goal.returns-in_err-print_end-clause-faults
 returns-in_err-print_end-clause-faults g c =

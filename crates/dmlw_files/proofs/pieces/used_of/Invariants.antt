@@ -4,4 +4,6 @@ use Rattle.sectors.specs.Content.{sector_of}
 use Rattle.dmlw_files.proofs.pieces.used_of.Given as goal
 
 abbrev pub invariant-loop-behind : goal.invariant-loop-behind
-invariant-loop-behind l = (sector : ℕ) → l.sectors - l.behind ≤ sector → sector < l.sectors → sector_of l.piece sector ≡ replicate 512 0
+invariant-loop-behind l =
+    (sector : ℕ) → l.sectors - l.behind ≤ sector → sector < l.sectors
+    → sector_of l.piece sector ≡ replicate 512 0

@@ -7,4 +7,5 @@ abbrev pub invariant-loop-behind : goal.invariant-loop-behind
 invariant-loop-behind l =
     ((shown_of l.disk).size ≡ (shown_of l.fn.disk).size)
     × ((shown_of l.disk).content ≡ (shown_of l.fn.disk).content)
-    × ((sector : ℕ) → (l.pieces - l.behind) * 512 ≤ sector → sector < (shown_of l.fn.disk).size → (shown_of l.fn.disk).content sector ≡ replicate 512 0)
+    × ((sector : ℕ) → (l.pieces - l.behind) * 512 ≤ sector → sector < (shown_of l.fn.disk).size
+    → (shown_of l.fn.disk).content sector ≡ replicate 512 0)

@@ -10,4 +10,5 @@ abbrev pub invariant-loop-number : goal.invariant-loop-number
 invariant-loop-number g l =
     ((shown_of l.disk).size ≡ (shown_of l.fn.disk).size)
     × ((shown_of l.disk).content ≡ (shown_of l.fn.disk).content)
-    × Appends (g.W.Write.contents l.fn.out) (g.W.Write.contents l.out) (gather (shown_of l.fn.disk).content 0 (min (l.number * 512) l.sectors))
+    × Appends (g.W.Write.contents l.fn.out) (g.W.Write.contents l.out)
+    (gather (shown_of l.fn.disk).content 0 (min (l.number * 512) l.sectors))

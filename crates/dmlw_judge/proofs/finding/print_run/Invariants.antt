@@ -6,4 +6,6 @@ use Rattle.dmlw_judge.specs.Paths.{step_line}
 use Rattle.dmlw_judge.proofs.finding.print_run.Given as goal
 
 abbrev pub invariant-loop-step : goal.invariant-loop-step
-invariant-loop-step g l = Appends (g.O.Write.contents l.fn.out) (g.O.Write.contents l.out) (flat_map step_line (take l.step-index l.run))
+invariant-loop-step g l =
+    Appends (g.O.Write.contents l.fn.out) (g.O.Write.contents l.out)
+    (flat_map step_line (take l.step-index l.run))

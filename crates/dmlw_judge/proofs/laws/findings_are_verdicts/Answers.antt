@@ -3,7 +3,9 @@ use Rattle.dmlw_judge.proofs.Agreeing.{same_judged, same_verdict}
 use Rattle.dmlw_judge.proofs.laws.findings_are_verdicts.Goals as goal
 
 pub returns-clause-content : goal.returns-clause-content
-returns-clause-content c = same_verdict c.verdicts_differ.ensures.one c.possible_is_exact.ensures.possible
+returns-clause-content c =
+    same_verdict c.verdicts_differ.ensures.one c.possible_is_exact.ensures.possible
 
 pub returns-clause-judged : goal.returns-clause-judged
-returns-clause-judged c = same_judged c.verdicts_differ.ensures.one c.possible_is_exact.ensures.possible
+returns-clause-judged c =
+    same_judged c.verdicts_differ.ensures.one c.possible_is_exact.ensures.possible

@@ -5,11 +5,18 @@ use Rattle.dmlw_judge.proofs.moments.last_moment.Goals as goal
 
 pub returns-then-is_stop-clause-last : goal.returns-then-is_stop-clause-last
 returns-then-is_stop-clause-last c =
-    let there = stands_there c.args.events.now c.loop-place.place c.index-events-place.result c.loop-place-test.true c.index-events-place.is in
-    stop_is_last c.args.events.now c.loop-place.place c.index-events-place.result c.loop-place.invariant there (sym c.is_stop.ensures ∙ c.if-is_stop.true)
+    let there =
+    stands_there c.args.events.now c.loop-place.place c.index-events-place.result
+    c.loop-place-test.true c.index-events-place.is in
+    stop_is_last c.args.events.now c.loop-place.place c.index-events-place.result
+    c.loop-place.invariant there (sym c.is_stop.ensures ∙ c.if-is_stop.true)
 
 pub loop-place-preserved : goal.loop-place-preserved
 loop-place-preserved c =
-    let there = stands_there c.args.events.now c.loop-place.place c.index-events-place.result c.loop-place-test.true c.index-events-place.is in
-    none_next c.args.events.now c.loop-place.place (c.loop-place.place + 1) c.index-events-place.result (omega arith) c.loop-place.invariant there
+    let there =
+    stands_there c.args.events.now c.loop-place.place c.index-events-place.result
+    c.loop-place-test.true c.index-events-place.is in
+    none_next c.args.events.now c.loop-place.place
+    (c.loop-place.place + 1) c.index-events-place.result
+    (omega arith) c.loop-place.invariant there
     (sym c.is_stop.ensures ∙ c.if-is_stop.false)

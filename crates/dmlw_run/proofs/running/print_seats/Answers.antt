@@ -9,5 +9,6 @@ loop-number-preserved g c =
     let tallies = c.args.tallies.now in
     let number = c.loop-number.number in
     let within : number < length tallies = omega arith in
-    prints_next tallies number (number + 1) _ _ _ _ (omega arith) (slice_get-get_or tallies number _ within) c.loop-number.invariant
+    prints_next tallies number (number + 1) _ _ _ _ (omega arith)
+    (slice_get-get_or tallies number _ within) c.loop-number.invariant
     c.in_ok-print_seat.ensures.printed

@@ -5,4 +5,6 @@ use Rattle.dmlw_run.specs.RunsLog.{seat_lines}
 use Rattle.dmlw_run.proofs.running.print_seats.Given as goal
 
 abbrev pub invariant-loop-number : goal.invariant-loop-number
-invariant-loop-number g l = Appends (g.O.Write.contents l.fn.out) (g.O.Write.contents l.out) (seat_lines 0 (take l.number l.tallies))
+invariant-loop-number g l =
+    Appends (g.O.Write.contents l.fn.out) (g.O.Write.contents l.out)
+    (seat_lines 0 (take l.number l.tallies))

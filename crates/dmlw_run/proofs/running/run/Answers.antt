@@ -1,16 +1,21 @@
 -- Answers to the goals of `run` (src/running.rt) that the search leaves.
 use Rattle.std.proofs.Common.{◌∙◌}
 use Rattle.dmlw_commands.specs.EndingLaws.{ends_told}
-use Rattle.dmlw_run.proofs.Endings.{done_holds, ended_holds, keeps_or_asks, running_ends, runs_all, refused_keeps}
+use Rattle.dmlw_run.proofs.Endings.{done_holds, ended_holds, keeps_or_asks, running_ends, runs_all}
+use Rattle.dmlw_run.proofs.Endings.{refused_keeps}
 use Rattle.dmlw_run.proofs.running.run.Goals as goal
 
 pub returns-clause-ends : goal.returns-clause-ends
 returns-clause-ends g c =
     let done = c.run_named-done.ensures in
     let more = c.explain_running-more.ensures in
-    let told = ends_told _ c.as_str.result.now _ _ c.end_recording.result (λ off. c.as_str.ensures.value ∙ more.silent off)
+    let told =
+    ends_told _ c.as_str.result.now _ _ c.end_recording.result
+    (λ off. c.as_str.ensures.value ∙ more.silent off)
     c.end_recording.ensures.exit c.end_recording.ensures.quiet c.end_recording.ensures.told in
-    running_ends _ _ _ _ _ _ _ _ _ _ _ (runs_all _ _ _ _ _ _ _ done.log done.faults) c.end_recording.ensures.kept more.unwritten told
+    running_ends _ _ _ _ _ _ _ _ _ _ _
+    (runs_all _ _ _ _ _ _ _ done.log done.faults) c.end_recording.ensures.kept more.unwritten
+    told
 
 pub returns-clause-unmade : goal.returns-clause-unmade
 returns-clause-unmade g c ended =
@@ -20,15 +25,19 @@ returns-clause-unmade g c ended =
 
 pub returns-clause-written : goal.returns-clause-written
 returns-clause-written g c done =
-    done_holds _ _ _ _ _ _ _ c.run_named-done.result c.end_recording.result.exit c.run_named-done.ensures.held c.end_recording.ensures.kept
+    done_holds _ _ _ _ _ _ _ c.run_named-done.result c.end_recording.result.exit
+    c.run_named-done.ensures.held c.end_recording.ensures.kept
     c.explain_running-more.ensures.kept c.end_recording.ensures.exit done
 
 pub returns-clause-left : goal.returns-clause-left
 returns-clause-left g c ended =
-    ended_holds _ _ _ _ _ _ _ _ c.run_named-done.result c.end_recording.result.exit c.run_named-done.ensures.held c.run_named-done.ensures.kept
-    c.end_recording.ensures.kept c.explain_running-more.ensures.kept c.end_recording.ensures.exit ended
+    ended_holds _ _ _ _ _ _ _ _ c.run_named-done.result c.end_recording.result.exit
+    c.run_named-done.ensures.held c.run_named-done.ensures.kept
+    c.end_recording.ensures.kept c.explain_running-more.ensures.kept c.end_recording.ensures.exit
+    ended
 
 pub returns-clause-kept : goal.returns-clause-kept
 returns-clause-kept g c refused =
-    refused_keeps c.run_named-done.result c.end_recording.result.exit _ _ _ c.run_named-done.ensures.kept c.explain_running-more.ensures.kept
+    refused_keeps c.run_named-done.result c.end_recording.result.exit _ _ _
+    c.run_named-done.ensures.kept c.explain_running-more.ensures.kept
     c.end_recording.ensures.exit refused

@@ -6,13 +6,16 @@ use Rattle.dmlw_run.proofs.running.run_script.Goals as goal
 
 pub returns-clause-printed : goal.returns-clause-printed
 returns-clause-printed g c =
-    printed c.args.text.now c.args.script.now _ _ _ _ c.in_ok-ran.ran.tallies.items c.in_ok-ran.ran.status c.in_ok-ran.ran.lies (image_of c.in_ok-ran.ran.disk)
-    c.requires c.in_ok-ran.ensures.ran c.as_slice.ensures.value c.in_ok-print_seats.ensures.printed c.in_ok-print_end.ensures.printed
+    printed c.args.text.now c.args.script.now _ _ _ _ c.in_ok-ran.ran.tallies.items
+    c.in_ok-ran.ran.status c.in_ok-ran.ran.lies (image_of c.in_ok-ran.ran.disk)
+    c.requires c.in_ok-ran.ensures.ran c.as_slice.ensures.value c.in_ok-print_seats.ensures.printed
+    c.in_ok-print_end.ensures.printed
 
 pub returns-in_err-ran-clause-faults : goal.returns-in_err-ran-clause-faults
 returns-in_err-ran-clause-faults g c =
     on_error c.from_residual.result c.from_residual.ensures.1
-    (λ fault is. fails_run _ c.args.text.now c.args.script.now _ fault c.requires c.in_err-ran.ensures.faults is)
+    (λ fault is. fails_run _ c.args.text.now c.args.script.now _ fault c.requires
+    c.in_err-ran.ensures.faults is)
 
 pub returns-in_err-print_seats-clause-faults : goal.returns-in_err-print_seats-clause-faults
 returns-in_err-print_seats-clause-faults g c =

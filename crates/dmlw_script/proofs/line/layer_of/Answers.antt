@@ -10,4 +10,6 @@ pub returns : goal.returns
 returns c =
     let text = c.args.text.now in
     ap (head_lines.Layer c.args.over)
-    (one_asked (words_of text) c.parse_line.result (asked_of text) (asked_read (words_of text) c.parse_line.result c.parse_line.ensures.layer c.parse_line.ensures.refused) (asked_is text))
+    (one_asked (words_of text) c.parse_line.result (asked_of text)
+    (asked_read (words_of text) c.parse_line.result c.parse_line.ensures.layer
+    c.parse_line.ensures.refused) (asked_is text))

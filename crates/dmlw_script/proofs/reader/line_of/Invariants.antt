@@ -7,7 +7,8 @@ use Rattle.dmlw_script.proofs.reader.line_of.Given as goal
 abbrev pub invariant-loop-line : goal.invariant-loop-line
 invariant-loop-line l = record {
   counted : l.number + length l.rest ≤ length l.fn.text + 1;
-  found : slice_get (unskipped_numbers l.number (lines_of l.rest)) l.left ≡ command_line l.fn.text l.fn.place;
+  found : slice_get (unskipped_numbers l.number (lines_of l.rest)) l.left
+      ≡ command_line l.fn.text l.fn.place;
 }
 
 abbrev pub decreases-loop-line : goal.decreases-loop-line

@@ -7,5 +7,6 @@ use Rattle.dust_layer.proofs.blocks.change_blocks.Given as goal
 -- the parts of the blocks so far are done
 abbrev pub invariant-loop-done : goal.invariant-loop-done
 invariant-loop-done g l =
-    Changes g.D.BlockDev.does g.D.BlockDev.shown l.fn.block (call_of l.fn.first l.fn.count l.fn.change) (fua_of l.fn.change)
+    Changes g.D.BlockDev.does g.D.BlockDev.shown l.fn.block
+    (call_of l.fn.first l.fn.count l.fn.change) (fua_of l.fn.change)
     (listed l.fn.bad) (listed l.bad) l.done l.from l.fn.lower l.fn.now l.lower l.end

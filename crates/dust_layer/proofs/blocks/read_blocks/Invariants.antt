@@ -7,5 +7,6 @@ use Rattle.dust_layer.proofs.blocks.read_blocks.Given as goal
 -- the parts of the blocks so far are read
 abbrev pub invariant-loop-done : goal.invariant-loop-done
 invariant-loop-done g l =
-    Reading g.D.BlockDev.does g.D.BlockDev.shown l.fn.block l.fn.first l.fn.buffer l.buffer (listed l.fn.bad) l.done l.from l.fn.lower l.fn.now l.lower l.end
+    Reading g.D.BlockDev.does g.D.BlockDev.shown l.fn.block l.fn.first l.fn.buffer l.buffer
+    (listed l.fn.bad) l.done l.from l.fn.lower l.fn.now l.lower l.end
     × (length l.buffer ≡ length l.fn.buffer)

@@ -9,7 +9,8 @@ use Rattle.judge.proofs.accounts.lowest_failing.Goals as goal
 pub loop-sector-preserved : goal.loop-sector-preserved
 loop-sector-preserved c lower h = elim (last_or_below lower c.loop-sector.sector (omega arith)) [
   | inl same ↦
-      ap (is_fine c.args.held.now c.args.last.now (first_on c.args.first (length c.args.image.now)) (sector_of c.args.image.now)) same
+      ap (is_fine c.args.held.now c.args.last.now (first_on c.args.first (length c.args.image.now))
+      (sector_of c.args.image.now)) same
       ∙ (sym c.is_fine.ensures ∙ c.if-not-is_fine.false)
   | inr below ↦ c.loop-sector.invariant lower below
 ]

@@ -7,4 +7,5 @@ use Rattle.judge.proofs.accounts.lowest_failing.Given as goal
 
 abbrev pub invariant-loop-sector : goal.invariant-loop-sector
 invariant-loop-sector l =
-    (lower : ℕ) → lower < l.sector → is_fine l.held l.last (first_on l.first (length l.image)) (sector_of l.image) lower ≡ true
+    (lower : ℕ) → lower < l.sector
+    → is_fine l.held l.last (first_on l.first (length l.image)) (sector_of l.image) lower ≡ true

@@ -16,7 +16,8 @@ loop-place-preserved c =
     let next : suc place ≡ place + 1 = omega arith in
     let Until = λ (n : ℕ). AreHeld events now sectors n c.hold_values.new.held.items in
     subst Until next
-    (held_next events event now sectors place c.end_at.result c.args.last.now c.loop-place.held.items c.hold_values.new.held.items
+    (held_next events event now sectors place c.end_at.result c.args.last.now
+    c.loop-place.held.items c.hold_values.new.held.items
     (stands_there events place event c.loop-place-test.true c.index-events-place.is)
     (c.end_at.ensures ∙ c.requires.ends.each place)
     c.requires.last c.hold_values.ensures.size c.hold_values.ensures.held c.loop-place.invariant)

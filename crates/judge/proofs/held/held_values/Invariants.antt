@@ -5,4 +5,5 @@ use Rattle.judge.specs.inside.Accounts.{AreHeld}
 use Rattle.judge.proofs.held.held_values.Given as goal
 
 abbrev pub invariant-loop-place : goal.invariant-loop-place
-invariant-loop-place l = AreHeld l.events (sector_of l.image) (length l.image / 512) l.place l.held.items
+invariant-loop-place l =
+    AreHeld l.events (sector_of l.image) (length l.image / 512) l.place l.held.items

@@ -20,14 +20,18 @@ loop-sector-preserved c =
     let reach = c.requires.within in
     let low = c.loop-sector.auto.sector in
     let next : suc sector ≡ sector + 1 = omega arith in
-    let Until = λ (n : ℕ). AreFit event c.args.end last now c.args.place c.args.range.0 n c.args.held.now.items c.if-fits.held.items in
+    let Until =
+    λ (n : ℕ). AreFit event c.args.end last now c.args.place c.args.range.0 n
+    c.args.held.now.items c.if-fits.held.items in
     subst Until next (elim c.if-fits.branch [
       | then-fits w ↦
           rw w.held-is
-          (fit_here event c.args.end last now c.args.place c.args.range.0 sector c.args.held.now.items held (omega arith)
+          (fit_here event c.args.end last now c.args.place c.args.range.0 sector
+          c.args.held.now.items held (omega arith)
           (sym c.fits.ensures ∙ w.if-fits.true) (omega arith) before)
       | else-fits w ↦
           rw w.held-is
-          (fit_not event c.args.end last now c.args.place c.args.range.0 sector c.args.held.now.items held
+          (fit_not event c.args.end last now c.args.place c.args.range.0 sector
+          c.args.held.now.items held
           (sym c.fits.ensures ∙ w.if-fits.false) (omega arith) before)
     ])

@@ -5,4 +5,6 @@ use Rattle.judge.specs.inside.Accounts.{AreFit}
 use Rattle.judge.proofs.held.hold_range.Given as goal
 
 abbrev pub invariant-loop-sector : goal.invariant-loop-sector
-invariant-loop-sector l = AreFit (Some l.event) l.end l.last (sector_of l.image) l.place l.from l.sector l.fn.held.items l.held.items
+invariant-loop-sector l =
+    AreFit (Some l.event) l.end l.last
+    (sector_of l.image) l.place l.from l.sector l.fn.held.items l.held.items

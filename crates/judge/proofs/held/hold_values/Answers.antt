@@ -12,5 +12,6 @@ returns-clause-held c =
     let ok = c.args.held.now.ok in
     let long : c.len.result ≡ length c.args.held.now.items = omega arith in
     let Until = λ (n : ℕ). AreCovered (Some c.args.event.now) n range.0 range.1 in
-    fit_all (Some c.args.event.now) c.args.end c.args.last.now (sector_of c.args.image.now) c.args.place range.0 range.1 c.args.held.now.items
+    fit_all (Some c.args.event.now) c.args.end c.args.last.now
+    (sector_of c.args.image.now) c.args.place range.0 range.1 c.args.held.now.items
     c.hold_range.new.held.items (subst Until long c.covered-range.ensures) c.hold_range.ensures

@@ -12,5 +12,6 @@ returns c =
     let image = c.args.image.now in
     let sectors = length image / 512 in
     let Told = λ (es : List CoreEvent). IsAccount es (sector_of image) sectors c.in_ok-of.field-0 in
-    c.verdict.ensures (take c.args.moment events) (lawful-take sectors events c.args.moment c.requires.lawful)
+    c.verdict.ensures (take c.args.moment events)
+    (lawful-take sectors events c.args.moment c.requires.lawful)
     (subst Told c.beginning-events.ensures c.in_ok-of.ensures)

@@ -17,9 +17,12 @@ loop-place-preserved c =
     subst Until next (elim c.if-is_durable.branch [
       | then-is_durable w ↦
           rw w.last-is
-          (last_kept_durable events event c.args.sectors place c.loop-place.last.items w.note_kept.new.last.items
-          (stands_there events place event c.loop-place-test.true c.index-events-place.is) (sym c.is_durable.ensures ∙ w.if-is_durable.true)
+          (last_kept_durable events event c.args.sectors place c.loop-place.last.items
+          w.note_kept.new.last.items
+          (stands_there events place event c.loop-place-test.true c.index-events-place.is)
+          (sym c.is_durable.ensures ∙ w.if-is_durable.true)
           w.note_kept.ensures.size w.note_kept.ensures.covered w.note_kept.ensures.other before)
       | else-is_durable w ↦
-          rw w.last-is (last_kept_other events c.args.sectors place c.loop-place.last.items (sym c.is_durable.ensures ∙ w.if-is_durable.false) before)
+          rw w.last-is (last_kept_other events c.args.sectors place c.loop-place.last.items
+          (sym c.is_durable.ensures ∙ w.if-is_durable.false) before)
     ])

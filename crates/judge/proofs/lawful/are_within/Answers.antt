@@ -9,14 +9,18 @@ pub returns-then-not-is_within : goal.returns-then-not-is_within
 returns-then-not-is_within c =
     let events = c.args.events.now in
     let place = c.loop-event.event-index in
-    not_all (λ (k : ℕ). is_within c.args.sectors (slice_get events k)) (length events) place c.loop-event-test.true
-    (ap (is_within c.args.sectors) (stands_there events place c.event-item.result c.loop-event-test.true c.event-item.is)
+    not_all (λ (k : ℕ). is_within c.args.sectors (slice_get events k))
+    (length events) place c.loop-event-test.true
+    (ap (is_within c.args.sectors)
+    (stands_there events place c.event-item.result c.loop-event-test.true c.event-item.is)
     ∙ (sym c.is_within.ensures ∙ c.if-not-is_within.true))
 
 pub loop-event-preserved : goal.loop-event-preserved
 loop-event-preserved c =
     let events = c.args.events.now in
     let place = c.loop-event.event-index in
-    all_next (λ (k : ℕ). is_within c.args.sectors (slice_get events k)) place (place + 1) (omega arith) c.loop-event.invariant
-    (ap (is_within c.args.sectors) (stands_there events place c.event-item.result c.loop-event-test.true c.event-item.is)
+    all_next (λ (k : ℕ). is_within c.args.sectors (slice_get events k)) place (place + 1)
+    (omega arith) c.loop-event.invariant
+    (ap (is_within c.args.sectors)
+    (stands_there events place c.event-item.result c.loop-event-test.true c.event-item.is)
     ∙ (sym c.is_within.ensures ∙ c.if-not-is_within.false))

@@ -6,4 +6,5 @@ use Rattle.bio.specs.Lawful.{is_within}
 use Rattle.judge.proofs.lawful.are_within.Given as goal
 
 abbrev pub invariant-loop-event : goal.invariant-loop-event
-invariant-loop-event l = all_below (λ place. is_within l.sectors (slice_get l.events place)) l.event-index ≡ true
+invariant-loop-event l =
+    all_below (λ place. is_within l.sectors (slice_get l.events place)) l.event-index ≡ true

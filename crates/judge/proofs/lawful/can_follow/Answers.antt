@@ -9,5 +9,6 @@ returns-then-has_no_close c =
     let events = c.args.events.now in
     c.is_open_at.ensures
     ∙ (ap (is_open_at events) c.place.ensures
-    ∙ (sym (ap (λ b. b && is_open_at events c.in-Complete.id) (sym c.has_no_close.ensures ∙ c.if-has_no_close.true))
+    ∙ (sym (ap (λ b. b && is_open_at events c.in-Complete.id)
+    (sym c.has_no_close.ensures ∙ c.if-has_no_close.true))
     ∙ sym (ap (λ e. can_follow events (Some e)) c.in-Complete.is)))

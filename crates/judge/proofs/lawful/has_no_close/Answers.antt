@@ -10,11 +10,14 @@ returns-then-is_close c =
     let events = c.args.events.now in
     let place = c.loop-event.event-index in
     not_none (λ (k : ℕ). is_close (slice_get events k)) (length events) place c.loop-event-test.true
-    (ap is_close (stands_there events place c.event-item.result c.loop-event-test.true c.event-item.is) ∙ (sym c.is_close.ensures ∙ c.if-is_close.true))
+    (ap is_close (stands_there events place c.event-item.result c.loop-event-test.true
+    c.event-item.is) ∙ (sym c.is_close.ensures ∙ c.if-is_close.true))
 
 pub loop-event-preserved : goal.loop-event-preserved
 loop-event-preserved c =
     let events = c.args.events.now in
     let place = c.loop-event.event-index in
-    none_next (λ (k : ℕ). is_close (slice_get events k)) place (place + 1) (omega arith) c.loop-event.invariant
-    (ap is_close (stands_there events place c.event-item.result c.loop-event-test.true c.event-item.is) ∙ (sym c.is_close.ensures ∙ c.if-is_close.false))
+    none_next (λ (k : ℕ). is_close (slice_get events k)) place (place + 1)
+    (omega arith) c.loop-event.invariant
+    (ap is_close (stands_there events place c.event-item.result c.loop-event-test.true
+    c.event-item.is) ∙ (sym c.is_close.ensures ∙ c.if-is_close.false))

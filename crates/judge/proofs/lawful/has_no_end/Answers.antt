@@ -20,9 +20,11 @@ returns-then-is_end_of c =
     let id = c.args.id in
     let place = c.loop-place.place in
     let low = c.loop-place.auto.place in
-    not_none (λ (k : ℕ). nat_lt id k && is_end_of id (slice_get events k)) (length events) place c.loop-place-test.true
+    not_none (λ (k : ℕ). nat_lt id k && is_end_of id (slice_get events k))
+    (length events) place c.loop-place-test.true
     (ap (λ b. b && is_end_of id (slice_get events place)) (lt-ltb id place (omega arith))
-    ∙ (ap (is_end_of id) (stands_there events place c.index-events-place.result c.loop-place-test.true c.index-events-place.is)
+    ∙ (ap (is_end_of id) (stands_there events place c.index-events-place.result
+    c.loop-place-test.true c.index-events-place.is)
     ∙ (sym c.is_end_of.ensures ∙ c.if-is_end_of.true)))
 
 pub loop-place-preserved : goal.loop-place-preserved
@@ -31,7 +33,9 @@ loop-place-preserved c =
     let id = c.args.id in
     let place = c.loop-place.place in
     let low = c.loop-place.auto.place in
-    none_next (λ (k : ℕ). nat_lt id k && is_end_of id (slice_get events k)) place (place + 1) (omega arith) c.loop-place.invariant
+    none_next (λ (k : ℕ). nat_lt id k && is_end_of id (slice_get events k)) place (place + 1)
+    (omega arith) c.loop-place.invariant
     (ap (λ b. b && is_end_of id (slice_get events place)) (lt-ltb id place (omega arith))
-    ∙ (ap (is_end_of id) (stands_there events place c.index-events-place.result c.loop-place-test.true c.index-events-place.is)
+    ∙ (ap (is_end_of id) (stands_there events place c.index-events-place.result
+    c.loop-place-test.true c.index-events-place.is)
     ∙ (sym c.is_end_of.ensures ∙ c.if-is_end_of.false)))

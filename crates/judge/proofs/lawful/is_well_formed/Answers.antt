@@ -9,14 +9,20 @@ pub returns-then-not-can_follow : goal.returns-then-not-can_follow
 returns-then-not-can_follow c =
     let events = c.args.events.now in
     let place = c.loop-place.place in
-    not_all (λ (k : ℕ). can_follow (take k events) (slice_get events k)) (length events) place c.loop-place-test.true
-    (ap (can_follow (take place events)) (stands_there events place c.index-events-place.result c.loop-place-test.true c.index-events-place.is)
+    not_all (λ (k : ℕ). can_follow (take k events) (slice_get events k))
+    (length events) place c.loop-place-test.true
+    (ap (can_follow (take place events))
+    (stands_there events place c.index-events-place.result c.loop-place-test.true
+    c.index-events-place.is)
     ∙ (sym c.can_follow.ensures ∙ c.if-not-can_follow.true))
 
 pub loop-place-preserved : goal.loop-place-preserved
 loop-place-preserved c =
     let events = c.args.events.now in
     let place = c.loop-place.place in
-    all_next (λ (k : ℕ). can_follow (take k events) (slice_get events k)) place (place + 1) (omega arith) c.loop-place.invariant
-    (ap (can_follow (take place events)) (stands_there events place c.index-events-place.result c.loop-place-test.true c.index-events-place.is)
+    all_next (λ (k : ℕ). can_follow (take k events) (slice_get events k)) place (place + 1)
+    (omega arith) c.loop-place.invariant
+    (ap (can_follow (take place events))
+    (stands_there events place c.index-events-place.result c.loop-place-test.true
+    c.index-events-place.is)
     ∙ (sym c.can_follow.ensures ∙ c.if-not-can_follow.false))

@@ -6,4 +6,5 @@ use Rattle.bio.specs.Lawful.{can_follow}
 use Rattle.judge.proofs.lawful.is_well_formed.Given as goal
 
 abbrev pub invariant-loop-place : goal.invariant-loop-place
-invariant-loop-place l = all_below (λ place. can_follow (take place l.events) (slice_get l.events place)) l.place ≡ true
+invariant-loop-place l =
+    all_below (λ place. can_follow (take place l.events) (slice_get l.events place)) l.place ≡ true

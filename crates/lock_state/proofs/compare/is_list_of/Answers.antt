@@ -11,9 +11,12 @@ pub returns-then-not-is_at : goal.returns-then-not-is_at
 returns-then-not-is_at c =
     let place = c.loop-place.place in
     let within : place < length c.args.events.now = omega arith in
-    let event = stands_there c.args.events.now place c.index-events-place.result within c.index-events-place.is in
+    let event =
+    stands_there c.args.events.now place c.index-events-place.result within
+    c.index-events-place.is in
     let name = slice_get-get_or c.args.by.now place None (omega (arith, c.requires)) in
-    unmatched c.args.events.now c.args.by.now c.args.seat c.args.list.now place c.loop-place.found _ _ event name (sym c.if-is_seat.ensures) c.if-not-is_at.ensures c.loop-place.invariant
+    unmatched c.args.events.now c.args.by.now c.args.seat c.args.list.now place c.loop-place.found _
+    _ event name (sym c.if-is_seat.ensures) c.if-not-is_at.ensures c.loop-place.invariant
 
 pub loop-place-preserved : goal.loop-place-preserved
 loop-place-preserved c =
@@ -23,10 +26,17 @@ loop-place-preserved c =
     let next : place + 1 ≡ suc place = omega arith in
     elim c.if-is_seat.branch [
       | then-is_seat+else-not-is_at w ↦
-          let event = stands_there c.args.events.now place w.index-events-place.result within w.index-events-place.is in
+          let event =
+          stands_there c.args.events.now place w.index-events-place.result within
+          w.index-events-place.is in
           let more : c.if-is_seat.found ≡ suc c.loop-place.found = omega (arith, w.found-is) in
-          matched-own c.args.events.now c.args.by.now c.args.seat c.args.list.now place _ c.loop-place.found c.if-is_seat.found _ _ event name (sym w.if-is_seat.ensures) next more w.if-not-is_at.ensures c.loop-place.invariant
+          matched-own c.args.events.now c.args.by.now c.args.seat c.args.list.now place _
+          c.loop-place.found c.if-is_seat.found _ _ event name
+          (sym w.if-is_seat.ensures) next more w.if-not-is_at.ensures c.loop-place.invariant
       | else-is_seat w ↦
-          subst (Matched c.args.events.now c.args.by.now c.args.seat c.args.list.now (place + 1)) (sym w.found-is)
-          (matched-other c.args.events.now c.args.by.now c.args.seat c.args.list.now place _ c.loop-place.found _ _ (slice_get-get_or c.args.events.now place Close within) name (sym w.if-is_seat.ensures) next c.loop-place.invariant)
+          subst (Matched c.args.events.now c.args.by.now c.args.seat c.args.list.now (place + 1))
+          (sym w.found-is)
+          (matched-other c.args.events.now c.args.by.now c.args.seat c.args.list.now place _
+          c.loop-place.found _ _ (slice_get-get_or c.args.events.now place Close within) name
+          (sym w.if-is_seat.ensures) next c.loop-place.invariant)
     ]

@@ -12,5 +12,7 @@ returns-in-Submit c =
     let place = c.in-Once.place in
     let tells = subst (Tells calls c.args.id) c.in-Once.is c.requires in
     let within = slice_get-within calls place tells.1.call tells.1.there in
-    done_as calls c.args.id place c.args.event.now c.in-Submit.bio (get_or calls place c.index-calls-place.result) c.same_bio.result tells
-    (slice_get-get_or calls place c.index-calls-place.result within) c.in-Submit.is c.same_bio.ensures
+    done_as calls c.args.id place c.args.event.now c.in-Submit.bio
+    (get_or calls place c.index-calls-place.result) c.same_bio.result tells
+    (slice_get-get_or calls place c.index-calls-place.result within) c.in-Submit.is
+    c.same_bio.ensures

@@ -7,14 +7,18 @@ use Rattle.lock_state.proofs.Serving.{not_noted, nobody_ok, failed_ok, is_noted}
 use Rattle.lock_state.proofs.served.note.Goals as goal
 
 pub returns-in_default-clause-noted : goal.returns-in_default-clause-noted
-returns-in_default-clause-noted c = not_noted _ _ _ (λ id seen e. nobody_ok c.args.call.now id c.in_default.is)
+returns-in_default-clause-noted c =
+    not_noted _ _ _ (λ id seen e. nobody_ok c.args.call.now id c.in_default.is)
 
 pub returns-then-not-call-clause-noted : goal.returns-then-not-call-clause-noted
-returns-then-not-call-clause-noted c = not_noted _ _ _ (λ id seen e. failed_ok c.args.call.now id c.if-not-call.true)
+returns-then-not-call-clause-noted c =
+    not_noted _ _ _ (λ id seen e. failed_ok c.args.call.now id c.if-not-call.true)
 
 pub returns-clause-noted : goal.returns-clause-noted
 returns-clause-noted c id seen e =
     let notes = c.args.notes.now in
     let at = c.place-id.result in
-    is_noted notes c.args.place c.args.call.now at (get_or notes at Never) (c.in-Some.is ∙ ap (λ (n : ℕ). Some n) (sym c.place-id.ensures)) c.if-not-call.false
-    (slice_get-get_or notes at Never c.if-id-notes.false) id seen (subst (λ (m : Seen). slice_get (slice_set notes at m) id ≡ Some seen) c.more.ensures e)
+    is_noted notes c.args.place c.args.call.now at (get_or notes at Never)
+    (c.in-Some.is ∙ ap (λ (n : ℕ). Some n) (sym c.place-id.ensures)) c.if-not-call.false
+    (slice_get-get_or notes at Never c.if-id-notes.false) id seen
+    (subst (λ (m : Seen). slice_get (slice_set notes at m) id ≡ Some seen) c.more.ensures e)

@@ -16,11 +16,15 @@ loop-place-preserved c =
     let within : place < length calls = omega arith in
     let there = stands_there calls place call within c.index-calls-place.is in
     let next : place + 1 ≡ suc place = omega arith in (
-      subst (λ (cs : List Done). AllTell cs c.note.new.notes) (sym (take_next calls place (place + 1) call next there))
-          (all_tell-push (take place calls) call c.loop-place.notes c.note.new.notes place (sym (take_length calls place (omega arith))) c.loop-place.invariant.0 c.note.ensures.noted),
+      subst (λ (cs : List Done). AllTell cs c.note.new.notes)
+          (sym (take_next calls place (place + 1) call next there))
+          (all_tell-push (take place calls) call c.loop-place.notes c.note.new.notes place
+          (sym (take_length calls place
+          (omega arith))) c.loop-place.invariant.0 c.note.ensures.noted),
       c.note.ensures.size ∙ c.loop-place.invariant.1,
     )
 
 pub returns-clause-told : goal.returns-clause-told
 returns-clause-told c =
-    subst (λ (cs : List Done). AllTell cs c.loop-place.notes) (take_past c.args.calls.now c.loop-place.place (omega arith)) c.loop-place.invariant.0
+    subst (λ (cs : List Done). AllTell cs c.loop-place.notes)
+    (take_past c.args.calls.now c.loop-place.place (omega arith)) c.loop-place.invariant.0

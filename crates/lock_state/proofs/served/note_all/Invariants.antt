@@ -4,4 +4,5 @@ use Rattle.lock_state.specs.Comparing.{AllTell}
 use Rattle.lock_state.proofs.served.note_all.Given as goal
 
 abbrev pub invariant-loop-place : goal.invariant-loop-place
-invariant-loop-place l = AllTell (take l.place l.calls) l.notes × (length l.notes ≡ length l.fn.notes)
+invariant-loop-place l =
+    AllTell (take l.place l.calls) l.notes × (length l.notes ≡ length l.fn.notes)

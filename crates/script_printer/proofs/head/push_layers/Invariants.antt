@@ -7,4 +7,5 @@ use Rattle.script_printer.proofs.head.push_layers.Given as goal
 
 abbrev pub invariant-loop-layer : goal.invariant-loop-layer
 invariant-loop-layer l =
-    l.out.items ++ flat_map ended_line (map (layer_line l.over) (drop l.layer-index l.layers)) ≡ l.fn.out.items ++ flat_map ended_line (map (layer_line l.over) l.layers)
+    l.out.items ++ flat_map ended_line (map (layer_line l.over) (drop l.layer-index l.layers))
+    ≡ l.fn.out.items ++ flat_map ended_line (map (layer_line l.over) l.layers)

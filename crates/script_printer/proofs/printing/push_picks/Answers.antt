@@ -9,6 +9,8 @@ pub returns : goal.returns
 returns c =
     let all : c.loop-pick.out.items ≡ c.args.out.now.items ++ (codes "crash" ++ flat_map (λ n. 32 ∷ decimal n) c.args.picks.now) =
     sym (append-nil c.loop-pick.out.items)
-    ∙ ap (λ (left : List ℕ). c.loop-pick.out.items ++ flat_map (λ n. 32 ∷ decimal n) left) (sym (drop_all c.loop-pick.pick-index c.args.picks.now (omega arith)))
+    ∙ ap (λ (left : List ℕ). c.loop-pick.out.items ++ flat_map (λ n. 32 ∷ decimal n) left)
+    (sym (drop_all c.loop-pick.pick-index c.args.picks.now (omega arith)))
     ∙ c.loop-pick.invariant in
-    all ∙ ap (λ (x : List ℕ). c.args.out.now.items ++ x) (sym (picks_spelled (codes "crash") c.args.picks.now))
+    all ∙ ap (λ (x : List ℕ). c.args.out.now.items ++ x)
+    (sym (picks_spelled (codes "crash") c.args.picks.now))

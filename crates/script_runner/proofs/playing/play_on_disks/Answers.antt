@@ -27,10 +27,15 @@ play_beside-requires g c =
 
 pub returns-clause-played : goal.returns-clause-played
 returns-clause-played g c =
-    all_played {d = on_stack} {l = on_stack} stack_answering c.args.script.now _ _ _ _ c.play_beside.result
-    (beside_starts c.args.script.now c.in_ok-log.log (subst (λ (disk : Disk). IsStackOf disk c.in_ok-log.log) c.log.ensures.disk c.in_ok-log.ensures.stack))
+    all_played {d = on_stack}
+    {l = on_stack} stack_answering c.args.script.now _ _ _ _ c.play_beside.result
+    (beside_starts c.args.script.now c.in_ok-log.log
+    (subst (λ (disk : Disk). IsStackOf disk c.in_ok-log.log) c.log.ensures.disk
+    c.in_ok-log.ensures.stack))
     c.play_beside.ensures.played
 
 pub returns-clause-faults : goal.returns-clause-faults
 returns-clause-faults g c = if_err c.play_beside.result c.play_beside.ensures.faults (λ fault fails.
-    fails_on_disks c.args.text.now c.args.script.now c.in_ok-log.log _ _ fault (subst (λ (disk : Disk). IsStackOf disk c.in_ok-log.log) c.log.ensures.disk c.in_ok-log.ensures.stack) fails)
+    fails_on_disks c.args.text.now c.args.script.now c.in_ok-log.log _ _ fault
+    (subst (λ (disk : Disk). IsStackOf disk c.in_ok-log.log) c.log.ensures.disk
+    c.in_ok-log.ensures.stack) fails)

@@ -4,4 +4,5 @@ use Rattle.script_runner.specs.Texts.{first_bytes}
 use Rattle.script_runner.proofs.print.print_first_bytes.Given as goal
 
 abbrev pub invariant-loop-sector : goal.invariant-loop-sector
-invariant-loop-sector g l = Appends (g.O.Write.contents l.fn.out) (g.O.Write.contents l.out) (first_bytes l.sector l.bytes)
+invariant-loop-sector g l =
+    Appends (g.O.Write.contents l.fn.out) (g.O.Write.contents l.out) (first_bytes l.sector l.bytes)

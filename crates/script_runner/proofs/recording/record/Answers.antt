@@ -15,7 +15,8 @@ use Rattle.script_runner.proofs.Stepping.{if_failed}
 use Rattle.script_runner.proofs.recording.record.Goals as goal
 
 pub returns-in_err-played-clause-recorded : goal.returns-in_err-played-clause-recorded
-returns-in_err-played-clause-recorded g c = if_failed _ c.from_residual.result c.from_residual.ensures.0
+returns-in_err-played-clause-recorded g c =
+    if_failed _ c.from_residual.result c.from_residual.ensures.0
 
 pub returns-in_err-played-clause-faults : goal.returns-in_err-played-clause-faults
 returns-in_err-played-clause-faults g c =
@@ -34,15 +35,29 @@ returns-clause-recorded g c =
     (record { entries = says.counts; end = says.end; none = says.none; last = says.last }) in
     let replays : (stack_shown last.recorder.store.device).lies ≡ 0 → (left : Content) → (stack_shown last.recorder.store.device).crash left → ReplaysToWhatCouldBe (recorder_view last.recorder) (recorder_view last.recorder) left =
     λ honest left may. c.crashed_logs_replay_to_what_could_be.ensures.between last.recorder left honest may in
-    let sound = subst (λ (r : DiskRecorder). IsSound (core_of r)) played.left c.events-events.ensures.core in
+    let sound =
+    subst (λ (r : DiskRecorder). IsSound
+    (core_of r)) played.left c.events-events.ensures.core in
     let same = c.into_device-log.ensures ∙ ap (λ (r : DiskRecorder). r.store.device) played.left in
-    let lied = same_lies (record { data_disk = c.in_ok-played.played.data_lies; log_disk = c.lies.result }) (stack_shown last.disk).lies (stack_shown c.into_device-log.result).lies
+    let lied =
+    same_lies (record {
+      data_disk = c.in_ok-played.played.data_lies;
+      log_disk = c.lies.result;
+    }) (stack_shown last.disk).lies
+    (stack_shown c.into_device-log.result).lies
     played.lied c.lies.ensures in (
       played.text,
-      is_recorded script played.text played.start last c.into_device-log.result c.status-status.result _ (image_of c.left_disk-disk.result) _ c.crash.ensures.script.room played.starts played.ran
-          (c.lines_go_as_one_call.ensures script.names script.commands played.text played.start last played.ran)
-          counted told same lied (image_long c.left_disk-disk.result c.left_disk-disk.ensures.size) c.crash.ensures.picks
-          (image_agrees _ c.left_disk-disk.result c.left_disk-disk.ensures.size c.left_disk-disk.ensures.content) replays
-          (λ written on closed honest. c.closed_runs_leave_whole_logs.ensures.whole script.names script.commands played.text played.start last played.ran written sound on closed honest),
+      is_recorded script played.text played.start last c.into_device-log.result
+          c.status-status.result _
+          (image_of c.left_disk-disk.result) _ c.crash.ensures.script.room played.starts played.ran
+          (c.lines_go_as_one_call.ensures script.names script.commands played.text played.start last
+          played.ran)
+          counted told same lied (image_long c.left_disk-disk.result c.left_disk-disk.ensures.size)
+          c.crash.ensures.picks
+          (image_agrees _ c.left_disk-disk.result c.left_disk-disk.ensures.size
+          c.left_disk-disk.ensures.content) replays
+          (λ written on closed honest. c.closed_runs_leave_whole_logs.ensures.whole script.names
+          script.commands played.text played.start last played.ran written sound on closed
+          honest),
       played.printed,
     )

@@ -1,5 +1,6 @@
 -- Answers to the goals of `events_of_run` (src/rehearsing.rt) that the search leaves.
-use Rattle.std.proofs.Common.{◌≡◌, ℕ, ◌∙◌, Bool, Err, IfErr, IfOk, Ok, Result, true, false, ap, inr, not, refl, subst, sym}
+use Rattle.std.proofs.Common.{◌≡◌, ℕ, ◌∙◌, Bool, Err, IfErr, IfOk, Ok, Result, true, false, ap, inr}
+use Rattle.std.proofs.Common.{not, refl, subst, sym}
 use Rattle.std.proofs.lemmas.Bool.{and_parts}
 use Rattle.std.specs.List.{list_any}
 use Rattle.bio.specs.Lawful.{all_aligned, is_lawful, is_well_formed}
@@ -16,20 +17,24 @@ use Rattle.script_runner.proofs.rehearsing.events_of_run.Goals as goal
 use Rattle.recorder.specs.Shown.{core_of}
 
 pub returns-in_err-played-clause-rehearsed : goal.returns-in_err-played-clause-rehearsed
-returns-in_err-played-clause-rehearsed c = if_failed _ c.from_residual.result c.from_residual.ensures.0
+returns-in_err-played-clause-rehearsed c =
+    if_failed _ c.from_residual.result c.from_residual.ensures.0
 
 pub returns-in_err-played-clause-lawful : goal.returns-in_err-played-clause-lawful
 returns-in_err-played-clause-lawful c = if_failed _ c.from_residual.result c.from_residual.ensures.0
 
 pub returns-in_err-played-clause-aligned : goal.returns-in_err-played-clause-aligned
-returns-in_err-played-clause-aligned c = if_failed _ c.from_residual.result c.from_residual.ensures.0
+returns-in_err-played-clause-aligned c =
+    if_failed _ c.from_residual.result c.from_residual.ensures.0
 
 pub returns-in_err-played-clause-faults : goal.returns-in_err-played-clause-faults
 returns-in_err-played-clause-faults c =
-    on_error c.from_residual.result c.from_residual.ensures.1 (λ fault is. subst (FailsRehearsal _ _) (sym is) c.in_err-played.ensures.faults)
+    on_error c.from_residual.result c.from_residual.ensures.1
+    (λ fault is. subst (FailsRehearsal _ _) (sym is) c.in_err-played.ensures.faults)
 
 -- what was kept has what the made has, where it was kept
-of_kept : {A E : Type 0} (r : Result A E) (P : A → Type 0) (made : A) (ample : Bool) → IfOk r (λ it. (it ≡ made) × (ample ≡ true)) → (ample ≡ true → P made) → IfOk r P
+of_kept : {A E : Type 0} (r : Result A E) (P : A → Type 0) (made : A) (ample : Bool)
+    → IfOk r (λ it. (it ≡ made) × (ample ≡ true)) → (ample ≡ true → P made) → IfOk r P
 of_kept (Ok it) P made ample is gives = subst P (sym is.0) (gives is.1)
 of_kept (Err error) P made ample is gives = tt
 
@@ -39,12 +44,14 @@ is_off false is = refl
 is_off true is = absurd (cc)
 
 -- and where it wasn't, the fault is this
-of_refused : {A E : Type 0} (r : Result A E) (P Q : E → Type 0) → IfErr r P → ((error : E) → P error → Q error) → IfErr r Q
+of_refused : {A E : Type 0} (r : Result A E) (P Q : E → Type 0) → IfErr r P
+    → ((error : E) → P error → Q error) → IfErr r Q
 of_refused (Ok it) P Q is gives = tt
 of_refused (Err error) P Q is gives = gives error is
 
 pub returns-clause-faults : goal.returns-clause-faults
-returns-clause-faults c = of_refused c.kept_if.result _ _ c.kept_if.ensures.refused (λ fault is. file fault (inr is))
+returns-clause-faults c =
+    of_refused c.kept_if.result _ _ c.kept_if.ensures.refused (λ fault is. file fault (inr is))
 
 pub returns-clause-rehearsed : goal.returns-clause-rehearsed
 returns-clause-rehearsed c =
@@ -66,20 +73,27 @@ pub returns-clause-lawful : goal.returns-clause-lawful
 returns-clause-lawful c =
     let script = c.args.script.now in
     let played = c.in_ok-played.ensures.played in
-    let well_formed = subst (λ (r : DiskRecorder). is_well_formed (core_of r).events ≡ true) played.left c.events.ensures.core.well_formed in
+    let well_formed =
+    subst (λ (r : DiskRecorder). is_well_formed (core_of r).events
+    ≡ true) played.left c.events.ensures.core.well_formed in
     of_kept c.kept_if.result _ _ _ c.kept_if.ensures.kept (λ found.
-    subst (λ (r : DiskRecorder). is_lawful (top_of script.data_disk) (core_of r).events ≡ true) (sym played.left)
-    (run_lawful script played.text played.start played.last c.commands-commands.ensures.script played.starts played.ran well_formed))
+    subst (λ (r : DiskRecorder). is_lawful (top_of script.data_disk) (core_of r).events ≡ true)
+    (sym played.left)
+    (run_lawful script played.text played.start played.last c.commands-commands.ensures.script
+    played.starts played.ran well_formed))
 
 pub returns-clause-aligned : goal.returns-clause-aligned
 returns-clause-aligned c =
     let script = c.args.script.now in
     let played = c.in_ok-played.ensures.played in
     let recorded = c.in_ok-played.played.recorder in
-    let goes = c.lines_go_as_one_call.ensures script.names script.commands played.text played.start played.last played.ran in
+    let goes =
+    c.lines_go_as_one_call.ensures script.names script.commands played.text played.start
+    played.last played.ran in
     let kept = ap (λ (r : DiskRecorder). (core_of r).sector_bytes) played.left in
     let bytes : (core_of recorded).sector_bytes ≡ bytes_of script.log_size =
     kept ∙ goes.sector_bytes ∙ ap (λ (core : CoreState). core.sector_bytes) played.starts.log_disk.begun.core in
     of_kept c.kept_if.result _ _ _ c.kept_if.ensures.kept (λ found.
     subst (λ (size : ℕ). all_aligned size (core_of recorded).events ≡ true) bytes
-    (lawful_parts (core_of recorded).sector_bytes 1048576 (core_of recorded).events c.events.ensures.sound.lawful).1)
+    (lawful_parts (core_of recorded).sector_bytes 1048576
+    (core_of recorded).events c.events.ensures.sound.lawful).1)

@@ -13,12 +13,15 @@ loop-work-preserved-in_ok-push-2 g c =
     let view = c.work.view_is in (
       tt,
       tt,
-      mapped_next (λ (p : Player). p.part) players player c.loop-work.seats.items c.push-in-loop-work.new.self.items _ c.in_ok-push-2.ensures.items before.2
+      mapped_next (λ (p : Player). p.part) players player c.loop-work.seats.items
+          c.push-in-loop-work.new.self.items _ c.in_ok-push-2.ensures.items before.2
           (ap (λ (p : Player). p.part) view),
-      mapped_next (λ (p : Player). p.tally) players player c.loop-work.tallies.items c.push.new.self.items _ c.in_ok-push.ensures.items before.3
+      mapped_next (λ (p : Player). p.tally) players player c.loop-work.tallies.items
+          c.push.new.self.items _ c.in_ok-push.ensures.items before.3
           (ap (λ (p : Player). p.tally) view),
       c.in_ok-extend_from_slice.ensures.items
-          ∙ ap (λ (receipts : List Receipt). c.loop-work.receipts.items ++ receipts) (c.as_slice.ensures.value ∙ ap (λ (p : Player). p.receipts) view)
+          ∙ ap (λ (receipts : List Receipt). c.loop-work.receipts.items ++ receipts)
+          (c.as_slice.ensures.value ∙ ap (λ (p : Player). p.receipts) view)
           ∙ joined_next players player c.loop-work.receipts.items before.4,
     )
 
@@ -30,11 +33,14 @@ loop-work-preserved g c =
     let view = c.work.view_is in (
       tt,
       tt,
-      mapped_next (λ (p : Player). p.part) players player c.loop-work.seats.items c.push-in-loop-work.new.self.items _ c.in_ok-push-2.ensures.items before.2
+      mapped_next (λ (p : Player). p.part) players player c.loop-work.seats.items
+          c.push-in-loop-work.new.self.items _ c.in_ok-push-2.ensures.items before.2
           (ap (λ (p : Player). p.part) view),
-      mapped_next (λ (p : Player). p.tally) players player c.loop-work.tallies.items c.push.new.self.items _ c.in_ok-push.ensures.items before.3
+      mapped_next (λ (p : Player). p.tally) players player c.loop-work.tallies.items
+          c.push.new.self.items _ c.in_ok-push.ensures.items before.3
           (ap (λ (p : Player). p.tally) view),
       c.in_ok-extend_from_slice.ensures.items
-          ∙ ap (λ (receipts : List Receipt). c.loop-work.receipts.items ++ receipts) (c.as_slice.ensures.value ∙ ap (λ (p : Player). p.receipts) view)
+          ∙ ap (λ (receipts : List Receipt). c.loop-work.receipts.items ++ receipts)
+          (c.as_slice.ensures.value ∙ ap (λ (p : Player). p.receipts) view)
           ∙ joined_next players player c.loop-work.receipts.items before.4,
     )

@@ -6,7 +6,8 @@ use Rattle.seat_runner.proofs.seat_run.run_seats.Goals as goal
 
 pub returns-in_err-device-clause-faults : goal.returns-in_err-device-clause-faults
 returns-in_err-device-clause-faults g c =
-    on_error c.from_residual.result c.from_residual.ensures.1 (λ fault is. fails_memory c.args.script.now fault (is ∙ c.in_err-device.ensures.faults))
+    on_error c.from_residual.result c.from_residual.ensures.1
+    (λ fault is. fails_memory c.args.script.now fault (is ∙ c.in_err-device.ensures.faults))
 
 pub returns-in_err-log-clause-faults : goal.returns-in_err-log-clause-faults
 returns-in_err-log-clause-faults g c =
@@ -15,4 +16,5 @@ returns-in_err-log-clause-faults g c =
 
 pub returns-in_err-unnamed-clause-faults : goal.returns-in_err-unnamed-clause-faults
 returns-in_err-unnamed-clause-faults g c =
-    on_error c.from_residual-in_err-unnamed.result c.from_residual-in_err-unnamed.ensures.1 (λ fault is. fails_memory c.args.script.now fault is)
+    on_error c.from_residual-in_err-unnamed.result c.from_residual-in_err-unnamed.ensures.1
+    (λ fault is. fails_memory c.args.script.now fault is)

@@ -26,13 +26,18 @@ loop-sector-preserved c =
           let read = w.read_place.ensures ∙ ap (λ p. value_at later (p - 1) sector) place
           ∙ sym (left_later later first (place_of places sector) sector (omega arith)) ∙ ap content from in
           let size = ap length w.read_place.ensures ∙ length-value_at later _ sector in (
-            gather-next content 0 sector c.loop-sector.image _ value (omega arith) size w.image-is read earlier.0,
-            ap (drop (512 * (sector + 1))) w.image-is ∙ rest-put sector c.loop-sector.image first value (omega arith) size earlier.1,
+            gather-next content 0 sector c.loop-sector.image _ value
+                (omega arith) size w.image-is read earlier.0,
+            ap (drop (512 * (sector + 1))) w.image-is
+                ∙ rest-put sector c.loop-sector.image first value (omega arith) size earlier.1,
           )
       | else-place-gt0 w ↦
           let first_is = w.if-place-gt0.false in (
             ap (take (512 * (sector + 1))) w.image-is
-                ∙ gather-kept content sector c.loop-sector.image first earlier.1 (left_first later first (place_of places sector) sector (λ some. absurd (omega arith))) earlier.0,
-            ap (drop (512 * (sector + 1))) w.image-is ∙ rest-next sector c.loop-sector.image first earlier.1,
+                ∙ gather-kept content sector c.loop-sector.image first earlier.1
+                (left_first later first (place_of places sector) sector
+                (λ some. absurd (omega arith))) earlier.0,
+            ap (drop (512 * (sector + 1))) w.image-is
+                ∙ rest-next sector c.loop-sector.image first earlier.1,
           )
     ]

@@ -8,11 +8,13 @@ use Rattle.sector_disk.proofs.call.read_call.Goals as goal
 
 pub copy_from_slice-requires : goal.copy_from_slice-requires
 copy_from_slice-requires c =
-    c.requires ∙ sym (writes-whole c.args.call.now.first c.deref.result.now c.args.sector c.in-Some.part.now c.in-Some.ensures)
+    c.requires ∙ sym (writes-whole c.args.call.now.first c.deref.result.now c.args.sector
+    c.in-Some.part.now c.in-Some.ensures)
 
 pub returns-in-Discard : goal.returns-in-Discard
 returns-in-Discard c =
     c.fill-in-Discard.ensures.after (λ y same. same)
     ∙ ap (λ n. replicate n 0) c.requires
     ∙ sym (discarded c.args.call.now.first c.in-Discard.field-0 c.args.sector)
-    ∙ ap (λ change. unwrap_or (change_values c.args.call.now.first change c.args.sector) (replicate 512 0)) (sym c.in-Discard.is)
+    ∙ ap (λ change. unwrap_or (change_values c.args.call.now.first change c.args.sector)
+    (replicate 512 0)) (sym c.in-Discard.is)

@@ -13,5 +13,6 @@ loop-index-preserved c =
     let size = ap length read ∙ length-value_at calls (place_of places sector) sector in
     let kept = c.loop-index.auto.buffer in
     let here = c.loop-index-test.true in
-    gather-next (content_at calls places) c.args.first c.loop-index.index c.loop-index.buffer _ c.read_place.new.buffer (omega arith) size refl read
+    gather-next (content_at calls places) c.args.first c.loop-index.index c.loop-index.buffer _
+    c.read_place.new.buffer (omega arith) size refl read
     c.loop-index.invariant

@@ -5,4 +5,5 @@ use Rattle.sector_disk.specs.inside.Storage.{content_at}
 use Rattle.sector_disk.proofs.call.read_places.Given as goal
 
 abbrev pub invariant-loop-index : goal.invariant-loop-index
-invariant-loop-index l = take (512 * l.index) l.buffer ≡ gather (content_at l.calls l.places) l.first l.index
+invariant-loop-index l =
+    take (512 * l.index) l.buffer ≡ gather (content_at l.calls l.places) l.first l.index

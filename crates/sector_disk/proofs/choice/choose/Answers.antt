@@ -10,7 +10,14 @@ pub loop-sector-init : goal.loop-sector-init
 loop-sector-init c = record {
   length_kept = c.requires;
   few = omega arith;
-  chosen = λ cache placed. (refl, record { value = λ sector h. absurd (omega arith); within = λ sector h. absurd (omega arith) });
+  chosen =
+      λ cache placed. (
+        refl,
+        record {
+          value = λ sector h. absurd (omega arith);
+          within = λ sector h. absurd (omega arith);
+        },
+      );
 }
 
 pub overflow_add-unsynced : goal.overflow_add-unsynced
@@ -22,16 +29,22 @@ loop-sector-preserved c =
     let sector = c.loop-sector.sector in
     let counts = c.count_candidates-count.ensures.count in
     record {
-      length_kept = length-set c.loop-sector.chosen.items sector c.walk_back.result ∙ before.length_kept;
+      length_kept =
+          length-set c.loop-sector.chosen.items sector c.walk_back.result ∙ before.length_kept;
       few = elim c.if-count-gt1.branch [ then-count-gt1 w ↦ omega arith | else-count-gt1 w ↦ omega arith ];
       chosen = λ cache placed.
           let old = before.chosen cache placed in (
-            unsynced-next c.args.calls.now c.args.synced c.args.newest.now sector c.count_candidates-count.result c.loop-sector.unsynced c.if-count-gt1.unsynced cache placed
+            unsynced-next c.args.calls.now c.args.synced c.args.newest.now sector
+                c.count_candidates-count.result c.loop-sector.unsynced c.if-count-gt1.unsynced cache
+                placed
                 c.loop-sector-test.true counts old.0
                 (λ many. elim c.if-count-gt1.branch [ then-count-gt1 w ↦ w.unsynced-is | else-count-gt1 w ↦ absurd (omega arith) ])
                 (λ one. elim c.if-count-gt1.branch [ then-count-gt1 w ↦ absurd (omega arith) | else-count-gt1 w ↦ w.unsynced-is ]),
-            chosen-next c.args.calls.now c.args.synced c.args.newest.now c.args.picks.now c.loop-sector.chosen.items sector c.count_candidates-count.result c.loop-sector.unsynced
-                c.pick_at.result c.walk_back.result cache placed c.loop-sector-test.true before.length_kept counts old.0 c.pick_at.ensures c.walk_back.ensures old.1,
+            chosen-next c.args.calls.now c.args.synced c.args.newest.now c.args.picks.now
+                c.loop-sector.chosen.items sector c.count_candidates-count.result
+                c.loop-sector.unsynced
+                c.pick_at.result c.walk_back.result cache placed c.loop-sector-test.true
+                before.length_kept counts old.0 c.pick_at.ensures c.walk_back.ensures old.1,
           );
     }
 
@@ -41,5 +54,7 @@ returns-clause-chosen c cache placed =
     let low = c.loop-sector-test.false in
     let high = c.loop-sector.auto.sector-end in
     omega arith in
-    let Until = λ (n : ℕ). AreChosen c.args.calls.now cache c.args.picks.now n c.loop-sector.chosen.items in
+    let Until =
+    λ (n : ℕ). AreChosen c.args.calls.now cache c.args.picks.now n
+    c.loop-sector.chosen.items in
     subst Until all (c.loop-sector.invariant.chosen cache placed).1

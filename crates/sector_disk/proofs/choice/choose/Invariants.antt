@@ -10,5 +10,6 @@ invariant-loop-sector l = record {
   length_kept : length l.chosen.items ≡ length l.newest;
   few : l.unsynced ≤ l.sector;
   chosen : (cache : Cache) → ArePlaced l.calls l.synced (length l.newest) l.newest cache
-      → (l.unsynced ≡ unsynced_below cache l.sector) × AreChosen l.calls cache l.picks l.sector l.chosen.items;
+      → (l.unsynced ≡ unsynced_below cache l.sector)
+      × AreChosen l.calls cache l.picks l.sector l.chosen.items;
 }

@@ -8,7 +8,10 @@ pub returns-then-not-is_open-clause-count : goal.returns-then-not-is_open-clause
 returns-then-not-is_open-clause-count c count within chain =
     let before = c.loop-index.invariant count chain in
     let index = c.loop-index.index in
-    let one = chain-closed c.args.calls.now c.args.synced c.args.sector (count - index) c.loop-index.place before.1 (sym c.is_open.ensures ∙ c.if-not-is_open.true) in
+    let one =
+    chain-closed c.args.calls.now c.args.synced c.args.sector
+    (count - index) c.loop-index.place before.1
+    (sym c.is_open.ensures ∙ c.if-not-is_open.true) in
     let h = before.0 in
     omega arith
 
@@ -16,10 +19,15 @@ pub loop-index-preserved : goal.loop-index-preserved
 loop-index-preserved c count chain =
     let before = c.loop-index.invariant count chain in
     let index = c.loop-index.index in
-    let next = chain-open c.args.calls.now c.args.synced c.args.sector (count - index) c.loop-index.place before.1 (sym c.is_open.ensures ∙ c.if-not-is_open.false) in
+    let next =
+    chain-open c.args.calls.now c.args.synced c.args.sector
+    (count - index) c.loop-index.place before.1
+    (sym c.is_open.ensures ∙ c.if-not-is_open.false) in
     let h = before.0 in
     let more = next.0 in (
       omega arith,
-      ap (λ n. is_chain c.args.calls.now c.args.synced c.args.sector n c.before-place.result) (omega arith)
-          ∙ ap (is_chain c.args.calls.now c.args.synced c.args.sector (count - index - 1)) c.before-place.ensures ∙ next.1,
+      ap (λ n. is_chain c.args.calls.now c.args.synced c.args.sector n c.before-place.result)
+          (omega arith)
+          ∙ ap (is_chain c.args.calls.now c.args.synced c.args.sector
+          (count - index - 1)) c.before-place.ensures ∙ next.1,
     )

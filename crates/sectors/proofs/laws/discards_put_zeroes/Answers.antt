@@ -7,4 +7,5 @@ pub returns-clause-within : goal.returns-clause-within
 returns-clause-within c = put-discards
 
 pub returns-clause-outside : goal.returns-clause-outside
-returns-clause-outside c first count content sector outside = put-outside first count (λ _. replicate 512 0) content sector outside
+returns-clause-outside c first count content sector outside =
+    put-outside first count (λ _. replicate 512 0) content sector outside

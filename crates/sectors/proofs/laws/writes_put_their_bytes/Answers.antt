@@ -11,4 +11,5 @@ pub returns-clause-within : goal.returns-clause-within
 returns-clause-within c = put-writes
 
 pub returns-clause-outside : goal.returns-clause-outside
-returns-clause-outside c first bytes content sector outside = put-outside first (length bytes / 512) (sector_of bytes) content sector outside
+returns-clause-outside c first bytes content sector outside =
+    put-outside first (length bytes / 512) (sector_of bytes) content sector outside

@@ -8,14 +8,29 @@ use Rattle.shared.proofs.closing.finish.Goals as goal
 pub returns-clause-agrees : goal.returns-clause-agrees
 returns-clause-agrees g c seats receipts before =
     let a = c.take_apart.ensures in
-    agrees_finally _ _ _ _ _ _ _ _ _ _ _ _ seats receipts c.drain.ensures.goes c.drain.ensures.finished
-    (record { same_queue = a.queue; same_placed = a.placed.0; same_settled = a.placed.1; same_end = a.store_end; same_calls = a.calls }) before
+    agrees_finally _ _ _ _ _ _ _ _ _ _ _ _ seats receipts c.drain.ensures.goes
+    c.drain.ensures.finished
+    (record {
+      same_queue = a.queue;
+      same_placed = a.placed.0;
+      same_settled = a.placed.1;
+      same_end = a.store_end;
+      same_calls = a.calls;
+    }) before
 
 pub returns-clause-crash : goal.returns-clause-crash
 returns-clause-crash g c lies left crash =
     let a = c.take_apart.ensures in
     leaves_finally _ _ _ _ _ _ _ _ _ _ _ _ _ left c.drain.ensures.finished
-    (record { same_queue = a.queue; same_placed = a.placed.0; same_settled = a.placed.1; same_end = a.store_end; same_calls = a.calls }) a.end (a.leaves lies left crash)
+    (record {
+      same_queue = a.queue;
+      same_placed = a.placed.0;
+      same_settled = a.placed.1;
+      same_end = a.store_end;
+      same_calls = a.calls;
+    }) a.end (a.leaves lies left crash)
 
 pub returns-clause-stay : goal.returns-clause-stay
-returns-clause-stay g c = subst (λ (items : List Item). Stay c.args.log.placed items) (sym c.take_apart.ensures.placed.0) c.drain.ensures.goes.stay
+returns-clause-stay g c =
+    subst (λ (items : List Item). Stay c.args.log.placed items)
+    (sym c.take_apart.ensures.placed.0) c.drain.ensures.goes.stay

@@ -3,7 +3,8 @@ use Rattle.shared_tests.specs.Disks.{disk_ground}
 use Rattle.shared_tests.proofs.closes.a_close_that_was_not_asked_for_is_busy.Given as goal
 
 abbrev pub ghosts-unasked-R-Ledger : goal.ghosts-unasked-R-Ledger
-ghosts-unasked-R-Ledger g a = record { name = a.unnamed.ledger.name; parts = a.unnamed.ledger.parts }
+ghosts-unasked-R-Ledger g a =
+    record { name = a.unnamed.ledger.name; parts = a.unnamed.ledger.parts }
 
 abbrev pub ghosts-unasked-R-Whose : goal.ghosts-unasked-R-Whose
 ghosts-unasked-R-Whose g a = record { table = a.unnamed.table }

@@ -3,7 +3,8 @@ use Rattle.shared_tests.specs.Disks.{disk_ground}
 use Rattle.shared_tests.proofs.closes.a_seat_writes_flushes_and_reads.Given as goal
 
 abbrev pub ghosts-recorded-R-Ledger : goal.ghosts-recorded-R-Ledger
-ghosts-recorded-R-Ledger g a = record { name = a.unnamed.ledger.name; parts = a.unnamed.ledger.parts }
+ghosts-recorded-R-Ledger g a =
+    record { name = a.unnamed.ledger.name; parts = a.unnamed.ledger.parts }
 
 abbrev pub ghosts-recorded-R-Whose : goal.ghosts-recorded-R-Whose
 ghosts-recorded-R-Whose g a = record { table = a.unnamed.table }

@@ -3,7 +3,8 @@ use Rattle.shared_tests.specs.Disks.{disk_ground}
 use Rattle.shared_tests.proofs.closes.two_recorders_find_each_others_calls.Given as goal
 
 abbrev pub ghosts-foreign_seats-B-Ledger : goal.ghosts-foreign_seats-B-Ledger
-ghosts-foreign_seats-B-Ledger g a = record { name = a.unnamed.ledger.name; parts = a.unnamed.ledger.parts }
+ghosts-foreign_seats-B-Ledger g a =
+    record { name = a.unnamed.ledger.name; parts = a.unnamed.ledger.parts }
 
 abbrev pub ghosts-foreign_seats-B-Whose : goal.ghosts-foreign_seats-B-Whose
 ghosts-foreign_seats-B-Whose g a = record { table = a.unnamed.table }
@@ -15,7 +16,8 @@ abbrev pub ghosts-foreign_seats-B-Names : goal.ghosts-foreign_seats-B-Names
 ghosts-foreign_seats-B-Names g a = record { board = a.unnamed.board }
 
 abbrev pub ghosts-foreign_seats-C-Ledger : goal.ghosts-foreign_seats-C-Ledger
-ghosts-foreign_seats-C-Ledger g a = record { name = a.other.ledger.name; parts = a.other.ledger.parts }
+ghosts-foreign_seats-C-Ledger g a =
+    record { name = a.other.ledger.name; parts = a.other.ledger.parts }
 
 abbrev pub ghosts-foreign_seats-C-Whose : goal.ghosts-foreign_seats-C-Whose
 ghosts-foreign_seats-C-Whose g a = record { table = a.other.table }

@@ -10,5 +10,6 @@ returns c =
     let spec = c.args.spec.now in
     let behind = behind_spaces (target_words spec.offset spec.target) in
     IfOk-equal _ _ _ _ c.push_target.ensures
-    (ap (λ x. x ++ behind) (c.in_ok-push_value.ensures ∙ ap (λ x. x ++ behind_spaces (decimal spec.length ∷ [])) c.in_ok-push.ensures.items)
+    (ap (λ x. x ++ behind) (c.in_ok-push_value.ensures
+    ∙ ap (λ x. x ++ behind_spaces (decimal spec.length ∷ [])) c.in_ok-push.ensures.items)
     ∙ line_joined c.args.out.now.items (decimal spec.length) (target_words spec.offset spec.target))

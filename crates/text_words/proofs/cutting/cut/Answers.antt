@@ -1,5 +1,6 @@
 -- Answers to the goals of `cut` (src/cutting.rt) that the search leaves.
-use Rattle.std.proofs.Common.{◌≡◌, ◌+◌, ◌-◌, length, take, drop, Some, take_all, length-drop, arith, sym, ap, ◌∙◌}
+use Rattle.std.proofs.Common.{◌≡◌, ◌+◌, ◌-◌, length, take, drop, Some, take_all, length-drop, arith}
+use Rattle.std.proofs.Common.{sym, ap, ◌∙◌}
 use Rattle.text_words.proofs.WordLemmas.{cut_some, cut_none}
 use Rattle.text_words.proofs.cutting.cut.Goals as goal
 

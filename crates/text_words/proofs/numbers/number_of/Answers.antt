@@ -6,5 +6,6 @@ use Rattle.text_words.proofs.numbers.number_of.Goals as goal
 
 pub loop-digit-init : goal.loop-digit-init
 loop-digit-init c =
-    let filled : 0 < length c.args.word.now = omega (arith, eqb-false _ _ (sym c.if-is_empty.ensures)) in
+    let filled : 0 < length c.args.word.now =
+    omega (arith, eqb-false _ _ (sym c.if-is_empty.ensures)) in
     number_start c.args.word.now filled (omega arith)

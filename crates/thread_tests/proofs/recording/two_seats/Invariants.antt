@@ -11,4 +11,9 @@ abbrev pub ghosts-two_seats_record-R-Whose : goal.ghosts-two_seats_record-R-Whos
 ghosts-two_seats_record-R-Whose g a = record { table = a.fresh }
 
 abbrev pub ghosts-two_seats_record-R-Run : goal.ghosts-two_seats_record-R-Run
-ghosts-two_seats_record-R-Run g a = record { sectors = 64; sector_bytes = bytes_of a.size; log = ground_of (store_of a.store).device }
+ghosts-two_seats_record-R-Run g a =
+    record {
+      sectors = 64;
+      sector_bytes = bytes_of a.size;
+      log = ground_of (store_of a.store).device;
+    }

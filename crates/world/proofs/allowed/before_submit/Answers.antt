@@ -14,8 +14,10 @@ loop-place-preserved c =
     elim c.if-is_submit.branch [
       | then-is_submit w ↦
           rw w.end-is
-          (before_here calls c.args.id place (place + 1) c.loop-place.end call (omega arith) there (sym c.is_submit.ensures ∙ w.if-is_submit.true) c.loop-place.invariant)
+          (before_here calls c.args.id place (place + 1) c.loop-place.end call (omega arith) there
+          (sym c.is_submit.ensures ∙ w.if-is_submit.true) c.loop-place.invariant)
       | else-is_submit w ↦
           rw w.end-is
-          (before_other calls c.args.id place (place + 1) c.loop-place.end call (omega arith) there (sym c.is_submit.ensures ∙ w.if-is_submit.false) c.loop-place.invariant)
+          (before_other calls c.args.id place (place + 1) c.loop-place.end call (omega arith) there
+          (sym c.is_submit.ensures ∙ w.if-is_submit.false) c.loop-place.invariant)
     ]

@@ -8,4 +8,6 @@ use Rattle.world.specs.Machine.{is_among}
 use Rattle.world.proofs.allowed.has_landed.Given as goal
 
 abbrev pub invariant-loop-place : goal.invariant-loop-place
-invariant-loop-place l = all_below (λ k. is_among (landed_of (slice_get l.cells (first_sector l.bio + k))) l.id) l.place ≡ true
+invariant-loop-place l =
+    all_below (λ k. is_among (landed_of (slice_get l.cells (first_sector l.bio + k))) l.id) l.place
+    ≡ true

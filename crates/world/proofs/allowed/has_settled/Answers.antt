@@ -9,16 +9,22 @@ use Rattle.world.proofs.allowed.has_settled.Goals as goal
 
 pub returns-then-not-has_settled_at : goal.returns-then-not-has_settled_at
 returns-then-not-has_settled_at c =
-    let test : ℕ → Bool = λ sector. is_among (settled_of (slice_get c.args.cells.now sector)) c.args.id in
+    let test : ℕ → Bool =
+    λ sector. is_among (settled_of (slice_get c.args.cells.now sector)) c.args.id in
     let place = c.loop-place.place in
     let count = c.sector_count-place-end.ensures in
     let inside = c.loop-place-test.true in
-    not_all (λ k. test (first_sector c.args.bio.now + k)) (sector_count c.args.bio.now) place (omega arith)
-    (ap (λ (first : ℕ). test (first + place)) (sym c.first_sector-first.ensures) ∙ (sym c.has_settled_at.ensures ∙ c.if-not-has_settled_at.true))
+    not_all (λ k. test (first_sector c.args.bio.now + k)) (sector_count c.args.bio.now) place
+    (omega arith)
+    (ap (λ (first : ℕ). test (first + place)) (sym c.first_sector-first.ensures)
+    ∙ (sym c.has_settled_at.ensures ∙ c.if-not-has_settled_at.true))
 
 pub loop-place-preserved : goal.loop-place-preserved
 loop-place-preserved c =
-    let test : ℕ → Bool = λ sector. is_among (settled_of (slice_get c.args.cells.now sector)) c.args.id in
+    let test : ℕ → Bool =
+    λ sector. is_among (settled_of (slice_get c.args.cells.now sector)) c.args.id in
     let place = c.loop-place.place in
-    all_next (λ k. test (first_sector c.args.bio.now + k)) place (place + 1) (omega arith) c.loop-place.invariant
-    (ap (λ (first : ℕ). test (first + place)) (sym c.first_sector-first.ensures) ∙ (sym c.has_settled_at.ensures ∙ c.if-not-has_settled_at.false))
+    all_next (λ k. test (first_sector c.args.bio.now + k)) place (place + 1)
+    (omega arith) c.loop-place.invariant
+    (ap (λ (first : ℕ). test (first + place)) (sym c.first_sector-first.ensures)
+    ∙ (sym c.has_settled_at.ensures ∙ c.if-not-has_settled_at.false))

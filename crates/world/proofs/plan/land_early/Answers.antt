@@ -12,7 +12,11 @@ loop-place-preserved c =
     let account = c.args.account.now in
     let place = c.loop-place.place in
     let run = c.loop-place.run.items in
-    let steps : ℕ → List Step = lands_if c.args.has_to (place_at account.held.items) (sure_by account.last.items) c.args.id in
-    grown (λ k. steps (first_sector c.args.bio.now + k)) place (place + 1) c.args.run.now.items run c.lands_early.new.run.items (omega arith)
+    let steps : ℕ → List Step =
+    lands_if c.args.has_to (place_at account.held.items)
+    (sure_by account.last.items) c.args.id in
+    grown (λ k. steps (first_sector c.args.bio.now + k)) place
+    (place + 1) c.args.run.now.items run c.lands_early.new.run.items (omega arith)
     c.loop-place.invariant
-    (c.in_ok-lands_early.ensures ∙ ap (λ (first : ℕ). run ++ steps (first + place)) c.first_sector-first.ensures)
+    (c.in_ok-lands_early.ensures
+    ∙ ap (λ (first : ℕ). run ++ steps (first + place)) c.first_sector-first.ensures)

@@ -10,4 +10,5 @@ abbrev pub invariant-loop-place : goal.invariant-loop-place
 invariant-loop-place l =
     l.run.items
     ≡ l.fn.run.items
-    ++ collect (λ k. lands_if l.has_to (place_at l.account.held.items) (sure_by l.account.last.items) l.id (first_sector l.bio + k)) l.place
+    ++ collect (λ k. lands_if l.has_to (place_at l.account.held.items)
+    (sure_by l.account.last.items) l.id (first_sector l.bio + k)) l.place

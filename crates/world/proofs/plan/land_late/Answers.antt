@@ -13,6 +13,8 @@ loop-place-preserved c =
     let place = c.loop-place.place in
     let run = c.loop-place.run.items in
     let steps : ℕ → List Step = lands_late (place_at account.held.items) c.args.id in
-    grown (λ k. steps (first_sector c.args.bio.now + k)) place (place + 1) c.args.run.now.items run c.lands_late.new.run.items (omega arith)
+    grown (λ k. steps (first_sector c.args.bio.now + k)) place
+    (place + 1) c.args.run.now.items run c.lands_late.new.run.items (omega arith)
     c.loop-place.invariant
-    (c.in_ok-lands_late.ensures ∙ ap (λ (first : ℕ). run ++ steps (first + place)) c.first_sector-first.ensures)
+    (c.in_ok-lands_late.ensures
+    ∙ ap (λ (first : ℕ). run ++ steps (first + place)) c.first_sector-first.ensures)

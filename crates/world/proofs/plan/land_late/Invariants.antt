@@ -8,4 +8,6 @@ use Rattle.world.proofs.plan.land_late.Given as goal
 
 abbrev pub invariant-loop-place : goal.invariant-loop-place
 invariant-loop-place l =
-    l.run.items ≡ l.fn.run.items ++ collect (λ k. lands_late (place_at l.account.held.items) l.id (first_sector l.bio + k)) l.place
+    l.run.items ≡ l.fn.run.items
+    ++ collect (λ k. lands_late (place_at l.account.held.items) l.id
+    (first_sector l.bio + k)) l.place

@@ -17,7 +17,8 @@ run_of-requires-clause-within c =
     let sectors = length c.args.image.now / 512 in
     let size = c.type_inv.image in
     subst AllEnd (sym c.beginning-events.ensures)
-    (lawful_ends sectors (take c.args.moment events) (lawful-take sectors events c.args.moment c.requires.lawful) (omega arith))
+    (lawful_ends sectors (take c.args.moment events)
+    (lawful-take sectors events c.args.moment c.requires.lawful) (omega arith))
 
 pub returns-in-Yes : goal.returns-in-Yes
 returns-in-Yes c =
@@ -30,9 +31,12 @@ returns-in-Yes c =
     let Judged = λ (verdict : Verdict). IsVerdict sectors (take c.args.moment events) first image verdict in
     let told = subst Told c.beginning-events.ensures c.in_ok-account.ensures in
     let lawful = lawful-take sectors events c.args.moment c.requires.lawful in
-    account_leaves sectors (take c.args.moment events) first image account c.in_ok-run_of-in-Yes.field-0.items lawful
+    account_leaves sectors (take c.args.moment events) first image account
+    c.in_ok-run_of-in-Yes.field-0.items lawful
     (subst Judged c.in-Yes.is (c.verdict.ensures (take c.args.moment events) lawful told)) told
-    (c.in_ok-run_of-in-Yes.ensures ∙ ap (λ (es : List CoreEvent). plan es (place_at account.held.items) (sure_by account.last.items)) c.beginning-events.ensures)
+    (c.in_ok-run_of-in-Yes.ensures
+    ∙ ap (λ (es : List CoreEvent). plan es (place_at account.held.items)
+    (sure_by account.last.items)) c.beginning-events.ensures)
 
 pub returns : goal.returns
 returns c =

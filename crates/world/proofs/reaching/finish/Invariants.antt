@@ -6,4 +6,6 @@ use Rattle.world.specs.inside.Plan.{steps_left}
 use Rattle.world.proofs.reaching.finish.Given as goal
 
 abbrev pub invariant-loop-id : goal.invariant-loop-id
-invariant-loop-id l = l.run.items ≡ l.fn.run.items ++ collect (steps_left l.events (place_at l.account.held.items)) l.id
+invariant-loop-id l =
+    l.run.items ≡ l.fn.run.items
+    ++ collect (steps_left l.events (place_at l.account.held.items)) l.id

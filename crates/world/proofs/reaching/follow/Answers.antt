@@ -15,7 +15,12 @@ loop-place-preserved c =
     let account = c.args.account.now in
     let place = c.loop-place.place in
     let run = c.loop-place.run.items in
-    let steps : ℕ → Option CoreEvent → List Step = steps_of events (place_at account.held.items) (sure_by account.last.items) in
-    grown (λ k. steps k (slice_get events k)) place (place + 1) c.args.run.now.items run c.take_event.new.run.items (omega arith) c.loop-place.invariant
+    let steps : ℕ → Option CoreEvent → List Step =
+    steps_of events (place_at account.held.items) (sure_by account.last.items) in
+    grown (λ k. steps k (slice_get events k)) place
+    (place + 1) c.args.run.now.items run c.take_event.new.run.items
+    (omega arith) c.loop-place.invariant
     (c.in_ok-take_event.ensures
-    ∙ ap (λ event. run ++ steps place event) (sym (stands_there events place c.index-events-place.result c.loop-place-test.true c.index-events-place.is)))
+    ∙ ap (λ event. run ++ steps place event)
+    (sym (stands_there events place c.index-events-place.result c.loop-place-test.true
+    c.index-events-place.is)))

@@ -10,4 +10,5 @@ abbrev pub invariant-loop-place : goal.invariant-loop-place
 invariant-loop-place l =
     l.run.items
     ≡ l.fn.run.items
-    ++ collect (λ k. steps_of l.events (place_at l.account.held.items) (sure_by l.account.last.items) k (slice_get l.events k)) l.place
+    ++ collect (λ k. steps_of l.events (place_at l.account.held.items)
+    (sure_by l.account.last.items) k (slice_get l.events k)) l.place

@@ -12,6 +12,8 @@ returns-in-RuledOut c = λ reached.
     let events = take c.args.moment c.args.events.now in
     let image = sector_of c.args.image.now in
     let first = first_on c.args.first (length c.args.image.now) in
-    let Found = λ (finding : Finding). IsFinding (length c.args.image.now / 512) events first image finding in
+    let Found =
+    λ (finding : Finding). IsFinding
+    (length c.args.image.now / 512) events first image finding in
     let found = subst Found c.in-RuledOut.is c.in_ok-run.ensures in
     found.fails (reachable_possible events first image reached c.in-RuledOut.sector)

@@ -21,7 +21,9 @@ value_mut-requires g c =
     let value = first-value t c.args.chain c.first_row-row.result rest.0 c.requires.chain.0 rest.1 in
     let small = row-within t c.args.chain c.first_row-row.result rest.0 rest.1 in
     let rows = c.self.inside.rows.items in
-    let read = get_or_read_under rows c.first_row-row.result (length rows) c.index_mut.result.now None c.index_mut.ensures.value small refl in
+    let read =
+    get_or_read_under rows c.first_row-row.result
+    (length rows) c.index_mut.result.now None c.index_mut.ensures.value small refl in
     rw (read ∙ value.1) refl
 
 pub returns : goal.returns
@@ -32,12 +34,20 @@ returns g c =
     let value = first-value t c.args.chain c.first_row-row.result rest.0 c.requires.chain.0 rest.1 in
     let small = row-within t c.args.chain c.first_row-row.result rest.0 rest.1 in
     let rows = c.self.inside.rows.items in
-    let read = get_or_read_under rows c.first_row-row.result (length rows) c.index_mut.result.now None c.index_mut.ensures.value small refl in (
+    let read =
+    get_or_read_under rows c.first_row-row.result
+    (length rows) c.index_mut.result.now None c.index_mut.ensures.value small refl in (
       (
         refl,
         λ w. rw (← c.self.view_is)
-            (seen-replaced c.self.inside.links rows (vec_capacity c.self.inside.rows) c.self.inside.walk c.self.invariant c.args.chain c.first_row-row.result rest.0 w
+            (seen-replaced c.self.inside.links rows
+            (vec_capacity c.self.inside.rows) c.self.inside.walk c.self.invariant c.args.chain
+            c.first_row-row.result rest.0 w
             c.requires.chain.0 rest.1),
       ),
-      record { writes_back = tt; value = rw (← c.self.view_is) (value.2 ∙ sym value.1 ∙ sym read ∙ c.value_mut.ensures.value) },
+      record {
+        writes_back = tt;
+        value = rw (← c.self.view_is)
+            (value.2 ∙ sym value.1 ∙ sym read ∙ c.value_mut.ensures.value);
+      },
     )

@@ -12,5 +12,6 @@ returns g c =
     let chains = seen_chains c.self.inside.links c.self.inside.walk in
     let t = (c.self.invariant).table in
     rw (← c.self.view_is)
-    (empty-is t c.args.chain c.seen_last.result c.is_none.result c.requires.0 c.seen_last.ensures c.is_none.ensures
+    (empty-is t c.args.chain c.seen_last.result c.is_none.result c.requires.0 c.seen_last.ensures
+    c.is_none.ensures
     ∙ ap (λ vs. length vs == 0) (sym (chain-map (values_of rows) chains c.args.chain refl)))

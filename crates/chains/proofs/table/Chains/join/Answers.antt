@@ -3,7 +3,8 @@ use Rattle.std.proofs.Common.{◌≡◌, None, map, ap, ◌∙◌, [], ◌++◌,
 use Rattle.chains.specs.Edits.{chain_in, joined}
 use Rattle.chains.specs.inside.Tables.{seen_chains, seen_lasts, values_of, walked_in, IsTable}
 use Rattle.chains.proofs.ValueLaws.{map-joined}
-use Rattle.chains.proofs.TableLaws.{in-neither, keeps-room, seen-of, sound-of, table-moved, walk-rest}
+use Rattle.chains.proofs.TableLaws.{in-neither, keeps-room, seen-of, sound-of, table-moved}
+use Rattle.chains.proofs.TableLaws.{walk-rest}
 use Rattle.chains.proofs.table.Chains.join.Given as given
 use Rattle.chains.proofs.table.Chains.join.Goals as goal
 
@@ -13,29 +14,40 @@ rests g c = rw (← c.self.view_is) at c.requires.rests
 
 -- the table after the call
 table : (g : given.Over) (c : goal.After-join g)
-    → IsTable c.join.new.links.next.items (seen_lasts c.join.new.links.lasts.items c.self.inside.walk) c.self.inside.rows.items
+    → IsTable c.join.new.links.next.items
+    (seen_lasts c.join.new.links.lasts.items c.self.inside.walk) c.self.inside.rows.items
     (joined (seen_chains c.self.inside.links c.self.inside.walk) c.args.from c.args.onto)
 table g c =
     let chains = seen_chains c.self.inside.links c.self.inside.walk in
-    table-moved c.self.invariant (rests g c) c.join.new.links 4 c.join.ensures.changes (joined chains c.args.from c.args.onto)
+    table-moved c.self.invariant (rests g c) c.join.new.links 4 c.join.ensures.changes
+    (joined chains c.args.from c.args.onto)
     (λ h. c.join.ensures.holds [] chains h)
-    (in-neither chains c.args.from c.args.onto [] (chain_in chains c.args.onto ++ chain_in chains c.args.from) c.requires.from.0 c.requires.onto.0)
+    (in-neither chains c.args.from c.args.onto []
+    (chain_in chains c.args.onto
+    ++ chain_in chains c.args.from) c.requires.from.0 c.requires.onto.0)
 
 pub invariant_of-self : goal.invariant_of-self
 invariant_of-self g c =
-    sound-of c.join.new.links c.self.inside.rows.items c.self.inside.walk _ (table g c) (walk-rest c.join.new.links.lasts.items c.self.inside.walk (rests g c))
+    sound-of c.join.new.links c.self.inside.rows.items c.self.inside.walk _ (table g c)
+    (walk-rest c.join.new.links.lasts.items c.self.inside.walk (rests g c))
 
 pub returns-clause-chains : goal.returns-clause-chains
 returns-clause-chains g c =
     let rows = c.self.inside.rows.items in
     rw (← c.self.view_is)
-    (ap (λ cs. map (values_of rows) cs) (seen-of c.join.new.links rows c.self.inside.walk _ (table g c))
+    (ap (λ cs. map (values_of rows) cs)
+    (seen-of c.join.new.links rows c.self.inside.walk _ (table g c))
     ∙ map-joined rows (seen_chains c.self.inside.links c.self.inside.walk) c.args.from c.args.onto)
 
 pub returns-clause-room : goal.returns-clause-room
 returns-clause-room g c =
     let chains = seen_chains c.self.inside.links c.self.inside.walk in
     rw (← c.self.view_is)
-    (keeps-room c.self.inside.links c.join.new.links c.self.inside.rows.items (vec_capacity c.self.inside.rows) 4 c.self.inside.walk c.self.inside.walk c.join.ensures.changes
-    (ap (λ cs. chain_in cs 0) (seen-of c.join.new.links c.self.inside.rows.items c.self.inside.walk _ (table g c))
-    ∙ in-neither chains c.args.from c.args.onto [] (chain_in chains c.args.onto ++ chain_in chains c.args.from) c.requires.from.0 c.requires.onto.0))
+    (keeps-room c.self.inside.links c.join.new.links c.self.inside.rows.items
+    (vec_capacity c.self.inside.rows) 4 c.self.inside.walk c.self.inside.walk
+    c.join.ensures.changes
+    (ap (λ cs. chain_in cs 0)
+    (seen-of c.join.new.links c.self.inside.rows.items c.self.inside.walk _ (table g c))
+    ∙ in-neither chains c.args.from c.args.onto []
+    (chain_in chains c.args.onto
+    ++ chain_in chains c.args.from) c.requires.from.0 c.requires.onto.0))

@@ -1,11 +1,14 @@
 -- Answers to the goals of `Chains::lift` (src/table.rt) that the search leaves.
-use Rattle.std.proofs.Common.{[], ◌++◌, map, drop, take, Some, refl, ap, sym, ◌∙◌, arith, vec_capacity}
+use Rattle.std.proofs.Common.{[], ◌++◌, map, drop, take, Some, refl, ap, sym, ◌∙◌, arith}
+use Rattle.std.proofs.Common.{vec_capacity}
 use Rattle.chains.specs.Edits.{chain_in, lifted}
 use Rattle.chains.specs.inside.Tables.{seen_chains, seen_lasts, values_of, walked_in, IsTable}
 use Rattle.chains.proofs.HoldsLaws.{last-is-row, none-at}
 use Rattle.chains.proofs.ValueLaws.{chain-map}
 use Rattle.chains.proofs.TableLaws.{in-neither, keeps-room, seen-of, sound-of}
-use Rattle.chains.proofs.WalkLaws.{both-changes, lift-within, nothing-lifted, shown-lifted, sound-at, walk-last, walked-is, walked-last, lift-cut, lift-loose, lift-made}
+use Rattle.chains.proofs.WalkLaws.{both-changes, lift-within, nothing-lifted, shown-lifted}
+use Rattle.chains.proofs.WalkLaws.{sound-at, walk-last, walked-is, walked-last, lift-cut}
+use Rattle.chains.proofs.WalkLaws.{lift-loose, lift-made}
 use Rattle.chains.proofs.table.Chains.lift.Given as given
 use Rattle.chains.proofs.table.Chains.lift.Goals as goal
 
@@ -18,12 +21,14 @@ returns-in_default-at-clause-chains g c = λ chain walked.
     rw (← c.self.view_is)
     (sym (nothing-lifted (map (values_of rows) chains) chain c.args.onto
     (chain-map (values_of rows) chains chain refl
-    ∙ ap (λ rs. values_of rows rs) (none-at (c.self.invariant).table.holds chain (last.1 ∙ c.in_default-at.is)))))
+    ∙ ap (λ rs. values_of rows rs)
+    (none-at (c.self.invariant).table.holds chain (last.1 ∙ c.in_default-at.is)))))
 
 pub next-row-requires : goal.next-row-requires
 next-row-requires g c =
     let s = sound-at c.self.inside.walk (Some c.in-Some.walk) c.in-Some.is c.self.invariant in
-    last-is-row s.table.holds c.in-Some.walk.chain c.in-Some-at.at (walk-last c.in-Some.walk s ∙ c.in-Some-at.is)
+    last-is-row s.table.holds c.in-Some.walk.chain c.in-Some-at.at
+    (walk-last c.in-Some.walk s ∙ c.in-Some-at.is)
 
 pub cut-left-requires : goal.cut-left-requires
 cut-left-requires g c =
@@ -41,9 +46,12 @@ pub put_first-requires : goal.put_first-requires
 put_first-requires g c =
     let onto = rw (← c.self.view_is) at c.requires.onto in
     let apart = rw (← c.self.view_is) at c.requires.apart in
-    lift-loose c.self.inside.links c.cut-left.new.links c.self.inside.rows.items c.in-Some.walk c.next-row.result c.args.onto c.cut-left.result
-    (lift-cut c.self.inside.links c.cut-left.new.links c.self.inside.rows.items c.self.inside.walk c.in-Some.walk c.in-Some-at.at c.next-row.result
-    c.cut-left.result c.self.invariant c.in-Some.is c.in-Some-at.is c.next-row.ensures c.cut-left.ensures.holds)
+    lift-loose c.self.inside.links c.cut-left.new.links c.self.inside.rows.items c.in-Some.walk
+    c.next-row.result c.args.onto c.cut-left.result
+    (lift-cut c.self.inside.links c.cut-left.new.links c.self.inside.rows.items c.self.inside.walk
+    c.in-Some.walk c.in-Some-at.at c.next-row.result
+    c.cut-left.result c.self.invariant c.in-Some.is c.in-Some-at.is c.next-row.ensures
+    c.cut-left.ensures.holds)
     c.cut-left.ensures.changes c.cut-left.ensures.lasts
     (λ e. apart (ap walked_in c.in-Some.is ∙ ap (λ k. Some k) (sym e)))
     (lift-within c.self.invariant c.args.onto onto.1)
@@ -51,18 +59,26 @@ put_first-requires g c =
 -- the table after the call
 table : (g : given.Over) (c : goal.After-self-1 g)
     → IsTable c.put_first.new.links.next.items
-    (seen_lasts c.put_first.new.links.lasts.items (Some (record { chain = c.in-Some.walk.chain; at = c.cut-left.result })))
-    c.self.inside.rows.items (lifted (seen_chains c.self.inside.links c.self.inside.walk) c.in-Some.walk.chain c.args.onto)
+    (seen_lasts c.put_first.new.links.lasts.items
+    (Some (record { chain = c.in-Some.walk.chain; at = c.cut-left.result })))
+    c.self.inside.rows.items
+    (lifted (seen_chains c.self.inside.links c.self.inside.walk) c.in-Some.walk.chain
+    c.args.onto)
 table g c =
     let onto = rw (← c.self.view_is) at c.requires.onto in
     let apart = rw (← c.self.view_is) at c.requires.apart in
-    lift-made c.self.inside.links c.cut-left.new.links c.put_first.new.links c.self.inside.rows.items c.self.inside.walk c.in-Some.walk c.in-Some-at.at
-    c.next-row.result c.args.onto c.cut-left.result c.self.invariant c.in-Some.is c.in-Some-at.is c.next-row.ensures onto.0
+    lift-made c.self.inside.links c.cut-left.new.links c.put_first.new.links
+    c.self.inside.rows.items c.self.inside.walk c.in-Some.walk c.in-Some-at.at
+    c.next-row.result c.args.onto c.cut-left.result c.self.invariant c.in-Some.is c.in-Some-at.is
+    c.next-row.ensures onto.0
     (λ e. apart (ap walked_in c.in-Some.is ∙ ap (λ k. Some k) (sym e)))
     (lift-within c.self.invariant c.args.onto onto.1)
-    c.cut-left.ensures.changes c.put_first.ensures.changes c.cut-left.ensures.lasts c.put_first.ensures.lasts
-    (lift-cut c.self.inside.links c.cut-left.new.links c.self.inside.rows.items c.self.inside.walk c.in-Some.walk c.in-Some-at.at c.next-row.result
-    c.cut-left.result c.self.invariant c.in-Some.is c.in-Some-at.is c.next-row.ensures c.cut-left.ensures.holds)
+    c.cut-left.ensures.changes c.put_first.ensures.changes c.cut-left.ensures.lasts
+    c.put_first.ensures.lasts
+    (lift-cut c.self.inside.links c.cut-left.new.links c.self.inside.rows.items c.self.inside.walk
+    c.in-Some.walk c.in-Some-at.at c.next-row.result
+    c.cut-left.result c.self.invariant c.in-Some.is c.in-Some-at.is c.next-row.ensures
+    c.cut-left.ensures.holds)
     c.put_first.ensures.holds
 
 pub invariant_of-self : goal.invariant_of-self
@@ -70,7 +86,8 @@ invariant_of-self g c =
     let s = sound-at c.self.inside.walk (Some c.in-Some.walk) c.in-Some.is c.self.invariant in
     let long = c.put_first.ensures.changes.chains ∙ c.cut-left.ensures.changes.chains in
     let less = s.walks.1 in
-    sound-of c.put_first.new.links c.self.inside.rows.items (Some (record { chain = c.in-Some.walk.chain; at = c.cut-left.result })) _ (table g c)
+    sound-of c.put_first.new.links c.self.inside.rows.items
+    (Some (record { chain = c.in-Some.walk.chain; at = c.cut-left.result })) _ (table g c)
     (s.walks.0, omega arith)
 
 pub returns-clause-chains : goal.returns-clause-chains
@@ -81,7 +98,9 @@ returns-clause-chains g c = λ chain walked.
     let rows = c.self.inside.rows.items in
     let chains = seen_chains c.self.inside.links c.self.inside.walk in
     rw (← c.self.view_is)
-    (ap (λ cs. map (values_of rows) cs) (seen-of c.put_first.new.links rows (Some (record { chain = c.in-Some.walk.chain; at = c.cut-left.result })) _ (table g c))
+    (ap (λ cs. map (values_of rows) cs)
+    (seen-of c.put_first.new.links rows
+    (Some (record { chain = c.in-Some.walk.chain; at = c.cut-left.result })) _ (table g c))
     ∙ ap (λ k. map (values_of rows) (lifted chains k c.args.onto)) same
     ∙ shown-lifted (c.self.invariant).table chain c.args.onto last.0)
 
@@ -93,7 +112,11 @@ returns-clause-room g c =
     let chains = seen_chains c.self.inside.links c.self.inside.walk in
     let both = both-changes c.cut-left.ensures.changes c.put_first.ensures.changes in
     rw (← c.self.view_is)
-    (keeps-room c.self.inside.links c.put_first.new.links c.self.inside.rows.items (vec_capacity c.self.inside.rows) 3 c.self.inside.walk
+    (keeps-room c.self.inside.links c.put_first.new.links c.self.inside.rows.items
+    (vec_capacity c.self.inside.rows) 3 c.self.inside.walk
     (Some (record { chain = walk.chain; at = c.cut-left.result })) both
-    (ap (λ cs. chain_in cs 0) (seen-of c.put_first.new.links c.self.inside.rows.items (Some (record { chain = walk.chain; at = c.cut-left.result })) _ (table g c))
-    ∙ in-neither chains walk.chain c.args.onto (drop 1 (chain_in chains walk.chain)) (take 1 (chain_in chains walk.chain) ++ chain_in chains c.args.onto) s.walks.0 onto.0))
+    (ap (λ cs. chain_in cs 0)
+    (seen-of c.put_first.new.links c.self.inside.rows.items
+    (Some (record { chain = walk.chain; at = c.cut-left.result })) _ (table g c))
+    ∙ in-neither chains walk.chain c.args.onto (drop 1 (chain_in chains walk.chain))
+    (take 1 (chain_in chains walk.chain) ++ chain_in chains c.args.onto) s.walks.0 onto.0))

@@ -1,14 +1,17 @@
 -- Answers to the goals of `Chains::take_first` (src/table.rt) that the search leaves.
-use Rattle.std.proofs.Common.{◌≡◌, ℕ, ◌<◌, List, [], ◌∷◌, length, map, drop, None, refl, ap, sym, ◌∙◌, arith}
+use Rattle.std.proofs.Common.{◌≡◌, ℕ, ◌<◌, List, [], ◌∷◌, length, map, drop, None, refl, ap, sym}
+use Rattle.std.proofs.Common.{◌∙◌, arith}
 use Rattle.std.proofs.lemmas.List.{length-set}
 use Rattle.chains.specs.declared.links.Links.{Links}
 use Rattle.chains.specs.Edits.{chain_in, preceded, shortened}
-use Rattle.chains.specs.inside.Tables.{seen_chains, seen_lasts, values_of, walked_in, IsOpen, IsTable}
+use Rattle.chains.specs.inside.Tables.{seen_chains, seen_lasts, values_of, walked_in, IsOpen}
+use Rattle.chains.specs.inside.Tables.{IsTable}
 use Rattle.chains.proofs.TableLaws.{seen-of, sound-of, table-rest, table-seen, walk-rest}
 use Rattle.chains.proofs.HoldsLaws.{none-at}
 use Rattle.chains.proofs.ValueLaws.{chain-map}
 use Rattle.chains.proofs.OpenLaws.{nothing-cut, shown-closed, shown-taken}
-use Rattle.chains.proofs.CallLaws.{first-row, first-value, free-kept, longer-free, loose-open, on-some, row-within, taken-open, taken-table}
+use Rattle.chains.proofs.CallLaws.{first-row, first-value, free-kept, longer-free, loose-open}
+use Rattle.chains.proofs.CallLaws.{on-some, row-within, taken-open, taken-table}
 use Rattle.chains.proofs.table.Chains.take_first.Given as given
 use Rattle.chains.proofs.table.Chains.take_first.Goals as goal
 
@@ -22,7 +25,8 @@ returns-in_err-row-clause-chains g c =
     rw (← c.self.view_is)
     (ap (λ (links : Links). map (values_of rows) (seen_chains links c.self.inside.walk)) none.1
     ∙ sym (nothing-cut (map (values_of rows) chains) c.args.chain
-    (chain-map (values_of rows) chains c.args.chain refl ∙ ap (λ rs. values_of rows rs) (none-at t.holds c.args.chain none.0))))
+    (chain-map (values_of rows) chains c.args.chain refl
+    ∙ ap (λ rs. values_of rows rs) (none-at t.holds c.args.chain none.0))))
 
 pub take_value-value-requires : goal.take_value-value-requires
 take_value-value-requires g c =
@@ -36,7 +40,9 @@ pub put_first-requires : goal.put_first-requires
 put_first-requires g c =
     let rests = rw (← c.self.view_is) at c.requires.rests in
     let first = c.in_ok-row.ensures.first in
-    let o = taken-open c.self.invariant rests c.args.chain first.0 c.in_ok-row.row c.requires.chain.0 first.1 first.2 c.take_first.new.links
+    let o =
+    taken-open c.self.invariant rests c.args.chain first.0 c.in_ok-row.row
+    c.requires.chain.0 first.1 first.2 c.take_first.new.links
     c.take_first.ensures.changes (λ h. c.in_ok-row.ensures.holds [] (seen_chains c.self.inside.links c.self.inside.walk) h) in
     loose-open o 0 o.free
 
@@ -46,36 +52,47 @@ rests g c = rw (← c.self.view_is) at c.requires.rests
 
 -- the row stands first in its chain
 first-rest : (g : given.Over) (c : goal.After-put_first g)
-    → (rest : List ℕ) × (chain_in (seen_chains c.self.inside.links c.self.inside.walk) c.args.chain ≡ c.in_ok-row.row ∷ rest)
+    → (rest : List ℕ) × (chain_in (seen_chains c.self.inside.links c.self.inside.walk) c.args.chain
+    ≡ c.in_ok-row.row ∷ rest)
 first-rest g c =
     let first = c.in_ok-row.ensures.first in
-    first-row (table-rest c.self.invariant (rests g c)).holds c.args.chain first.0 c.in_ok-row.row first.1 first.2
+    first-row (table-rest c.self.invariant
+    (rests g c)).holds c.args.chain first.0 c.in_ok-row.row first.1 first.2
 
 -- the table with the row loose
 taken : (g : given.Over) (c : goal.After-put_first g)
-    → IsOpen c.take_first.new.links.next.items c.take_first.new.links.lasts.items c.take_value-value.new.rows.items c.in_ok-row.row
+    → IsOpen c.take_first.new.links.next.items c.take_first.new.links.lasts.items
+    c.take_value-value.new.rows.items c.in_ok-row.row
     (shortened (seen_chains c.self.inside.links c.self.inside.walk) c.args.chain)
 taken g c =
     let first = c.in_ok-row.ensures.first in
     rw c.take_value-value.ensures.left
-    (taken-open c.self.invariant (rests g c) c.args.chain first.0 c.in_ok-row.row c.requires.chain.0 first.1 first.2 c.take_first.new.links
-    c.take_first.ensures.changes (λ h. c.in_ok-row.ensures.holds [] (seen_chains c.self.inside.links c.self.inside.walk) h))
+    (taken-open c.self.invariant
+    (rests g c) c.args.chain first.0 c.in_ok-row.row c.requires.chain.0 first.1 first.2
+    c.take_first.new.links
+    c.take_first.ensures.changes
+    (λ h. c.in_ok-row.ensures.holds [] (seen_chains c.self.inside.links c.self.inside.walk) h))
 
 -- the table after the call
 table : (g : given.Over) (c : goal.After-put_first g)
-    → IsTable c.put_first.new.links.next.items (seen_lasts c.put_first.new.links.lasts.items c.self.inside.walk) c.take_value-value.new.rows.items
-    (preceded (shortened (seen_chains c.self.inside.links c.self.inside.walk) c.args.chain) 0 c.in_ok-row.row)
+    → IsTable c.put_first.new.links.next.items
+    (seen_lasts c.put_first.new.links.lasts.items c.self.inside.walk)
+    c.take_value-value.new.rows.items
+    (preceded (shortened (seen_chains c.self.inside.links c.self.inside.walk) c.args.chain) 0
+    c.in_ok-row.row)
 table g c =
     let chains = shortened (seen_chains c.self.inside.links c.self.inside.walk) c.args.chain in
     let mid = c.take_first.new.links in
     let o = taken g c in
-    table-seen c.put_first.new.links c.take_value-value.new.rows.items c.self.inside.walk (preceded chains 0 c.in_ok-row.row) (rests g c)
+    table-seen c.put_first.new.links c.take_value-value.new.rows.items c.self.inside.walk
+    (preceded chains 0 c.in_ok-row.row) (rests g c)
     (taken-table o c.put_first.new.links c.put_first.ensures.changes c.put_first.ensures.lasts
     (λ h. c.put_first.ensures.holds mid.lasts.items [] chains h o.free refl))
 
 pub invariant_of-self-2 : goal.invariant_of-self-2
 invariant_of-self-2 g c =
-    sound-of c.put_first.new.links c.take_value-value.new.rows.items c.self.inside.walk _ (table g c)
+    sound-of c.put_first.new.links c.take_value-value.new.rows.items c.self.inside.walk _
+    (table g c)
     (walk-rest c.put_first.new.links.lasts.items c.self.inside.walk (rests g c))
 
 pub returns-clause-taken : goal.returns-clause-taken
@@ -92,10 +109,13 @@ returns-clause-chains g c =
     let chains = seen_chains c.self.inside.links c.self.inside.walk in
     let rest = first-rest g c in
     rw (← c.self.view_is)
-    (ap (λ cs. map (values_of c.take_value-value.new.rows.items) cs) (seen-of c.put_first.new.links c.take_value-value.new.rows.items c.self.inside.walk _ (table g c))
+    (ap (λ cs. map (values_of c.take_value-value.new.rows.items) cs)
+    (seen-of c.put_first.new.links c.take_value-value.new.rows.items c.self.inside.walk _
+    (table g c))
     ∙ shown-closed (taken g c)
     ∙ ap (λ rs. map (values_of rs) (shortened chains c.args.chain)) c.take_value-value.ensures.left
-    ∙ shown-taken (table-rest c.self.invariant (rests g c)) c.args.chain row rest.0 c.requires.chain.0 rest.1)
+    ∙ shown-taken (table-rest c.self.invariant
+    (rests g c)) c.args.chain row rest.0 c.requires.chain.0 rest.1)
 
 pub returns-clause-spare : goal.returns-clause-spare
 returns-clause-spare g c =
@@ -104,10 +124,17 @@ returns-clause-spare g c =
     let cut = shortened chains c.args.chain in
     let o = taken g c in
     let within : 0 < length cut = let size = (o.holds).size in let f = o.free in omega arith in
-    let seen = ap (λ cs. length (chain_in cs 0)) (seen-of c.put_first.new.links c.take_value-value.new.rows.items c.self.inside.walk _ (table g c)) in
+    let seen =
+    ap (λ cs. length (chain_in cs 0))
+    (seen-of c.put_first.new.links c.take_value-value.new.rows.items c.self.inside.walk _
+    (table g c)) in
     let longer = longer-free cut c.in_ok-row.row within in
-    let kept = ap length (free-kept chains c.args.chain (drop 1 (chain_in chains c.args.chain)) c.requires.chain.0) in
-    let sized = ap length c.take_value-value.ensures.left ∙ length-set c.self.inside.rows.items c.in_ok-row.row None in
+    let kept =
+    ap length (free-kept chains c.args.chain
+    (drop 1 (chain_in chains c.args.chain)) c.requires.chain.0) in
+    let sized =
+    ap length c.take_value-value.ensures.left
+    ∙ length-set c.self.inside.rows.items c.in_ok-row.row None in
     let room = c.take_value-value.ensures.room in
     let first = c.take_first.ensures.changes in
     let second = c.put_first.ensures.changes in

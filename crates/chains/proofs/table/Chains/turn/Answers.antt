@@ -5,7 +5,8 @@ use Rattle.chains.specs.inside.Tables.{seen_chains, seen_lasts, values_of, IsTab
 use Rattle.chains.proofs.HoldsLaws.{last-is-row, none-at}
 use Rattle.chains.proofs.ValueLaws.{chain-map}
 use Rattle.chains.proofs.TableLaws.{seen-of, sound-of}
-use Rattle.chains.proofs.WalkLaws.{nothing-turned, shown-turned, sound-at, walk-last, walked-is, walked-last, turn-made}
+use Rattle.chains.proofs.WalkLaws.{nothing-turned, shown-turned, sound-at, walk-last, walked-is}
+use Rattle.chains.proofs.WalkLaws.{walked-last, turn-made}
 use Rattle.chains.proofs.table.Chains.turn.Given as given
 use Rattle.chains.proofs.table.Chains.turn.Goals as goal
 
@@ -18,20 +19,25 @@ returns-in_default-at-clause-chains g c = λ chain walked.
     rw (← c.self.view_is)
     (sym (nothing-turned (map (values_of rows) chains) chain
     (chain-map (values_of rows) chains chain refl
-    ∙ ap (λ rs. values_of rows rs) (none-at (c.self.invariant).table.holds chain (last.1 ∙ c.in_default-at.is)))))
+    ∙ ap (λ rs. values_of rows rs)
+    (none-at (c.self.invariant).table.holds chain (last.1 ∙ c.in_default-at.is)))))
 
 pub next-first-requires : goal.next-first-requires
 next-first-requires g c =
     let s = sound-at c.self.inside.walk (Some c.in-Some.walk) c.in-Some.is c.self.invariant in
-    last-is-row s.table.holds c.in-Some.walk.chain c.in-Some-at.at (walk-last c.in-Some.walk s ∙ c.in-Some-at.is)
+    last-is-row s.table.holds c.in-Some.walk.chain c.in-Some-at.at
+    (walk-last c.in-Some.walk s ∙ c.in-Some-at.is)
 
 -- the table seen from the next row
 table : (g : given.Over) (c : goal.After-self-1 g)
     → IsTable c.self.inside.links.next.items
-    (seen_lasts c.self.inside.links.lasts.items (Some (record { chain = c.in-Some.walk.chain; at = Some c.next-first.result })))
-    c.self.inside.rows.items (turned (seen_chains c.self.inside.links c.self.inside.walk) c.in-Some.walk.chain)
+    (seen_lasts c.self.inside.links.lasts.items
+    (Some (record { chain = c.in-Some.walk.chain; at = Some c.next-first.result })))
+    c.self.inside.rows.items
+    (turned (seen_chains c.self.inside.links c.self.inside.walk) c.in-Some.walk.chain)
 table g c =
-    turn-made c.self.inside.links c.self.inside.rows.items c.self.inside.walk c.in-Some.walk c.in-Some-at.at c.next-first.result c.self.invariant
+    turn-made c.self.inside.links c.self.inside.rows.items c.self.inside.walk c.in-Some.walk
+    c.in-Some-at.at c.next-first.result c.self.invariant
     c.in-Some.is c.in-Some-at.is c.next-first.ensures
 
 pub invariant_of-self : goal.invariant_of-self
@@ -47,6 +53,9 @@ returns-clause-chains g c = λ chain walked.
     let rows = c.self.inside.rows.items in
     let chains = seen_chains c.self.inside.links c.self.inside.walk in
     rw (← c.self.view_is)
-    (ap (λ cs. map (values_of rows) cs) (seen-of c.self.inside.links rows (Some (record { chain = c.in-Some.walk.chain; at = Some c.next-first.result })) _ (table g c))
+    (ap (λ cs. map (values_of rows) cs)
+    (seen-of c.self.inside.links rows
+    (Some (record { chain = c.in-Some.walk.chain; at = Some c.next-first.result })) _
+    (table g c))
     ∙ ap (λ k. map (values_of rows) (turned chains k)) same
     ∙ shown-turned (c.self.invariant).table chain last.0)

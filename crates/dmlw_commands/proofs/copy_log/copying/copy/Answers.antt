@@ -17,18 +17,25 @@ pub returns-clause-ends : goal.returns-clause-ends
 returns-clause-ends g c =
     let done = c.copy_file-done.ensures in
     let more = c.explain_copying-more.ensures in
-    let told = ends_told _ c.as_str.result.now _ _ c.end_copying.result (λ off. c.as_str.ensures.value ∙ more.silent off) c.end_copying.ensures.exit
+    let told =
+    ends_told _ c.as_str.result.now _ _ c.end_copying.result
+    (λ off. c.as_str.ensures.value ∙ more.silent off) c.end_copying.ensures.exit
     c.end_copying.ensures.quiet c.end_copying.ensures.told in
     copying_ends _ _ _ _ _ _ _ _ _ _ _ _ done.copies c.end_copying.ensures.kept more.unwritten told
 
 -- what is told of that refusal
-told_of_same : (t : ErrStream) (ended : Ended) (done : Result ℕ Stop) → done ≡ Err (stops.Fault (refused_by refusals.File))
-    → TellsLine t (copy_exit done) (copy_line done) ended → TellsLine t exits.Refused (fault_line (refused_by refusals.File)) ended
-told_of_same t ended done is told = subst (λ (d : Result ℕ Stop). TellsLine t (copy_exit d) (copy_line d) ended) is told
+told_of_same : (t : ErrStream) (ended : Ended) (done : Result ℕ Stop)
+    → done ≡ Err (stops.Fault (refused_by refusals.File))
+    → TellsLine t (copy_exit done) (copy_line done) ended
+    → TellsLine t exits.Refused (fault_line (refused_by refusals.File)) ended
+told_of_same t ended done is told =
+    subst (λ (d : Result ℕ Stop). TellsLine t (copy_exit d) (copy_line d) ended) is told
 
 pub returns-clause-same : goal.returns-clause-same
 returns-clause-same g c = λ named.
     let more = c.explain_copying-more.ensures in
-    let told = ends_told _ c.as_str.result.now _ _ c.end_copying.result (λ off. c.as_str.ensures.value ∙ more.silent off) c.end_copying.ensures.exit
+    let told =
+    ends_told _ c.as_str.result.now _ _ c.end_copying.result
+    (λ off. c.as_str.ensures.value ∙ more.silent off) c.end_copying.ensures.exit
     c.end_copying.ensures.quiet c.end_copying.ensures.told in
     told_of_same _ c.end_copying.result _ (c.copy_file-done.ensures.same named) told

@@ -8,7 +8,8 @@ use Rattle.log_reader.specs.Shown.{reader_of}
 use Rattle.log_store.specs.Shown.{store_of}
 use Rattle.dmlw_commands.specs.CopiesLog.{stopped}
 use Rattle.dmlw_commands.specs.OnDisks.{IsCopiedOn}
-use Rattle.dmlw_commands.proofs.Copied.{content_whole, copied_on, fails_to_open, image_left, log_fits, never_failed, stopped_on}
+use Rattle.dmlw_commands.proofs.Copied.{content_whole, copied_on, fails_to_open, image_left}
+use Rattle.dmlw_commands.proofs.Copied.{log_fits, never_failed, stopped_on}
 use Rattle.dmlw_commands.proofs.copy_log.images.copy_image.Goals as goal
 
 pub returns-in_err-reader-clause-fails : goal.returns-in_err-reader-clause-fails
@@ -19,22 +20,29 @@ returns-in_err-reader-clause-fails c =
 pub returns-in_err-store-clause-fails : goal.returns-in_err-store-clause-fails
 returns-in_err-store-clause-fails c =
     on_error c.from_residual-in_err-store.result c.from_residual-in_err-store.ensures.1
-    (λ stop is. fails_to_open _ _ c.in_err-store.field-0.0 stop (inl c.in_err-store.ensures.memory) is)
+    (λ stop is. fails_to_open _ _ c.in_err-store.field-0.0 stop
+    (inl c.in_err-store.ensures.memory) is)
 
 pub copy_log-requires : goal.copy_log-requires
 copy_log-requires c =
-    log_fits c.args.log.items c.args.sectors (reader_of c.in_ok-reader.reader) (store_of c.in_ok-store.store) c.in_ok-reader.ensures.opened
+    log_fits c.args.log.items c.args.sectors (reader_of c.in_ok-reader.reader)
+    (store_of c.in_ok-store.store) c.in_ok-reader.ensures.opened
     c.in_ok-store.ensures.begun
 
 pub returns-in-Ok-clause-copied : goal.returns-in-Ok-clause-copied
 returns-in-Ok-clause-copied c =
     let reader = c.in_ok-reader.reader in
     let store = c.copy_log.new.store in
-    image_left c.args.log.items c.args.sectors c.in-Ok.count c.into_device-disk.result c.requires.least
-    (subst (λ (disk : SectorDisk). IsCopiedOn c.args.log.items c.in-Ok.count c.args.sectors (shown_of disk)) (sym c.into_device-disk.ensures)
-    (copied_on c.args.log.items c.args.sectors c.in-Ok.count (reader_of reader) (store_of c.in_ok-store.store) (store_of store) c.requires.log
-    c.in_ok-reader.ensures.opened c.in_ok-store.ensures.begun (content_whole (shown_of reader.device) (disk_lawful reader.device)) refl
-    (disk_lawful store.device).current c.in-Ok.ensures.goes c.in-Ok.ensures.copies c.in-Ok.ensures.all c.in-Ok.ensures.whole))
+    image_left c.args.log.items c.args.sectors c.in-Ok.count c.into_device-disk.result
+    c.requires.least
+    (subst (λ (disk : SectorDisk). IsCopiedOn c.args.log.items c.in-Ok.count c.args.sectors
+    (shown_of disk)) (sym c.into_device-disk.ensures)
+    (copied_on c.args.log.items c.args.sectors c.in-Ok.count (reader_of reader)
+    (store_of c.in_ok-store.store) (store_of store) c.requires.log
+    c.in_ok-reader.ensures.opened c.in_ok-store.ensures.begun
+    (content_whole (shown_of reader.device) (disk_lawful reader.device)) refl
+    (disk_lawful store.device).current c.in-Ok.ensures.goes c.in-Ok.ensures.copies
+    c.in-Ok.ensures.all c.in-Ok.ensures.whole))
 
 pub returns-clause-fails : goal.returns-clause-fails
 returns-clause-fails c =
@@ -43,7 +51,10 @@ returns-clause-fails c =
     let begun = c.in_ok-store.store in
     let store = c.copy_log.new.store in
     stopped c.in-Err.fault
-    (stopped_on c.args.log.items c.args.sectors c.in-Err.fault (reader_of reader) (reader_of last) (store_of begun) (store_of store) c.requires.log
-    c.in_ok-reader.ensures.opened c.in_ok-store.ensures.begun (content_whole (shown_of reader.device) (disk_lawful reader.device))
-    (never_failed (shown_of reader.device) (shown_of last.device) refl refl) (never_failed (shown_of begun.device) (shown_of store.device) refl refl) store.kept
+    (stopped_on c.args.log.items c.args.sectors c.in-Err.fault (reader_of reader) (reader_of last)
+    (store_of begun) (store_of store) c.requires.log
+    c.in_ok-reader.ensures.opened c.in_ok-store.ensures.begun
+    (content_whole (shown_of reader.device) (disk_lawful reader.device))
+    (never_failed (shown_of reader.device) (shown_of last.device) refl refl)
+    (never_failed (shown_of begun.device) (shown_of store.device) refl refl) store.kept
     refl c.in-Err.ensures.goes c.in-Err.ensures.copies c.in-Err.ensures.stops)

@@ -17,18 +17,26 @@ pub returns-clause-ends : goal.returns-clause-ends
 returns-clause-ends g c =
     let done = c.replay_files-done.ensures in
     let more = c.explain_replaying-more.ensures in
-    let told = ends_told _ c.as_str.result.now _ _ c.end_replaying.result (λ off. c.as_str.ensures.value ∙ more.silent off) c.end_replaying.ensures.exit
+    let told =
+    ends_told _ c.as_str.result.now _ _ c.end_replaying.result
+    (λ off. c.as_str.ensures.value ∙ more.silent off) c.end_replaying.ensures.exit
     c.end_replaying.ensures.quiet c.end_replaying.ensures.told in
-    replaying_ends _ _ _ _ _ _ _ _ _ _ _ _ _ done.replays c.end_replaying.ensures.kept more.unwritten told
+    replaying_ends _ _ _ _ _ _ _ _ _ _ _ _ _ done.replays c.end_replaying.ensures.kept
+    more.unwritten told
 
 -- what is told of that refusal
-told_of_same : (t : ErrStream) (ended : Ended) (done : Result ℕ Stop) → done ≡ Err (stops.Fault (refused_by refusals.File))
-    → TellsLine t (replay_exit done) (replay_line done) ended → TellsLine t exits.Refused (fault_line (refused_by refusals.File)) ended
-told_of_same t ended done is told = subst (λ (d : Result ℕ Stop). TellsLine t (replay_exit d) (replay_line d) ended) is told
+told_of_same : (t : ErrStream) (ended : Ended) (done : Result ℕ Stop)
+    → done ≡ Err (stops.Fault (refused_by refusals.File))
+    → TellsLine t (replay_exit done) (replay_line done) ended
+    → TellsLine t exits.Refused (fault_line (refused_by refusals.File)) ended
+told_of_same t ended done is told =
+    subst (λ (d : Result ℕ Stop). TellsLine t (replay_exit d) (replay_line d) ended) is told
 
 pub returns-clause-same : goal.returns-clause-same
 returns-clause-same g c = λ named.
     let more = c.explain_replaying-more.ensures in
-    let told = ends_told _ c.as_str.result.now _ _ c.end_replaying.result (λ off. c.as_str.ensures.value ∙ more.silent off) c.end_replaying.ensures.exit
+    let told =
+    ends_told _ c.as_str.result.now _ _ c.end_replaying.result
+    (λ off. c.as_str.ensures.value ∙ more.silent off) c.end_replaying.ensures.exit
     c.end_replaying.ensures.quiet c.end_replaying.ensures.told in
     told_of_same _ c.end_replaying.result _ (c.replay_files-done.ensures.same named) told

@@ -10,4 +10,5 @@ returns-in-Some c =
     let layer = c.in-Some.layer.now in
     let disk = c.args.self.now in
     sym (top_is_last disk.sectors disk.layers layer
-    (subst (λ (layers : List LayerSpec). slice_get layers (length layers - 1) ≡ Some layer) c.layers.ensures (sym c.last.ensures.value ∙ ap option_copied c.in-Some.is)))
+    (subst (λ (layers : List LayerSpec). slice_get layers (length layers - 1)
+    ≡ Some layer) c.layers.ensures (sym c.last.ensures.value ∙ ap option_copied c.in-Some.is)))

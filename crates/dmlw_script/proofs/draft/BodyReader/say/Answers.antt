@@ -8,7 +8,11 @@ pub returns-clause-draft : goal.returns-clause-draft
 returns-clause-draft c =
     let command = c.args.command in
     record {
-      flags = rw (c.in_ok-push.ensures.items) (flags_say _ _ _ command c.requires.no_end c.requires.draft.flags);
+      flags =
+          rw (c.in_ok-push.ensures.items)
+          (flags_say _ _ _ command c.requires.no_end c.requires.draft.flags);
       in_time = rw (c.in_ok-push.ensures.items)
-          (c.moment_after-moment.ensures ∙ ap (λ moment. moment_at moment command) c.requires.draft.in_time ∙ sym (moment_push 0 c.args.self.now.commands.items command));
+          (c.moment_after-moment.ensures
+          ∙ ap (λ moment. moment_at moment command) c.requires.draft.in_time
+          ∙ sym (moment_push 0 c.args.self.now.commands.items command));
     }

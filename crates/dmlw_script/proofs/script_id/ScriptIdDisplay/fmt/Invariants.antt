@@ -8,4 +8,6 @@ use Rattle.dmlw_script.proofs.script_id.ScriptIdDisplay.fmt.Given as goal
 -- the characters so far are written
 abbrev pub invariant-loop-letter : goal.invariant-loop-letter
 invariant-loop-letter g l =
-    IsPlainFormatter l.initial.f → HasWritten g.W.Write.write_str_gives l.initial.f (flat_map encode_utf8 (take l.letter-index l.letter-items)) l.f
+    IsPlainFormatter l.initial.f
+    → HasWritten g.W.Write.write_str_gives l.initial.f
+    (flat_map encode_utf8 (take l.letter-index l.letter-items)) l.f

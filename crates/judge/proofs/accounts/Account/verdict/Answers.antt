@@ -15,5 +15,7 @@ returns c events lawful told =
     IsFound c.deref.result.now last first (sector_of image) (length image / 512) c.lowest_failing.result in
     let Found = λ (held : List (Option ℕ)).
     IsFound held account.last.items first (sector_of image) (length image / 512) c.lowest_failing.result in
-    judged events (first_bytes c.args.first (length image)) image account c.lowest_failing.result c.requires.whole c.requires.same lawful told
-    (subst Found c.deref.ensures.value (subst Last c.deref-2.ensures.value c.lowest_failing.ensures))
+    judged events (first_bytes c.args.first (length image)) image account c.lowest_failing.result
+    c.requires.whole c.requires.same lawful told
+    (subst Found c.deref.ensures.value
+    (subst Last c.deref-2.ensures.value c.lowest_failing.ensures))

@@ -1,6 +1,7 @@
 -- Answers to the goals of `Stack::under` (src/stack.rt) that the search leaves.
 use Rattle.std.proofs.Common.{ap, ◌∙◌}
-use Rattle.layer_table.proofs.Under.{all_under, first_asked, none_refused, none_under, of_error, one_under, partly_under}
+use Rattle.layer_table.proofs.Under.{all_under, first_asked, none_refused, none_under, of_error}
+use Rattle.layer_table.proofs.Under.{one_under, partly_under}
 use Rattle.layer_table.proofs.stack.Stack.under.Goals as goal
 
 pub loop-spec-init : goal.loop-spec-init
@@ -11,7 +12,8 @@ over-requires c = first_asked _ _ _ _ _ _ _ c.in-Some.ensures.cases.0 c.loop-spe
 
 pub returns-in_err-stack-clause-stand : goal.returns-in_err-stack-clause-stand
 returns-in_err-stack-clause-stand c stand few =
-    absurd (none_refused _ _ _ _ _ _ _ c.in-Some.ensures.cases.0 c.loop-spec.invariant stand few c.in_err-stack.ensures.fits_not)
+    absurd (none_refused _ _ _ _ _ _ _ c.in-Some.ensures.cases.0 c.loop-spec.invariant stand few
+    c.in_err-stack.ensures.fits_not)
 
 pub returns-in_err-stack-clause-back : goal.returns-in_err-stack-clause-back
 returns-in_err-stack-clause-back c =
@@ -22,7 +24,8 @@ returns-in_err-stack-clause-back c =
 pub loop-spec-preserved : goal.loop-spec-preserved
 loop-spec-preserved c =
     let over = c.in_ok-stack.ensures in
-    one_under _ _ _ _ _ _ _ _ c.in-Some.ensures.cases.0 c.loop-spec.invariant over.layers over.disk over.shown
+    one_under _ _ _ _ _ _ _ _ c.in-Some.ensures.cases.0 c.loop-spec.invariant over.layers over.disk
+    over.shown
 
 pub returns-clause-layers : goal.returns-clause-layers
 returns-clause-layers c = (all_under _ _ _ _ _ c.in_default.ensures.cases c.loop-spec.invariant).0

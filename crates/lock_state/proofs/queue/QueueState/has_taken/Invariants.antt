@@ -6,4 +6,6 @@ use Rattle.lock_state.specs.Comparing.{listed}
 use Rattle.lock_state.proofs.queue.QueueState.has_taken.Given as goal
 
 abbrev pub invariant-loop-k : goal.invariant-loop-k
-invariant-loop-k g l = (k : ℕ) (item : Item) → k < l.k → slice_get l.placed k ≡ Some item → slice_get (items_of l.self.core) k ≡ Some (listed item)
+invariant-loop-k g l =
+    (k : ℕ) (item : Item) → k < l.k → slice_get l.placed k ≡ Some item
+    → slice_get (items_of l.self.core) k ≡ Some (listed item)

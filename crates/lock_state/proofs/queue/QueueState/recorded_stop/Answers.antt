@@ -9,11 +9,15 @@ use Rattle.lock_state.proofs.queue.QueueState.recorded_stop.Goals as goal
 
 pub returns-in-None : goal.returns-in-None
 returns-in-None g c =
-    sym (ap (λ (q : Queue). stop_of q.core.events) (sym c.self.view_is) ∙ stop_of-unended c.self.inside.core.state.events (sym c.self.invariant.0.ended_at ∙ c.in-None.is))
+    sym (ap (λ (q : Queue). stop_of q.core.events) (sym c.self.view_is)
+    ∙ stop_of-unended c.self.inside.core.state.events
+    (sym c.self.invariant.0.ended_at ∙ c.in-None.is))
 
 pub returns-in-Some : goal.returns-in-Some
 returns-in-Some g c =
     let events = c.self.inside.core.state.events in
-    c.stop_at.ensures ∙ ap (λ (es : List CoreEvent). stop_cause_at (slice_get es c.in-Some.place)) c.events.ensures.events
-    ∙ stop_of-ended events c.in-Some.place c.events.ensures.sound.well_formed (sym c.self.invariant.0.ended_at ∙ c.in-Some.is)
+    c.stop_at.ensures ∙ ap (λ (es : List CoreEvent). stop_cause_at
+    (slice_get es c.in-Some.place)) c.events.ensures.events
+    ∙ stop_of-ended events c.in-Some.place c.events.ensures.sound.well_formed
+    (sym c.self.invariant.0.ended_at ∙ c.in-Some.is)
     ∙ ap (λ (q : Queue). stop_of q.core.events) c.self.view_is

@@ -10,11 +10,15 @@ returns g c = record {
   ends = record {
     keeps = record { device = refl; kept = refl; prints = refl };
     closed = c.event.new.self;
-    closes = closed-only c.event.result c.args.self.now.recorder c.event.new.self c.event.ensures.does c.in_default.not-Refused;
+    closes =
+        closed-only c.event.result c.args.self.now.recorder c.event.new.self c.event.ensures.does
+        c.in_default.not-Refused;
     answer = c.drain-ended.result;
     drains = c.drain-ended.ensures.drains;
   };
-  goes = c.several_calls_go_as_one.ensures.two c.args.self.now.recorder c.event.new.self c.drain-ended.new.self c.event.ensures.goes c.drain-ended.ensures.goes;
+  goes =
+      c.several_calls_go_as_one.ensures.two c.args.self.now.recorder c.event.new.self
+      c.drain-ended.new.self c.event.ensures.goes c.drain-ended.ensures.goes;
   refused = tt;
   size = refl;
   count = refl;

@@ -10,8 +10,16 @@ returns-clause-runs g c = on_ok c.print_mark.result c.print_mark.ensures.output 
     let reply = c.event-reply.result in
     let old = c.args.self.now.recorder in
     let new = c.event-reply.new.self in
-    let marks = subst (λ (text : List ℕ). Marks text reply old new) c.in_ok-clone.ensures c.event-reply.ensures.does in (
+    let marks =
+    subst (λ (text : List ℕ). Marks text reply old new) c.in_ok-clone.ensures
+    c.event-reply.ensures.does in (
       mark_outcome reply,
-      record { device = refl; kept = refl; reply = reply; marks = marks; prints = mark_prints c.args.text.now reply old new marks c.requires },
+      record {
+        device = refl;
+        kept = refl;
+        reply = reply;
+        marks = marks;
+        prints = mark_prints c.args.text.now reply old new marks c.requires;
+      },
       printed,
     ))

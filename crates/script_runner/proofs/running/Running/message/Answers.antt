@@ -16,7 +16,9 @@ use Rattle.script_runner.proofs.running.Running.message.Goals as goal
 
 pub invariant_of-self : goal.invariant_of-self
 invariant_of-self g c = record {
-  fits = subst (λ (n : ℕ). IsTrue (list_all (fits_device n) c.args.self.now.requests.items)) (sym c.message-answer.ensures.same.size) c.args.self.now.fits;
+  fits =
+      subst (λ (n : ℕ). IsTrue (list_all (fits_device n) c.args.self.now.requests.items))
+      (sym c.message-answer.ensures.same.size) c.args.self.now.fits;
 }
 
 pub invariant_of-self-in-Log : goal.invariant_of-self-in-Log
@@ -26,28 +28,42 @@ pub returns-in-Ok-clause-tells : goal.returns-in-Ok-clause-tells
 returns-in-Ok-clause-tells g c =
     let m = answering g.D.Message.answers g.L.Message.answers in
     let run = c.args.self.now in
-    let text : c.ascii_text-text.result.now ≡ c.args.text.now = c.ascii_text-text.ensures ∙ c.as_slice.ensures in
+    let text : c.ascii_text-text.result.now ≡ c.args.text.now =
+    c.ascii_text-text.ensures ∙ c.as_slice.ensures in
     elim c.match-over.branch [
       | in-Data w ↦
-          let taken = subst (λ (answer : Result (Unit {0}) MessageError). g.D.Message.answers run.disk c.args.layer c.ascii_text-text.result.now answer w.message-answer.new.self)
+          let taken =
+          subst (λ (answer : Result (Unit {0}) MessageError). g.D.Message.answers run.disk
+          c.args.layer c.ascii_text-text.result.now answer w.message-answer.new.self)
           (sym w.answer-is ∙ c.in-Ok.is) w.message-answer.ensures.answers in
-          subst (λ (over : DiskName). TellsLayer m over c.args.layer c.args.text.now [] run c.match-over.self) (sym w.in-Data.is)
-          (subst (λ (now : Running g.row.D.Denot g.row.L.Denot g.D.BlockDev g.L.BlockDev). TellsData m c.args.layer c.args.text.now [] run now) (sym w.self-is) (record {
+          subst (λ (over : DiskName). TellsLayer m over c.args.layer c.args.text.now [] run
+          c.match-over.self) (sym w.in-Data.is)
+          (subst (λ (now : Running g.row.D.Denot g.row.L.Denot g.D.BlockDev g.L.BlockDev). TellsData
+          m c.args.layer c.args.text.now [] run now) (sym w.self-is) (record {
             log = refl;
             kept = refl;
-            takes = subst (λ (asked : List ℕ). g.D.Message.answers run.disk c.args.layer asked (Ok tt) w.message-answer.new.self) text taken;
+            takes =
+                subst (λ (asked : List ℕ). g.D.Message.answers run.disk c.args.layer asked
+                (Ok tt) w.message-answer.new.self) text taken;
             unchanged = w.message-answer.ensures.same;
             prints = refl;
           }))
       | in-Log w ↦
           let told = w.message-answer-in-Log.ensures in
           let last = w.message-answer-in-Log.new.self in
-          let taken = subst (λ (answer : Result (Unit {0}) MessageError). g.L.Message.answers run.recorder.store.device c.args.layer c.ascii_text-text.result.now answer last.store.device)
+          let taken =
+          subst (λ (answer : Result (Unit {0}) MessageError). g.L.Message.answers
+          run.recorder.store.device c.args.layer c.ascii_text-text.result.now answer
+          last.store.device)
           (sym w.answer-is ∙ c.in-Ok.is) told.answers in
-          subst (λ (over : DiskName). TellsLayer m over c.args.layer c.args.text.now [] run c.match-over.self) (sym w.in-Log.is)
-          (subst (λ (now : Running g.row.D.Denot g.row.L.Denot g.D.BlockDev g.L.BlockDev). TellsLog m c.args.layer c.args.text.now [] run now) (sym w.self-is) (record {
+          subst (λ (over : DiskName). TellsLayer m over c.args.layer c.args.text.now [] run
+          c.match-over.self) (sym w.in-Log.is)
+          (subst (λ (now : Running g.row.D.Denot g.row.L.Denot g.D.BlockDev g.L.BlockDev). TellsLog
+          m c.args.layer c.args.text.now [] run now) (sym w.self-is) (record {
             keeps = record { device = refl; kept = refl; prints = refl };
-            takes = subst (λ (asked : List ℕ). g.L.Message.answers run.recorder.store.device c.args.layer asked (Ok tt) last.store.device) text taken;
+            takes =
+                subst (λ (asked : List ℕ). g.L.Message.answers run.recorder.store.device
+                c.args.layer asked (Ok tt) last.store.device) text taken;
             unchanged = told.device;
             core = ap (λ (shown : CoreShown). shown.state) told.core;
             end = told.end;
@@ -58,23 +74,35 @@ returns-in-Ok-clause-tells g c =
 
 pub returns-in-Ok-clause-moment : goal.returns-in-Ok-clause-moment
 returns-in-Ok-clause-moment g c = elim c.match-over.branch [
-  | in-Data w ↦ ap (λ (run : Running g.row.D.Denot g.row.L.Denot g.D.BlockDev g.L.BlockDev). run.moment) w.self-is
-  | in-Log w ↦ ap (λ (run : Running g.row.D.Denot g.row.L.Denot g.D.BlockDev g.L.BlockDev). run.moment) w.self-is
+  | in-Data w ↦
+      ap (λ (run : Running g.row.D.Denot g.row.L.Denot g.D.BlockDev g.L.BlockDev). run.moment)
+      w.self-is
+  | in-Log w ↦
+      ap (λ (run : Running g.row.D.Denot g.row.L.Denot g.D.BlockDev g.L.BlockDev). run.moment)
+      w.self-is
 ]
 
 pub returns-in-Ok-clause-goes : goal.returns-in-Ok-clause-goes
 returns-in-Ok-clause-goes g c = elim c.match-over.branch [
-  | in-Data w ↦ subst (λ (run : Running g.row.D.Denot g.row.L.Denot g.D.BlockDev g.L.BlockDev). RecorderFrame (recorder_view c.args.self.now.recorder) (recorder_view run.recorder)) (sym w.self-is)
+  | in-Data w ↦
+      subst (λ (run : Running g.row.D.Denot g.row.L.Denot g.D.BlockDev g.L.BlockDev). RecorderFrame
+      (recorder_view c.args.self.now.recorder) (recorder_view run.recorder)) (sym w.self-is)
       (c.several_calls_go_as_one.ensures.none c.args.self.now.recorder)
-  | in-Log w ↦ subst (λ (run : Running g.row.D.Denot g.row.L.Denot g.D.BlockDev g.L.BlockDev). RecorderFrame (recorder_view c.args.self.now.recorder) (recorder_view run.recorder)) (sym w.self-is)
+  | in-Log w ↦
+      subst (λ (run : Running g.row.D.Denot g.row.L.Denot g.D.BlockDev g.L.BlockDev). RecorderFrame
+      (recorder_view c.args.self.now.recorder) (recorder_view run.recorder)) (sym w.self-is)
       w.message-answer-in-Log.ensures.goes
 ]
 
 pub returns-in-Err-clause-goes : goal.returns-in-Err-clause-goes
 returns-in-Err-clause-goes g c = elim c.match-over.branch [
-  | in-Data w ↦ subst (λ (run : Running g.row.D.Denot g.row.L.Denot g.D.BlockDev g.L.BlockDev). RecorderFrame (recorder_view c.args.self.now.recorder) (recorder_view run.recorder)) (sym w.self-is)
+  | in-Data w ↦
+      subst (λ (run : Running g.row.D.Denot g.row.L.Denot g.D.BlockDev g.L.BlockDev). RecorderFrame
+      (recorder_view c.args.self.now.recorder) (recorder_view run.recorder)) (sym w.self-is)
       (c.several_calls_go_as_one.ensures.none c.args.self.now.recorder)
-  | in-Log w ↦ subst (λ (run : Running g.row.D.Denot g.row.L.Denot g.D.BlockDev g.L.BlockDev). RecorderFrame (recorder_view c.args.self.now.recorder) (recorder_view run.recorder)) (sym w.self-is)
+  | in-Log w ↦
+      subst (λ (run : Running g.row.D.Denot g.row.L.Denot g.D.BlockDev g.L.BlockDev). RecorderFrame
+      (recorder_view c.args.self.now.recorder) (recorder_view run.recorder)) (sym w.self-is)
       w.message-answer-in-Log.ensures.goes
 ]
 
@@ -83,60 +111,101 @@ returns-in-Err-clause-refused g c =
     let m = answering g.D.Message.answers g.L.Message.answers in
     let run = c.args.self.now in
     let error = c.in-Err.error in
-    let text : c.ascii_text-text.result.now ≡ c.args.text.now = c.ascii_text-text.ensures ∙ c.as_slice.ensures in
+    let text : c.ascii_text-text.result.now ≡ c.args.text.now =
+    c.ascii_text-text.ensures ∙ c.as_slice.ensures in
     let refused : RefusesMessage m c.args.over c.args.layer c.args.text.now error run = elim c.match-over.branch [
       | in-Data w ↦
           let last = w.message-answer.new.self in
-          let taken = subst (λ (answer : Result (Unit {0}) MessageError). g.D.Message.answers run.disk c.args.layer c.ascii_text-text.result.now answer last)
+          let taken =
+          subst (λ (answer : Result (Unit {0}) MessageError). g.D.Message.answers run.disk
+          c.args.layer c.ascii_text-text.result.now answer last)
           (sym w.answer-is ∙ c.in-Err.is) w.message-answer.ensures.answers in
-          subst (λ (over : DiskName). RefusesMessage m over c.args.layer c.args.text.now error run) (sym w.in-Data.is)
-          (last, subst (λ (asked : List ℕ). g.D.Message.answers run.disk c.args.layer asked (Err error) last) text taken)
+          subst (λ (over : DiskName). RefusesMessage m over c.args.layer c.args.text.now error run)
+          (sym w.in-Data.is) (
+            last,
+            subst (λ (asked : List ℕ). g.D.Message.answers run.disk c.args.layer asked
+                (Err error) last) text taken,
+          )
       | in-Log w ↦
           let last = w.message-answer-in-Log.new.self.store.device in
-          let taken = subst (λ (answer : Result (Unit {0}) MessageError). g.L.Message.answers run.recorder.store.device c.args.layer c.ascii_text-text.result.now answer last)
+          let taken =
+          subst (λ (answer : Result (Unit {0}) MessageError). g.L.Message.answers
+          run.recorder.store.device c.args.layer c.ascii_text-text.result.now answer last)
           (sym w.answer-is ∙ c.in-Err.is) w.message-answer-in-Log.ensures.answers in
-          subst (λ (over : DiskName). RefusesMessage m over c.args.layer c.args.text.now error run) (sym w.in-Log.is)
-          (last, subst (λ (asked : List ℕ). g.L.Message.answers run.recorder.store.device c.args.layer asked (Err error) last) text taken)
+          subst (λ (over : DiskName). RefusesMessage m over c.args.layer c.args.text.now error run)
+          (sym w.in-Log.is) (
+            last,
+            subst (λ (asked : List ℕ). g.L.Message.answers run.recorder.store.device
+                c.args.layer asked (Err error) last) text taken,
+          )
     ] in (error, ap AtLine c.from.ensures, refused)
 
 pub returns-in-Ok-clause-count : goal.returns-in-Ok-clause-count
 returns-in-Ok-clause-count g c = elim c.match-over.branch [
-  | in-Data w ↦ ap (λ (run : Running g.row.D.Denot g.row.L.Denot g.D.BlockDev g.L.BlockDev). length run.requests.items) w.self-is
-  | in-Log w ↦ ap (λ (run : Running g.row.D.Denot g.row.L.Denot g.D.BlockDev g.L.BlockDev). length run.requests.items) w.self-is
+  | in-Data w ↦
+      ap (λ (run : Running g.row.D.Denot g.row.L.Denot g.D.BlockDev g.L.BlockDev). length
+      run.requests.items) w.self-is
+  | in-Log w ↦
+      ap (λ (run : Running g.row.D.Denot g.row.L.Denot g.D.BlockDev g.L.BlockDev). length
+      run.requests.items) w.self-is
 ]
 
 pub returns-in-Ok-clause-size : goal.returns-in-Ok-clause-size
 returns-in-Ok-clause-size g c = elim c.match-over.branch [
-  | in-Data w ↦ ap (λ (run : Running g.row.D.Denot g.row.L.Denot g.D.BlockDev g.L.BlockDev). (g.D.BlockDev.shown run.disk).size) w.self-is ∙ w.message-answer.ensures.same.size
-  | in-Log w ↦ ap (λ (run : Running g.row.D.Denot g.row.L.Denot g.D.BlockDev g.L.BlockDev). (g.D.BlockDev.shown run.disk).size) w.self-is
+  | in-Data w ↦
+      ap (λ (run : Running g.row.D.Denot g.row.L.Denot g.D.BlockDev g.L.BlockDev).
+      (g.D.BlockDev.shown run.disk).size) w.self-is ∙ w.message-answer.ensures.same.size
+  | in-Log w ↦
+      ap (λ (run : Running g.row.D.Denot g.row.L.Denot g.D.BlockDev g.L.BlockDev).
+      (g.D.BlockDev.shown run.disk).size) w.self-is
 ]
 
 pub returns-in-Err-clause-moment : goal.returns-in-Err-clause-moment
 returns-in-Err-clause-moment g c = elim c.match-over.branch [
-  | in-Data w ↦ ap (λ (run : Running g.row.D.Denot g.row.L.Denot g.D.BlockDev g.L.BlockDev). run.moment) w.self-is
-  | in-Log w ↦ ap (λ (run : Running g.row.D.Denot g.row.L.Denot g.D.BlockDev g.L.BlockDev). run.moment) w.self-is
+  | in-Data w ↦
+      ap (λ (run : Running g.row.D.Denot g.row.L.Denot g.D.BlockDev g.L.BlockDev). run.moment)
+      w.self-is
+  | in-Log w ↦
+      ap (λ (run : Running g.row.D.Denot g.row.L.Denot g.D.BlockDev g.L.BlockDev). run.moment)
+      w.self-is
 ]
 
 pub returns-in-Err-clause-count : goal.returns-in-Err-clause-count
 returns-in-Err-clause-count g c = elim c.match-over.branch [
-  | in-Data w ↦ ap (λ (run : Running g.row.D.Denot g.row.L.Denot g.D.BlockDev g.L.BlockDev). length run.requests.items) w.self-is
-  | in-Log w ↦ ap (λ (run : Running g.row.D.Denot g.row.L.Denot g.D.BlockDev g.L.BlockDev). length run.requests.items) w.self-is
+  | in-Data w ↦
+      ap (λ (run : Running g.row.D.Denot g.row.L.Denot g.D.BlockDev g.L.BlockDev). length
+      run.requests.items) w.self-is
+  | in-Log w ↦
+      ap (λ (run : Running g.row.D.Denot g.row.L.Denot g.D.BlockDev g.L.BlockDev). length
+      run.requests.items) w.self-is
 ]
 
 pub returns-in-Err-clause-size : goal.returns-in-Err-clause-size
 returns-in-Err-clause-size g c = elim c.match-over.branch [
-  | in-Data w ↦ ap (λ (run : Running g.row.D.Denot g.row.L.Denot g.D.BlockDev g.L.BlockDev). (g.D.BlockDev.shown run.disk).size) w.self-is ∙ w.message-answer.ensures.same.size
-  | in-Log w ↦ ap (λ (run : Running g.row.D.Denot g.row.L.Denot g.D.BlockDev g.L.BlockDev). (g.D.BlockDev.shown run.disk).size) w.self-is
+  | in-Data w ↦
+      ap (λ (run : Running g.row.D.Denot g.row.L.Denot g.D.BlockDev g.L.BlockDev).
+      (g.D.BlockDev.shown run.disk).size) w.self-is ∙ w.message-answer.ensures.same.size
+  | in-Log w ↦
+      ap (λ (run : Running g.row.D.Denot g.row.L.Denot g.D.BlockDev g.L.BlockDev).
+      (g.D.BlockDev.shown run.disk).size) w.self-is
 ]
 
 pub returns-in-Ok-clause-log_moment : goal.returns-in-Ok-clause-log_moment
 returns-in-Ok-clause-log_moment g c = elim c.match-over.branch [
-  | in-Data w ↦ ap (λ (run : Running g.row.D.Denot g.row.L.Denot g.D.BlockDev g.L.BlockDev). run.recorder.store.moment) w.self-is
-  | in-Log w ↦ ap (λ (run : Running g.row.D.Denot g.row.L.Denot g.D.BlockDev g.L.BlockDev). run.recorder.store.moment) w.self-is ∙ w.message-answer-in-Log.ensures.moment
+  | in-Data w ↦
+      ap (λ (run : Running g.row.D.Denot g.row.L.Denot g.D.BlockDev g.L.BlockDev).
+      run.recorder.store.moment) w.self-is
+  | in-Log w ↦
+      ap (λ (run : Running g.row.D.Denot g.row.L.Denot g.D.BlockDev g.L.BlockDev).
+      run.recorder.store.moment) w.self-is ∙ w.message-answer-in-Log.ensures.moment
 ]
 
 pub returns-in-Err-clause-log_moment : goal.returns-in-Err-clause-log_moment
 returns-in-Err-clause-log_moment g c = elim c.match-over.branch [
-  | in-Data w ↦ ap (λ (run : Running g.row.D.Denot g.row.L.Denot g.D.BlockDev g.L.BlockDev). run.recorder.store.moment) w.self-is
-  | in-Log w ↦ ap (λ (run : Running g.row.D.Denot g.row.L.Denot g.D.BlockDev g.L.BlockDev). run.recorder.store.moment) w.self-is ∙ w.message-answer-in-Log.ensures.moment
+  | in-Data w ↦
+      ap (λ (run : Running g.row.D.Denot g.row.L.Denot g.D.BlockDev g.L.BlockDev).
+      run.recorder.store.moment) w.self-is
+  | in-Log w ↦
+      ap (λ (run : Running g.row.D.Denot g.row.L.Denot g.D.BlockDev g.L.BlockDev).
+      run.recorder.store.moment) w.self-is ∙ w.message-answer-in-Log.ensures.moment
 ]

@@ -11,7 +11,9 @@ use Rattle.script_runner.proofs.Submitting.{fits_larger, pushed_fit}
 use Rattle.script_runner.proofs.running.Running.submit.Goals as goal
 
 pub ask-request-requires : goal.ask-request-requires
-ask-request-requires g c = fits_larger _ c.args.submission _ 1048576 (g.met.D.BlockDev.lawful c.args.self.now.disk).few_sectors c.requires.fits
+ask-request-requires g c =
+    fits_larger _ c.args.submission _ 1048576
+    (g.met.D.BlockDev.lawful c.args.self.now.disk).few_sectors c.requires.fits
 
 pub name_of-requires-clause-named : goal.name_of-requires-clause-named
 name_of-requires-clause-named g c = omega (arith, c.args.self.now.requests.ok.0)
@@ -21,35 +23,44 @@ invariant_of-self g c = record { fits = c.args.self.now.fits }
 
 pub invariant_of-self-2 : goal.invariant_of-self-2
 invariant_of-self-2 g c = record {
-  fits = pushed_fit {l = g.L.BlockDev} _ _ c.args.submission c.ask-request.result c.args.self.now.recorder c.ask-request.new.recorder c.args.self.now.requests.items c.push.new.self.items (is_ok c.push.result)
+  fits =
+      pushed_fit {l = g.L.BlockDev} _ _ c.args.submission c.ask-request.result
+      c.args.self.now.recorder c.ask-request.new.recorder c.args.self.now.requests.items
+      c.push.new.self.items (is_ok c.push.result)
       c.requires.fits c.ask-request.ensures.asks c.push.ensures.items c.args.self.now.fits;
 }
 
 pub returns-in_err-print_submission-clause-runs : goal.returns-in_err-print_submission-clause-runs
-returns-in_err-print_submission-clause-runs g c = on_failed _ c.from_residual.result c.from_residual.ensures.0
+returns-in_err-print_submission-clause-runs g c =
+    on_failed _ c.from_residual.result c.from_residual.ensures.0
 
 pub returns-in_err-print_submission-clause-faults : goal.returns-in_err-print_submission-clause-faults
 returns-in_err-print_submission-clause-faults g c =
-    on_error c.from_residual.result c.from_residual.ensures.1 (λ stop is. subst StopsForFile (sym is) c.in_err-print_submission.ensures.faults)
+    on_error c.from_residual.result c.from_residual.ensures.1
+    (λ stop is. subst StopsForFile (sym is) c.in_err-print_submission.ensures.faults)
 
 pub returns-in_err-print_submission-clause-size : goal.returns-in_err-print_submission-clause-size
 returns-in_err-print_submission-clause-size g c = refl
 
 pub returns-in_err-print_submission-clause-count : goal.returns-in_err-print_submission-clause-count
-returns-in_err-print_submission-clause-count g c = on_failed _ c.from_residual.result c.from_residual.ensures.0
+returns-in_err-print_submission-clause-count g c =
+    on_failed _ c.from_residual.result c.from_residual.ensures.0
 
 pub returns-in_err-push-clause-runs : goal.returns-in_err-push-clause-runs
-returns-in_err-push-clause-runs g c = on_failed _ c.from_residual-in_err-push.result c.from_residual-in_err-push.ensures.0
+returns-in_err-push-clause-runs g c =
+    on_failed _ c.from_residual-in_err-push.result c.from_residual-in_err-push.ensures.0
 
 pub returns-in_err-push-clause-faults : goal.returns-in_err-push-clause-faults
 returns-in_err-push-clause-faults g c =
-    on_error c.from_residual-in_err-push.result c.from_residual-in_err-push.ensures.1 (λ stop is. subst StopsForFile (sym is) (inr refl))
+    on_error c.from_residual-in_err-push.result c.from_residual-in_err-push.ensures.1
+    (λ stop is. subst StopsForFile (sym is) (inr refl))
 
 pub returns-in_err-push-clause-size : goal.returns-in_err-push-clause-size
 returns-in_err-push-clause-size g c = refl
 
 pub returns-in_err-push-clause-count : goal.returns-in_err-push-clause-count
-returns-in_err-push-clause-count g c = on_failed _ c.from_residual-in_err-push.result c.from_residual-in_err-push.ensures.0
+returns-in_err-push-clause-count g c =
+    on_failed _ c.from_residual-in_err-push.result c.from_residual-in_err-push.ensures.0
 
 pub returns-clause-runs : goal.returns-clause-runs
 returns-clause-runs g c =
@@ -58,13 +69,22 @@ returns-clause-runs g c =
     let place : c.len.result ≡ length run.requests.items = c.len.ensures ∙ run.requests.ok.0 in (
       submission_text (name_at c.args.names.now (length run.requests.items)) request,
       record {
-        does = record { device = refl; request = request; asks = c.ask-request.ensures.asks; kept = c.in_ok-push.ensures.items; prints = refl };
+        does =
+            record {
+              device = refl;
+              request = request;
+              asks = c.ask-request.ensures.asks;
+              kept = c.in_ok-push.ensures.items;
+              prints = refl;
+            };
         moment = refl;
         log_moment = c.ask-request.ensures.log_moment;
         goes = c.ask-request.ensures.goes;
       },
-      subst (λ (name : ScriptId). Appends (g.O.Write.contents c.args.out.now) (g.O.Write.contents c.print_submission.new.out) (submission_text name request))
-          (c.name_of.ensures.name ∙ ap (name_at c.args.names.now) place) c.in_ok-print_submission.ensures.output,
+      subst (λ (name : ScriptId). Appends (g.O.Write.contents c.args.out.now)
+          (g.O.Write.contents c.print_submission.new.out) (submission_text name request))
+          (c.name_of.ensures.name ∙ ap
+          (name_at c.args.names.now) place) c.in_ok-print_submission.ensures.output,
     )
 
 pub returns-clause-size : goal.returns-clause-size

@@ -11,4 +11,5 @@ loop-place-preserved g c =
     let within : place < length lines = omega arith in
     let there = stands_there lines place c.index-lines-place.result within c.index-lines-place.is in
     let few : place < 2 ^ 64 - 1 = omega arith in
-    does_next lines place (place + 1) c.index-lines-place.result _ _ _ (omega arith) few there c.loop-place.invariant c.run_line.ensures
+    does_next lines place (place + 1) c.index-lines-place.result _ _ _
+    (omega arith) few there c.loop-place.invariant c.run_line.ensures

@@ -12,11 +12,20 @@ pub returns : goal.returns
 returns g c =
     let old = c.self.inside.seat in
     let suits = c.in-Ok.ensures.suits g.R.Run.sector_bytes g.R.Run.sectors c.requires in
-    let tested = subst (λ (bio : Bio). check_sized_answer g.R.Run.sector_bytes bio g.R.Run.sectors ≡ Ok tt) (sym c.in-Ok.ensures.made) suits in
-    let answered = subst (λ (bio : Bio). Answered old bio c.submit-answer.result c.submit-answer.new.seat) c.in-Ok.ensures.made
+    let tested =
+    subst (λ (bio : Bio). check_sized_answer g.R.Run.sector_bytes bio g.R.Run.sectors
+    ≡ Ok tt) (sym c.in-Ok.ensures.made) suits in
+    let answered =
+    subst (λ (bio : Bio). Answered old bio c.submit-answer.result c.submit-answer.new.seat)
+    c.in-Ok.ensures.made
     (c.submit-answer.ensures.answered tested) in
-    let kept = c.keep.ensures ∙ ap (λ (receipts : List Receipt). and_kept receipts c.receipt_of.result) c.reserve.ensures.items in
+    let kept =
+    c.keep.ensures ∙ ap (λ (receipts : List Receipt). and_kept receipts c.receipt_of.result)
+    c.reserve.ensures.items in
     record {
-      made = makes_request c.args.submission _ c.args.self.now c.submit-answer.new.seat c.submit-answer.result c.of_request.result c.receipt_of.result
-          c.keep.new.receipts.items c.self.view_is answered c.of_request.ensures c.receipt_of.ensures kept;
+      made =
+          makes_request c.args.submission _ c.args.self.now c.submit-answer.new.seat
+          c.submit-answer.result c.of_request.result c.receipt_of.result
+          c.keep.new.receipts.items c.self.view_is answered c.of_request.ensures
+          c.receipt_of.ensures kept;
     }

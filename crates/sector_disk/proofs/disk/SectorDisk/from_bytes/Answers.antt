@@ -5,4 +5,6 @@ use Rattle.sector_disk.proofs.Beginning.{image_made}
 use Rattle.sector_disk.proofs.disk.SectorDisk.from_bytes.Goals as goal
 
 pub returns : goal.returns
-returns c = IfOk-weaker c.make.result _ _ (λ disk begins. image_made c.args.bytes.items (shown_of disk) begins) c.make.ensures
+returns c =
+    IfOk-weaker c.make.result _ _
+    (λ disk begins. image_made c.args.bytes.items (shown_of disk) begins) c.make.ensures

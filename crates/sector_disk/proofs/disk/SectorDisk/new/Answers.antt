@@ -5,4 +5,6 @@ use Rattle.sector_disk.proofs.Beginning.{zeroes_made}
 use Rattle.sector_disk.proofs.disk.SectorDisk.new.Goals as goal
 
 pub returns : goal.returns
-returns c = IfOk-weaker c.make.result _ _ (λ disk begins. zeroes_made c.args.sectors (shown_of disk) begins) c.make.ensures
+returns c =
+    IfOk-weaker c.make.result _ _
+    (λ disk begins. zeroes_made c.args.sectors (shown_of disk) begins) c.make.ensures

@@ -8,11 +8,16 @@ use Rattle.sector_disk.proofs.disk.SectorDisk.put.Goals as goal
 pub invariant_of-self-2 : goal.invariant_of-self-2
 invariant_of-self-2 c =
     let old = c.open_tables.new.self in
-    let before = c.in_ok-before.ensures ∙ ap (λ xs. take c.sectors-count.result (drop c.args.first xs)) c.deref.ensures.value in
+    let before =
+    c.in_ok-before.ensures ∙ ap
+    (λ xs. take c.sectors-count.result (drop c.args.first xs)) c.deref.ensures.value in
     let done = c.in_ok-add_call.ensures in
     record {
-      kept = kept_added old.sectors old.calls.items c.add_call.new.calls.items old.newest.items c.add_call.new.newest.items old.base.items
-          old.begun old.synced c.sectors-count.result old.flushed _ done.calls old.kept c.in_ok-open_tables.ensures.made refl c.sectors-count.ensures before done.newest;
+      kept =
+          kept_added old.sectors old.calls.items c.add_call.new.calls.items old.newest.items
+          c.add_call.new.newest.items old.base.items
+          old.begun old.synced c.sectors-count.result old.flushed _ done.calls old.kept
+          c.in_ok-open_tables.ensures.made refl c.sectors-count.ensures before done.newest;
     }
 
 pub returns-clause-ok : goal.returns-clause-ok
@@ -22,8 +27,12 @@ returns-clause-ok c =
     let done = c.in_ok-add_call.ensures in
     record {
       sectors = same.sectors;
-      start = start_added old.calls.items c.add_call.new.calls.items _ old.base.items done.calls old.kept.base_within ∙ same.start;
+      start =
+          start_added old.calls.items c.add_call.new.calls.items _ old.base.items done.calls
+          old.kept.base_within ∙ same.start;
       past =
-          past_added old.calls.items c.add_call.new.calls.items _ old.begun done.calls old.kept.begun_within
-          ∙ ap (λ (steps : List Step). Puts (change_values c.args.first c.args.change) c.args.fua ∷ steps) same.past;
+          past_added old.calls.items c.add_call.new.calls.items _ old.begun done.calls
+          old.kept.begun_within
+          ∙ ap (λ (steps : List Step). Puts
+          (change_values c.args.first c.args.change) c.args.fua ∷ steps) same.past;
     }

@@ -7,4 +7,6 @@ use Rattle.shared.proofs.posts.Posts.agree.Goals as goal
 
 pub returns-clause-seen : goal.returns-clause-seen
 returns-clause-seen g c bytes placed posted =
-    posted_begins bytes placed _ _ c.agree.ensures.begins (subst (λ (statuses : List Status). ArePosted bytes placed statuses) (sym c.self.view_is) posted)
+    posted_begins bytes placed _ _ c.agree.ensures.begins
+    (subst (λ (statuses : List Status). ArePosted bytes placed statuses)
+    (sym c.self.view_is) posted)

@@ -7,4 +7,5 @@ use Rattle.shared.proofs.shared.Shared.leave_locks.Goals as goal
 pub returns-then-is_ready-clause-posted : goal.returns-then-is_ready-clause-posted
 returns-then-is_ready-clause-posted g c =
     let desk = c.into_inner-log.result in
-    subst (λ (posts : List Status). ArePosted g.R.Run.sector_bytes desk.log.placed posts) (sym c.new-posts.ensures) (record { each = desk.prefixes; rising = desk.rising })
+    subst (λ (posts : List Status). ArePosted g.R.Run.sector_bytes desk.log.placed posts)
+    (sym c.new-posts.ensures) (record { each = desk.prefixes; rising = desk.rising })

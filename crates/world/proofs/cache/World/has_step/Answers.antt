@@ -21,8 +21,12 @@ returns-then-not-self-clause-has c =
     let step = c.args.step.now in
     let inside = c.self.inside in
     c.is_allowed.ensures
-    ∙ ap (λ cells. is_allowed events cells (reverse c.deref-then-not-self.result.now) step) c.deref.ensures.value
-    ∙ ap (λ calls. is_allowed events inside.cells.items (reverse calls) step) c.deref-then-not-self.ensures.value
+    ∙ ap (λ cells. is_allowed events cells
+    (reverse c.deref-then-not-self.result.now) step) c.deref.ensures.value
+    ∙ ap (λ calls. is_allowed events inside.cells.items
+    (reverse calls) step) c.deref-then-not-self.ensures.value
     ∙ sym (allowed_is events inside.cells.items (reverse inside.calls.items) inside.off step)
-    ∙ sym (ap (λ off. not off && may_take events (machine_in inside.cells.items (reverse inside.calls.items) inside.off) step) c.if-not-self.true)
+    ∙ sym (ap (λ off. not off
+    && may_take events (machine_in inside.cells.items
+    (reverse inside.calls.items) inside.off) step) c.if-not-self.true)
     ∙ ap (λ (world : WorldState). has_step events (machine_of world) step) c.self.view_is

@@ -19,7 +19,8 @@ pub destage-requires : goal.destage-requires
 destage-requires c =
     let old = c.args.self.now in
     let events = c.args.events.now in
-    destage_within events c.in-Destage.sector old (ap (has_step events (machine_of old)) (sym c.in-Destage.is) ∙ c.requires.may)
+    destage_within events c.in-Destage.sector old
+    (ap (has_step events (machine_of old)) (sym c.in-Destage.is) ∙ c.requires.may)
 
 pub returns-in-Land-clause-taken : goal.returns-in-Land-clause-taken
 returns-in-Land-clause-taken c =
@@ -29,9 +30,13 @@ returns-in-Land-clause-taken c =
     let taken = ap (has_step events (machine_of old)) (sym c.in-Land.is) ∙ c.requires.may in
     let Taken = λ (step : Step). Steps events step old c.land.new.self in
     on_ok_weaker c.land.result
-    (λ landed. subst Taken (sym c.in-Land.is) (land_steps events c.in-Land.id at old c.land.new.self taken
+    (λ landed. subst Taken (sym c.in-Land.is)
+    (land_steps events c.in-Land.id at old c.land.new.self taken
     (land_within events c.in-Land.id at old c.requires.lawful c.requires.sectors taken)
-    (landed ∙ ap (λ (id : ℕ). record old { cells = slice_set old.cells at (landing id (get_or old.cells at empty_cell)) }) c.place.ensures)))
+    (landed ∙ ap (λ (id : ℕ). record old {
+      cells = slice_set old.cells at
+          (landing id (get_or old.cells at empty_cell));
+    }) c.place.ensures)))
     c.land.ensures.landed
 
 pub returns-in-Destage-clause-taken : goal.returns-in-Destage-clause-taken
@@ -42,4 +47,6 @@ returns-in-Destage-clause-taken c =
     let taken = ap (has_step events (machine_of old)) (sym c.in-Destage.is) ∙ c.requires.may in
     let Taken = λ (step : Step). Steps events step old c.destage.new.self in
     subst Taken (sym c.in-Destage.is)
-    (destage_steps events at old c.destage.new.self taken (destage_within events at old taken) c.requires.sectors c.destage.ensures.cells c.destage.ensures.image)
+    (destage_steps events at old c.destage.new.self taken
+    (destage_within events at old taken) c.requires.sectors c.destage.ensures.cells
+    c.destage.ensures.image)

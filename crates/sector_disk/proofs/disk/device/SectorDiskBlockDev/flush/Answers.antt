@@ -10,7 +10,9 @@ pub invariant_of-self : goal.invariant_of-self
 invariant_of-self c =
     let old = c.args.self.now in
     record {
-      kept = kept_synced old.sectors old.calls.items old.newest.items old.base.items old.begun old.synced c.len-self.result old.flushed old.kept
+      kept =
+          kept_synced old.sectors old.calls.items old.newest.items old.base.items old.begun
+          old.synced c.len-self.result old.flushed old.kept
           (c.len-self.ensures ∙ old.calls.ok.0);
     }
 
@@ -24,5 +26,11 @@ returns-clause-syncs c told = syncs_flush c.args.self.now.sectors (start_of c.ar
 
 pub returns-clause-does : goal.returns-clause-does
 returns-clause-does c =
-    let old = c.args.self.now in
-    (refl, record { sectors = refl; start = refl; past = past_flushed old.calls.items old.begun old.flushed })
+    let old = c.args.self.now in (
+      refl,
+      record {
+        sectors = refl;
+        start = refl;
+        past = past_flushed old.calls.items old.begun old.flushed;
+      },
+    )

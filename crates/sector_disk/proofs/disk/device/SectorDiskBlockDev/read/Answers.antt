@@ -8,7 +8,8 @@ use Rattle.sector_disk.proofs.disk.device.SectorDiskBlockDev.read.Goals as goal
 
 pub returns-clause-bytes : goal.returns-clause-bytes
 returns-clause-bytes c =
-    read_of c.args.self.now c.deref.result.now c.deref-2.result.now c.read_places.new.buffer c.args.first (length c.args.buffer.now / 512)
+    read_of c.args.self.now c.deref.result.now c.deref-2.result.now c.read_places.new.buffer
+    c.args.first (length c.args.buffer.now / 512)
     c.deref.ensures.value c.deref-2.ensures.value c.requires.within c.read_places.ensures
 
 pub returns-clause-goes : goal.returns-clause-goes
@@ -18,6 +19,7 @@ pub returns-clause-does : goal.returns-clause-does
 returns-clause-does c = (
   refl,
   record { sectors = refl; start = refl; past = refl },
-  read_of c.args.self.now c.deref.result.now c.deref-2.result.now c.read_places.new.buffer c.args.first (length c.args.buffer.now / 512)
+  read_of c.args.self.now c.deref.result.now c.deref-2.result.now c.read_places.new.buffer
+      c.args.first (length c.args.buffer.now / 512)
       c.deref.ensures.value c.deref-2.ensures.value c.requires.within c.read_places.ensures,
 )

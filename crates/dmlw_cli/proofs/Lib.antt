@@ -7,3 +7,4 @@ pub mod Plain
 pub mod Ends
 pub mod Apps
 mod Counterexamples
+mod EndCounterexamples

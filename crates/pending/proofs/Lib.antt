@@ -15,6 +15,7 @@ pub mod Rooms
 pub mod Views
 pub mod EndLaws
 pub mod Meaning
+pub mod EndMeaning
 pub mod CoreSteps
 pub mod Readable
 pub mod Order

@@ -1,0 +1,285 @@
+-- How far a read over the blocks of a device got, and which bytes it has put into the buffer.
+use Rattle.std.proofs.Common.{◌≡◌, ℕ, zero, suc, ◌+◌, ◌-◌, ◌*◌, ◌/◌, ◌<◌, ◌≤◌, false}
+use Rattle.std.proofs.Common.{◌++◌, Ok, Err, List, length, take, drop}
+use Rattle.std.proofs.Common.{refl, ap, sym, subst, ◌∙◌, inl, inr, arith}
+use Rattle.std.proofs.lemmas.Bool.{cases_lt}
+use Rattle.std.proofs.lemmas.List.{append-nil, append_assoc, drop-drop, drop-take, take-take}
+use Rattle.std.proofs.lemmas.List.{take_all}
+use Rattle.std.proofs.Math.Seq.{take-add}
+use Rattle.std.proofs.lemmas.Nat.{le-div}
+use Rattle.std.proofs.Math.Nat.{div-mul-le_self}
+use Rattle.std.specs.Prelude.{Result, is_some, if◌then◌else◌}
+use Rattle.bio.specs.declared.outcome.DevError.{DevError}
+use Rattle.blockdev.specs.Calls.{Call, Reads}
+use Rattle.blockdev.specs.JoinLaws.{goes_both, goes_none}
+use Rattle.blockdev.specs.JoinLaws.{stays_both, stays_none}
+use Rattle.blockdev.specs.Law.{DeviceFrame, CrashSetKept}
+use Rattle.blockdev.specs.View.{View}
+use Rattle.sectors.specs.Content.{Content, gather, nothing}
+use Rattle.sectors.specs.SectorLaws.{gather-ext}
+use Rattle.sectors.specs.PartLaws.{patched-none}
+use Rattle.dust_layer.specs.Bad.{Bad}
+use Rattle.dust_layer.specs.Walk.{DoesParts, FailsBelow}
+use Rattle.dust_layer.specs.Walk.{block_behind, bytes_within}
+use Rattle.dust_layer.specs.Walk.{part_of, part_within}
+use Rattle.dust_layer.specs.Walk.{reach}
+use Rattle.dust_layer.proofs.Passing.{times-le, reach_last, HasPassed, passed_first, passed_next}
+use Rattle.dust_layer.proofs.Passing.{IsNextPart, next_part_from}
+
+-- parts that are the same calls are done as they are
+parts_same : {D : Type 0} (does : D → Call → ℕ → Result ℕ DevError → D → Type 0)
+    (part other : ℕ → Call) (begin count : ℕ)
+    (old : D) (now : ℕ) (new : D) (end : ℕ)
+    → ((place : ℕ) → begin ≤ place → place < begin + count → part place ≡ other place)
+    → DoesParts does part begin count old now new end
+    → DoesParts does other begin count old now new end
+parts_same does part other begin zero old now new end same did = did
+parts_same does part other begin (suc count) old now new end same did = (
+  did.0,
+  did.1,
+  parts_same does part other begin count old now did.0 did.1
+      (λ place low high. same place low (omega arith)) did.2,
+  subst (λ (call : Call). does did.0 call did.1 (Ok end) new)
+      (same (begin + count) (omega arith) (omega arith)) did.3,
+)
+
+-- bytes that are the same up to a place are the same before it
+bytes-same : (a n k : ℕ) (xs ys : List ℕ) → a + n ≤ k → take k xs ≡ take k ys
+    → take n (drop a xs) ≡ take n (drop a ys)
+bytes-same a n k xs ys within same =
+    sym (drop-take a n xs)
+    ∙ ap (drop a) (sym (take-take (a + n) k xs within) ∙ ap (take (a + n)) same
+    ∙ take-take (a + n) k ys within)
+    ∙ drop-take a n ys
+
+reach-order : (block first count p q : ℕ) → p ≤ q
+    → reach block first count p ≤ reach block first count q
+reach-order block first count p q order =
+    let low : p * block ≤ q * block = times-le p q block order in
+    let a = p * block in
+    let b = q * block in
+    omega (arith, low)
+
+-- What a read has done so far.
+pub record Reading {D : Type 0} (does : D → Call → ℕ → Result ℕ DevError → D → Type 0)
+    (shown : D → View) (block first : ℕ) (before now_bytes : List ℕ)
+    (bad : Bad) (done from : ℕ) (old : D) (now : ℕ) (new : D) (end : ℕ) : Type 0 where
+  pub passed : HasPassed does block (Reads first before now_bytes) bad bad done from old now new end
+  pub bytes : take (512 * (from - first)) now_bytes
+      ≡ gather (shown old).content first (from - first)
+  -- the buffer's rest is as it was
+  pub rest : drop (512 * (from - first)) now_bytes ≡ drop (512 * (from - first)) before
+  pub goes : DeviceFrame nothing (shown old) (shown new)
+  pub stays : CrashSetKept (shown old) (shown new)
+
+-- what comes into a buffer behind what was read leaves what was read
+passed_read : {D : Type 0} (does : D → Call → ℕ → Result ℕ DevError → D → Type 0) (block first : ℕ)
+    (before xs ys : List ℕ) (bad : Bad) (done from : ℕ)
+    (old : D) (now : ℕ) (new : D) (end : ℕ)
+    → take (512 * (from - first)) xs ≡ take (512 * (from - first)) ys
+    → HasPassed does block (Reads first before xs) bad bad done from old now new end
+    → HasPassed does block (Reads first before ys) bad bad done from old now new end
+passed_read does block first before xs ys bad done from old now new end same so_far = record {
+  reached = so_far.reached;
+  passes = record {
+    free = so_far.passes.free;
+    parts =
+        parts_same does (part_of block (Reads first before xs))
+        (part_of block (Reads first before ys)) (first / block) done old now new end
+        (λ place low high.
+        let a = reach block first (length before / 512) place in
+        let b = reach block first (length before / 512) (suc place) in
+        let order : a ≤ b =
+        reach-order block first (length before / 512) place (suc place) (omega arith) in
+        let begins : first ≤ a = elim (cases_lt place (first / block)) [ inl less ↦ absurd (omega arith) | inr more ↦ let x = place * block in let y = length before / 512 in omega arith ] in
+        let ends : b ≤ from = let h = reach-order block first (length before / 512) (suc place) (first / block + done) (omega arith) in let e = so_far.reached in omega (arith, h, e) in
+        ap (λ (bytes : List ℕ). Reads a
+        (take (512 * (b - a)) (drop (512 * (a - first)) before)) bytes)
+        (bytes-same (512 * (a - first)) (512 * (b - a)) (512 * (from - first)) xs ys
+        (omega (arith, order, begins, ends)) same)) so_far.passes.parts;
+  };
+  list = so_far.list;
+  moment = so_far.moment;
+}
+
+-- a range of sectors is its first part and then the rest
+gather-add : (c : Content) (first k n : ℕ)
+    → gather c first (k + n) ≡ gather c first k ++ gather c (first + k) n
+gather-add c first k zero =
+    let none : k + 0 ≡ k = omega arith in
+    ap (gather c first) none ∙ sym (append-nil (gather c first k))
+gather-add c first k (suc n) =
+    let more : k + suc n ≡ suc (k + n) = omega arith in
+    let place : first + (k + n) ≡ first + k + n = omega arith in
+    ap (gather c first) more
+    ∙ ap (λ (xs : List ℕ). xs ++ c (first + (k + n))) (gather-add c first k n)
+    ∙ append_assoc (gather c first k) (gather c (first + k) n) (c (first + (k + n)))
+    ∙ ap (λ (s : ℕ). gather c first k ++ (gather c (first + k) n ++ c s)) place
+
+pub reading_first : {D : Type 0} (does : D → Call → ℕ → Result ℕ DevError → D → Type 0)
+    (shown : D → View) (block first : ℕ) (bytes : List ℕ)
+    (bad : Bad) (old : D) (now : ℕ) → 0 < length bytes / 512
+    → Reading does shown block first bytes bytes bad 0 first old now old now
+reading_first does shown block first bytes bad old now some = record {
+  passed = passed_first does block (Reads first bytes bytes) bad old now some;
+  bytes =
+      let none : first - first ≡ 0 = omega arith in
+      ap (λ (k : ℕ). take (512 * k) bytes) none ∙ ap (gather (shown old).content first) (sym none);
+  rest = refl;
+  goes = goes_none nothing (shown old);
+  stays = stays_none (shown old);
+}
+
+-- bytes that are the same behind a place are the same further on
+rest-further : (a b : ℕ) (xs ys : List ℕ) → a ≤ b → drop a xs ≡ drop a ys → drop b xs ≡ drop b ys
+rest-further a b xs ys order same =
+    ap (λ (n : ℕ). drop n xs) (omega arith)
+    ∙ sym (drop-drop (b - a) a xs) ∙ ap (drop (b - a)) same ∙ drop-drop (b - a) a ys
+    ∙ ap (λ (n : ℕ). drop n ys) (omega arith)
+
+-- where the next part of a read begins and ends
+next_read : {D : Type 0} (does : D → Call → ℕ → Result ℕ DevError → D → Type 0) (shown : D → View)
+    (block first : ℕ) (before xs : List ℕ)
+    (bad : Bad) (done from to : ℕ) (old : D) (now : ℕ) (mid : D) (at : ℕ)
+    → 0 < block → 0 < length before / 512
+    → done < (first + length before / 512 - 1) / block + 1 - first / block
+    → to ≡ reach block first (length before / 512) (first / block + done + 1)
+    → Reading does shown block first before xs bad done from old now mid at
+    → IsNextPart block first (length before / 512) done from to
+next_read does shown block first before xs bad done from to old now mid at positive some within
+    is_to so_far =
+    subst (IsNextPart block first (length before / 512) done from)
+    (ap (reach block first (length before / 512)) (let b = first / block in omega arith) ∙ sym is_to)
+    (next_part_from block first
+    (length before / 512) done from positive some within so_far.passed.reached)
+
+-- once a part is read, the read got a block further
+pub reading_step : {D : Type 0} (does : D → Call → ℕ → Result ℕ DevError → D → Type 0)
+    (shown : D → View) (block first : ℕ) (before xs ys : List ℕ)
+    (bad : Bad) (done from to : ℕ) (old : D) (now : ℕ) (mid : D) (at : ℕ) (new : D) (end : ℕ)
+    → 0 < block → 0 < length before / 512
+    → done < (first + length before / 512 - 1) / block + 1 - first / block
+    → to ≡ reach block first (length before / 512) (first / block + done + 1)
+    → Reading does shown block first before xs bad done from old now mid at
+    → is_some (bad (first / block + done)) ≡ false
+    → take (512 * (from - first)) ys ≡ take (512 * (from - first)) xs
+    → drop (512 * (to - first)) ys ≡ drop (512 * (to - first)) xs
+    → bytes_within first from to ys ≡ gather (shown mid).content from (to - from)
+    → DeviceFrame nothing (shown mid) (shown new) → CrashSetKept (shown mid) (shown new)
+    → does mid (Reads from (bytes_within first from to xs) (bytes_within first from to ys)) at
+    (Ok end) new → at ≤ end
+    → Reading does shown block first before ys bad (done + 1) to old now new end
+reading_step does shown block first before xs ys bad done from to old now mid at new end positive
+    some within is_to so_far free same behind read goes stays did later =
+    let part =
+    next_read does shown block first before xs bad done from to old now mid at positive some
+    within is_to so_far in
+    let low = part.low in
+    let order = part.order in
+    let ends : to ≡ reach block first (length before / 512) (suc (first / block + done)) =
+    is_to ∙ ap (reach block first (length before / 512)) (let b = first / block in omega arith) in
+    let asked : does mid (Reads from (bytes_within first from to before) (bytes_within first from to ys)) at (Ok end) new =
+    subst (λ (bs : List ℕ). does mid (Reads from (take (512 * (to - from)) bs) (bytes_within first from to ys)) at (Ok end) new) so_far.rest did in
+    let passed : HasPassed does block (Reads first before ys) bad bad (suc done) to old now new end =
+    passed_next does block (Reads first before ys) bad bad bad done from to old now mid at new end
+    (passed_read does block first before xs ys bad done from old now mid at (sym same) so_far.passed) free ends asked later (λ place. refl) in
+    let content : (s : ℕ) → (shown mid).content s ≡ (shown old).content s =
+    λ s. patched-none nothing (shown old).content
+    (shown mid).content so_far.goes.content s refl in
+    let k = from - first in
+    let n = to - from in
+    let up_to : to - first ≡ k + n = omega (arith, low, order) in
+    let bytes_to : 512 * (to - first) ≡ 512 * k + 512 * n = omega (arith, low, order) in
+    let there : (s : ℕ) → from + s ≡ first + k + s = λ s. omega (arith, low) in
+    record {
+      passed =
+          subst (λ (m : ℕ). HasPassed does block
+          (Reads first before ys) bad bad m to old now new end) (omega arith) passed;
+      bytes =
+          ap (λ (m : ℕ). take m ys) bytes_to
+          ∙ take-add (512 * k) (512 * n) ys
+          ∙ ap (λ (zs : List ℕ). zs ++ take (512 * n) (drop (512 * k) ys)) (same ∙ so_far.bytes)
+          ∙ ap (λ (zs : List ℕ). gather (shown old).content first k ++ zs)
+          (read ∙ gather-ext (shown mid).content (shown old).content from (first + k) n
+          (λ s h. content (from + s) ∙ ap (shown old).content (there s)))
+          ∙ sym (gather-add (shown old).content first k n)
+          ∙ ap (gather (shown old).content first) (sym up_to);
+      rest =
+          behind ∙ rest-further (512 * (from - first)) (512 * (to - first)) xs before
+          (omega (arith, order)) so_far.rest;
+      goes = goes_both nothing (shown old) (shown mid) (shown new) so_far.goes goes;
+      stays = stays_both (shown old) (shown mid) (shown new) so_far.stays stays;
+    }
+
+-- a part of it that fails below
+pub reading_failed : {D : Type 0} (does : D → Call → ℕ → Result ℕ DevError → D → Type 0)
+    (shown : D → View) (block first : ℕ) (before xs ys : List ℕ)
+    (bad : Bad) (done from to : ℕ) (old : D) (now : ℕ) (mid : D) (at : ℕ) (new : D)
+    (error : DevError)
+    → 0 < block → 0 < length before / 512
+    → done < (first + length before / 512 - 1) / block + 1 - first / block
+    → to ≡ reach block first (length before / 512) (first / block + done + 1)
+    → Reading does shown block first before xs bad done from old now mid at
+    → is_some (bad (first / block + done)) ≡ false
+    → take (512 * (from - first)) ys ≡ take (512 * (from - first)) xs
+    → drop (512 * (to - first)) ys ≡ drop (512 * (to - first)) xs
+    → does mid (Reads from (bytes_within first from to xs) (bytes_within first from to ys)) at
+    (Err error) new
+    → FailsBelow does block (Reads first before ys) bad bad old now new error
+reading_failed does shown block first before xs ys bad done from to old now mid at new error
+    positive some within is_to so_far free same behind did =
+    let part =
+    next_read does shown block first before xs bad done from to old now mid at positive some
+    within is_to so_far in
+    let order = part.order in
+    let ends_next : to ≡ reach block first (length before / 512) (first / block + suc done) =
+    is_to ∙ ap (reach block first (length before / 512)) (let b = first / block in omega arith) in
+    let ends : to ≡ reach block first (length before / 512) (suc (first / block + done)) =
+    is_to ∙ ap (reach block first (length before / 512)) (let b = first / block in omega arith) in
+    let asked : does mid (Reads from (bytes_within first from to before) (bytes_within first from to ys)) at (Err error) new =
+    subst (λ (bs : List ℕ). does mid (Reads from (take (512 * (to - from)) bs) (bytes_within first from to ys)) at (Err error) new) so_far.rest did in record {
+      count = done;
+      mid = mid;
+      end = at;
+      passes =
+          (passed_read does block first before xs ys bad done from old now mid at
+          (sym same) so_far.passed).passes;
+      within =
+          let a = first / block in
+          let b = (first + length before / 512 - 1) / block in omega (arith, within);
+      free = free;
+      fails =
+          subst (λ (p : ℕ). does mid
+          (part_within p (reach block first (length before / 512) (suc (first / block + done)))
+          (Reads first before ys)) at (Err error) new) so_far.passed.reached
+          (subst (λ (p : ℕ). does mid (part_within from p (Reads first before ys)) at
+          (Err error) new) ends asked);
+      rest =
+          subst (λ (p : ℕ). drop (512 * (p - first)) ys ≡ drop (512 * (p - first)) before) ends_next
+          (behind ∙ rest-further (512 * (from - first)) (512 * (to - first)) xs before
+          (omega (arith, order)) so_far.rest);
+      list = λ place. refl;
+    }
+
+-- behind its last block all of it is read
+pub reading_bytes : {D : Type 0} (does : D → Call → ℕ → Result ℕ DevError → D → Type 0)
+    (shown : D → View) (block first : ℕ) (before xs : List ℕ)
+    (bad : Bad) (done from : ℕ) (old : D) (now : ℕ) (new : D) (end : ℕ)
+    → 0 < block → 0 < length before / 512 → length xs ≡ length before
+    → length before ≡ 512 * (length before / 512)
+    → done ≡ (first + length before / 512 - 1) / block + 1 - first / block
+    → Reading does shown block first before xs bad done from old now new end
+    → xs ≡ gather (shown old).content first (length before / 512)
+reading_bytes does shown block first before xs bad done from old now new end positive some size
+    whole is so_far =
+    let n = length before / 512 in
+    let low : first / block * block ≤ first = div-mul-le_self first block in
+    let order : first / block ≤ (first + n - 1) / block =
+    le-div (first / block) (first + n - 1) block positive (omega (arith, low, some)) in
+    let behind : first / block + done ≡ block_behind block first n = let a = first / block in
+    let b = (first + n - 1) / block in omega (arith, order, is) in
+    let ends : from ≡ first + n =
+    so_far.passed.reached ∙ ap (reach block first n) behind ∙ reach_last block first n positive some in
+    let all : from - first ≡ n = omega (arith, ends) in
+    sym (take_all (512 * (from - first)) xs (omega (arith, all, size, whole)))
+    ∙ so_far.bytes ∙ ap (gather (shown old).content first) all

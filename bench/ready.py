@@ -4,14 +4,14 @@
   bench/ready.py [--count]
         Says which files `rt fmt` would change (the gate refuses their crate whole), which edits, of must-fail/ and of planted/, name a text that doesn't stand
         once in its file, which edits have no row in docs/lab/PLANTED.md, and where that page's counts aren't those of its rows. --count writes the counts.
-        Says also where docs/HEADLINE.md isn't what bench/headline.py writes, which places the documents cite that aren't there, and where release/ is there and
-        isn't of the tree at hand (bench/release.py).
+        Says also where docs/HEADLINE.md isn't what bench/headline.py writes, which places the documents cite that aren't there, which files have no head
+        or one that isn't true (bench/heads.py), and where release/ is there and isn't of the tree at hand (bench/release.py).
 
 The repository's files stay as they are, but for the counts. It needs the kit's `rt` on the PATH.
 """
 import glob, os, re, shutil, subprocess, sys, tempfile
 
-import release
+import heads, release
 
 root = os.path.dirname(os.path.dirname(os.path.abspath(__file__)))
 
@@ -87,7 +87,7 @@ def main():
     page = text_of(f"{root}/docs/lab/PLANTED.md")
     rows = list(rows_of(page))
     by_tests = [it for it in rows if re.search(r"\btests?\b", it[2]) and "goal" not in it[2] and "check of" not in it[2]]
-    found = [*not_laid_out(), *edits_off(edits + planted), *cited(), *headline_off(), *release.off()]
+    found = [*not_laid_out(), *edits_off(edits + planted), *cited(), *headline_off(), *heads.off(), *release.off()]
     for edit in edits + planted:
         crate, name = edit.split("/")[-3], os.path.basename(edit)[:-5].replace("-", " ")
         if not any(section == crate and bug.replace("`", "").split(" (")[0].lower() == name for section, bug, _ in rows):

@@ -1,4 +1,5 @@
 //! The data of a request and the text of a mark: bytes that clones can share.
+//! Its clauses are written in specs/inside/Storage; the search alone proves it.
 ghost use Rattle.std.specs.Prelude.{◌≡◌, ◌==◌, IfOk, length};
 ghost use Rattle.std.specs.Arc.{arc_value};
 

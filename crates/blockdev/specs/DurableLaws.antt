@@ -1,4 +1,5 @@
 -- What the law comes to in the subject's words.
+-- Any crate above may cite it.
 use Rattle.std.proofs.Common.{◌≡◌, ℕ, ◌+◌, true, List, None, refl, ◌∙◌, inl, inr, arith}
 use Rattle.std.specs.Prelude.{Bool}
 use Rattle.sectors.specs.Content.{Content, HasBytes, Patch, nothing, writes}

@@ -1,4 +1,5 @@
 -- What several calls come to, of which each does a part of one whole call.
+-- Any crate above may cite it.
 use Rattle.std.proofs.Common.{◌≡◌, ℕ, ◌≤◌, Bool, false, Err, None, refl, sym, ◌∙◌, inl, inr, arith}
 use Rattle.bio.specs.declared.outcome.DevError.{DevError}
 use Rattle.sectors.specs.Content.{Content, HasNoneBelow, HasWholeSectors, Patch, nothing}

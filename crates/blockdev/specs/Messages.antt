@@ -1,4 +1,5 @@
 -- What a message may change, and what it is refused by.
+-- Any crate above may cite it.
 use Rattle.std.proofs.Common.{◌≡◌, ℕ, Bool, refl, ap, ◌∙◌, inl, arith}
 use Rattle.std.specs.Prelude.{◌||◌}
 use Rattle.refusals.specs.declared.refusal.Refusal.{Refusal}

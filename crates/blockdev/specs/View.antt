@@ -1,5 +1,6 @@
 -- What contracts see of a block device: its content, what a crash may leave, faults and lies.
 -- `Law` says how a call changes it; `IsLawful` is what each `BlockDev` owes at all times.
+-- Any crate above may cite it.
 use Rattle.std.specs.Prelude.{ℕ, Bool, ◌-◌, ◌<◌, ◌≤◌, ◌^◌}
 use Rattle.sectors.specs.Content.{Content, HasWholeSectors}
 

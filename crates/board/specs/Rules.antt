@@ -1,4 +1,5 @@
 -- The rule of a board, and what each step tells.
+-- Any crate above may cite it.
 use Rattle.std.specs.Prelude.{◌≡◌, ℕ, List, [], ◌∷◌, ◌++◌, true, false}
 use mathlib.Core.Option.{some}
 use lib.ListN.{get_elem?}

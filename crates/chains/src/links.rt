@@ -1,4 +1,5 @@
 //! The links between rows, and the one call that changes them.
+//! Its clauses are written in specs/; the search alone proves it.
 ghost use Rattle.std.specs.Prelude.{◌≡◌, ℕ, ◌+◌, ◌-◌, ◌^◌, ◌<◌, ◌≤◌, min, None, [], ◌∷◌, ◌++◌};
 ghost use Rattle.std.specs.Prelude.{length, replicate, IfOk, OnOk, OnErr, vec_len, vec_capacity};
 ghost use Rattle.chains.specs.inside.Rings.{after, last_in};

@@ -1,4 +1,5 @@
 //! Chains of values, and the calls that change them.
+//! Its clauses are written in specs/; its theorems in proofs/table/.
 ghost use Rattle.std.specs.Prelude.{◌≡◌, ◌≢◌, ℕ, ◌+◌, ◌<◌, ◌≤◌, ◌==◌, None, Some, Option, List, []};
 ghost use Rattle.std.specs.Prelude.{◌∷◌, ◌++◌, length, replicate, max, IfOk, OnOk, OnErr, IfSome};
 ghost use Rattle.std.specs.Prelude.{OnSome, slice_get};

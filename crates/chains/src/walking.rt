@@ -3,6 +3,7 @@
 //! A ring is the same ring seen from any of its rows, so going past a
 //! value writes no link: only where the walk is changes, and that row is
 //! seen as the chain's last. The links are told of it when the walk ends.
+//! Its clauses are written in specs/Edits and specs/Shown; the search alone proves it.
 ghost use Rattle.std.specs.Prelude.{◌≡◌, ◌≢◌, ℕ, ◌<◌, None, Some, length};
 ghost use Rattle.chains.specs.Edits.{lifted, turned};
 ghost use Rattle.chains.specs.Shown.{ChangesFew, KeepsRoom};
@@ -23,7 +24,7 @@ impl<T: Drop> Chains<T> {
         self.walk = Some(Walk { chain, at });
     }
 
-    /// DeviceFrame past the first value of the chain that is
+    /// Goes past the first value of the chain that is
     /// being walked: it's the last then. No link is changed.
     pub fn turn(&mut self)
         ensures chains { (chain : ℕ) → self.old.walked ≡ Some chain

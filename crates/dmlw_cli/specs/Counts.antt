@@ -1,4 +1,5 @@
 -- The number of sectors of a new disk, as a word.
+-- Any crate above may cite it.
 use Rattle.std.specs.Prelude.{ℕ, ◌≤◌, List}
 use Rattle.text_words.specs.Words.{IsNumber}
 

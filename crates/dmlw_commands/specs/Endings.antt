@@ -1,4 +1,5 @@
 -- How a command on files ends.
+-- Any crate above may cite it.
 use Rattle.std.specs.Prelude.{◌≡◌, ℕ, Bool, true, false, List, [], ◌++◌, Option, Result}
 use Rattle.std.specs.Io.KnownBytes.{Appends}
 use Rattle.run_error.specs.declared.run_error.RunError.{RunError}

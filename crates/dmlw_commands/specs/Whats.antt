@@ -1,4 +1,5 @@
 -- How the end of a replay is named by a word.
+-- Any crate above may cite it.
 use Rattle.std.specs.Prelude.{◌≡◌, ℕ, List, ◌++◌, codes}
 use Rattle.text_words.specs.Words.{IsNumber}
 use Rattle.replay.specs.declared.upto.Upto.{Upto}

@@ -1,4 +1,5 @@
 //! `record SCRIPT LOG`: records the requests of a script in a new log.
+//! Its clauses are written in specs/; its theorems in proofs/record/.
 ghost use Rattle.std.specs.Prelude.{◌≡◌, ◌≤◌, ◌⊎◌, IfErr, IfOk, OnErr, OnOk, Some, length};
 ghost use Rattle.std.specs.Io.KnownBytes.{Appends};
 ghost use Rattle.run_error.specs.Errors.{IsFileError};

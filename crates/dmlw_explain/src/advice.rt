@@ -1,4 +1,5 @@
 //! What helps against a refusal, in general.
+//! The search alone proves it.
 use log_format::MAGIC;
 use refusals::Refusal;
 use std::fmt;

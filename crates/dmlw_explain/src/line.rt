@@ -1,5 +1,6 @@
 //! What is told of a line that isn't one of a script's, or isn't in its place: the usual cause, the
 //! first word that doesn't fit, or what its place asks for.
+//! The search alone proves it.
 use crate::places::write_place;
 use crate::script_text::{Grammar, Numbered, is_space};
 use std::fmt;

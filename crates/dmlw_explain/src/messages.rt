@@ -1,5 +1,6 @@
 //! What is told of a message that a layer refused: whether the layer is there and takes messages,
 //! or what is known of the block.
+//! The search alone proves it.
 use crate::counted::Counted;
 use crate::line::Shown;
 use crate::script_text::{Numbered, count_of, nth_of, number_at, word_at};

@@ -1,4 +1,5 @@
 //! What the place of a script's line asks for, where its words alone are right.
+//! The search alone proves it.
 use crate::line::Shown;
 use crate::script_text::{
     Grammar, Numbered, begins_with, count_of, first_of_body, line_of, number_at, word_at,

@@ -1,5 +1,6 @@
 //! What is told of a line of a script at which a command was refused, by what the lines before it
 //! say.
+//! The search alone proves it.
 use crate::advice::advice;
 use crate::counted::{Counted, counted_sectors};
 use crate::line::{Shown, explain_line, write_forms};

@@ -1,5 +1,6 @@
 //! A script as a text: its lines by number and first word, which is all that an explanation of one
 //! line asks of the others.
+//! The search alone proves it.
 use text_words::number_of;
 
 /// Which of the two kinds of scripts a text is to be.

@@ -1,4 +1,5 @@
 //! The files that a command reads and writes, by their names, and why one isn't read or written.
+//! Its clauses are written in specs/; the search alone proves it.
 ghost use Rattle.std.specs.Prelude.{◌≡◌, ◌≤◌, Bool, IfErr, IfOk, List, OnErr, OnOk, Option, false};
 ghost use Rattle.std.specs.Prelude.{is_some, true, vec_len, ℕ};
 ghost use Rattle.run_error.specs.Errors.{refused_by};

@@ -1,4 +1,5 @@
 //! The system's files.
+//! The search alone proves it.
 ghost use Rattle.std.specs.Prelude.{◌≡◌, ◌≤◌, IfOk, None, is_some, length, vec_len};
 
 use crate::files::{FileError, FileFailure, Files};

@@ -1,5 +1,6 @@
 //! How the image of a disk is written, piece by piece in
 //! one buffer, so that it is never in memory as a whole.
+//! Its clauses are in words of `sector_disk` and `sectors`; its theorems in proofs/pieces/.
 ghost use Rattle.std.specs.Prelude.{◌≡◌, ◌≤◌, ◌<◌, ◌/◌, ◌%◌, ◌+◌, IfSome, OnOk, length, replicate};
 ghost use Rattle.std.specs.Prelude.{true, unwrap_or, ℕ};
 ghost use Rattle.std.specs.Io.KnownBytes.{Appends};

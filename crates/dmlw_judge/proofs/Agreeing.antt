@@ -1,4 +1,5 @@
 -- That a finding has the verdict that judging gives.
+-- Its own crate alone cites it, for the theorems of src/laws.rt.
 use Rattle.std.proofs.Common.{◌≡◌, ℕ, List, arith, length, subst, sym, take}
 use Rattle.std.proofs.lemmas.List.{take_all}
 use Rattle.sectors.specs.Content.{Content, sector_of}

@@ -1,4 +1,5 @@
 -- Images that are what a beginning of a script's log leaves.
+-- Any crate above may cite it.
 use Rattle.std.specs.Prelude.{ℕ, ◌/◌, ◌≤◌, List, length, take}
 use Rattle.sectors.specs.Content.{AgreeBelow, Content, sector_of}
 use Rattle.bio.specs.declared.event.CoreEvent.{CoreEvent}

@@ -1,5 +1,6 @@
 //! The form that `judge` and `path` share: a question on an
 //! image is answered by the script in a file.
+//! Its clauses are written in specs/Judgements; its theorems in proofs/answering/.
 ghost use Rattle.std.specs.Prelude.{◌≡◌, ◌⊎◌, ◌++◌, IfErr, IfOk, [], false, length, take, true};
 ghost use Rattle.std.specs.String.{string_bytes};
 ghost use Rattle.std.specs.Io.KnownBytes.{Appends, Keeps};

@@ -1,4 +1,5 @@
 //! `judge SCRIPT M IMAGE`: whether an image could have been on a script's data disk.
+//! Its clauses are written in specs/Judgements; the search alone proves it.
 ghost use Rattle.dmlw_commands.specs.Endings.{err_stream};
 ghost use Rattle.dmlw_files.specs.Files.{KeepsFiles};
 ghost use Rattle.dmlw_judge.specs.Judgements.{EndsJudging, verdict_meaning};

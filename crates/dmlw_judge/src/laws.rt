@@ -1,4 +1,5 @@
 //! Laws of verdicts: each is a function whose contract it is, and which runs to nothing.
+//! Its clauses are written in specs/; its theorems in proofs/laws/.
 ghost use Rattle.std.specs.Prelude.{◌≡◌, ◌/◌, IsTrue, List, take, true, ℕ};
 ghost use Rattle.bio.specs.declared.event.CoreEvent.{CoreEvent};
 ghost use Rattle.bio.specs.Lawful.{all_aligned, is_well_formed};

@@ -1,4 +1,5 @@
 //! `path SCRIPT M IMAGE`: how an image could have come to a script's data disk.
+//! Its clauses are written in specs/Paths; the search alone proves it.
 ghost use Rattle.dmlw_commands.specs.Endings.{err_stream};
 ghost use Rattle.dmlw_files.specs.Files.{KeepsFiles};
 ghost use Rattle.dmlw_judge.specs.Paths.{EndsFinding};

@@ -1,4 +1,5 @@
 //! Running the seats of a script, from the names of its files to how it ended.
+//! Its clauses are written in specs/RunsLog; its theorems in proofs/running/.
 ghost use Rattle.std.specs.Prelude.{◌≡◌, ◌⊎◌, IfErr, IfOk, OnErr, OnOk, Some, false};
 ghost use Rattle.std.specs.Io.KnownBytes.{Appends};
 ghost use Rattle.run_error.specs.Errors.{IsFileError};

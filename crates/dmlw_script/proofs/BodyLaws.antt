@@ -1,5 +1,6 @@
 -- Laws of a script's body: names of requests, and one more command after others.
 -- `ReadingLaws`, `FaultLaws` and `CanonicalTextLaws` cite it.
+-- Its own crate alone cites it, for theorems of many of its files.
 use Rattle.std.proofs.Common.{◌≡◌, ℕ, ◌+◌, ◌<◌, Bool, true, false, cond, List, [], ◌∷◌, ◌++◌}
 use Rattle.std.proofs.Common.{length, get_or, Option, Some, None, Ok, Err, ⊎_elim, refl, ap, ◌∙◌}
 use Rattle.std.proofs.Common.{sym, subst, arith, append_assoc}

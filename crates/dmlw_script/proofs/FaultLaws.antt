@@ -1,5 +1,6 @@
 -- Why a line of a script is refused: lines are those of a script, or have a first fault.
 -- Serves the law `texts_have_one_first_fault`; `TextLaws` and `RunFaults` cite it too.
+-- Its own crate alone cites it, for theorems of many of its files.
 use Rattle.std.proofs.Common.{◌≡◌, ℕ, suc, ◌+◌, ◌<◌, ◌≤◌, Bool, true, false, not, cond, List, []}
 use Rattle.std.proofs.Common.{◌∷◌, ◌++◌, length, Option, Some, None, Ok, Err, ◌⊎◌, inl, inr, ⊎_elim}
 use Rattle.std.proofs.Common.{refl, ap, ◌∙◌, sym, subst, arith, append_assoc}

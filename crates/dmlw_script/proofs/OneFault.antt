@@ -1,5 +1,6 @@
 -- A text has one first fault at most, and a script's text has none.
 -- Serves the law `texts_have_one_first_fault`; `OneRunFault` and `ScriptLaws` cite it too.
+-- Its own crate alone cites it, for the theorems of src/laws.rt.
 use Rattle.std.proofs.Common.{◌≡◌, ℕ, ◌+◌, ◌<◌, ◌≤◌, List, [], ◌∷◌, ◌++◌, length, Some, ⊎_elim}
 use Rattle.std.proofs.Common.{refl, ap, ◌∙◌, sym, subst, arith, append_assoc}
 use Rattle.std.proofs.lemmas.Bool.{cases_lt}

@@ -1,4 +1,5 @@
 -- A run's text has one first fault, or is a script's.
+-- Its own crate alone cites it, for the theorems of src/laws.rt.
 use Rattle.std.proofs.Common.{◌≡◌, ℕ, ◌+◌, List, [], ◌∷◌, ◌++◌, length, Some, Ok, Err, ◌⊎◌, inl}
 use Rattle.std.proofs.Common.{inr, refl, ap, ◌∙◌, sym, subst, append_assoc}
 use Rattle.std.specs.Prelude.{Result}

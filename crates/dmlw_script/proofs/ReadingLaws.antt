@@ -1,5 +1,6 @@
 -- Lines that are read as a script spell it, and lines that spell a script are read as it.
 -- Serves the proof of the reader's `read`; `FaultLaws` and `RunReading` cite it too.
+-- Its own crate alone cites it, for theorems of many of its files.
 use Rattle.std.proofs.Common.{◌≡◌, ℕ, ◌+◌, ◌<◌, ◌≤◌, ◌^◌, Bool, true, false, cond, List, [], ◌∷◌}
 use Rattle.std.proofs.Common.{◌++◌, length, append_assoc, Option, Some, None, Ok, Err, refl, ap}
 use Rattle.std.proofs.Common.{◌∙◌, sym, subst, arith}

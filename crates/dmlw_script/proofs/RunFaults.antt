@@ -1,4 +1,5 @@
 -- Where reading of a run's text ends, the first fault of the text is.
+-- Its own crate alone cites it, for the theorems of src/laws.rt and src/run_reader.rt.
 use Rattle.std.proofs.Common.{◌≡◌, ℕ, ◌+◌, ◌<◌, ◌≤◌, Bool, true, false, cond, List, [], ◌∷◌, ◌++◌}
 use Rattle.std.proofs.Common.{length, append_assoc, Option, Some, None, Ok, Err, ◌⊎◌, inl, inr}
 use Rattle.std.proofs.Common.{⊎_elim, refl, ap, ◌∙◌, sym, subst, arith}

@@ -1,4 +1,5 @@
 -- Reading a run's text gives the script that it spells.
+-- Its own crate alone cites it, for the theorems of src/laws.rt and src/run_reader.rt.
 use Rattle.std.proofs.Common.{◌≡◌, ℕ, ◌+◌, ◌≤◌, Bool, true, false, cond, List, [], ◌∷◌, ◌++◌}
 use Rattle.std.proofs.Common.{length, append_assoc, Option, Some, None, Ok, Err, refl, ap, ◌∙◌, sym}
 use Rattle.std.proofs.Common.{subst, arith}

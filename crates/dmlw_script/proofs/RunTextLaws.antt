@@ -1,4 +1,5 @@
 -- The one text of a run's script is a text of it, and a text is one script's at most.
+-- Nothing cites it: it is checked with its crate.
 use Rattle.std.proofs.Common.{◌≡◌, ℕ, ◌^◌, ◌<◌, ◌≤◌, List, [], ◌∷◌, ◌++◌, Option, Some, None, Ok}
 use Rattle.std.proofs.Common.{refl, ap, ◌∙◌, sym, subst, arith, append_assoc}
 use Rattle.std.specs.Prelude.{codes, decimal, map, nat_le}

@@ -1,4 +1,5 @@
 -- Reading a recorder's text gives the script that it spells, or names its first fault.
+-- Its own crate alone cites it, for the theorems of src/laws.rt and src/reader.rt.
 use Rattle.std.proofs.Common.{◌≡◌, ℕ, List, Option, Some, None, Ok, Err, refl, ◌∙◌, sym}
 use Rattle.std.specs.Prelude.{Result, IfErr, IfOk}
 use Rattle.refusals.specs.declared.fault.Fault.{Fault}

@@ -1,4 +1,5 @@
 -- The definitions of `dmlw_script` that its proofs alone use: no other crate cites them.
+-- Any crate above may cite it.
 pub mod Parsing
 pub mod Stages
 pub mod Heads

@@ -1,4 +1,5 @@
 //! A disk of a script: its sectors, and the layers over it.
+//! Its clauses are written in specs/Plans and specs/Reading; its theorems in proofs/disk/.
 ghost use Rattle.std.specs.Prelude.{◌≡◌, OnOk};
 ghost use Rattle.dmlw_script.specs.Plans.{top_of};
 ghost use Rattle.dmlw_script.specs.Reading.{bare, with_layer};

@@ -1,4 +1,5 @@
 /// A disk of a script.
+// The search alone proves it.
 #[derive(Clone, Copy, Debug, PartialEq, Eq)]
 pub enum DiskName {
     /// The disk that is recorded.

@@ -1,4 +1,5 @@
 //! Laws of the grammar, apart from the code: each function does nothing, and its clause is the law.
+//! Its clauses are written in specs/; its theorems in proofs/laws/.
 ghost use Rattle.std.specs.Prelude.{◌≡◌, ◌≢◌, ◌^◌, ◌<◌, ◌≤◌, ◌+◌, ◌++◌, ◌∷◌, ◌⊎◌, [], None, Some};
 ghost use Rattle.std.specs.Prelude.{decimal, length, true, ℕ, List};
 ghost use Rattle.std.specs.List.{AllByRecursion};

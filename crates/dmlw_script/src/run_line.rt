@@ -1,4 +1,5 @@
 //! What a line of a run's script says by its words alone.
+//! Its clauses are written in specs/inside/RunParsing; the search alone proves it.
 ghost use Rattle.std.specs.Prelude.{◌≡◌, IfErr, IfOk, Some, option_copied};
 ghost use Rattle.dmlw_script.specs.inside.RunParsing.{call_of as the_call, mark_call};
 ghost use Rattle.dmlw_script.specs.inside.RunParsing.{parse_run_line, run_head_line, seat_line};

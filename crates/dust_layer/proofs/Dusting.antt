@@ -1,4 +1,5 @@
 -- The law of a device whose calls go block by block over another one.
+-- Nothing cites it: it is checked with its crate.
 use Rattle.std.proofs.Common.{ℕ, ◌≤◌, false, Ok, Err, refl, inl, inr, arith}
 use Rattle.std.proofs.lemmas.Bool.{cases_lt}
 use Rattle.std.specs.Prelude.{Result}

@@ -1,4 +1,5 @@
 -- How far a call got over the blocks of a device.
+-- Its own crate alone cites it, for the theorems of src/blocks.rt.
 use Rattle.std.proofs.Common.{◌≡◌, ℕ, suc, ◌+◌, ◌-◌, ◌*◌, ◌/◌, ◌<◌, ◌≤◌, Bool, true, false}
 use Rattle.std.proofs.Common.{◌&&◌, Option, Some, None, Ok, Err, length, take, drop}
 use Rattle.std.proofs.Common.{replicate, refl, ap, sym, subst, ◌∙◌, inl, inr, arith}

@@ -1,5 +1,6 @@
 //! The linear layer: a range of another device's sectors as a device of its own.
 //! `layer_table` puts one beneath each layer that it makes.
+//! Its clauses are written in specs/Cut and specs/CutLaws; its theorems in proofs/linear/.
 ghost use Rattle.std.proofs.Props.{props};
 ghost use Rattle.blockdev.specs.Calls.{IsRange};
 

@@ -1,5 +1,6 @@
 //! A law beside the headline, apart from the code: its
 //! promise is never empty. The function does nothing.
+//! Its clauses are in words of `bio` and `pending`; its theorems in proofs/laws/.
 ghost use Rattle.std.specs.Prelude.{◌≤◌, ℕ, List};
 ghost use Rattle.bio.specs.declared.event.CoreEvent.{CoreEvent};
 ghost use Rattle.pending.specs.Beginnings.{BelongsTo, queued_by};

@@ -1,4 +1,5 @@
 /// What was on a device before the first event.
+// The search alone proves it.
 #[derive(Clone, Copy, Debug)]
 pub enum First<'a> {
     /// Zeroes in each sector.

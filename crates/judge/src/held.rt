@@ -1,5 +1,6 @@
 //! For each sector of an image, the latest request whose value it has and could
 //! still hold. `Account::of` ends with it.
+//! Its clauses are written in specs/; its theorems in proofs/held/.
 ghost use Rattle.std.specs.Prelude.{◌≡◌, ◌&&◌, ◌<◌, ◌≤◌, ◌⊎◌, ◌+◌, ◌*◌, ◌/◌, ◌%◌, IfOk, List};
 ghost use Rattle.std.specs.Prelude.{MatchOption, Option, Some, if◌then◌else◌, length, nat_le};
 ghost use Rattle.std.specs.Prelude.{nat_lt, not, slice_get, ℕ};

@@ -1,4 +1,5 @@
 //! For each sector, the durable request over it that was submitted last: it rules out older values.
+//! Its clauses are written in specs/Accounts and specs/inside/Last; its theorems in proofs/kept/.
 ghost use Rattle.std.specs.Prelude.{◌≡◌, ◌&&◌, ◌<◌, ◌≤◌, ◌/◌, ◌%◌, IfOk, Some, false, true, length};
 ghost use Rattle.std.specs.Prelude.{nat_le, nat_lt, slice_get, ℕ};
 ghost use Rattle.bio.specs.declared.event.CoreEvent.TheVariants.{Submit};

@@ -1,4 +1,5 @@
 -- The second slot, over the lowest.
+-- Any crate above may cite it.
 use Rattle.std.specs.Prelude.{ℕ, List, Result}
 use Rattle.bio.specs.declared.outcome.DevError.{DevError}
 use Rattle.blockdev.specs.declared.message.MessageError.{MessageError}

@@ -9,7 +9,7 @@ use std::process::Abort;
 use std::test::Fail;
 use test_devices::{Failing, Lying, holds, is_same};
 
-// DeviceFrame through the words of a line: `w31` writes 1s to sector 3, `F31` does with FUA, `d32`
+// Goes through the words of a line: `w31` writes 1s to sector 3, `F31` does with FUA, `d32`
 // discards 2 sectors from sector 3 on, `c12` crashes with the picks 1 and 2.
 fn go(rt: &(impl Abort + Print), disk: &mut SectorDisk, line: &str) {
     for word in line.split(' ') {

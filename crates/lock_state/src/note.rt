@@ -1,4 +1,5 @@
 // What seats note, and why a step wasn't taken.
+// The search alone proves it.
 use bio::{Bio, CoreEvent, End, Id};
 use log_format::Entry;
 

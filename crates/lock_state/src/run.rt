@@ -1,4 +1,5 @@
 // What names one shared recorder.
+// Its clauses are written in specs/Placed; the search alone proves it.
 use holders::Whose;
 use std::marker::Brand;
 use std::sync::ledger::Ledger;

@@ -1,4 +1,5 @@
 // Why a copy of a log stopped, and by which refusal that is shown.
+// Its clauses are written in specs/Refusals; the search alone proves it.
 ghost use Rattle.std.specs.Prelude.{◌≡◌};
 ghost use Rattle.log_copy.specs.Refusals.{copy_refusal};
 

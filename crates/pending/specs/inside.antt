@@ -1,4 +1,5 @@
 -- The definitions of `pending` that its proofs alone use: no other crate cites them.
+-- Any crate above may cite it.
 pub mod Releasing
 pub mod Requests
 pub mod Waiting

@@ -1,4 +1,5 @@
 -- A log is replayed alike on disks that have the same sectors.
+-- Any crate above may cite it.
 use Rattle.std.proofs.Common.{ℕ, List, [], ◌∷◌, ap}
 use Rattle.std.specs.Prelude.{unwrap_or}
 use Rattle.sectors.specs.Content.{AgreeBelow, Content, put}

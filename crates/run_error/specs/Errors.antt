@@ -1,4 +1,5 @@
 -- Why a command ends before its time, and how that is shown.
+-- Any crate above may cite it.
 use Rattle.std.specs.Prelude.{◌≡◌, ◌⊎◌, ℕ, List}
 use Rattle.std.specs.declared.io.ErrorKind.{ErrorKind}
 use Rattle.std.specs.declared.io.ErrorKind.TheVariants as kinds

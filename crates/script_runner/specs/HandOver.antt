@@ -1,4 +1,5 @@
 -- What handing a request over to the data device comes to.
+-- Any crate above may cite it.
 use Rattle.std.specs.Prelude.{List, Option, ◌≡◌, ◌⊎◌, ℕ, Bool, true, false, Result, is_ok, Some}
 use Rattle.std.specs.Prelude.{None, Ok, Err, ◌*◌, length}
 use Rattle.bio.specs.declared.outcome.DevError.{DevError}

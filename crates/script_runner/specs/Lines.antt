@@ -1,5 +1,6 @@
 -- What each line of a script does, from the run before it
 -- (old) to the run after it (new), and what it prints.
+-- Any crate above may cite it.
 use Rattle.recorder.specs.declared.reply.Turn.{Turn}
 use Rattle.std.specs.Prelude.{◌≡◌, ◌⊎◌, ℕ, ◌<◌, Bool, true, false, List, [], ◌∷◌, ◌++◌, Option}
 use Rattle.std.specs.Prelude.{Some, None, Result, Ok, Err, length, slice_get, if◌then◌else◌}

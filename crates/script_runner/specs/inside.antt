@@ -1,3 +1,4 @@
 -- The definitions of `script_runner` that its proofs alone use: no other crate cites them.
+-- Any crate above may cite it.
 pub mod Played
 pub mod Replies

@@ -1,4 +1,5 @@
 //! Hands a script's request over to the data device.
+//! Its clauses are written in specs/HandOver; its theorems in proofs/handing/.
 ghost use Rattle.std.specs.Prelude.{◌≡◌, ◌*◌, IfSome, Ok, option_map, IsTrue, is_ok, length, true};
 ghost use Rattle.std.specs.Prelude.{false};
 ghost use Rattle.bio.specs.Check.{check_answer, range_answer};

@@ -1,5 +1,6 @@
 // The data of a script's writes: sectors of one byte, which lie in memory once for writes that
 // follow one another with the same.
+// The search alone proves it.
 ghost use Rattle.std.specs.Prelude.{◌≡◌, length, replicate};
 
 use bio::Bytes;

@@ -1,5 +1,6 @@
 //! A script's run, line by line: `Running` has the
 //! recorder, the data device and the script's requests.
+//! Its clauses are written in specs/Lines and specs/Submitted; its theorems in proofs/running/.
 ghost use Rattle.std.specs.Prelude.{IsTrue};
 ghost use Rattle.std.specs.List.{list_all};
 ghost use Rattle.script_runner.specs.Submitted.{fits_device, is_asked};

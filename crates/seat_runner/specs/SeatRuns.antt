@@ -1,4 +1,5 @@
 -- What a run of several seats comes to.
+-- Any crate above may cite it.
 use Rattle.std.specs.Prelude.{◌≡◌, ◌==◌, ◌⊎◌, ℕ, ◌*◌, false, List, [], ◌∷◌, length, slice_get, Some}
 use Rattle.std.specs.Prelude.{if◌then◌else◌}
 use Rattle.bio.specs.declared.outcome.End.{End}

@@ -1,4 +1,5 @@
 -- What became of a seat's calls, and how many came to what.
+-- Any crate above may cite it.
 use Rattle.std.specs.Prelude.{ℕ, ◌+◌, ◌<◌, ◌-◌, ◌^◌, Bool, true, false, List, [], ◌∷◌, ◌++◌, Option}
 use Rattle.std.specs.Prelude.{None, Some}
 use Rattle.lock_state.specs.declared.note.Receipt.{Receipt}

@@ -1,4 +1,5 @@
 //! The threads of a run.
+//! Its clauses are written in specs/SeatRuns and specs/inside/Playing; the search alone proves it.
 ghost use Rattle.std.specs.Prelude.{◌≡◌, ◌⊎◌, ℕ, IfErr, IfOk, MatchResult};
 ghost use Rattle.refusals.specs.declared.refusal.Refusal.TheVariants as refusals;
 ghost use Rattle.seat_runner.specs.inside.Playing.{AreNewPlayers, DoesLines, FitsRecorder};

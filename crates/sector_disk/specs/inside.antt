@@ -1,4 +1,5 @@
 -- The definitions of `sector_disk` that its proofs alone use: no other crate cites them.
+-- Any crate above may cite it.
 pub mod Storage
 pub mod Chosen
 pub mod Added

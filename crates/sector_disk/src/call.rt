@@ -1,4 +1,5 @@
 //! The writes and discards that a disk keeps, and how its sectors are read back from them.
+//! Its clauses are written in specs/; its theorems in proofs/call/.
 ghost use Rattle.std.specs.Prelude.{true, ◌∷◌, ◌++◌, ◌≡◌, ◌%◌, ◌*◌, ◌+◌, ◌/◌, ◌≤◌, IfOk};
 ghost use Rattle.std.specs.Prelude.{MatchOption, None, OnErr, OnOk, Some, [], drop, length};
 ghost use Rattle.std.specs.Prelude.{slice_get, take, ℕ};

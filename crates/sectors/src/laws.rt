@@ -1,5 +1,6 @@
 //! Laws of sectors, apart from the code: each function does nothing, and its clause is the law.
 //! They say what a write and a discard leave in each sector.
+//! Its clauses are written in specs/Content; its theorems in proofs/laws/.
 ghost use Rattle.std.specs.Prelude.{◌≡◌, ◌⊎◌, ◌+◌, ◌-◌, ◌/◌, ◌<◌, ◌≤◌, List, None, Some, length};
 ghost use Rattle.std.specs.Prelude.{replicate, ℕ};
 ghost use Rattle.sectors.specs.Content.{Content, HasBytes, HasWholeSectors, HasWholeValues, Patch};

@@ -1,4 +1,5 @@
 -- Worked answers: some that hold, and some that don't.
+-- Nothing cites it: it is checked with its crate.
 use Rattle.std.proofs.Common.{◌==◌, ℕ, Bool, true, false, List, [], ◌∷◌, length, None, inl, inr}
 use Rattle.std.proofs.Common.{refl, ap, true≢false, arith}
 use Rattle.bio.specs.declared.event.CoreEvent.TheVariants as events

@@ -1,4 +1,5 @@
 // What the calls of a seat answer.
+// The search alone proves it.
 use bio::{BadBio, DevError, End};
 use lock_state::Receipt;
 

@@ -1,4 +1,5 @@
 // The close of a recorder: what it compares, and what it hands back.
+// Its clauses are written in specs/Closing and specs/Posting; its theorems in proofs/closing/.
 ghost use Rattle.std.specs.Prelude.{◌≡◌, ◌⊎◌, ◌<◌, ◌≤◌, ℕ, List, [], ◌∷◌, length, IfErr, IfOk};
 ghost use Rattle.std.specs.Prelude.{MatchBool, None, true, false};
 ghost use Rattle.bio.specs.Lawful.{has_no_close};

@@ -1,4 +1,5 @@
 -- Which words ask for which layer.
+-- Any crate above may cite it.
 use Rattle.std.specs.Prelude.{◌≡◌, ◌⊎◌, ℕ, List, [], ◌∷◌, codes}
 use Rattle.text_words.specs.Words.{IsNumber}
 use Rattle.table_line.specs.declared.feature.Feature.{Feature}

@@ -1,4 +1,5 @@
 -- The definitions of `table_line` that its proofs alone use: no other crate cites them.
+-- Any crate above may cite it.
 pub mod Readings
 pub mod ReadingSteps
 pub mod DelayLaws

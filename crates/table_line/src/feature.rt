@@ -1,4 +1,5 @@
 /// What a flakey device does while it is down.
+// The search alone proves it.
 #[derive(Clone, Copy, Debug, PartialEq, Eq)]
 pub enum Feature {
     /// Every call answers Io.

@@ -1,4 +1,5 @@
 -- Laws of words and numbers.
+-- Any crate above may cite it.
 use Rattle.std.proofs.Common.{◌≡◌, ℕ, ◌^◌, ◌<◌, true, List, ◌∷◌, length, Some, ap, subst, sym, ◌∙◌}
 use Rattle.std.proofs.Common.{arith, rules, lit<}
 use Rattle.std.specs.Prelude.{decimal, nat_lt, nat_le}

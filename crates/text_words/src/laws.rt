@@ -1,4 +1,5 @@
 //! Laws of words, apart from the code: each function does nothing, and its clause is the law.
+//! Its clauses are written in specs/Words; its theorems in proofs/laws/.
 ghost use Rattle.std.specs.Prelude.{◌≡◌, ◌^◌, ◌<◌, ◌∷◌, ◌++◌, [], decimal, length, true, ℕ, List};
 ghost use Rattle.text_words.specs.Words.{is_word, words_of, IsNumber};
 

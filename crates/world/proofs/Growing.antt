@@ -1,4 +1,5 @@
 -- A run that grows by the steps of one place after another.
+-- Its own crate alone cites it, for the theorems of src/plan.rt and src/reaching.rt.
 use Rattle.std.proofs.Common.{◌≡◌, ℕ, suc, List, ◌++◌, ap, sym, ◌∙◌, append_assoc}
 use Rattle.sectors.specs.Places.{collect}
 

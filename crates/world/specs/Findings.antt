@@ -1,4 +1,5 @@
 -- What is found of an image: a run that leaves it, or what rules it out.
+-- Any crate above may cite it.
 use Rattle.std.specs.Prelude.{ℕ, List}
 use Rattle.sectors.specs.Content.{Content}
 use Rattle.bio.specs.declared.event.CoreEvent.{CoreEvent}

@@ -1,4 +1,5 @@
 -- Runs of the machine, the events that they fit, and what they leave.
+-- Any crate above may cite it.
 use Rattle.std.specs.Prelude.{◌≡◌, ℕ, zero, suc, Bool, true, ◌&&◌, Option, Some, None, List, []}
 use Rattle.std.specs.Prelude.{◌∷◌, ◌++◌, length, slice_get}
 use Rattle.sectors.specs.Content.{Content, Patch, nothing, put}

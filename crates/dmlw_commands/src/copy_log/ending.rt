@@ -1,4 +1,5 @@
 // How a copy of a log ends.
+// Its clauses are written in specs/CopiesLog; the search alone proves it.
 ghost use Rattle.std.specs.Prelude.{◌≡◌, ◌++◌, [], true};
 ghost use Rattle.std.specs.Io.KnownBytes.{Appends, Keeps};
 ghost use Rattle.dmlw_commands.specs.CopiesLog.{copy_exit, copy_explained, copy_line};

@@ -1,4 +1,5 @@
 // Why a log isn't copied.
+// The search alone proves it.
 ghost use Rattle.std.specs.Prelude.{◌≡◌};
 ghost use Rattle.dmlw_commands.specs.declared.copy_log.stop.Stop.TheVariants as stops;
 

@@ -1,4 +1,5 @@
 //! How a replay ends.
+//! Its clauses are written in specs/Replays; the search alone proves it.
 ghost use Rattle.std.specs.Prelude.{◌≡◌, ◌++◌, [], true};
 ghost use Rattle.std.specs.Io.KnownBytes.{Appends, Keeps};
 ghost use Rattle.dmlw_commands.specs.Replays.{replay_exit, replay_explained, replay_line};

@@ -1,4 +1,5 @@
 //! Replays the log that an image has on the disk that another image is.
+//! Its clauses are written in specs/; its theorems in proofs/replay_log/images/.
 ghost use Rattle.std.specs.Prelude.{◌≡◌, ◌/◌, IfErr, IfOk, length};
 ghost use Rattle.sector_disk.specs.Shown.{shown_of};
 ghost use Rattle.sector_disk.specs.Sizes.{Begins};

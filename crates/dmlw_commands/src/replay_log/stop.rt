@@ -1,4 +1,5 @@
 //! Why a log isn't replayed.
+//! The search alone proves it.
 ghost use Rattle.std.specs.Prelude.{◌≡◌};
 ghost use Rattle.dmlw_commands.specs.declared.replay_log.stop.Stop.TheVariants as stops;
 

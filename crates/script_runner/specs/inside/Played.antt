@@ -1,4 +1,5 @@
 -- What playing a script comes to, on any data device and a new log on any other device.
+-- Its own crate alone cites it.
 use Rattle.std.specs.Prelude.{◌≡◌, ℕ, Bool, true, List, [], Option}
 use Rattle.std.specs.List.{list_all}
 use Rattle.std.specs.Io.KnownBytes.{Appends, Keeps}

@@ -1,4 +1,5 @@
 -- An image over which the calls after the first one have put their sectors.
+-- Its own crate alone cites it.
 use Rattle.std.specs.Prelude.{ℕ, suc, zero, ◌*◌, ◌&&◌, ◌==◌, Bool, false, List, Option, None, Some}
 use Rattle.std.specs.Prelude.{length}
 use Rattle.sectors.specs.Content.{Content, sector_of}

@@ -1,4 +1,5 @@
 //! The disk as a block device: it reads, writes, discards and flushes, and never lies.
+//! Its clauses are written in specs/; its theorems in proofs/disk/device/.
 ghost use Rattle.std.specs.Prelude.{◌≡◌, ◌∷◌, ◌+◌, ◌≤◌, OnErr, OnOk, length};
 ghost use Rattle.sector_disk.specs.Candidates.{Puts};
 ghost use Rattle.sector_disk.specs.Shown.{Does, HasPast, shown_of, steps_of};

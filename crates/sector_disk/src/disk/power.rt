@@ -1,4 +1,5 @@
 //! The disk loses power: `crash` leaves in each unsynced sector the candidate that its pick names.
+//! Its clauses are written in specs/; the search alone proves it.
 ghost use Rattle.std.specs.Prelude.{◌≡◌, length};
 ghost use Rattle.sector_disk.specs.Candidates.{left_by};
 ghost use Rattle.sector_disk.specs.Shown.{cache_of, shown_of};

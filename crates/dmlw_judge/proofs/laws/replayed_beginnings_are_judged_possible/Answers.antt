@@ -1,4 +1,5 @@
 -- Answers to goals of `replayed_beginnings_are_judged_possible`.
+-- Its own crate alone cites it, for the theorems of src/laws.rt.
 use Rattle.dmlw_judge.proofs.Replaying.{asked_yes, begun_yes, judged_yes}
 use Rattle.dmlw_judge.proofs.laws.replayed_beginnings_are_judged_possible.Goals as goal
 

@@ -3,6 +3,7 @@
 
   bench/heads.py [--write]
         Says which files of src/, specs/ and proofs/ lack the line, or have another one than follows from the tree; --write puts it right.
+        Says also where a file cites what another crate has in proofs/ or in specs/inside/.
 
 A file of definitions may be cited by each crate above, one of specs/inside/ by its own crate alone. A file of lemmas serves theorems: those of the source files whose
 answers reach it. A source file's clauses are written in the definitions that it uses, and its theorems stand in the folder of its name. Not asked: Lib.antt and lib.rt,
@@ -61,8 +62,9 @@ class Crate:
             if parts[0] == "src":
                 found.add("/".join(parts[1:]))
             elif parts[0] == "proofs" and len(parts) > 2:
-                found |= {f"{'/'.join(parts[1:end])}.rt" for end in range(len(parts) - 1, 1, -1) if f"src/{'/'.join(parts[1:end])}.rt" in self.files}
-        return sorted(found)
+                ends = [f"{'/'.join(parts[1:end])}.rt" for end in range(len(parts) - 1, 1, -1)]
+                found.add(next((it for it in ends if f"src/{it}" in self.files), "lib.rt"))
+        return sorted(found), len(reached) > 1
 
     def line(self, file):
         parts = file.split("/")
@@ -79,9 +81,9 @@ class Crate:
             return own if uses else by_lower if lower else plain
         if parts[0] == "specs":
             return "-- Its own crate alone cites it." if parts[1] == "inside" else "-- Any crate above may cite it."
-        found = self.serves(file)
+        found, is_cited = self.serves(file)
         if not found:
-            return "-- Nothing cites it: it is checked with its crate."
+            return "-- Its own crate alone cites it." if is_cited else "-- Nothing cites it: it is checked with its crate."
         return fitting("--", "Its own crate alone cites it, for the theorems of ", [f"src/{it}" for it in found], ".", "Its own crate alone cites it, for theorems of many of its files.")
 
     def asked(self, file):
@@ -104,11 +106,22 @@ class Crate:
             yield file, "\n".join([it for at, it in enumerate(lines[:end]) if at not in stands] + [wanted] + lines[end:])
 
 
+def inside_of_others(crate):
+    """Citations of a lower crate's lemmas, or of its definitions that are its own."""
+    lower = set(os.listdir(f"{ROOT}/crates")) - {crate.name}
+    for file, text in crate.files.items():
+        for name, place in re.findall(r"Rattle\.([a-z_]+)\.(proofs|specs\.inside)\b", text):
+            if name in lower:
+                yield f"crates/{crate.name}/{file}: cites {place} of {name}"
+
+
 def off(write=False):
     for folder in sorted(glob.glob(f"{ROOT}/crates/*")):
         if TESTS.search(os.path.basename(folder)):
             continue
-        for file, text in Crate(folder).off():
+        crate = Crate(folder)
+        yield from inside_of_others(crate)
+        for file, text in crate.off():
             path = f"{folder}/{file}"
             if write and text:
                 with open(path, "w", encoding="utf-8") as it:

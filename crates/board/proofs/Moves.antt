@@ -1,5 +1,5 @@
 -- Each step keeps the rule of a board.
--- Nothing cites it: it is checked with its crate.
+-- Its own crate alone cites it, for the theorems of src/lib.rt.
 use Rattle.std.proofs.Common.{◌≡◌, ◌≢◌, ℕ, zero, suc, List, [], ◌∷◌, ◌++◌, set, true, false}
 use Rattle.std.proofs.Common.{true≢false, refl, sym, ap, ◌∙◌, subst, ⊎_elim}
 use Rattle.std.specs.Prelude.{slice_set, slice_index}
@@ -12,8 +12,8 @@ use Rattle.board.specs.declared.rule.Knows.{Knows}
 use Rattle.board.specs.Posts.{opening, last_of, word_of, IsFit, MayFollow, IsRising, Begins}
 use Rattle.board.specs.Rules.{writer_of, reader_of, told_by, as_reader, Publishes, Looks, Compares}
 use Rattle.board.specs.Rules.{Fits, IsPosted}
-use Rattle.board.proofs.Lists.{begins_itself, begins_longer, begins_none, last_of-push, rises_more}
-use Rattle.board.proofs.Lists.{opening_rises}
+use Rattle.board.specs.PostLaws.{begins_itself, begins_longer, begins_none, last_of-push, rises_more}
+use Rattle.board.specs.PostLaws.{opening_rises}
 use Rattle.board.proofs.Words.{word_once}
 
 off : false ≡ true → ⊥

@@ -1,5 +1,5 @@
 -- A status and its number stand for each other.
--- Nothing cites it: it is checked with its crate.
+-- Its own crate alone cites it, for the theorems of src/lib.rt.
 use Rattle.std.proofs.Common.{◌≡◌, ℕ, ◌+◌, ◌*◌, ◌≤◌, Option, Some, None, refl, arith}
 use Rattle.bio.specs.declared.outcome.End.{End}
 use Rattle.bio.specs.declared.outcome.End.TheVariants as ends

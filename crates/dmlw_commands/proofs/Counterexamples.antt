@@ -20,7 +20,6 @@ use Rattle.log_reader.specs.declared.fault.OpenError.TheVariants as opens
 use Rattle.log_reader.specs.Readings.{CountsTooMany, HasStatus, IsReading}
 use Rattle.dmlw_script.specs.Grammar.{IsTextOf}
 use Rattle.dmlw_script.specs.Plans.{ScriptValue}
-use Rattle.dmlw_script.proofs.TextLaws.{one_script_of}
 use Rattle.run_error.specs.declared.run_error.RunError.{RunError}
 use Rattle.run_error.specs.declared.run_error.RunError.TheVariants as faults
 use Rattle.run_error.specs.Errors.{IsFileError, refused_by}
@@ -301,19 +300,24 @@ holds_exit : (contents before after written : Option (List ℕ)) (exit : Exit)
     → (exit ≡ exit_at told.status.end) × IsPrintedLog contents told.status told.bytes before after
 holds_exit contents before after written exit told = (told.ends, told.printed)
 
+-- what the law `one_script` of `dmlw_script` says: a text is one script's at most
+abbrev OneScript : Type 0
+OneScript = (text : List ℕ) (plan other : ScriptValue) → IsTextOf text plan → IsTextOf text other
+    → plan ≡ other
+
 -- a text that spells a script fails by what its run fails
 -- by, or by a file; and one that spells none prints nothing
-fails_spelled : (bytes : List ℕ) (plan : ScriptValue) (before after : Option (List ℕ))
+fails_spelled : OneScript → (bytes : List ℕ) (plan : ScriptValue) (before after : Option (List ℕ))
     (fault : RunError) → IsTextOf bytes plan
     → FailsRecording (Some bytes) before after fault
     → IsFileError fault ⊎ FailsOnDisks bytes plan before after fault
-fails_spelled bytes plan before after fault spelled (file f is) = inl is
-fails_spelled bytes plan before after fault spelled
+fails_spelled one_script bytes plan before after fault spelled (file f is) = inl is
+fails_spelled one_script bytes plan before after fault spelled
     (unread again line refusal read none first kept) =
     absurd (none plan (subst (λ (t : List ℕ). IsTextOf t plan) (sym read) spelled))
-fails_spelled bytes plan before after fault spelled (ran again script f read spells fails) =
+fails_spelled one_script bytes plan before after fault spelled (ran again script f read spells fails) =
     let one =
-    one_script_of bytes plan script spelled
+    one_script bytes plan script spelled
     (subst (λ (t : List ℕ). IsTextOf t script) read spells) in
     inr (subst (λ (t : List ℕ). FailsOnDisks t plan before after f) read
     (subst (λ (p : ScriptValue). FailsOnDisks again p before after f) (sym one) fails))

@@ -22,7 +22,6 @@ use Rattle.dmlw_script.specs.declared.command.Command.{Command}
 use Rattle.dmlw_script.specs.Grammar.{IsTextOf}
 use Rattle.dmlw_script.specs.Lines.{lines_of}
 use Rattle.dmlw_script.specs.Plans.{ScriptValue, top_of}
-use Rattle.dmlw_script.proofs.TextLaws.{one_script_of}
 use Rattle.judge.specs.declared.verdict.Verdict.{Verdict}
 use Rattle.judge.specs.declared.verdict.Verdict.TheVariants as verdicts
 use Rattle.run_error.specs.declared.run_error.RunError.{RunError}
@@ -208,22 +207,27 @@ fails_otherwise bytes plan fault none
 fails_otherwise bytes plan fault none (disk_run start f starts (run_file again is)) bad =
     file_told again is bad
 
+-- what the law `one_script` of `dmlw_script` says: a text is one script's at most
+abbrev OneScript : Type 0
+OneScript = (text : List ℕ) (plan other : ScriptValue) → IsTextOf text plan → IsTextOf text other
+    → plan ≡ other
+
 -- so a file that spells such a script is refused at no line, whatever the image, and one that holds
 -- nothing at its first line alone
-none_at_line : (bytes : List ℕ) (plan : ScriptValue) (image : Option (List ℕ)) (n : ℕ)
+none_at_line : OneScript → (bytes : List ℕ) (plan : ScriptValue) (image : Option (List ℕ)) (n : ℕ)
     (fault : RunError) → IsTextOf bytes plan → plan.commands ≡ []
     → HasNoVerdict (record { script = Some bytes; image = image; moment = n }) fault
     → line_of fault ≡ None
-none_at_line bytes plan image n fault spelled none (file f is) = file_line f is
-none_at_line bytes plan image n fault spelled none
+none_at_line one_script bytes plan image n fault spelled none (file f is) = file_line f is
+none_at_line one_script bytes plan image n fault spelled none
     (text again shown line refusal read wrong first) =
     absurd (wrong plan (subst (λ (t : List ℕ). IsTextOf t plan) (sym read.script_holds) spelled))
-none_at_line bytes plan image n fault spelled none (run again shown other f read spells fails) =
+none_at_line one_script bytes plan image n fault spelled none (run again shown other f read spells fails) =
     let one =
-    one_script_of bytes plan other spelled
+    one_script bytes plan other spelled
     (subst (λ (t : List ℕ). IsTextOf t other) read.script_holds spells) in
     fails_nowhere again other f (ap (λ (p : ScriptValue). p.commands) (sym one) ∙ none) fails
-none_at_line bytes plan image n fault spelled none (no_moment again shown other events read spells rehearsed cannot) = refl
+none_at_line one_script bytes plan image n fault spelled none (no_moment again shown other events read spells rehearsed cannot) = refl
 
 split_none : (before more : List (List ℕ)) → [] ≡ before ++ more → length before ≡ 0
 split_none [] more split = refl
@@ -260,24 +264,24 @@ cannot_nowhere sectors n events image none first size (inl past) =
     omega arith
 cannot_nowhere sectors n events image none first size (inr other) = other size
 
-none_by_moment : (bytes image : List ℕ) (plan : ScriptValue) (fault : RunError)
+none_by_moment : OneScript → (bytes image : List ℕ) (plan : ScriptValue) (fault : RunError)
     → IsTextOf bytes plan → plan.commands ≡ []
     → length image ≡ 512 * top_of plan.data_disk → HasNoVerdict (question bytes image 0) fault
     → told fault ≡ refusals.BadMoment → ⊥
-none_by_moment bytes image plan fault spelled none size (file f is) bad = file_told f is bad
-none_by_moment bytes image plan fault spelled none size
+none_by_moment one_script bytes image plan fault spelled none size (file f is) bad = file_told f is bad
+none_by_moment one_script bytes image plan fault spelled none size
     (text again shown line refusal read wrong first) bad =
     wrong plan (subst (λ (t : List ℕ). IsTextOf t plan) (sym read.script_holds) spelled)
-none_by_moment bytes image plan fault spelled none size
+none_by_moment one_script bytes image plan fault spelled none size
     (run again shown other f read spells fails) bad =
     let one =
-    one_script_of bytes plan other spelled
+    one_script bytes plan other spelled
     (subst (λ (t : List ℕ). IsTextOf t other) read.script_holds spells) in
     fails_otherwise again other f (ap (λ (p : ScriptValue). p.commands) (sym one) ∙ none) fails bad
-none_by_moment bytes image plan fault spelled none size
+none_by_moment one_script bytes image plan fault spelled none size
     (no_moment again shown other events read spells rehearsed cannot) bad =
     let one =
-    one_script_of bytes plan other spelled
+    one_script bytes plan other spelled
     (subst (λ (t : List ℕ). IsTextOf t other) read.script_holds spells) in
     let same : length shown ≡ 512 * top_of other.data_disk =
     ap length read.image_holds ∙ size ∙ ap (λ (p : ScriptValue). 512 * top_of p.data_disk) one in

@@ -5,7 +5,7 @@ use Rattle.atomic_table.specs.Table.{Me}
 use Rattle.board.specs.declared.rule.Knows.{Knows}
 use Rattle.board.specs.Posts.{last_of}
 use Rattle.board.specs.Rules.{writer_of}
-use Rattle.board.proofs.Lists.{last_of-push}
+use Rattle.board.specs.PostLaws.{last_of-push}
 use Rattle.board.proofs.Moves.{publishes, published_is}
 use Rattle.board.proofs.Board.publish.Goals as goal
 

@@ -1,5 +1,5 @@
 -- Answers to goals of `SectorDiskBlockDev::discard`.
--- Its own crate alone cites it, for the theorems of src/disk.rt and src/disk/device.rt.
+-- Its own crate alone cites it, for the theorems of src/disk/device.rt.
 use Rattle.std.proofs.Common.{false}
 use Rattle.sectors.specs.Content.{discards}
 use Rattle.sector_disk.proofs.Moved.{goes_past, goes_unchanged}

@@ -1,6 +1,6 @@
 -- The lemmas of `dust_layer`; the proof of a function stands in the folder of its source file.
 mod Passing
-mod Reads
+mod ReadParts
 mod OrderLaws
 mod Dusting
 mod OnlyGood

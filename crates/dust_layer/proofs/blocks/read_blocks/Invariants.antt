@@ -1,7 +1,7 @@
 -- What holds at the calls and the turns of the loops of `read_blocks` (src/blocks.rt).
 use Rattle.std.proofs.Common.{◌≡◌, length}
 use Rattle.dust_layer.specs.Bad.{listed}
-use Rattle.dust_layer.proofs.Reads.{Reading}
+use Rattle.dust_layer.proofs.ReadParts.{Reading}
 use Rattle.dust_layer.proofs.blocks.read_blocks.Given as goal
 
 -- the parts of the blocks so far are read

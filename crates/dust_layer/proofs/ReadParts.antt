@@ -9,7 +9,7 @@ use Rattle.std.proofs.lemmas.List.{take_all}
 use Rattle.std.proofs.Math.Seq.{take-add}
 use Rattle.std.proofs.lemmas.Nat.{le-div}
 use Rattle.std.proofs.Math.Nat.{div-mul-le_self}
-use Rattle.std.specs.Prelude.{Result, is_some, if◌then◌else◌}
+use Rattle.std.specs.Prelude.{Result, is_some}
 use Rattle.bio.specs.declared.outcome.DevError.{DevError}
 use Rattle.blockdev.specs.Calls.{Call, Reads}
 use Rattle.blockdev.specs.JoinLaws.{goes_both, goes_none}

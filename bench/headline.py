@@ -136,7 +136,7 @@ class Specs:
         if not os.path.isfile(path):
             return None
         text, kind = text_of(path), rest[-1]
-        found = re.search(rf"((?:^///[^\n]*\n)*)(?:^#\[[^\n]*\n)*^(pub(?:\(crate\))? (?:struct|enum) {kind}\b[^\n]*(?:;|\{{\n.*?\n}})$)", text, re.M | re.S)
+        found = re.search(rf"((?:^///[^\n]*\n)*)(?:^// [^\n]*\n)*(?:^#\[[^\n]*\n)*^(pub(?:\(crate\))? (?:struct|enum) {kind}\b[^\n]*(?:;|\{{\n.*?\n}})$)", text, re.M | re.S)
         if not found:
             return None
         whole = found.group(1) + found.group(2)

@@ -11,7 +11,7 @@
 #![tactic(auto)]
 
 use dmlw_cli::{execute, refuse};
-use dmlw_files::{HostFiles, Output};
+use dmlw_files::{HostFiles, Output, Session};
 use std::io::{BufWriter, Write};
 use std::process::ExitCode;
 use std::rt::{Env, Files};
@@ -35,11 +35,12 @@ fn run<R: Files + Env + Print + AllocGlobal + Threads + Wait + Sync, E: Write>(
     err: &mut E,
 ) -> io::Result<u8> {
     let words: Vec<String> = env::args(rt)?.collect(rt.alloc())?;
-    let mut files = HostFiles::new(rt);
-    let mut out = BufWriter::new(rt.alloc(), Output::new(io::writer(rt)))?;
-    Ok(
-        execute(rt, rt.alloc(), &words, &mut files, &mut out, err)
-            .exit
-            .status(),
-    )
+    let mut session = Session {
+        alloc: rt.alloc(),
+        explains: false,
+        files: HostFiles::new(rt),
+        out: BufWriter::new(rt.alloc(), Output::new(io::writer(rt)))?,
+        err,
+    };
+    Ok(execute(rt, &words, &mut session).exit.status())
 }

@@ -21,18 +21,16 @@ use Rattle.dmlw_commands.specs.declared.ending.Ended.{Ended}
 use Rattle.dmlw_commands.specs.declared.exit.Exit.{Exit}
 use Rattle.dmlw_commands.specs.declared.exit.Exit.TheVariants as exits
 use Rattle.dmlw_commands.specs.Endings.{ErrStream, Tells, err_stream}
-use Rattle.dmlw_commands.specs.Exits.{exit_by, exit_of, fault_line, stopped_line}
+use Rattle.dmlw_commands.specs.Exits.{exit_by, exit_of, fault_line}
 use Rattle.dmlw_commands.specs.Records.{HoldsLog}
 use Rattle.dmlw_files.specs.Files.{Write}
-use Rattle.dmlw_commands.specs.declared.replay_log.stop.Stop.{Stop}
-use Rattle.dmlw_commands.specs.declared.replay_log.stop.Stop.TheVariants as stops
 use Rattle.dmlw_explain.specs.declared.explaining.ReplayNames.{ReplayNames}
-use Rattle.dmlw_commands.specs.Replays.{HoldsReplayed, replay_exit}
+use Rattle.dmlw_commands.specs.Replays.{HoldsReplayed}
 use Rattle.dmlw_cli.specs.Commands.{AsksForOne, DoesWords, EndsCommand, EndsFlawed, EndsPage}
 use Rattle.dmlw_cli.specs.Commands.{EndsTask, EndsText, EndsUntasked, IsFaultLine, LeavesLog}
 use Rattle.dmlw_cli.specs.Commands.{ReplaysWhat, TaskLeaves, TellsBy, TellsOneLine, TellsPage}
-use Rattle.dmlw_cli.specs.Commands.{TellsPrinting, TellsUntasked, flaw_text, is_asked_for, of_fault}
-use Rattle.dmlw_cli.specs.Commands.{of_replay, unread_exit}
+use Rattle.dmlw_cli.specs.Commands.{TellsPrinting, TellsUntasked, flaw_text, is_asked_for}
+use Rattle.dmlw_cli.specs.Commands.{unread_exit}
 use Rattle.dmlw_cli.specs.Tasks.{IsRead}
 use Rattle.dmlw_cli.specs.declared.task.Flaw.TheVariants as flaws
 use Rattle.dmlw_cli.specs.declared.task.Task.{Task}
@@ -139,6 +137,8 @@ quiet_done t (Err (faults.Refused fault)) ended off tells is =
     let same : exits.Refused ≡ exits.Done = sym tells.exits ∙ is in absurd (cc)
 quiet_done t (Err (faults.LoggingEnded end)) ended off tells is =
     let same : exits.LoggingEnded ≡ exits.Done = sym tells.exits ∙ is in absurd (cc)
+quiet_done t (Err (faults.StoppedAfter applied refusal)) ended off tells is =
+    let same : exits.Refused ≡ exits.Done = sym tells.exits ∙ is in absurd (cc)
 
 -- and it ends by no usage fault, nor, by an error of a file, as logging does
 never_usage : (t : ErrStream) (done : Result (Unit {0}) RunError) (ended : Ended)
@@ -149,9 +149,11 @@ never_usage t (Err (faults.Refused fault)) ended tells is =
     let same : exits.Refused ≡ exits.Usage = sym tells.exits ∙ is in cc
 never_usage t (Err (faults.LoggingEnded end)) ended tells is =
     let same : exits.LoggingEnded ≡ exits.Usage = sym tells.exits ∙ is in cc
+never_usage t (Err (faults.StoppedAfter applied refusal)) ended tells is =
+    let same : exits.Refused ≡ exits.Usage = sym tells.exits ∙ is in cc
 
 file_ends : (t : ErrStream) (fault : RunError) (ended : Ended) → IsFileError fault
-    → Tells t (Err fault) ended → ended.exit ≡ exits.LoggingEnded → ⊥
+    → Tells {T = Unit {0}} t (Err fault) ended → ended.exit ≡ exits.LoggingEnded → ⊥
 file_ends t fault ended (inl is) tells ends =
     let same : exits.Refused ≡ exits.LoggingEnded = ap exit_of (sym is) ∙ sym tells.exits ∙ ends in
     cc
@@ -210,6 +212,7 @@ page_done : (page : List ℕ) (old new : Option (List ℕ)) (done : Result (Unit
 page_done page old new (Ok u) printed is = printed
 page_done page old new (Err (faults.Refused fault)) printed is = absurd (cc)
 page_done page old new (Err (faults.LoggingEnded end)) printed is = absurd (cc)
+page_done page old new (Err (faults.StoppedAfter applied refusal)) printed is = absurd (cc)
 
 page_ends : (t : ErrStream) (page : List ℕ) (old new : Option (List ℕ))
     (done : Result (Unit {0}) RunError) (ended : Ended)
@@ -260,11 +263,11 @@ page_not : (t : ErrStream) (ended : Ended) → EndsPage (1 ∷ []) None None (So
 page_not t ended told is = page_unprinted t ended told.told is
 
 -- a replay up to what no word names, and one that ends as none does
-replayed_usage : (done : Result ℕ Stop) → replay_exit done ≡ exits.Usage → ⊥
+replayed_usage : (done : Result ℕ RunError) → exit_by done ≡ exits.Usage → ⊥
 replayed_usage (Ok count) same = cc
-replayed_usage (Err (stops.Fault (faults.Refused fault))) same = cc
-replayed_usage (Err (stops.Fault (faults.LoggingEnded end))) same = cc
-replayed_usage (Err (stops.Replay fault)) same = cc
+replayed_usage (Err (faults.Refused fault)) same = cc
+replayed_usage (Err (faults.LoggingEnded end)) same = cc
+replayed_usage (Err (faults.StoppedAfter applied refusal)) same = cc
 
 what_none : (t : ErrStream) (ended : Ended)
     → ReplaysWhat (codes "x") None None [] None None None None t ended → ⊥
@@ -402,29 +405,30 @@ leaves_replayed files upto contents later old new leaves = leaves refl
 
 -- a line of a fault where a command is done, or ends by a
 -- usage fault, and a line that is none of a fault's
+fault_done : (cause : RunError) → exits.Done ≡ exit_of cause → ⊥
+fault_done (faults.Refused fault) ends = cc
+fault_done (faults.LoggingEnded end) ends = cc
+fault_done (faults.StoppedAfter applied refusal) ends = cc
+
 line_done : (line : List ℕ) → IsFaultLine exits.Done line → ⊥
-line_done line (of_fault (faults.Refused fault) ends is) = cc
-line_done line (of_fault (faults.LoggingEnded end) ends is) = cc
-line_done line (of_replay applied cause ends is) = cc
+line_done line is = fault_done is.cause is.ends
+
+fault_usage : (cause : RunError) → exits.Usage ≡ exit_of cause → ⊥
+fault_usage (faults.Refused fault) ends = cc
+fault_usage (faults.LoggingEnded end) ends = cc
+fault_usage (faults.StoppedAfter applied refusal) ends = cc
 
 line_usage : (line : List ℕ) → IsFaultLine exits.Usage line → ⊥
-line_usage line (of_fault (faults.Refused fault) ends is) = cc
-line_usage line (of_fault (faults.LoggingEnded end) ends is) = cc
-line_usage line (of_replay applied cause ends is) = cc
+line_usage line is = fault_usage is.cause is.ends
 
 line_begins : (exit : Exit) (line : List ℕ) → IsFaultLine exit line → first_byte line ≡ 100
-line_begins exit line (of_fault (faults.Refused fault) ends is) =
-    one_byte line (fault_line (faults.Refused fault)) is
-line_begins exit line (of_fault (faults.LoggingEnded end) ends is) =
-    one_byte line (fault_line (faults.LoggingEnded end)) is
-line_begins exit line (of_replay applied cause ends is) =
-    one_byte line (stopped_line applied cause) is
+line_begins exit line is = one_byte line (fault_line is.cause) is.is
 
 line_other : (exit : Exit) → IsFaultLine exit (1 ∷ []) → ⊥
 line_other exit is = let byte = same_number 1 100 (line_begins exit (1 ∷ []) is) in omega arith
 
-line_stop : IsFaultLine exits.Refused (stopped_line 2 refusals.NoFlush)
-line_stop = of_replay 2 refusals.NoFlush refl refl
+line_stop : IsFaultLine exits.Refused (fault_line (faults.StoppedAfter 2 refusals.NoFlush))
+line_stop = record { cause = faults.StoppedAfter 2 refusals.NoFlush; ends = refl; is = refl }
 
 -- one line that is none of a fault by which the command ends, and one that wasn't told
 abbrev refused_now : Ended
@@ -445,7 +449,7 @@ one_line : TellsOneLine refused_now (Some (1 ∷ [])) (Some (1 ∷ fault_line me
 one_line =
     record {
       line = fault_line memory_error;
-      is = of_fault memory_error refl refl;
+      is = record { cause = memory_error; ends = refl; is = refl };
       told = λ took. refl;
     }
 

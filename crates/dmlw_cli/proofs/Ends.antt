@@ -5,37 +5,31 @@ use Rattle.std.proofs.Common.{Option, Some, None, Result, Ok, Err, arith, inl, i
 use Rattle.std.proofs.Common.{sym}
 use Rattle.bio.specs.declared.outcome.End.{End}
 use Rattle.bio.specs.declared.outcome.Status.{Status}
+use Rattle.refusals.specs.declared.refusal.Refusal.{Refusal}
 use Rattle.run_error.specs.declared.run_error.RunError.{RunError}
 use Rattle.run_error.specs.declared.run_error.RunError.TheVariants as faults
 use Rattle.run_error.specs.Errors.{IsFileError, memory_error}
 use Rattle.dmlw_commands.specs.declared.exit.Exit.{Exit}
 use Rattle.dmlw_commands.specs.declared.exit.Exit.TheVariants.{Done, LoggingEnded, Refused}
 use Rattle.dmlw_commands.specs.declared.exit.Exit.TheVariants.{RuledOut, Usage}
-use Rattle.dmlw_commands.specs.Exits.{exit_after, exit_at, exit_of, fault_line, status_of}
+use Rattle.dmlw_commands.specs.Exits.{exit_after, exit_at, exit_by, exit_of, fault_line, status_of}
 use Rattle.dmlw_commands.specs.Exits.{told_line}
 use Rattle.dmlw_commands.specs.declared.ending.Ended.{Ended}
 use Rattle.dmlw_commands.specs.Endings.{ErrStream, Tells, TellsLine}
 use Rattle.dmlw_files.specs.Files.{AsksFor, KeepsFiles, Write}
 use Rattle.dmlw_commands.specs.Records.{PrintsLog, Records}
 use Rattle.dmlw_run.specs.RunsLog.{PrintsRun, Runs}
-use Rattle.log_copy.specs.Refusals.{copy_refusal}
-use Rattle.dmlw_commands.specs.CopiesLog.{Copies, PrintsCopy, copy_exit, copy_line}
-use Rattle.dmlw_commands.specs.declared.copy_log.stop.Stop.{Stop as CopyStop}
-use Rattle.dmlw_commands.specs.declared.copy_log.stop.Stop.TheVariants as copy_stops
+use Rattle.dmlw_commands.specs.CopiesLog.{Copies, PrintsCopy}
 use Rattle.world.specs.declared.finding.Finding.{Finding}
 use Rattle.world.specs.declared.finding.Finding.TheVariants as findings
 use Rattle.dmlw_judge.specs.Judgements.{exit_answered, exit_judged}
 use Rattle.dmlw_judge.specs.Paths.{finding_meaning}
-use Rattle.dmlw_commands.specs.Replays.{PrintsReplay, Replays, replay_exit, replay_line}
-use Rattle.dmlw_commands.specs.declared.replay_log.stop.Stop.{Stop}
-use Rattle.dmlw_commands.specs.declared.replay_log.stop.Stop.TheVariants as stops
+use Rattle.dmlw_commands.specs.Replays.{PrintsReplay, Replays}
 use Rattle.judge.specs.declared.verdict.Verdict.{Verdict}
 use Rattle.judge.specs.declared.verdict.Verdict.TheVariants as verdicts
-use Rattle.replay.specs.Refusals.{replay_refusal}
 use Rattle.replay.specs.declared.upto.Upto.{Upto}
 use Rattle.dmlw_cli.specs.Commands.{AsksForOne, EndsCommand, EndsTask, EndsUntasked, IsFaultLine}
-use Rattle.dmlw_cli.specs.Commands.{LeavesBy, TellsBy, TellsOneLine, TellsUntasked, of_fault}
-use Rattle.dmlw_cli.specs.Commands.{of_replay}
+use Rattle.dmlw_cli.specs.Commands.{LeavesBy, TellsBy, TellsOneLine, TellsUntasked}
 use Rattle.clap.specs.Words.{Text, kind_of}
 use Rattle.clap.specs.declared.error.Error.{Error}
 use Rattle.dmlw_cli.specs.CommandLine.{is_formats}
@@ -47,10 +41,14 @@ use Rattle.std.specs.Io.KnownBytes.{Appends}
 use Rattle.dmlw_cli.specs.declared.task.Task.{Task}
 use Rattle.dmlw_cli.specs.declared.task.Task.TheVariants as tasks
 
--- an error of a file isn't the end of logging
+-- an error of a file isn't the end of logging, nor a stop at an entry
 not_file : (end : End) → IsFileError (faults.LoggingEnded end) → ⊥
 not_file end (inl is) = cc
 not_file end (inr is) = cc
+
+not_stop : (applied : ℕ) (refusal : Refusal) → IsFileError (faults.StoppedAfter applied refusal) → ⊥
+not_stop applied refusal (inl is) = cc
+not_stop applied refusal (inr is) = cc
 
 -- where nothing was asked to be written, a command ends as any may
 pub ends_silently : (writes_old writes_new : Option (List Write)) (exit : Exit)
@@ -105,6 +103,12 @@ ends_recorded contents log writes_old writes_new old new (Err (faults.LoggingEnd
     (inl same, fails) =
     ends_silently writes_old writes_new LoggingEnded same
 ends_recorded contents log writes_old writes_new old new (Err (faults.LoggingEnded end)) (inr (file, status, asked), fails) = absurd (not_file end file)
+ends_recorded contents log writes_old writes_new old new (Err (faults.StoppedAfter applied refusal))
+    (inl same, fails) =
+    ends_silently writes_old writes_new Refused same
+ends_recorded contents log writes_old writes_new old new (Err (faults.StoppedAfter applied refusal))
+    (inr (file, status, asked), fails) =
+    absurd (not_stop applied refusal file)
 
 -- every run of seats ends so
 ends_run : (contents : Option (List ℕ)) (log : List ℕ) (writes_old writes_new : Option (List Write))
@@ -121,23 +125,27 @@ ends_run contents log writes_old writes_new old new (Err (faults.LoggingEnded en
     (inl same, fails) =
     ends_silently writes_old writes_new LoggingEnded same
 ends_run contents log writes_old writes_new old new (Err (faults.LoggingEnded end)) (inr (file, status, asked), fails) = absurd (not_file end file)
+ends_run contents log writes_old writes_new old new (Err (faults.StoppedAfter applied refusal))
+    (inl same, fails) =
+    ends_silently writes_old writes_new Refused same
+ends_run contents log writes_old writes_new old new (Err (faults.StoppedAfter applied refusal))
+    (inr (file, status, asked), fails) =
+    absurd (not_stop applied refusal file)
 
--- a replay ends by no usage fault
-replayed_known : (done : Result ℕ Stop)
-    → (status_of (replay_exit done) ≤ 3) × (status_of (replay_exit done) ≡ 2 → ⊥)
-replayed_known (Ok count) = (omega arith, λ usage. absurd (omega arith))
-replayed_known (Err (stops.Fault (faults.Refused fault))) =
-    (omega arith, λ usage. absurd (omega arith))
-replayed_known (Err (stops.Fault (faults.LoggingEnded end))) =
-    (omega arith, λ usage. absurd (omega arith))
-replayed_known (Err (stops.Replay fault)) = (omega arith, λ usage. absurd (omega arith))
+-- what is refused by a run's error, or done, ends by no usage fault
+known_by : (done : Result ℕ RunError)
+    → (status_of (exit_by done) ≤ 3) × (status_of (exit_by done) ≡ 2 → ⊥)
+known_by (Ok count) = (omega arith, λ usage. absurd (omega arith))
+known_by (Err (faults.Refused fault)) = (omega arith, λ usage. absurd (omega arith))
+known_by (Err (faults.LoggingEnded end)) = (omega arith, λ usage. absurd (omega arith))
+known_by (Err (faults.StoppedAfter applied refusal)) = (omega arith, λ usage. absurd (omega arith))
 
--- a replay that has asked for nothing, or for its image
-replay_asks : (writes_old writes_new : Option (List Write)) (done : Result ℕ Stop)
+-- a replay or a copy that has asked for nothing, or for its image
+image_asks : (writes_old writes_new : Option (List Write)) (done : Result ℕ RunError)
     → ((writes_new ≡ writes_old) ⊎ AsksForOne writes_old writes_new)
-    → EndsCommand writes_old writes_new (status_of (replay_exit done))
-replay_asks writes_old writes_new done once =
-    let known = replayed_known done in
+    → EndsCommand writes_old writes_new (status_of (exit_by done))
+image_asks writes_old writes_new done once =
+    let known = known_by done in
     record { known = known.0; once = once; unwritten = λ usage. absurd (known.1 usage) }
 
 -- a replay that was printed has asked for its image
@@ -151,42 +159,24 @@ printed_asks log_file first_file name upto writes_old writes_new old new count p
 -- every replay ends so
 ends_replayed : (log_file first_file : Option (List ℕ)) (name : List ℕ) (upto : Upto)
     (writes_old writes_new : Option (List Write)) (old new : Option (List ℕ))
-    (done : Result ℕ Stop) → Replays log_file first_file name upto writes_old writes_new old new
+    (done : Result ℕ RunError) → Replays log_file first_file name upto writes_old writes_new old new
     done
-    → EndsCommand writes_old writes_new (status_of (replay_exit done))
+    → EndsCommand writes_old writes_new (status_of (exit_by done))
 ends_replayed log_file first_file name upto writes_old writes_new old new (Ok count) prints =
-    replay_asks writes_old writes_new (Ok count)
+    image_asks writes_old writes_new (Ok count)
     (inr (printed_asks log_file first_file name upto writes_old writes_new old new count
     prints))
 ends_replayed log_file first_file name upto writes_old writes_new old new (Err stop)
     (inl (fails, kept, same)) =
-    replay_asks writes_old writes_new (Err stop) (inl same)
+    image_asks writes_old writes_new (Err stop) (inl same)
 ends_replayed log_file first_file name upto writes_old writes_new old new (Err stop)
     (inr (inl (file, same))) =
-    replay_asks writes_old writes_new (Err stop) (inl same)
+    image_asks writes_old writes_new (Err stop) (inl same)
 ends_replayed log_file first_file name upto writes_old writes_new old new (Err stop)
     (inr (inr (file, count, prints))) =
-    replay_asks writes_old writes_new (Err stop)
+    image_asks writes_old writes_new (Err stop)
     (inr (printed_asks log_file first_file name upto writes_old writes_new old new count
     prints))
-
--- a copy ends by no usage fault
-copied_known : (done : Result ℕ CopyStop)
-    → (status_of (copy_exit done) ≤ 3) × (status_of (copy_exit done) ≡ 2 → ⊥)
-copied_known (Ok count) = (omega arith, λ usage. absurd (omega arith))
-copied_known (Err (copy_stops.Fault (faults.Refused fault))) =
-    (omega arith, λ usage. absurd (omega arith))
-copied_known (Err (copy_stops.Fault (faults.LoggingEnded end))) =
-    (omega arith, λ usage. absurd (omega arith))
-copied_known (Err (copy_stops.Copy fault)) = (omega arith, λ usage. absurd (omega arith))
-
--- a copy that has asked for nothing, or for its image
-copy_asks : (writes_old writes_new : Option (List Write)) (done : Result ℕ CopyStop)
-    → ((writes_new ≡ writes_old) ⊎ AsksForOne writes_old writes_new)
-    → EndsCommand writes_old writes_new (status_of (copy_exit done))
-copy_asks writes_old writes_new done asks =
-    let known = copied_known done in
-    record { known = known.0; once = asks; unwritten = λ usage. absurd (known.1 usage) }
 
 -- a copy that was printed has asked for its image
 copied_asks : (log_file : Option (List ℕ)) (name : List ℕ) (sectors : ℕ)
@@ -199,20 +189,20 @@ copied_asks log_file name sectors writes_old writes_new old new count prints =
 -- every copy ends so
 ends_copied : (log_file : Option (List ℕ)) (name : List ℕ) (sectors : ℕ)
     (writes_old writes_new : Option (List Write)) (old new : Option (List ℕ))
-    (done : Result ℕ CopyStop) → Copies log_file name sectors writes_old writes_new old new done
-    → EndsCommand writes_old writes_new (status_of (copy_exit done))
+    (done : Result ℕ RunError) → Copies log_file name sectors writes_old writes_new old new done
+    → EndsCommand writes_old writes_new (status_of (exit_by done))
 ends_copied log_file name sectors writes_old writes_new old new (Ok count) prints =
-    copy_asks writes_old writes_new (Ok count)
+    image_asks writes_old writes_new (Ok count)
     (inr (copied_asks log_file name sectors writes_old writes_new old new count prints))
 ends_copied log_file name sectors writes_old writes_new old new (Err stop)
     (inl (fails, kept, same)) =
-    copy_asks writes_old writes_new (Err stop) (inl same)
+    image_asks writes_old writes_new (Err stop) (inl same)
 ends_copied log_file name sectors writes_old writes_new old new (Err stop)
     (inr (inl (file, same))) =
-    copy_asks writes_old writes_new (Err stop) (inl same)
+    image_asks writes_old writes_new (Err stop) (inl same)
 ends_copied log_file name sectors writes_old writes_new old new (Err stop)
     (inr (inr (file, count, prints))) =
-    copy_asks writes_old writes_new (Err stop)
+    image_asks writes_old writes_new (Err stop)
     (inr (copied_asks log_file name sectors writes_old writes_new old new count prints))
 
 -- every task ends so
@@ -277,16 +267,17 @@ told_fault : (t : ErrStream) (cause : RunError) (ended : Ended) → t.explains �
 told_fault t cause ended off tells =
     subst (λ (e : Exit). TellsBy e ended t.before t.after) (sym tells.exits)
     (by_fault cause (told_one_line t (exit_of cause) (fault_line cause) ended off
-    (of_fault cause refl refl) tells))
+    (record { cause = cause; ends = refl; is = refl }) tells))
   where
     by_fault : (cause : RunError) → TellsOneLine ended t.before t.after
         → TellsBy (exit_of cause) ended t.before t.after
     by_fault (faults.Refused refused) line = line
     by_fault (faults.LoggingEnded end) line = inr line
+    by_fault (faults.StoppedAfter applied refusal) line = line
 
 -- what a command tells that did this
-told_by : (t : ErrStream) (done : Result (Unit {0}) RunError) (ended : Ended) → t.explains ≡ false
-    → Tells t done ended → TellsBy ended.exit ended t.before t.after
+told_by : {T : Type 0} (t : ErrStream) (done : Result T RunError) (ended : Ended)
+    → t.explains ≡ false → Tells t done ended → TellsBy ended.exit ended t.before t.after
 told_by t (Ok u) ended off tells =
     subst (λ (e : Exit). TellsBy e ended t.before t.after) (sym tells.exits) (tells.quiet off refl)
 told_by t (Err fault) ended off tells = told_fault t fault ended off tells
@@ -303,30 +294,6 @@ told_recording t (Ok status) ended off tells =
     by_end None same = same
     by_end (Some cause) same = inl same
 told_recording t (Err fault) ended off tells = told_fault t fault ended off tells
-
--- what a replay tells
-told_replay : (t : ErrStream) (done : Result ℕ Stop) (ended : Ended) → t.explains ≡ false
-    → TellsLine t (replay_exit done) (replay_line done) ended
-    → TellsBy ended.exit ended t.before t.after
-told_replay t (Ok count) ended off tells =
-    subst (λ (e : Exit). TellsBy e ended t.before t.after) (sym tells.exits) (tells.quiet off refl)
-told_replay t (Err (stops.Fault cause)) ended off tells = told_fault t cause ended off tells
-told_replay t (Err (stops.Replay stop)) ended off tells =
-    subst (λ (e : Exit). TellsBy e ended t.before t.after) (sym tells.exits)
-    (told_one_line t Refused (replay_line (Err (stops.Replay stop))) ended off
-    (of_replay stop.applied (replay_refusal stop.cause) refl refl) tells)
-
--- what a copy tells
-told_copy : (t : ErrStream) (done : Result ℕ CopyStop) (ended : Ended) → t.explains ≡ false
-    → TellsLine t (copy_exit done) (copy_line done) ended
-    → TellsBy ended.exit ended t.before t.after
-told_copy t (Ok count) ended off tells =
-    subst (λ (e : Exit). TellsBy e ended t.before t.after) (sym tells.exits) (tells.quiet off refl)
-told_copy t (Err (copy_stops.Fault cause)) ended off tells = told_fault t cause ended off tells
-told_copy t (Err (copy_stops.Copy stop)) ended off tells =
-    subst (λ (e : Exit). TellsBy e ended t.before t.after) (sym tells.exits)
-    (told_one_line t Refused (copy_line (Err (copy_stops.Copy stop))) ended off
-    (of_replay stop.applied (copy_refusal stop.cause) refl refl) tells)
 
 -- what a judging tells
 told_judging : (t : ErrStream) (done : Result Verdict RunError) (ended : Ended) → t.explains ≡ false
@@ -352,7 +319,7 @@ told_finding t (Err cause) ended off tells = told_fault t cause ended off tells
 text_tells : (kind : ErrorKind) (t : ErrStream) (ended : Ended) → EndsUntasked kind ended.exit
     → TellsUntasked kind t ended → t.explains ≡ false
     → TellsBy ended.exit ended t.before t.after
-text_tells OutOfMemory t ended ends tells off = told_by t (Err memory_error) ended off tells
+text_tells OutOfMemory t ended ends tells off = told_by {T = Unit {0}} t (Err memory_error) ended off tells
 text_tells DisplayHelp t ended ends (done, fault, tells) off = told_by t done ended off tells
 text_tells DisplayVersion t ended ends (done, fault, tells) off = told_by t done ended off tells
 text_tells _ t ended ends tells off =
@@ -373,9 +340,9 @@ task_tells (tasks.List log) contents writes_old writes_new old new t ended ends 
 task_tells (tasks.Status log) contents writes_old writes_new old new t ended ends off =
     told_by t ends.done ended off ends.tells
 task_tells (tasks.Replay files upto) contents writes_old writes_new old new t ended ends off =
-    told_replay t ends.done ended off ends.tells
+    told_by t ends.done ended off ends.tells
 task_tells (tasks.Copy files sectors) contents writes_old writes_new old new t ended ends off =
-    told_copy t ends.done ended off ends.tells
+    told_by t ends.done ended off ends.tells
 task_tells (tasks.Judge script moment image) contents writes_old writes_new old new t ended ends off = told_judging t ends.done ended off ends.tells
 task_tells (tasks.Path script moment image) contents writes_old writes_new old new t ended ends off = told_finding t ends.done ended off ends.tells
 task_tells (tasks.Formats page) contents writes_old writes_new old new t ended ends off =

@@ -25,9 +25,7 @@ use Rattle.dmlw_judge.specs.Paths.{EndsFinding, finding_meaning}
 use Rattle.dmlw_explain.specs.declared.explaining.CopyNames.{CopyNames}
 use Rattle.dmlw_explain.specs.declared.explaining.ReplayNames.{ReplayNames}
 use Rattle.dmlw_commands.specs.CopiesLog.{EndsCopying, HoldsCopied, file as uncopied}
-use Rattle.dmlw_commands.specs.declared.copy_log.stop.Stop.TheVariants as copy_stops
 use Rattle.dmlw_cli.specs.Counts.{IsSectorCount}
-use Rattle.dmlw_commands.specs.declared.replay_log.stop.Stop.TheVariants as stops
 use Rattle.dmlw_commands.specs.Replays.{EndsReplaying, HoldsReplayed, file as unreplayed}
 use Rattle.dmlw_commands.specs.Whats.{IsWhat}
 use Rattle.replay.specs.declared.upto.Upto.{Upto}
@@ -178,7 +176,7 @@ replay_refused : (log first : Option (List ℕ)) (out : List ℕ) (upto : Upto)
     (ended : Ended) → EndsText OutOfMemory before after old new t ended
     → EndsReplaying log first out upto before after old new t ended
 replay_refused log first out upto before after old new t ended ends = record {
-  done = Err (stops.Fault memory_error);
+  done = Err memory_error;
   replayed = inl (unreplayed memory_error (inr refl), ends.silent refl, ends.unwritten);
   tells = ends.tells;
 }
@@ -189,7 +187,7 @@ copy_refused : (log : Option (List ℕ)) (out : List ℕ) (sectors : ℕ)
     (ended : Ended) → EndsText OutOfMemory before after old new t ended
     → EndsCopying log out sectors before after old new t ended
 copy_refused log out sectors before after old new t ended ends = record {
-  done = Err (copy_stops.Fault memory_error);
+  done = Err memory_error;
   copied = inl (uncopied memory_error (inr refl), ends.silent refl, ends.unwritten);
   tells = ends.tells;
 }

@@ -11,7 +11,6 @@ use Rattle.clap.specs.declared.error.kind.ErrorKind.{ErrorKind}
 use Rattle.clap.specs.declared.error.kind.ErrorKind.TheVariants.{DisplayHelp, DisplayVersion}
 use Rattle.clap.specs.declared.error.kind.ErrorKind.TheVariants.{OutOfMemory}
 use Rattle.clap.specs.Words.{kind_of}
-use Rattle.refusals.specs.declared.refusal.Refusal.{Refusal}
 use Rattle.dmlw_cli.specs.declared.task.Flaw.{Flaw}
 use Rattle.dmlw_cli.specs.declared.task.Flaw.TheVariants as flaws
 use Rattle.dmlw_cli.specs.declared.task.Task.{Task}
@@ -21,7 +20,7 @@ use Rattle.dmlw_commands.specs.declared.exit.Exit.TheVariants.{Done, LoggingEnde
 use Rattle.dmlw_commands.specs.declared.exit.Exit.TheVariants.{RuledOut, Usage}
 use Rattle.dmlw_commands.specs.declared.ending.Ended.{Ended}
 use Rattle.dmlw_commands.specs.Endings.{EndsRecording, EndsShowing, ErrStream, Tells, err_stream}
-use Rattle.dmlw_commands.specs.Exits.{exit_of, fault_line, stopped_line}
+use Rattle.dmlw_commands.specs.Exits.{exit_of, fault_line}
 use Rattle.dmlw_files.specs.Files.{AsksFor, KeepsFiles, Write}
 use Rattle.dmlw_commands.specs.Lists.{ListsImage, ShowsStatus}
 use Rattle.dmlw_commands.specs.Records.{HoldsLog}
@@ -76,7 +75,7 @@ pub record EndsCommand (old new : Option (List Write)) (status : ℕ) : Type 0 w
 -- out its line, of help and the version the line of the file's error where they can't be printed;
 -- the others are told themselves.
 abbrev pub TellsUntasked : ErrorKind → ErrStream → Ended → Type 0
-TellsUntasked OutOfMemory t ended = Tells t (Err memory_error) ended
+TellsUntasked OutOfMemory t ended = Tells {T = Unit {0}} t (Err memory_error) ended
 TellsUntasked DisplayHelp t ended = TellsPrinting t ended
 TellsUntasked DisplayVersion t ended = TellsPrinting t ended
 TellsUntasked _ t ended = Unit {0}
@@ -220,13 +219,11 @@ pub record DoesWords (words : List (List ℕ)) (contents later : List ℕ → Op
       (err_stream (has_explain words) errors_old errors_new) ended
   pub leaves : TaskLeaves task contents later old new ended.exit
 
--- The line of a fault by which a command ends so: of the fault itself, or of a replay or a copy
--- that it refused after so many entries.
-pub data IsFaultLine (exit : Exit) (line : List ℕ) : Type 0 where
-  of_fault : (cause : RunError) → exit ≡ exit_of cause → line ≡ fault_line cause
-      → IsFaultLine exit line
-  of_replay : (applied : ℕ) (cause : Refusal) → exit ≡ Refused → line ≡ stopped_line applied cause
-      → IsFaultLine exit line
+-- the line of a fault by which a command ends so
+pub record IsFaultLine (exit : Exit) (line : List ℕ) : Type 0 where
+  pub cause : RunError
+  pub ends : exit ≡ exit_of cause
+  pub is : line ≡ fault_line cause
 
 -- One line was told, of a fault by which the command ends
 -- so, and nothing else, where the error stream took it.

@@ -24,7 +24,7 @@ use dmlw_commands::record::record;
 use dmlw_commands::replay_log::replay;
 use dmlw_commands::status::status;
 use dmlw_commands::{Ended, Exit, end, report};
-use dmlw_files::Files;
+use dmlw_files::{Files, Session};
 use dmlw_judge::{judge, path};
 use dmlw_run::run;
 use refusals::Refusal;
@@ -39,8 +39,9 @@ use std::thread::Threads;
 /// Does what a command line asks for, and answers how it ended: its exit status is 0 done, 1
 /// refused or an image that is ruled out, 2 a command line that isn't one of the program's, 3
 /// logging ended before its time. `words` begin with the program's name. What the user is to read
-/// goes to `out`; faults go to `err`, and with `--explain` among the words what helps against them.
-/// Where `out` can't be written the command is refused, as by a file that can't be.
+/// goes to the session's `out`; faults go to its `err`, and with `--explain` among the words what
+/// helps against them, whether it explained before or not. Where `out` can't be written the command
+/// is refused, as by a file that can't be.
 ///
 /// Threads are started and waited for by `rt`: of the commands `run` alone does so.
 ///
@@ -48,40 +49,39 @@ use std::thread::Threads;
 /// words are read as which command.
 pub fn execute<'a, S: AsStr, F: Files, O: Write, E: Write, H: Threads + Wait + Sync>(
     rt: &H,
-    alloc: Global,
     words: &'a [S],
-    files: &mut F,
-    out: &mut O,
-    err: &mut E,
+    session: &mut Session<F, O, E>,
 ) -> Ended
-    ensures does { DoesWords (map S.text words.entry.now) (F.contents files.old)
-        (F.contents files.new) (F.writes files.old) (F.writes files.new)
-        (O.contents out.old) (O.contents out.new) (E.contents err.old) (E.contents err.new) result }
-    ensures command { EndsCommand (F.writes files.old) (F.writes files.new)
+    ensures does { DoesWords (map S.text words.entry.now) (F.contents session.old.files)
+        (F.contents session.new.files) (F.writes session.old.files) (F.writes session.new.files)
+        (O.contents session.old.out) (O.contents session.new.out) (E.contents session.old.err)
+        (E.contents session.new.err) result }
+    ensures command { EndsCommand (F.writes session.old.files) (F.writes session.new.files)
         (status_of result.exit) }
 
     // Where it is refused each file holds what it held; so it does where logging ended, unless a
     // log was asked to be written.
     ensures kept { IsRefusal result.exit
-        → KeepsFiles (F.contents files.old) (F.contents files.new) }
+        → KeepsFiles (F.contents session.old.files) (F.contents session.new.files) }
     ensures unmade { result.exit ≡ LoggingEnded
-        → KeepsFiles (F.contents files.old) (F.contents files.new)
-        ⊎ AsksForOne (F.writes files.old) (F.writes files.new) }
+        → KeepsFiles (F.contents session.old.files) (F.contents session.new.files)
+        ⊎ AsksForOne (F.writes session.old.files) (F.writes session.new.files) }
 
     // Without `--explain` nothing goes to `err` where it is done,
     // and of a refusal its one line, as far as `err` takes it.
     ensures told { has_explain (map S.text words.entry.now) ≡ false
-        → TellsBy result.exit result (E.contents err.old) (E.contents err.new) }
+        → TellsBy result.exit result (E.contents session.old.err) (E.contents session.new.err) }
 {
-    let explains = has_explain(words);
+    let alloc = session.alloc;
+    session.explains = has_explain(words);
     match without_explain(alloc, words) {
         Ok(plain) => {
             let task = read_words(alloc, &plain);
-            perform(rt, alloc, explains, task, files, out, err)
+            perform(rt, task, session)
         }
         Err(error) => {
             let task = unread(error);
-            perform(rt, alloc, explains, task, files, out, err)
+            perform(rt, task, session)
         }
     }
 }
@@ -90,47 +90,45 @@ pub fn execute<'a, S: AsStr, F: Files, O: Write, E: Write, H: Threads + Wait + S
 #[tactic(auto, using(crate::proofs::Ends::leaves_by))]
 fn perform<F: Files, O: Write, E: Write, H: Threads + Wait + Sync>(
     rt: &H,
-    alloc: Global,
-    explains: bool,
     task: Task<'_>,
-    files: &mut F,
-    out: &mut O,
-    err: &mut E,
+    session: &mut Session<F, O, E>,
 ) -> Ended
-    ensures ends { EndsTask task.entry (F.contents files.old) (F.writes files.old)
-        (F.writes files.new)
-        (O.contents out.old) (O.contents out.new)
-        (err_stream explains (E.contents err.old) (E.contents err.new)) result }
-    ensures leaves { TaskLeaves task.entry (F.contents files.old) (F.contents files.new)
-        (O.contents out.old) (O.contents out.new) result.exit }
+    ensures ends { EndsTask task.entry (F.contents session.old.files) (F.writes session.old.files)
+        (F.writes session.new.files)
+        (O.contents session.old.out) (O.contents session.new.out)
+        (err_stream session.old.explains (E.contents session.old.err)
+        (E.contents session.new.err)) result }
+    ensures leaves { TaskLeaves task.entry (F.contents session.old.files)
+        (F.contents session.new.files)
+        (O.contents session.old.out) (O.contents session.new.out) result.exit }
     ensures kept { IsRefusal result.exit
-        → KeepsFiles (F.contents files.old) (F.contents files.new) }
+        → KeepsFiles (F.contents session.old.files) (F.contents session.new.files) }
     ensures unmade { result.exit ≡ LoggingEnded
-        → KeepsFiles (F.contents files.old) (F.contents files.new)
-        ⊎ AsksForOne (F.writes files.old) (F.writes files.new) }
+        → KeepsFiles (F.contents session.old.files) (F.contents session.new.files)
+        ⊎ AsksForOne (F.writes session.old.files) (F.writes session.new.files) }
 {
     match task {
-        Task::Record { script, log } => record(alloc, explains, script, log, files, out, err),
-        Task::Run { script, log } => run(rt, alloc, explains, script, log, files, out, err),
-        Task::List { log } => list(alloc, explains, log, files, out, err),
-        Task::Status { log } => status(alloc, explains, log, files, out, err),
-        Task::Replay { names, upto } => replay(alloc, explains, names, &upto, files, out, err),
-        Task::Copy { names, sectors } => {
-            copy(alloc, explains, names, sectors.sectors(), files, out, err)
-        }
+        Task::Record { script, log } => record(script, log, session),
+        Task::Run { script, log } => run(rt, script, log, session),
+        Task::List { log } => list(log, session),
+        Task::Status { log } => status(log, session),
+        Task::Replay { names, upto } => replay(names, &upto, session),
+        Task::Copy { names, sectors } => copy(names, sectors.sectors(), session),
         Task::Judge {
             script,
             moment,
             image,
-        } => judge(alloc, explains, script, moment, image, files, out, err),
+        } => judge(script, moment, image, session),
         Task::Path {
             script,
             moment,
             image,
-        } => path(alloc, explains, script, moment, image, files, out, err),
-        Task::Formats(page) => print_page(alloc, page, out, err),
-        Task::Show(text) => show(alloc, text, out, err),
-        Task::Flawed(flaw, word) => tell_flaw(flaw, word, err),
+        } => path(script, moment, image, session),
+        Task::Formats(page) => {
+            print_page(session.alloc, page, &mut session.out, &mut session.err)
+        }
+        Task::Show(text) => show(session.alloc, text, &mut session.out, &mut session.err),
+        Task::Flawed(flaw, word) => tell_flaw(flaw, word, &mut session.err),
     }
 }
 

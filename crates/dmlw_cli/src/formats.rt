@@ -1,6 +1,8 @@
+// The page of the formats, which has the text of docs/FORMATS.md.
+// The search alone proves it.
+
 /// The page that `dmlw help formats` prints: what is read
 /// and printed. docs/FORMATS.md has the same text.
-// The search alone proves it.
 pub const FORMATS: &str = r#"# Formats
 
 What dmlw reads and prints. Every line ends with a line feed. The log's own bytes are those of the kernel's dm-log-writes, version 1

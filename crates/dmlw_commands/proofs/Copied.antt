@@ -48,8 +48,6 @@ use Rattle.run_error.specs.Errors.{refused_by}
 use Rattle.dmlw_files.specs.Files.{MatchesContents}
 use Rattle.dmlw_files.specs.Images.{IsImage, image_of}
 use Rattle.dmlw_commands.specs.declared.copy_log.images.Copied.{Copied}
-use Rattle.dmlw_commands.specs.declared.copy_log.stop.Stop.{Stop}
-use Rattle.dmlw_commands.specs.declared.copy_log.stop.Stop.TheVariants as stops
 use Rattle.dmlw_commands.specs.CopiesLog.{FailsCopy, FailsOnImage, HasStopCause, IsCopied}
 use Rattle.dmlw_commands.specs.CopiesLog.{IsCopiedFrom, LacksRoom, StopsCopy, memory, of_image}
 use Rattle.dmlw_commands.specs.CopiesLog.{unopened}
@@ -67,16 +65,16 @@ content_whole v lawful =
     (lawful.nested v.moment v.content (omega arith) lawful.current)
 
 -- why a log isn't opened is why it isn't copied
-pub fails_to_open : (log : List ℕ) (sectors : ℕ) (fault : RunError) (stop : Stop)
-    → RefusesOpen log fault → stop ≡ stops.Fault fault
+pub fails_to_open : (log : List ℕ) (sectors : ℕ) (fault : RunError) (stop : RunError)
+    → RefusesOpen log fault → stop ≡ fault
     → FailsOnImage log sectors stop
 fails_to_open log sectors fault stop (inl is) same =
-    subst (FailsOnImage log sectors) (sym (same ∙ ap (λ (f : RunError). stops.Fault f) is)) memory
+    subst (FailsOnImage log sectors) (sym (same ∙ is)) memory
 fails_to_open log sectors fault stop (inr refuses) same =
     subst (FailsOnImage log sectors) (sym same) (unopened fault refuses)
 
 -- what came of the image in a file came of the file
-pub copied_from : (log_file : Option (List ℕ)) (log : List ℕ) (sectors : ℕ) (r : Result Copied Stop)
+pub copied_from : (log_file : Option (List ℕ)) (log : List ℕ) (sectors : ℕ) (r : Result Copied RunError)
     → MatchesContents log_file log → IsImage log
     → IfOk r (λ done. IsCopied log done.count sectors (image_of done.disk))
     → IfOk r (λ done. IsCopiedFrom log_file done.count sectors (image_of done.disk))
@@ -85,7 +83,7 @@ copied_from log_file log sectors (Ok done) read image is =
 copied_from log_file log sectors (Err stop) read image is = is
 
 -- and what failed of it failed of the file
-pub failed_from : (log_file : Option (List ℕ)) (log : List ℕ) (sectors : ℕ) (r : Result Copied Stop)
+pub failed_from : (log_file : Option (List ℕ)) (log : List ℕ) (sectors : ℕ) (r : Result Copied RunError)
     → MatchesContents log_file log → IsImage log
     → IfErr r (FailsOnImage log sectors) → IfErr r (FailsCopy log_file sectors)
 failed_from log_file log sectors (Ok done) read image fails = fails

@@ -22,19 +22,18 @@ use Rattle.log_copy.specs.declared.fault.CopyFault.{CopyFault}
 use Rattle.log_copy.specs.Resized.{is_aligned_to, resized}
 use Rattle.refusals.specs.declared.refusal.Refusal.{Refusal}
 use Rattle.refusals.specs.declared.refusal.Refusal.TheVariants as refusals
+use Rattle.refusals.specs.Texts.{refusal_text}
 use Rattle.run_error.specs.declared.run_error.RunError.{RunError}
 use Rattle.run_error.specs.declared.run_error.RunError.TheVariants as faults
-use Rattle.run_error.specs.Errors.{refused_by}
+use Rattle.run_error.specs.Errors.{IsFileError, refused_by}
 use Rattle.dmlw_commands.specs.declared.ending.Ended.{Ended}
 use Rattle.dmlw_commands.specs.declared.exit.Exit.TheVariants as exits
 use Rattle.dmlw_commands.specs.Endings.{ErrStream}
-use Rattle.dmlw_commands.specs.Exits.{fault_line, stopped_line}
+use Rattle.dmlw_commands.specs.Exits.{exit_by, exit_of, fault_line}
 use Rattle.dmlw_files.specs.Files.{Write}
-use Rattle.dmlw_commands.specs.declared.copy_log.stop.Stop.{Stop}
-use Rattle.dmlw_commands.specs.declared.copy_log.stop.Stop.TheVariants as stops
 use Rattle.dmlw_commands.specs.CopiesLog.{Copies, EndsCopying, FailsCopy, HasStopCause, HoldsCopied}
 use Rattle.dmlw_commands.specs.CopiesLog.{IsCopied, IsCopiedFrom, PrintsCopy, StopsCopy}
-use Rattle.dmlw_commands.specs.CopiesLog.{copied_line, copy_exit, copy_line, file, of_image}
+use Rattle.dmlw_commands.specs.CopiesLog.{copied_line, copy_stopped, file, of_image}
 use Rattle.dmlw_commands.specs.CopiesLog.{unopened}
 use Rattle.dmlw_commands.proofs.Alike.{copy_whole}
 
@@ -43,27 +42,19 @@ line_twelve : copied_line 12 ≡ codes "copied " ++ (decimal 12 ++ codes "\n")
 line_twelve = refl
 
 -- the line of a stop, and how it ends
-line_stop : copy_line (Err (stops.Copy (record { applied = 2; cause = copies.Unaligned })))
-    ≡ stopped_line 2 refusals.Unaligned
+line_stop : fault_line (copy_stopped (record { applied = 2; cause = copies.Unaligned }))
+    ≡ codes "dmlw: "
+    ++ (refusal_text refusals.Unaligned ++ codes " after " ++ decimal 2 ++ codes " entries") ++ codes "\n"
 line_stop = refl
 
-line_full : copy_line (Err (stops.Copy (record { applied = 2; cause = copies.Store ends.Full })))
-    ≡ stopped_line 2 refusals.Full
+line_full : fault_line (copy_stopped (record { applied = 2; cause = copies.Store ends.Full }))
+    ≡ codes "dmlw: "
+    ++ (refusal_text refusals.Full ++ codes " after " ++ decimal 2 ++ codes " entries") ++ codes "\n"
 line_full = refl
 
-line_fault : copy_line (Err (stops.Fault (refused_by refusals.File)))
-    ≡ fault_line (refused_by refusals.File)
-line_fault = refl
-
-line_done : copy_line (Ok 2) ≡ []
-line_done = refl
-
-exit_stop : copy_exit (Err (stops.Copy (record { applied = 2; cause = copies.Unaligned })))
+exit_stop : exit_of (copy_stopped (record { applied = 2; cause = copies.Unaligned }))
     ≡ exits.Refused
 exit_stop = refl
-
-exit_done : copy_exit (Ok 2) ≡ exits.Done
-exit_done = refl
 
 -- an entry of sectors 8 to 15 of 512 bytes, and one of sectors 9 to 16, which in log sectors of
 -- 4,096 bytes isn't aligned
@@ -217,9 +208,10 @@ stops_none sectors stop told = let begins = told.reading.super_block in cc
 abbrev told : RunError → Refusal
 told (faults.Refused fault) = fault.refusal
 told (faults.LoggingEnded end) = refusals.File
+told (faults.StoppedAfter applied refusal) = refusal
 
 fails_busy : (log_file : Option (List ℕ)) (sectors : ℕ)
-    → FailsCopy log_file sectors (stops.Fault (refused_by refusals.Busy)) → ⊥
+    → FailsCopy log_file sectors (refused_by refusals.Busy) → ⊥
 fails_busy log_file sectors (file fault (inl is)) =
     let same : refusals.Busy ≡ refusals.File = ap told is in cc
 fails_busy log_file sectors (file fault (inr is)) =
@@ -250,19 +242,24 @@ prints_nothing : (log_file : Option (List ℕ)) (sectors : ℕ)
     → PrintsCopy log_file [] sectors None None (Some []) (Some []) 0 → ⊥
 prints_nothing log_file sectors told = let printed = told.printed in cc
 
+-- a stop isn't a file's error
+no_file : (applied : ℕ) (refusal : Refusal) → IsFileError (faults.StoppedAfter applied refusal) → ⊥
+no_file applied refusal (inl is) = cc
+no_file applied refusal (inr is) = cc
+
 -- one that stops, and printed something, or asked for a file
 stops_printing : (log_file : Option (List ℕ)) (sectors : ℕ) (stop : CopyFault)
-    → Copies log_file [] sectors None None (Some []) (Some (1 ∷ [])) (Err (stops.Copy stop)) → ⊥
+    → Copies log_file [] sectors None None (Some []) (Some (1 ∷ [])) (Err (copy_stopped stop)) → ⊥
 stops_printing log_file sectors stop (inl (fails, kept, same)) = cc
-stops_printing log_file sectors stop (inr (inl (is, same))) = is
-stops_printing log_file sectors stop (inr (inr (is, count, prints))) = is
+stops_printing log_file sectors stop (inr (inl (is, same))) = no_file _ _ is
+stops_printing log_file sectors stop (inr (inr (is, count, prints))) = no_file _ _ is
 
 stops_asking : (log_file : Option (List ℕ)) (sectors : ℕ) (stop : CopyFault)
     → Copies log_file [] sectors (Some []) (Some (a_write ∷ [])) None None
-    (Err (stops.Copy stop)) → ⊥
+    (Err (copy_stopped stop)) → ⊥
 stops_asking log_file sectors stop (inl (fails, kept, same)) = cc
-stops_asking log_file sectors stop (inr (inl (is, same))) = is
-stops_asking log_file sectors stop (inr (inr (is, count, prints))) = is
+stops_asking log_file sectors stop (inr (inl (is, same))) = no_file _ _ is
+stops_asking log_file sectors stop (inr (inr (is, count, prints))) = no_file _ _ is
 
 -- a file that holds no image holds none that came of a copy
 holds_none : (log_file : Option (List ℕ)) → HoldsCopied log_file 8 (Some []) → ⊥
@@ -277,8 +274,8 @@ ends_ruled_out : (log_file : Option (List ℕ)) (name : List ℕ) (sectors : ℕ
     → ended.exit ≡ exits.RuledOut → ⊥
 ends_ruled_out log_file name sectors t ended told is = ends_so told.done (sym told.tells.exits ∙ is)
   where
-    ends_so : (done : Result ℕ Stop) → copy_exit done ≡ exits.RuledOut → ⊥
+    ends_so : (done : Result ℕ RunError) → exit_by done ≡ exits.RuledOut → ⊥
     ends_so (Ok count) same = cc
-    ends_so (Err (stops.Fault (faults.Refused fault))) same = cc
-    ends_so (Err (stops.Fault (faults.LoggingEnded end))) same = cc
-    ends_so (Err (stops.Copy fault)) same = cc
+    ends_so (Err (faults.Refused fault)) same = cc
+    ends_so (Err (faults.LoggingEnded end)) same = cc
+    ends_so (Err (faults.StoppedAfter applied refusal)) same = cc

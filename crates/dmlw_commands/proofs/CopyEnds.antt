@@ -11,14 +11,12 @@ use Rattle.run_error.specs.Errors.{IsFileError}
 use Rattle.dmlw_commands.specs.declared.ending.Ended.{Ended}
 use Rattle.dmlw_commands.specs.declared.exit.Exit.{Exit}
 use Rattle.dmlw_commands.specs.declared.exit.Exit.TheVariants.{Done, Refused}
-use Rattle.dmlw_commands.specs.Endings.{ErrStream, TellsLine}
-use Rattle.dmlw_commands.specs.Exits.{IsRefusal, exit_of}
+use Rattle.dmlw_commands.specs.Endings.{ErrStream, Tells}
+use Rattle.dmlw_commands.specs.Exits.{IsRefusal, exit_by, exit_of}
 use Rattle.dmlw_files.specs.Files.{KeepsFiles, MatchesContents, Write, one_more}
-use Rattle.dmlw_commands.specs.declared.copy_log.stop.Stop.{Stop}
-use Rattle.dmlw_commands.specs.declared.copy_log.stop.Stop.TheVariants as stops
 use Rattle.dmlw_commands.specs.CopiesLog.{EndsCopying, FailsOnImage, FailsCopy, HoldsCopied}
-use Rattle.dmlw_commands.specs.CopiesLog.{IsFileStop, IsCopiedFrom, PrintsCopy, Copies, file}
-use Rattle.dmlw_commands.specs.CopiesLog.{memory, of_image, copy_exit, copy_line, copied_line}
+use Rattle.dmlw_commands.specs.CopiesLog.{IsCopiedFrom, PrintsCopy, Copies, file}
+use Rattle.dmlw_commands.specs.CopiesLog.{memory, of_image, copied_line}
 use Rattle.dmlw_commands.specs.CopiesLog.{stopped, unopened}
 
 -- a file's error is a refusal
@@ -26,22 +24,17 @@ file_refused : (fault : RunError) → IsFileError fault → exit_of fault ≡ Re
 file_refused fault (inl is) = ap exit_of is
 file_refused fault (inr is) = ap exit_of is
 
--- a stop by a file is a refusal
-stop_refused : (stop : Stop) → IsFileStop stop → copy_exit (Err stop) ≡ Refused
-stop_refused (stops.Fault fault) is = file_refused fault is
-stop_refused (stops.Copy fault) is = absurd is
-
 -- so is each way in which copying fails on images
-image_refused : (log : List ℕ) (sectors : ℕ) (stop : Stop) → FailsOnImage log sectors stop
-    → copy_exit (Err stop) ≡ Refused
+image_refused : (log : List ℕ) (sectors : ℕ) (stop : RunError) → FailsOnImage log sectors stop
+    → exit_of stop ≡ Refused
 image_refused log sectors stop memory = refl
 image_refused log sectors stop (unopened fault refuses) = ap exit_of refuses.2
 image_refused log sectors stop (stopped fault stops) = refl
 
 -- and on files
-file_stop_refused : (log_file : Option (List ℕ)) (sectors : ℕ) (stop : Stop)
+file_stop_refused : (log_file : Option (List ℕ)) (sectors : ℕ) (stop : RunError)
     → FailsCopy log_file sectors stop
-    → copy_exit (Err stop) ≡ Refused
+    → exit_of stop ≡ Refused
 file_stop_refused log_file sectors stop (file fault is) = file_refused fault is
 file_stop_refused log_file sectors stop (of_image log same read is fails) =
     image_refused log sectors same fails
@@ -49,18 +42,18 @@ file_stop_refused log_file sectors stop (of_image log same read is fails) =
 -- a copy is done or refused
 pub done_or_refused : (log_file : Option (List ℕ)) (name : List ℕ) (sectors : ℕ)
     (writes_old writes_new : Option (List Write))
-    (old new : Option (List ℕ)) (done : Result ℕ Stop)
+    (old new : Option (List ℕ)) (done : Result ℕ RunError)
     → Copies log_file name sectors writes_old writes_new old new done
-    → (copy_exit done ≡ Done) ⊎ (copy_exit done ≡ Refused)
+    → (exit_by done ≡ Done) ⊎ (exit_by done ≡ Refused)
 done_or_refused log_file name sectors writes_old writes_new old new (Ok count) prints = inl refl
 done_or_refused log_file name sectors writes_old writes_new old new (Err stop) (inl (fails, none, same)) = inr (file_stop_refused log_file sectors stop fails)
-done_or_refused log_file name sectors writes_old writes_new old new (Err stop) (inr (inl (is, same))) = inr (stop_refused stop is)
-done_or_refused log_file name sectors writes_old writes_new old new (Err stop) (inr (inr (is, count, prints))) = inr (stop_refused stop is)
+done_or_refused log_file name sectors writes_old writes_new old new (Err stop) (inr (inl (is, same))) = inr (file_refused stop is)
+done_or_refused log_file name sectors writes_old writes_new old new (Err stop) (inr (inr (is, count, prints))) = inr (file_refused stop is)
 
 -- a copy that is refused keeps each file, as what it did kept it, and what came after that
-pub refused_keeps : (old middle new : List ℕ → Option (List ℕ)) (done : Result ℕ Stop) (exit : Exit)
+pub refused_keeps : (old middle new : List ℕ → Option (List ℕ)) (done : Result ℕ RunError) (exit : Exit)
     → OnErr done (KeepsFiles old middle) → KeepsFiles middle new
-    → exit ≡ copy_exit done → IsRefusal exit → KeepsFiles old new
+    → exit ≡ exit_by done → IsRefusal exit → KeepsFiles old new
 refused_keeps old middle new (Ok count) exit kept same is (inl refused) = absurd (cc (is, refused))
 refused_keeps old middle new (Ok count) exit kept same is (inr (inl refused)) =
     absurd (cc (is, refused))
@@ -84,7 +77,7 @@ prints_kept log_file name sectors writes_old writes_new old middle new count pri
 -- what copying came to stays so
 copies_kept : (log_file : Option (List ℕ)) (name : List ℕ) (sectors : ℕ)
     (writes_old writes_new : Option (List Write))
-    (old middle new : Option (List ℕ)) (done : Result ℕ Stop)
+    (old middle new : Option (List ℕ)) (done : Result ℕ RunError)
     → Copies log_file name sectors writes_old writes_new old middle done → Keeps middle new
     → Copies log_file name sectors writes_old writes_new old new done
 copies_kept log_file name sectors writes_old writes_new old middle new (Ok count) prints kept =
@@ -105,10 +98,10 @@ copies_kept log_file name sectors writes_old writes_new old middle new (Err stop
 -- how a copy ends
 pub copying_ends : (log_file : Option (List ℕ)) (name : List ℕ) (sectors : ℕ)
     (writes_old writes_middle writes_new : Option (List Write))
-    (old middle new : Option (List ℕ)) (t : ErrStream) (done : Result ℕ Stop) (ended : Ended)
+    (old middle new : Option (List ℕ)) (t : ErrStream) (done : Result ℕ RunError) (ended : Ended)
     → Copies log_file name sectors writes_old writes_middle old middle done → Keeps middle new
     → writes_new ≡ writes_middle
-    → TellsLine t (copy_exit done) (copy_line done) ended
+    → Tells t done ended
     → EndsCopying log_file name sectors writes_old writes_new old new t ended
 copying_ends log_file name sectors writes_old writes_middle writes_new old middle new t done ended came kept same tells = record {
   done = done;
@@ -141,7 +134,7 @@ pub not_handed_over : (log_file : Option (List ℕ)) (name : List ℕ) (sectors 
     → writes_middle ≡ writes_old → IsFileError fault
     → (writes_new ≡ writes_middle)
     ⊎ (Appends old new (copied_line count) × (writes_new ≡ one_more writes_middle name image))
-    → Copies log_file name sectors writes_old writes_new old new (Err (stops.Fault fault))
+    → Copies log_file name sectors writes_old writes_new old new (Err fault)
 not_handed_over log_file name sectors writes_old writes_middle writes_new old new count image fault
     copied same is (inl none) =
     inr (inl (is, none ∙ same))
@@ -155,8 +148,8 @@ not_handed_over log_file name sectors writes_old writes_middle writes_new old ne
     ))
 
 -- a file that can't be used ends a copy
-pub fails_by_file : (log_file : Option (List ℕ)) (sectors : ℕ) (fault : RunError) (stop : Stop)
-    → IsFileError fault → stop ≡ stops.Fault fault
+pub fails_by_file : (log_file : Option (List ℕ)) (sectors : ℕ) (fault : RunError) (stop : RunError)
+    → IsFileError fault → stop ≡ fault
     → FailsCopy log_file sectors stop
 fails_by_file log_file sectors fault stop is same =
     subst (FailsCopy log_file sectors) (sym same) (file fault is)
@@ -164,7 +157,7 @@ fails_by_file log_file sectors fault stop is same =
 -- nothing was printed, and no file asked for, where copying fails before that
 pub not_copied : (log_file : Option (List ℕ)) (name : List ℕ) (sectors : ℕ)
     (writes_old writes_new : Option (List Write)) (old : Option (List ℕ))
-    (stop : Stop) (r : Result ℕ Stop) → FailsCopy log_file sectors stop → writes_new ≡ writes_old
+    (stop : RunError) (r : Result ℕ RunError) → FailsCopy log_file sectors stop → writes_new ≡ writes_old
     → IsErrAnd r (λ e. e ≡ stop)
     → Copies log_file name sectors writes_old writes_new old old r
 not_copied log_file name sectors writes_old writes_new old stop (Ok count) fails same is = absurd is
@@ -180,13 +173,18 @@ holds_copied log_file written sectors count image copied held =
 
 -- and after a copy that is done it is held still, where each file was kept since
 pub done_holds : (log_file : Option (List ℕ)) (sectors : ℕ) (middle new : List ℕ → Option (List ℕ))
-    (name : List ℕ) (done : Result ℕ Stop) (exit : Exit)
+    (name : List ℕ) (done : Result ℕ RunError) (exit : Exit)
     → OnOk done (HoldsCopied log_file sectors (middle name)) → KeepsFiles middle new
-    → exit ≡ copy_exit done → exit ≡ Done
+    → exit ≡ exit_by done → exit ≡ Done
     → HoldsCopied log_file sectors (new name)
 done_holds log_file sectors middle new name (Ok count) exit held kept same is =
     subst (HoldsCopied log_file sectors) (sym (kept name)) held
-done_holds log_file sectors middle new name (Err (stops.Fault (faults.Refused fault))) exit held kept same is = absurd (cc (same, is))
-done_holds log_file sectors middle new name (Err (stops.Fault (faults.LoggingEnded end))) exit held kept same is = absurd (cc (same, is))
-done_holds log_file sectors middle new name (Err (stops.Copy fault)) exit held kept same is =
+done_holds log_file sectors middle new name
+    (Err (faults.Refused fault)) exit held kept same is =
+    absurd (cc (same, is))
+done_holds log_file sectors middle new name
+    (Err (faults.LoggingEnded end)) exit held kept same is =
+    absurd (cc (same, is))
+done_holds log_file sectors middle new name
+    (Err (faults.StoppedAfter applied refusal)) exit held kept same is =
     absurd (cc (same, is))

@@ -32,7 +32,7 @@ use Rattle.dmlw_commands.specs.declared.exit.Exit.TheVariants as exits
 use Rattle.dmlw_commands.specs.Endings.{EndsRecording, EndsShowing, ErrStream, TellsLine}
 use Rattle.dmlw_commands.specs.Endings.{err_stream}
 use Rattle.dmlw_commands.specs.Exits.{IsRefusal, exit_after, exit_at, exit_by, fault_line}
-use Rattle.dmlw_commands.specs.Exits.{status_of, stopped_line}
+use Rattle.dmlw_commands.specs.Exits.{status_of}
 use Rattle.dmlw_commands.specs.Lists.{IsUnopened, ListsImage, Shows, ShowsContents, ShowsFile}
 use Rattle.dmlw_commands.specs.Lists.{ShowsStatus, list_text}
 use Rattle.dmlw_commands.specs.Records.{FailsRecording, HoldsLog, IsPrintedLog, Records, WritesLog}
@@ -70,7 +70,7 @@ exit_unmade = refl
 exit_refused : exit_after (Err (refused_by refusals.File)) ≡ exits.Refused
 exit_refused = refl
 
-exit_done : exit_by (Ok tt) ≡ exits.Done
+exit_done : exit_by {T = Unit {0}} (Ok tt) ≡ exits.Done
 exit_done = refl
 
 -- neither what is done nor what ended is refused
@@ -98,9 +98,9 @@ line_ended : fault_line (faults.LoggingEnded Full)
     ≡ codes "dmlw: " ++ (decimal 18 ++ codes " " ++ codes "Full") ++ codes "\n"
 line_ended = refl
 
-line_stopped : stopped_line 12 refusals.NoFlush
-    ≡ codes "dmlw: " ++ (decimal 26 ++ codes " " ++ codes "NoFlush") ++ codes " after "
-    ++ decimal 12 ++ codes " entries\n"
+line_stopped : fault_line (faults.StoppedAfter 12 refusals.NoFlush)
+    ≡ codes "dmlw: " ++ ((decimal 26 ++ codes " " ++ codes "NoFlush") ++ codes " after "
+    ++ decimal 12 ++ codes " entries") ++ codes "\n"
 line_stopped = refl
 
 -- ---- what is told
@@ -355,6 +355,7 @@ ends_usage contents before after name writes_old writes_new t ended told is =
     by_done (Ok status) same = by_end status.end same
     by_done (Err (faults.Refused fault)) same = cc
     by_done (Err (faults.LoggingEnded end)) same = cc
+    by_done (Err (faults.StoppedAfter applied refusal)) same = cc
 
 ends_recorded : (contents before after : Option (List ℕ)) (name : List ℕ)
     (writes_old writes_new : Option (List Write)) (t : ErrStream) (ended : Ended)
@@ -379,3 +380,4 @@ shows_undone contents old new writes_old writes_new t ended told is =
     by_done (Ok did) shown same = shown.shown
     by_done (Err (faults.Refused fault)) shown same = cc
     by_done (Err (faults.LoggingEnded end)) shown same = cc
+    by_done (Err (faults.StoppedAfter applied refusal)) shown same = cc

@@ -199,6 +199,9 @@ done_holds contents before middle after mid new name (Ok status) exit log quiet 
     kept (sym is ∙ same)
 done_holds contents before middle after mid new name (Err (faults.Refused fault)) exit log quiet kept same is = absurd (cc (same, is))
 done_holds contents before middle after mid new name (Err (faults.LoggingEnded end)) exit log quiet kept same is = absurd (cc (same, is))
+done_holds contents before middle after mid new name
+    (Err (faults.StoppedAfter applied refusal)) exit log quiet kept same is =
+    absurd (cc (same, is))
 
 -- one in which logging ended leaves it there too, or each file as it was
 pub ended_holds : (contents : Option (List ℕ)) (before middle after : Option (List ℕ))

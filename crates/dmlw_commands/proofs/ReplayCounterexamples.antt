@@ -20,23 +20,22 @@ use Rattle.log_reader.specs.ReadLaws.{same_reading}
 use Rattle.log_reader.specs.Readings.{IsReading}
 use Rattle.refusals.specs.declared.refusal.Refusal.{Refusal}
 use Rattle.refusals.specs.declared.refusal.Refusal.TheVariants as refusals
+use Rattle.refusals.specs.Texts.{refusal_text}
 use Rattle.replay.specs.declared.fault.ReplayError.TheVariants as replays
 use Rattle.replay.specs.declared.fault.ReplayFault.{ReplayFault}
 use Rattle.replay.specs.declared.upto.Upto.{Upto}
 use Rattle.replay.specs.declared.upto.Upto.TheVariants.{Count, Flush, Mark}
 use Rattle.run_error.specs.declared.run_error.RunError.{RunError}
 use Rattle.run_error.specs.declared.run_error.RunError.TheVariants as faults
-use Rattle.run_error.specs.Errors.{refused_by}
+use Rattle.run_error.specs.Errors.{IsFileError, refused_by}
 use Rattle.dmlw_commands.specs.declared.ending.Ended.{Ended}
 use Rattle.dmlw_commands.specs.declared.exit.Exit.TheVariants as exits
 use Rattle.dmlw_commands.specs.Endings.{ErrStream}
-use Rattle.dmlw_commands.specs.Exits.{fault_line, stopped_line}
+use Rattle.dmlw_commands.specs.Exits.{exit_by, exit_of, fault_line}
 use Rattle.dmlw_files.specs.Files.{Write}
-use Rattle.dmlw_commands.specs.declared.replay_log.stop.Stop.{Stop}
-use Rattle.dmlw_commands.specs.declared.replay_log.stop.Stop.TheVariants as stops
 use Rattle.dmlw_commands.specs.Replays.{AreImages, EndsReplaying, FailsReplay, HasStopCause}
 use Rattle.dmlw_commands.specs.Replays.{HoldsReplayed, IsReplayed, PrintsReplay, Replays}
-use Rattle.dmlw_commands.specs.Replays.{StopsReplay, file, images, replay_exit, replay_line}
+use Rattle.dmlw_commands.specs.Replays.{StopsReplay, file, images, replay_stopped}
 use Rattle.dmlw_commands.specs.Replays.{replayed_line, unopened}
 use Rattle.dmlw_commands.specs.Whats.{IsNoWhat, IsWhat}
 
@@ -90,23 +89,14 @@ line_twelve : replayed_line 12 ≡ codes "replayed " ++ (decimal 12 ++ codes "\n
 line_twelve = refl
 
 -- the line of a stop, and how it ends
-line_stop : replay_line (Err (stops.Replay (record { applied = 2; cause = replays.PastEntries })))
-    ≡ stopped_line 2 refusals.PastEntries
+line_stop : fault_line (replay_stopped (record { applied = 2; cause = replays.PastEntries }))
+    ≡ codes "dmlw: "
+    ++ (refusal_text refusals.PastEntries ++ codes " after " ++ decimal 2 ++ codes " entries") ++ codes "\n"
 line_stop = refl
 
-line_fault : replay_line (Err (stops.Fault (refused_by refusals.File)))
-    ≡ fault_line (refused_by refusals.File)
-line_fault = refl
-
-line_done : replay_line (Ok 2) ≡ []
-line_done = refl
-
-exit_stop : replay_exit (Err (stops.Replay (record { applied = 2; cause = replays.PastEntries })))
+exit_stop : exit_of (replay_stopped (record { applied = 2; cause = replays.PastEntries }))
     ≡ exits.Refused
 exit_stop = refl
-
-exit_done : replay_exit (Ok 2) ≡ exits.Done
-exit_done = refl
 
 -- files that hold other bytes, and bytes that are no image
 images_log : (first : List ℕ) (first_file : Option (List ℕ))
@@ -239,9 +229,10 @@ stops_none first upto stop told = let begins = told.reading.super_block in cc
 abbrev told : RunError → Refusal
 told (faults.Refused fault) = fault.refusal
 told (faults.LoggingEnded end) = refusals.File
+told (faults.StoppedAfter applied refusal) = refusal
 
 fails_busy : (log_file first_file : Option (List ℕ)) (upto : Upto)
-    → FailsReplay log_file first_file upto (stops.Fault (refused_by refusals.Busy)) → ⊥
+    → FailsReplay log_file first_file upto (refused_by refusals.Busy) → ⊥
 fails_busy log_file first_file upto (file fault (inl is)) =
     let same : refusals.Busy ≡ refusals.File = ap told is in cc
 fails_busy log_file first_file upto (file fault (inr is)) =
@@ -271,20 +262,25 @@ prints_nothing : (log_file first_file : Option (List ℕ)) (upto : Upto)
     → PrintsReplay log_file first_file [] upto None None (Some []) (Some []) 0 → ⊥
 prints_nothing log_file first_file upto told = let printed = told.printed in cc
 
+-- a stop isn't a file's error
+no_file : (applied : ℕ) (refusal : Refusal) → IsFileError (faults.StoppedAfter applied refusal) → ⊥
+no_file applied refusal (inl is) = cc
+no_file applied refusal (inr is) = cc
+
 -- one that stops, and printed something, or asked for a file
 stops_printing : (log_file first_file : Option (List ℕ)) (upto : Upto) (stop : ReplayFault)
     → Replays log_file first_file [] upto None None (Some []) (Some (1 ∷ []))
-    (Err (stops.Replay stop)) → ⊥
+    (Err (replay_stopped stop)) → ⊥
 stops_printing log_file first_file upto stop (inl (fails, kept, same)) = cc
-stops_printing log_file first_file upto stop (inr (inl (is, same))) = is
-stops_printing log_file first_file upto stop (inr (inr (is, count, prints))) = is
+stops_printing log_file first_file upto stop (inr (inl (is, same))) = no_file _ _ is
+stops_printing log_file first_file upto stop (inr (inr (is, count, prints))) = no_file _ _ is
 
 stops_asking : (log_file first_file : Option (List ℕ)) (upto : Upto) (stop : ReplayFault)
     → Replays log_file first_file [] upto (Some []) (Some (a_write ∷ [])) None None
-    (Err (stops.Replay stop)) → ⊥
+    (Err (replay_stopped stop)) → ⊥
 stops_asking log_file first_file upto stop (inl (fails, kept, same)) = cc
-stops_asking log_file first_file upto stop (inr (inl (is, same))) = is
-stops_asking log_file first_file upto stop (inr (inr (is, count, prints))) = is
+stops_asking log_file first_file upto stop (inr (inl (is, same))) = no_file _ _ is
+stops_asking log_file first_file upto stop (inr (inr (is, count, prints))) = no_file _ _ is
 
 -- a file that holds no image holds none that came of a replay
 holds_none : (log_file first_file : Option (List ℕ)) (upto : Upto)
@@ -302,8 +298,8 @@ ends_usage : (log_file first_file : Option (List ℕ)) (name : List ℕ) (upto :
 ends_usage log_file first_file name upto t ended told is =
     ends told.done (sym told.tells.exits ∙ is)
   where
-    ends : (done : Result ℕ Stop) → replay_exit done ≡ exits.RuledOut → ⊥
+    ends : (done : Result ℕ RunError) → exit_by done ≡ exits.RuledOut → ⊥
     ends (Ok count) same = cc
-    ends (Err (stops.Fault (faults.Refused fault))) same = cc
-    ends (Err (stops.Fault (faults.LoggingEnded end))) same = cc
-    ends (Err (stops.Replay fault)) same = cc
+    ends (Err (faults.Refused fault)) same = cc
+    ends (Err (faults.LoggingEnded end)) same = cc
+    ends (Err (faults.StoppedAfter applied refusal)) same = cc

@@ -12,14 +12,12 @@ use Rattle.replay.specs.declared.upto.Upto.{Upto}
 use Rattle.dmlw_commands.specs.declared.ending.Ended.{Ended}
 use Rattle.dmlw_commands.specs.declared.exit.Exit.{Exit}
 use Rattle.dmlw_commands.specs.declared.exit.Exit.TheVariants.{Done, Refused}
-use Rattle.dmlw_commands.specs.Endings.{ErrStream, TellsLine}
-use Rattle.dmlw_commands.specs.Exits.{IsRefusal, exit_of}
+use Rattle.dmlw_commands.specs.Endings.{ErrStream, Tells}
+use Rattle.dmlw_commands.specs.Exits.{IsRefusal, exit_by, exit_of}
 use Rattle.dmlw_files.specs.Files.{KeepsFiles, MatchesContents, Write, one_more}
-use Rattle.dmlw_commands.specs.declared.replay_log.stop.Stop.{Stop}
-use Rattle.dmlw_commands.specs.declared.replay_log.stop.Stop.TheVariants as stops
 use Rattle.dmlw_commands.specs.Replays.{EndsReplaying, FailsOnImages, FailsReplay, HoldsReplayed}
-use Rattle.dmlw_commands.specs.Replays.{IsFileStop, IsReplayedFrom, PrintsReplay, Replays, file}
-use Rattle.dmlw_commands.specs.Replays.{images, memory, replay_exit, replay_line, replayed_line}
+use Rattle.dmlw_commands.specs.Replays.{IsReplayedFrom, PrintsReplay, Replays, file}
+use Rattle.dmlw_commands.specs.Replays.{images, memory, replayed_line}
 use Rattle.dmlw_commands.specs.Replays.{stopped, unopened}
 
 -- a file's error is a refusal
@@ -27,22 +25,17 @@ file_refused : (fault : RunError) → IsFileError fault → exit_of fault ≡ Re
 file_refused fault (inl is) = ap exit_of is
 file_refused fault (inr is) = ap exit_of is
 
--- a stop by a file is a refusal
-stop_refused : (stop : Stop) → IsFileStop stop → replay_exit (Err stop) ≡ Refused
-stop_refused (stops.Fault fault) is = file_refused fault is
-stop_refused (stops.Replay fault) is = absurd is
-
 -- so is each way in which replaying fails on images
-images_refused : (log first : List ℕ) (upto : Upto) (stop : Stop)
-    → FailsOnImages log first upto stop → replay_exit (Err stop) ≡ Refused
+images_refused : (log first : List ℕ) (upto : Upto) (stop : RunError)
+    → FailsOnImages log first upto stop → exit_of stop ≡ Refused
 images_refused log first upto stop memory = refl
 images_refused log first upto stop (unopened fault refuses) = ap exit_of refuses.2
 images_refused log first upto stop (stopped fault stops) = refl
 
 -- and on files
-files_refused : (log_file first_file : Option (List ℕ)) (upto : Upto) (stop : Stop)
+files_refused : (log_file first_file : Option (List ℕ)) (upto : Upto) (stop : RunError)
     → FailsReplay log_file first_file upto stop
-    → replay_exit (Err stop) ≡ Refused
+    → exit_of stop ≡ Refused
 files_refused log_file first_file upto stop (file fault is) = file_refused fault is
 files_refused log_file first_file upto stop (images log first same are fails) =
     images_refused log first upto same fails
@@ -50,19 +43,19 @@ files_refused log_file first_file upto stop (images log first same are fails) =
 -- a replay is done or refused
 pub done_or_refused : (log_file first_file : Option (List ℕ)) (name : List ℕ) (upto : Upto)
     (writes_old writes_new : Option (List Write))
-    (old new : Option (List ℕ)) (done : Result ℕ Stop)
+    (old new : Option (List ℕ)) (done : Result ℕ RunError)
     → Replays log_file first_file name upto writes_old writes_new old new done
-    → (replay_exit done ≡ Done) ⊎ (replay_exit done ≡ Refused)
+    → (exit_by done ≡ Done) ⊎ (exit_by done ≡ Refused)
 done_or_refused log_file first_file name upto writes_old writes_new old new (Ok count) prints =
     inl refl
 done_or_refused log_file first_file name upto writes_old writes_new old new (Err stop) (inl (fails, none, same)) = inr (files_refused log_file first_file upto stop fails)
-done_or_refused log_file first_file name upto writes_old writes_new old new (Err stop) (inr (inl (is, same))) = inr (stop_refused stop is)
-done_or_refused log_file first_file name upto writes_old writes_new old new (Err stop) (inr (inr (is, count, prints))) = inr (stop_refused stop is)
+done_or_refused log_file first_file name upto writes_old writes_new old new (Err stop) (inr (inl (is, same))) = inr (file_refused stop is)
+done_or_refused log_file first_file name upto writes_old writes_new old new (Err stop) (inr (inr (is, count, prints))) = inr (file_refused stop is)
 
 -- a replay that is refused keeps each file, as what it did kept it, and what came after that
-pub refused_keeps : (old middle new : List ℕ → Option (List ℕ)) (done : Result ℕ Stop) (exit : Exit)
+pub refused_keeps : (old middle new : List ℕ → Option (List ℕ)) (done : Result ℕ RunError) (exit : Exit)
     → OnErr done (KeepsFiles old middle) → KeepsFiles middle new
-    → exit ≡ replay_exit done → IsRefusal exit → KeepsFiles old new
+    → exit ≡ exit_by done → IsRefusal exit → KeepsFiles old new
 refused_keeps old middle new (Ok count) exit kept same is (inl refused) = absurd (cc (is, refused))
 refused_keeps old middle new (Ok count) exit kept same is (inr (inl refused)) =
     absurd (cc (is, refused))
@@ -88,7 +81,7 @@ prints_kept log_file first_file name upto writes_old writes_new old middle new c
 -- what replaying came to stays so
 replays_kept : (log_file first_file : Option (List ℕ)) (name : List ℕ) (upto : Upto)
     (writes_old writes_new : Option (List Write))
-    (old middle new : Option (List ℕ)) (done : Result ℕ Stop)
+    (old middle new : Option (List ℕ)) (done : Result ℕ RunError)
     → Replays log_file first_file name upto writes_old writes_new old middle done
     → Keeps middle new
     → Replays log_file first_file name upto writes_old writes_new old new done
@@ -111,10 +104,10 @@ replays_kept log_file first_file name upto writes_old writes_new old middle new 
 -- how a replay ends
 pub replaying_ends : (log_file first_file : Option (List ℕ)) (name : List ℕ) (upto : Upto)
     (writes_old writes_middle writes_new : Option (List Write))
-    (old middle new : Option (List ℕ)) (t : ErrStream) (done : Result ℕ Stop) (ended : Ended)
+    (old middle new : Option (List ℕ)) (t : ErrStream) (done : Result ℕ RunError) (ended : Ended)
     → Replays log_file first_file name upto writes_old writes_middle old middle done
     → Keeps middle new → writes_new ≡ writes_middle
-    → TellsLine t (replay_exit done) (replay_line done) ended
+    → Tells t done ended
     → EndsReplaying log_file first_file name upto writes_old writes_new old new t ended
 replaying_ends log_file first_file name upto writes_old writes_middle writes_new old middle new t done ended came kept same tells = record {
   done = done;
@@ -147,7 +140,7 @@ pub not_handed_over : (log_file first_file : Option (List ℕ)) (name : List ℕ
     → writes_middle ≡ writes_old → IsFileError fault
     → (writes_new ≡ writes_middle)
     ⊎ (Appends old new (replayed_line count) × (writes_new ≡ one_more writes_middle name image))
-    → Replays log_file first_file name upto writes_old writes_new old new (Err (stops.Fault fault))
+    → Replays log_file first_file name upto writes_old writes_new old new (Err fault)
 not_handed_over log_file first_file name upto writes_old writes_middle writes_new old new count
     image fault replayed same is (inl none) =
     inr (inl (is, none ∙ same))
@@ -162,7 +155,7 @@ not_handed_over log_file first_file name upto writes_old writes_middle writes_ne
 
 -- a file that can't be used ends a replay
 pub fails_by_file : (log_file first_file : Option (List ℕ)) (upto : Upto) (fault : RunError)
-    (stop : Stop) → IsFileError fault → stop ≡ stops.Fault fault
+    (stop : RunError) → IsFileError fault → stop ≡ fault
     → FailsReplay log_file first_file upto stop
 fails_by_file log_file first_file upto fault stop is same =
     subst (FailsReplay log_file first_file upto) (sym same) (file fault is)
@@ -170,7 +163,7 @@ fails_by_file log_file first_file upto fault stop is same =
 -- nothing was printed, and no file asked for, where replaying fails before that
 pub not_replayed : (log_file first_file : Option (List ℕ)) (name : List ℕ) (upto : Upto)
     (writes_old writes_new : Option (List Write)) (old : Option (List ℕ))
-    (stop : Stop) (r : Result ℕ Stop) → FailsReplay log_file first_file upto stop
+    (stop : RunError) (r : Result ℕ RunError) → FailsReplay log_file first_file upto stop
     → writes_new ≡ writes_old → IsErrAnd r (λ e. e ≡ stop)
     → Replays log_file first_file name upto writes_old writes_new old old r
 not_replayed log_file first_file name upto writes_old writes_new old stop (Ok count) fails same is =
@@ -187,12 +180,18 @@ holds_replayed log_file first_file written upto count image replayed held =
 
 -- and after a replay that is done it is held still, where each file was kept since
 pub done_holds : (log_file first_file : Option (List ℕ)) (upto : Upto)
-    (middle new : List ℕ → Option (List ℕ)) (name : List ℕ) (done : Result ℕ Stop) (exit : Exit)
+    (middle new : List ℕ → Option (List ℕ)) (name : List ℕ) (done : Result ℕ RunError) (exit : Exit)
     → OnOk done (HoldsReplayed log_file first_file upto (middle name)) → KeepsFiles middle new
-    → exit ≡ replay_exit done → exit ≡ Done
+    → exit ≡ exit_by done → exit ≡ Done
     → HoldsReplayed log_file first_file upto (new name)
 done_holds log_file first_file upto middle new name (Ok count) exit held kept same is =
     subst (HoldsReplayed log_file first_file upto) (sym (kept name)) held
-done_holds log_file first_file upto middle new name (Err (stops.Fault (faults.Refused fault))) exit held kept same is = absurd (cc (same, is))
-done_holds log_file first_file upto middle new name (Err (stops.Fault (faults.LoggingEnded end))) exit held kept same is = absurd (cc (same, is))
-done_holds log_file first_file upto middle new name (Err (stops.Replay fault)) exit held kept same is = absurd (cc (same, is))
+done_holds log_file first_file upto middle new name
+    (Err (faults.Refused fault)) exit held kept same is =
+    absurd (cc (same, is))
+done_holds log_file first_file upto middle new name
+    (Err (faults.LoggingEnded end)) exit held kept same is =
+    absurd (cc (same, is))
+done_holds log_file first_file upto middle new name
+    (Err (faults.StoppedAfter applied refusal)) exit held kept same is =
+    absurd (cc (same, is))

@@ -42,8 +42,6 @@ use Rattle.dmlw_files.specs.Images.{IsImage, image_of}
 use Rattle.dmlw_commands.specs.Lists.{RefusesImage}
 use Rattle.dmlw_files.specs.Files.{MatchesContents}
 use Rattle.dmlw_commands.specs.declared.replay_log.images.Replayed.{Replayed}
-use Rattle.dmlw_commands.specs.declared.replay_log.stop.Stop.{Stop}
-use Rattle.dmlw_commands.specs.declared.replay_log.stop.Stop.TheVariants as stops
 use Rattle.dmlw_commands.specs.ReplayOpened.{IsReplayedOn, stop_by}
 use Rattle.dmlw_commands.specs.Replays.{AreImages, FailsOnImages, FailsReplay, HasStopCause}
 use Rattle.dmlw_commands.specs.Replays.{IsReplayed, IsReplayedFrom, StopsReplay, images, memory}
@@ -59,18 +57,18 @@ pub honest : (v w : View) → v.lies ≡ 0 → w.lies ≡ 0 → NoLie v w
 honest v w first second = record { same = second ∙ sym first; counted = omega arith }
 
 -- why a log isn't opened is why it isn't replayed
-pub fails_to_open : (log first : List ℕ) (upto : Upto) (fault : RunError) (stop : Stop)
+pub fails_to_open : (log first : List ℕ) (upto : Upto) (fault : RunError) (stop : RunError)
     → (fault ≡ memory_error) ⊎ RefusesImage log fault
-    → stop ≡ stops.Fault fault → FailsOnImages log first upto stop
+    → stop ≡ fault → FailsOnImages log first upto stop
 fails_to_open log first upto fault stop (inl is) same =
     subst (FailsOnImages log first upto)
-    (sym (same ∙ ap (λ (f : RunError). stops.Fault f) is)) memory
+    (sym (same ∙ is)) memory
 fails_to_open log first upto fault stop (inr refuses) same =
     subst (FailsOnImages log first upto) (sym same) (unopened fault refuses)
 
 -- what came of the images in files came of the files
 pub replayed_from : (log_file first_file : Option (List ℕ)) (log first : List ℕ) (upto : Upto)
-    (r : Result Replayed Stop) → AreImages log_file first_file log first
+    (r : Result Replayed RunError) → AreImages log_file first_file log first
     → IfOk r (λ done. IsReplayed log first upto done.count (image_of done.disk))
     → IfOk r (λ done. IsReplayedFrom log_file first_file upto done.count (image_of done.disk))
 replayed_from log_file first_file log first upto (Ok done) are is =
@@ -79,7 +77,7 @@ replayed_from log_file first_file log first upto (Err stop) are is = is
 
 -- and what failed of them failed of the files
 pub failed_from : (log_file first_file : Option (List ℕ)) (log first : List ℕ) (upto : Upto)
-    (r : Result Replayed Stop) → AreImages log_file first_file log first
+    (r : Result Replayed RunError) → AreImages log_file first_file log first
     → IfErr r (FailsOnImages log first upto) → IfErr r (FailsReplay log_file first_file upto)
 failed_from log_file first_file log first upto (Ok done) are fails = fails
 failed_from log_file first_file log first upto (Err stop) are fails =
@@ -223,7 +221,7 @@ stopped_on log first upto stop disk last v w image log_begins begins reader targ
     }
 
 -- why a log isn't replayed on disks that never fail
-pub fails_on : (log first : List ℕ) (upto : Upto) (error : ReopenError) (stop : Stop)
+pub fails_on : (log first : List ℕ) (upto : Upto) (error : ReopenError) (stop : RunError)
     (disk last v w : View) → IsImage log
     → Begins (length log / 512) (sector_of log) disk
     → Begins (length first / 512) (sector_of first) v → (HasFaulted disk last → ⊥)

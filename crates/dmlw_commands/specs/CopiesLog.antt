@@ -1,7 +1,7 @@
 -- What copying the log in a file to a new log with sectors
 -- of 4,096 bytes comes to. A disk has sectors of 512 bytes.
 -- Any crate above may cite it.
-use Rattle.std.specs.Prelude.{◌≡◌, ◌⊎◌, ℕ, ◌+◌, ◌*◌, ◌≤◌, IsTrue, List, [], ◌++◌, Option, None}
+use Rattle.std.specs.Prelude.{◌≡◌, ◌⊎◌, ℕ, ◌+◌, ◌*◌, ◌≤◌, IsTrue, List, ◌++◌, Option, None}
 use Rattle.std.specs.Prelude.{Some, Result, Ok, Err, codes, length, map, slice_get, take}
 use Rattle.std.specs.Fmt.{decimal}
 use Rattle.std.specs.Io.KnownBytes.{Appends, Keeps}
@@ -22,18 +22,13 @@ use Rattle.log_copy.specs.Copies.{IsUnaligned}
 use Rattle.log_copy.specs.Refusals.{copy_refusal}
 use Rattle.log_copy.specs.Resized.{is_aligned_to, resized}
 use Rattle.run_error.specs.declared.run_error.RunError.{RunError}
+use Rattle.run_error.specs.declared.run_error.RunError.TheVariants.{StoppedAfter}
 use Rattle.run_error.specs.Errors.{IsFileError, memory_error}
 use Rattle.dmlw_commands.specs.declared.ending.Ended.{Ended}
-use Rattle.dmlw_commands.specs.declared.exit.Exit.{Exit}
-use Rattle.dmlw_commands.specs.declared.exit.Exit.TheVariants.{Done, Refused}
-use Rattle.dmlw_commands.specs.Endings.{ErrStream, TellsLine}
-use Rattle.dmlw_commands.specs.Exits.{exit_of, explained_fault, fault_line, stopped_line}
+use Rattle.dmlw_commands.specs.Endings.{ErrStream, Tells}
 use Rattle.dmlw_commands.specs.Lists.{RefusesImage}
-use Rattle.dmlw_explain.specs.declared.logs.Stopped.{Stopped}
 use Rattle.dmlw_files.specs.Files.{MatchesContents, Write, one_more}
 use Rattle.dmlw_files.specs.Images.{IsImage}
-use Rattle.dmlw_commands.specs.declared.copy_log.stop.Stop.{Stop}
-use Rattle.dmlw_commands.specs.declared.copy_log.stop.Stop.TheVariants as stops
 
 -- the line that says how many entries were copied
 abbrev pub copied_line : ℕ → List ℕ
@@ -82,20 +77,24 @@ pub record StopsCopy (log : List ℕ) (sectors : ℕ) (stop : CopyFault) : Type 
   pub aligned : IsTrue (list_all (is_aligned_to head.sectorsize 4096) (take stop.applied entries))
   pub cause : HasStopCause head entries fault sectors stop.applied stop.cause
 
+-- by what a copy ends that stopped so
+abbrev pub copy_stopped : CopyFault → RunError
+copy_stopped stop = StoppedAfter stop.applied (copy_refusal stop.cause)
+
 -- Why the log of an image isn't copied: there is no memory,
 -- the image isn't opened as a log, or the copy stops.
-pub data FailsOnImage (log : List ℕ) (sectors : ℕ) : Stop → Type 0 where
-  memory : FailsOnImage log sectors (stops.Fault memory_error)
+pub data FailsOnImage (log : List ℕ) (sectors : ℕ) : RunError → Type 0 where
+  memory : FailsOnImage log sectors memory_error
   unopened : (fault : RunError) → RefusesImage log fault
-      → FailsOnImage log sectors (stops.Fault fault)
+      → FailsOnImage log sectors fault
   stopped : (stop : CopyFault) → StopsCopy log sectors stop
-      → FailsOnImage log sectors (stops.Copy stop)
+      → FailsOnImage log sectors (copy_stopped stop)
 
 -- Why the log in a file isn't copied: a file can't be used, or
 -- there is no memory; or so it is of the image in the file.
-pub data FailsCopy (log_file : Option (List ℕ)) (sectors : ℕ) : Stop → Type 0 where
-  file : (fault : RunError) → IsFileError fault → FailsCopy log_file sectors (stops.Fault fault)
-  of_image : (log : List ℕ) (stop : Stop) → MatchesContents log_file log → IsImage log
+pub data FailsCopy (log_file : Option (List ℕ)) (sectors : ℕ) : RunError → Type 0 where
+  file : (fault : RunError) → IsFileError fault → FailsCopy log_file sectors fault
+  of_image : (log : List ℕ) (stop : RunError) → MatchesContents log_file log → IsImage log
       → FailsOnImage log sectors stop → FailsCopy log_file sectors stop
 
 -- the log in a file was copied, with so many entries, and this image came of it
@@ -124,50 +123,24 @@ pub record PrintsCopy (log_file : Option (List ℕ)) (name : List ℕ) (sectors 
   pub printed : Appends old new (copied_line count)
   pub asked : writes_new ≡ one_more writes_old name image
 
--- a file or the output can't be used, or there is no memory
-abbrev pub IsFileStop : Stop → Type 0
-IsFileStop (stops.Fault fault) = IsFileError fault
-IsFileStop (stops.Copy fault) = ⊥
-
 -- What copying comes to: it was done; or it fails, nothing was printed, and no file was asked to be
 -- written; or the output can't be written, and no file was asked to be; or the image can't be
 -- written, after the printing.
 abbrev pub Copies : Option (List ℕ) → List ℕ → ℕ → Option (List Write) → Option (List Write)
-    → Option (List ℕ) → Option (List ℕ) → Result ℕ Stop → Type 0
+    → Option (List ℕ) → Option (List ℕ) → Result ℕ RunError → Type 0
 Copies log_file name sectors writes_old writes_new old new (Ok count) =
     PrintsCopy log_file name sectors writes_old writes_new old new count
 Copies log_file name sectors writes_old writes_new old new (Err stop) =
     (FailsCopy log_file sectors stop × Keeps old new × (writes_new ≡ writes_old))
-    ⊎ (IsFileStop stop × (writes_new ≡ writes_old))
-    ⊎ (IsFileStop stop × (count : ℕ)
+    ⊎ (IsFileError stop × (writes_new ≡ writes_old))
+    ⊎ (IsFileError stop × (count : ℕ)
     × PrintsCopy log_file name sectors writes_old writes_new old new count)
-
--- how a copy ends that came to this
-abbrev pub copy_exit : Result ℕ Stop → Exit
-copy_exit (Ok count) = Done
-copy_exit (Err (stops.Fault fault)) = exit_of fault
-copy_exit (Err (stops.Copy fault)) = Refused
-
--- the line that a user is told of a copy that came to this:
--- of a fault, of a copy that stopped, or none
-abbrev pub copy_line : Result ℕ Stop → List ℕ
-copy_line (Ok count) = []
-copy_line (Err (stops.Fault fault)) = fault_line fault
-copy_line (Err (stops.Copy fault)) = stopped_line fault.applied (copy_refusal fault.cause)
-
--- what is explained of a copy that came to this: by what it was refused, and after how many
--- entries; nothing where it was done
-abbrev pub copy_explained : Result ℕ Stop → Option Stopped
-copy_explained (Ok count) = None
-copy_explained (Err (stops.Fault fault)) = Some (explained_fault fault)
-copy_explained (Err (stops.Copy fault)) =
-    Some (record { refusal = copy_refusal fault.cause; applied = fault.applied })
 
 -- How the copy of the log in a file to a disk of so many sectors ends, whose image goes into the
 -- file of this name: as what it did has it.
 pub record EndsCopying (log_file : Option (List ℕ)) (name : List ℕ) (sectors : ℕ)
     (writes_old writes_new : Option (List Write)) (old new : Option (List ℕ))
     (t : ErrStream) (ended : Ended) : Type 0 where
-  pub done : Result ℕ Stop
+  pub done : Result ℕ RunError
   pub copied : Copies log_file name sectors writes_old writes_new old new done
-  pub tells : TellsLine t (copy_exit done) (copy_line done) ended
+  pub tells : Tells t done ended

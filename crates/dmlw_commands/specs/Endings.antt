@@ -29,7 +29,7 @@ pub record TellsLine (t : ErrStream) (exit : Exit) (line : List ℕ) (ended : En
   pub quiet : t.explains ≡ false → line ≡ [] → t.after ≡ t.before
 
 -- what a command has told that did this: the one line of its fault, or none where it is done
-abbrev pub Tells : ErrStream → Result (Unit {0}) RunError → Ended → Type 0
+abbrev pub Tells : {T : Type 0} → ErrStream → Result T RunError → Ended → Type 0
 Tells t done ended = TellsLine t (exit_by done) (told_line done) ended
 
 -- How the recording of a script in a log of this name ends: as what it did has it.

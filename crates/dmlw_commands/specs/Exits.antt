@@ -3,16 +3,11 @@
 -- Any crate above may cite it.
 use Rattle.std.specs.Prelude.{◌⊎◌, ◌≡◌, ℕ, List, [], ◌++◌, None, Option, Result, Ok, Err, Some}
 use Rattle.std.specs.Prelude.{codes}
-use Rattle.std.specs.Fmt.{decimal}
 use Rattle.bio.specs.declared.outcome.End.{End}
 use Rattle.bio.specs.declared.outcome.Status.{Status}
-use Rattle.bio.specs.Refusals.{end_refusal}
-use Rattle.refusals.specs.declared.refusal.Refusal.{Refusal}
-use Rattle.refusals.specs.Texts.{refusal_text}
 use Rattle.run_error.specs.declared.run_error.RunError.{RunError}
 use Rattle.run_error.specs.declared.run_error.RunError.TheVariants as errors
 use Rattle.run_error.specs.Errors.{error_text}
-use Rattle.dmlw_explain.specs.declared.logs.Stopped.{Stopped}
 use Rattle.dmlw_commands.specs.declared.exit.Exit.{Exit}
 use Rattle.dmlw_commands.specs.declared.exit.Exit.TheVariants.{Done, Refused, Usage, LoggingEnded}
 use Rattle.dmlw_commands.specs.declared.exit.Exit.TheVariants.{RuledOut}
@@ -29,14 +24,10 @@ status_of RuledOut = 1
 abbrev pub exit_of : RunError → Exit
 exit_of (errors.Refused fault) = Refused
 exit_of (errors.LoggingEnded end) = LoggingEnded
-
--- what is explained of a command that ended by a fault: its refusal, at no entry
-abbrev pub explained_fault : RunError → Stopped
-explained_fault (errors.Refused fault) = record { refusal = fault.refusal; applied = 0 }
-explained_fault (errors.LoggingEnded end) = record { refusal = end_refusal end; applied = 0 }
+exit_of (errors.StoppedAfter applied refusal) = Refused
 
 -- how a command ends that did this
-abbrev pub exit_by : Result (Unit {0}) RunError → Exit
+abbrev pub exit_by : {T : Type 0} → Result T RunError → Exit
 exit_by (Ok done) = Done
 exit_by (Err fault) = exit_of fault
 
@@ -62,9 +53,3 @@ fault_line fault = codes "dmlw: " ++ error_text fault ++ codes "\n"
 abbrev pub told_line : {T : Type 0} → Result T RunError → List ℕ
 told_line (Ok done) = []
 told_line (Err fault) = fault_line fault
-
--- the line that a user is told of a replay or a copy that stopped after so many entries
-abbrev pub stopped_line : ℕ → Refusal → List ℕ
-stopped_line applied refusal =
-    codes "dmlw: " ++ refusal_text refusal ++ codes " after " ++ decimal applied
-    ++ codes " entries\n"

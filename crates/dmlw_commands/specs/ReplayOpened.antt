@@ -11,9 +11,9 @@ use Rattle.log_reader.specs.Refusals.{open_device_refusal}
 use Rattle.log_reader.specs.Readings.{IsReading}
 use Rattle.headline.specs.declared.reopening.ReopenError.{ReopenError}
 use Rattle.headline.specs.declared.reopening.ReopenError.TheVariants as reopens
+use Rattle.run_error.specs.declared.run_error.RunError.{RunError}
 use Rattle.run_error.specs.Errors.{refused_by}
-use Rattle.dmlw_commands.specs.declared.replay_log.stop.Stop.{Stop}
-use Rattle.dmlw_commands.specs.declared.replay_log.stop.Stop.TheVariants as stops
+use Rattle.dmlw_commands.specs.Replays.{replay_stopped}
 use Rattle.replay.specs.declared.upto.Upto.{Upto}
 use Rattle.replay.specs.Replays.{IsUpto, entries_from}
 
@@ -31,6 +31,6 @@ pub record IsReplayedOn (log first : List ℕ) (upto : Upto) (count : ℕ) (v : 
       (replay head.sectorsize (entries_from entries 0 count) (sector_of first)) v.content
 
 -- why a log wasn't replayed that wasn't reopened, or of which the replay stopped
-abbrev pub stop_by : ReopenError → Stop
-stop_by (reopens.Open error) = stops.Fault (refused_by (open_device_refusal error))
-stop_by (reopens.Replay stop) = stops.Replay stop
+abbrev pub stop_by : ReopenError → RunError
+stop_by (reopens.Open error) = refused_by (open_device_refusal error)
+stop_by (reopens.Replay stop) = replay_stopped stop

@@ -1,6 +1,6 @@
 -- What replaying the log in a file on the image in another one comes to.
 -- Any crate above may cite it.
-use Rattle.std.specs.Prelude.{◌≡◌, ◌⊎◌, ℕ, ◌/◌, ◌<◌, ◌≤◌, List, [], ◌++◌, Option, None, Some}
+use Rattle.std.specs.Prelude.{◌≡◌, ◌⊎◌, ℕ, ◌/◌, ◌<◌, ◌≤◌, List, ◌++◌, Option, None, Some}
 use Rattle.std.specs.Prelude.{Result, Ok, Err, codes, length}
 use Rattle.std.specs.Fmt.{decimal}
 use Rattle.std.specs.Io.KnownBytes.{Appends, Keeps}
@@ -20,18 +20,13 @@ use Rattle.replay.specs.Refusals.{replay_refusal}
 use Rattle.replay.specs.Replays.{AsksTooMany, EndsShort, IsUpto, LacksFlush, LacksMark, ReachesPast}
 use Rattle.replay.specs.Replays.{entries_from}
 use Rattle.run_error.specs.declared.run_error.RunError.{RunError}
+use Rattle.run_error.specs.declared.run_error.RunError.TheVariants.{StoppedAfter}
 use Rattle.run_error.specs.Errors.{IsFileError, memory_error}
 use Rattle.dmlw_commands.specs.declared.ending.Ended.{Ended}
-use Rattle.dmlw_commands.specs.declared.exit.Exit.{Exit}
-use Rattle.dmlw_commands.specs.declared.exit.Exit.TheVariants.{Done, Refused}
-use Rattle.dmlw_commands.specs.Endings.{ErrStream, TellsLine}
-use Rattle.dmlw_commands.specs.Exits.{exit_of, explained_fault, fault_line, stopped_line}
-use Rattle.dmlw_explain.specs.declared.logs.Stopped.{Stopped}
+use Rattle.dmlw_commands.specs.Endings.{ErrStream, Tells}
 use Rattle.dmlw_files.specs.Files.{MatchesContents, Write, one_more}
 use Rattle.dmlw_files.specs.Images.{IsImage}
 use Rattle.dmlw_commands.specs.Lists.{RefusesImage}
-use Rattle.dmlw_commands.specs.declared.replay_log.stop.Stop.{Stop}
-use Rattle.dmlw_commands.specs.declared.replay_log.stop.Stop.TheVariants as stops
 
 -- the line that says how many entries were replayed
 abbrev pub replayed_line : ℕ → List ℕ
@@ -84,21 +79,25 @@ pub record StopsReplay (log first : List ℕ) (upto : Upto) (stop : ReplayFault)
   pub within : 0 < stop.applied → stop.applied ≤ length entries
   pub cause : HasStopCause upto head entries fault (length first / 512) stop.applied stop.cause
 
+-- by what a replay ends that stopped so
+abbrev pub replay_stopped : ReplayFault → RunError
+replay_stopped stop = StoppedAfter stop.applied (replay_refusal stop.cause)
+
 -- Why a log isn't replayed on a first image: there is no
 -- memory, the image isn't opened as a log, or the replay stops.
-pub data FailsOnImages (log first : List ℕ) (upto : Upto) : Stop → Type 0 where
-  memory : FailsOnImages log first upto (stops.Fault memory_error)
+pub data FailsOnImages (log first : List ℕ) (upto : Upto) : RunError → Type 0 where
+  memory : FailsOnImages log first upto memory_error
   unopened : (fault : RunError) → RefusesImage log fault
-      → FailsOnImages log first upto (stops.Fault fault)
+      → FailsOnImages log first upto fault
   stopped : (stop : ReplayFault) → StopsReplay log first upto stop
-      → FailsOnImages log first upto (stops.Replay stop)
+      → FailsOnImages log first upto (replay_stopped stop)
 
 -- Why the log in a file isn't replayed: a file can't be used, or there is no memory; or so it is of
 -- the images in the files.
-pub data FailsReplay (log_file first_file : Option (List ℕ)) (upto : Upto) : Stop → Type 0 where
+pub data FailsReplay (log_file first_file : Option (List ℕ)) (upto : Upto) : RunError → Type 0 where
   file : (fault : RunError) → IsFileError fault
-      → FailsReplay log_file first_file upto (stops.Fault fault)
-  images : (log first : List ℕ) (stop : Stop) → AreImages log_file first_file log first
+      → FailsReplay log_file first_file upto fault
+  images : (log first : List ℕ) (stop : RunError) → AreImages log_file first_file log first
       → FailsOnImages log first upto stop
       → FailsReplay log_file first_file upto stop
 
@@ -129,51 +128,25 @@ pub record PrintsReplay (log_file first_file : Option (List ℕ)) (name : List �
   pub printed : Appends old new (replayed_line count)
   pub asked : writes_new ≡ one_more writes_old name image
 
--- a file or the output can't be used, or there is no memory
-abbrev pub IsFileStop : Stop → Type 0
-IsFileStop (stops.Fault fault) = IsFileError fault
-IsFileStop (stops.Replay fault) = ⊥
-
 -- What replaying comes to: it was done; or it fails, nothing was printed, and no file was asked to
 -- be written; or the output can't be written, and no file was asked to be; or the image can't be
 -- written, after the printing.
 abbrev pub Replays : Option (List ℕ) → Option (List ℕ) → List ℕ → Upto → Option (List Write)
     → Option (List Write) → Option (List ℕ) → Option (List ℕ)
-    → Result ℕ Stop → Type 0
+    → Result ℕ RunError → Type 0
 Replays log_file first_file name upto writes_old writes_new old new (Ok count) =
     PrintsReplay log_file first_file name upto writes_old writes_new old new count
 Replays log_file first_file name upto writes_old writes_new old new (Err stop) =
     (FailsReplay log_file first_file upto stop × Keeps old new × (writes_new ≡ writes_old))
-    ⊎ (IsFileStop stop × (writes_new ≡ writes_old))
-    ⊎ (IsFileStop stop × (count : ℕ)
+    ⊎ (IsFileError stop × (writes_new ≡ writes_old))
+    ⊎ (IsFileError stop × (count : ℕ)
     × PrintsReplay log_file first_file name upto writes_old writes_new old new count)
-
--- how a replay ends that came to this
-abbrev pub replay_exit : Result ℕ Stop → Exit
-replay_exit (Ok count) = Done
-replay_exit (Err (stops.Fault fault)) = exit_of fault
-replay_exit (Err (stops.Replay fault)) = Refused
-
--- the line that a user is told of a replay that came to
--- this: of a fault, of a replay that stopped, or none
-abbrev pub replay_line : Result ℕ Stop → List ℕ
-replay_line (Ok count) = []
-replay_line (Err (stops.Fault fault)) = fault_line fault
-replay_line (Err (stops.Replay fault)) = stopped_line fault.applied (replay_refusal fault.cause)
-
--- what is explained of a replay that came to this: by what it was refused, and after how many
--- entries; nothing where it was done
-abbrev pub replay_explained : Result ℕ Stop → Option Stopped
-replay_explained (Ok count) = None
-replay_explained (Err (stops.Fault fault)) = Some (explained_fault fault)
-replay_explained (Err (stops.Replay fault)) =
-    Some (record { refusal = replay_refusal fault.cause; applied = fault.applied })
 
 -- How the replay of the log in a file ends, of which the image
 -- goes into the file of this name: as what it did has it.
 pub record EndsReplaying (log_file first_file : Option (List ℕ)) (name : List ℕ) (upto : Upto)
     (writes_old writes_new : Option (List Write))
     (old new : Option (List ℕ)) (t : ErrStream) (ended : Ended) : Type 0 where
-  pub done : Result ℕ Stop
+  pub done : Result ℕ RunError
   pub replayed : Replays log_file first_file name upto writes_old writes_new old new done
-  pub tells : TellsLine t (replay_exit done) (replay_line done) ended
+  pub tells : Tells t done ended

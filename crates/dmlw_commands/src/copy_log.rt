@@ -3,10 +3,7 @@
 //! new log replays to what the old one replays to.
 //! Its theorems are in proofs/copy_log/.
 pub use copying::copy;
-pub use stop::Stop;
 
 mod copying;
-mod ending;
 mod images;
 pub mod laws;
-mod stop;

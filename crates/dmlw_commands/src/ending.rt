@@ -3,13 +3,11 @@
 ghost use Rattle.std.specs.Prelude.{◌≡◌, ◌++◌, [], Err, OnOk, true};
 ghost use Rattle.std.specs.Io.KnownBytes.{Appends, Keeps};
 ghost use Rattle.dmlw_commands.specs.declared.exit.Exit.{Exit};
-ghost use Rattle.dmlw_commands.specs.Exits.{exit_after, exit_by, exit_of, explained_fault};
-ghost use Rattle.dmlw_commands.specs.Exits.{fault_line, stopped_line, told_line};
+ghost use Rattle.dmlw_commands.specs.Exits.{exit_after, exit_by, exit_of};
+ghost use Rattle.dmlw_commands.specs.Exits.{fault_line, told_line};
 
 use crate::exit::Exit;
 use bio::Status;
-use dmlw_explain::Stopped;
-use refusals::Refusal;
 use run_error::RunError;
 use std::alloc::Global;
 use std::io;
@@ -24,9 +22,9 @@ pub struct Ended {
 
 /// How a command ends that did this. A fault is reported by one line, after what was printed before
 /// it, and `more` stands behind it; where there is no fault and no more, nothing goes to `err`.
-pub fn end<O: Write, E: Write>(
+pub fn end<T: Copy, O: Write, E: Write>(
     alloc: Global,
-    done: Result<(), RunError>,
+    done: Result<T, RunError>,
     more: &str,
     out: &mut O,
     err: &mut E,
@@ -38,7 +36,7 @@ pub fn end<O: Write, E: Write>(
         → Appends (E.contents err.old) (E.contents err.new) (told_line done ++ more.now) }
 {
     match done {
-        Ok(()) => end_well(Exit::Done, more, err),
+        Ok(_) => end_well(Exit::Done, more, err),
         Err(fault) => {
             let _ = out.flush();
             report(alloc, fault, more, err)
@@ -63,7 +61,7 @@ pub fn end_recording<O: Write, E: Write>(
 {
     match done {
         Ok(status) => end_well(Exit::from(status.end), more, err),
-        Err(fault) => end(alloc, Err(fault), more, out, err),
+        Err(_) => end(alloc, done, more, out, err),
     }
 }
 
@@ -105,62 +103,6 @@ fn tell_fault<E: Write>(alloc: Global, fault: RunError, more: &str, err: &mut E)
             write!(err, "dmlw: {fault}\n{more}")?;
             err.flush()
         }
-    }
-}
-
-/// Reports that a replay or a copy stopped after so many entries, by one line, and `more` behind
-/// it, all in one write where there is memory for it.
-pub fn report_stopped<E: Write>(
-    alloc: Global,
-    applied: u64,
-    refusal: Refusal,
-    more: &str,
-    err: &mut E,
-) -> Ended
-    ensures exit { result.exit ≡ Exit.Refused }
-    ensures told { result.err_taken ≡ true →
-        Appends (E.contents err.old) (E.contents err.new)
-        (stopped_line applied refusal ++ more.now) }
-{
-    Ended {
-        exit: Exit::Refused,
-        err_taken: tell_stopped(alloc, applied, refusal, more, err).is_ok(),
-    }
-}
-
-// Writes the line of a replay or a copy that stopped and what stands behind it: in parts where
-// there is no memory to make them whole.
-fn tell_stopped<E: Write>(
-    alloc: Global,
-    applied: u64,
-    refusal: Refusal,
-    more: &str,
-    err: &mut E,
-) -> io::Result<()>
-    ensures { OnOk result
-        (Appends (E.contents err.old) (E.contents err.new)
-        (stopped_line applied refusal ++ more.now)) }
-{
-    match format!(in alloc; "dmlw: {refusal} after {applied} entries\n{more}") {
-        Ok(text) => tell(&text, err),
-        Err(_) => {
-            write!(err, "dmlw: {refusal} after {applied} entries\n{more}")?;
-            err.flush()
-        }
-    }
-}
-
-/// What is explained of a command that ended by a fault: its refusal, at no entry.
-pub(crate) fn explained_fault(fault: RunError) -> Stopped
-    ensures { result ≡ explained_fault fault }
-{
-    let refusal = match fault {
-        RunError::Refused(fault) => fault.refusal,
-        RunError::LoggingEnded(end) => Refusal::from(end),
-    };
-    Stopped {
-        refusal,
-        applied: 0,
     }
 }
 

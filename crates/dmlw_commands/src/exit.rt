@@ -54,6 +54,7 @@ impl From<RunError> for Exit {
         match fault {
             RunError::Refused(_) => Exit::Refused,
             RunError::LoggingEnded(_) => Exit::LoggingEnded,
+            RunError::StoppedAfter { .. } => Exit::Refused,
         }
     }
 }

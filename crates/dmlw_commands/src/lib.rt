@@ -6,7 +6,7 @@
 //! ended (`specs/Endings`). What a command asks of a file system is `Files` of `dmlw_files`.
 #![tactic(auto)]
 
-pub use ending::{Ended, end, end_recording, end_well, report, report_stopped};
+pub use ending::{Ended, end, end_recording, end_well, report};
 pub use exit::Exit;
 
 pub mod copy_log;

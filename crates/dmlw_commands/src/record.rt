@@ -1,6 +1,6 @@
 //! `record SCRIPT LOG`: records the requests of a script in a new log.
 //! Its clauses are written in specs/; its theorems in proofs/record/.
-ghost use Rattle.std.specs.Prelude.{◌≡◌, ◌≤◌, ◌⊎◌, IfErr, IfOk, OnErr, OnOk, Some, length};
+ghost use Rattle.std.specs.Prelude.{◌≡◌, ◌⊎◌, IfErr, IfOk, OnErr, OnOk, Some};
 ghost use Rattle.std.specs.Io.KnownBytes.{Appends};
 ghost use Rattle.run_error.specs.Errors.{IsFileError};
 ghost use Rattle.dmlw_script.specs.Grammar.{IsTextOf};
@@ -16,7 +16,7 @@ ghost use Rattle.dmlw_commands.specs.Records.{end_lines, lies_line, status_line}
 use crate::ending::{Ended, end_recording};
 use bio::Status;
 use dmlw_explain::explain_recording;
-use dmlw_files::{Files, read_text};
+use dmlw_files::{Files, Session, read_text};
 use dmlw_script::{Script, read_script};
 use refusals::Refusal;
 use run_error::RunError;
@@ -29,42 +29,55 @@ use std::io::Write;
 /// log is written, also where logging ended before its time; a fault is reported to `err`, with
 /// what helps where it `explains`.
 pub fn record<F: Files, O: Write, E: Write>(
-    alloc: Global,
-    explains: bool,
     script: &str,
     log: &str,
-    files: &mut F,
-    out: &mut O,
-    err: &mut E,
+    session: &mut Session<F, O, E>,
 ) -> Ended
-    ensures ends { EndsRecording (F.contents files.old script.now) log.now (F.writes files.old)
-        (F.writes files.new)
-        (O.contents out.old) (O.contents out.new)
-        (err_stream explains (E.contents err.old) (E.contents err.new)) result }
+    ensures ends { EndsRecording (F.contents session.old.files script.now) log.now
+        (F.writes session.old.files)
+        (F.writes session.new.files)
+        (O.contents session.old.out) (O.contents session.new.out)
+        (err_stream session.old.explains (E.contents session.old.err)
+        (E.contents session.new.err)) result }
     // Where it is refused each file holds what it held, and a script isn't written over. So it does
     // where logging ended, unless the log was asked to be written.
     ensures kept { IsRefusal result.exit
-        → KeepsFiles (F.contents files.old) (F.contents files.new) }
+        → KeepsFiles (F.contents session.old.files) (F.contents session.new.files) }
     ensures unmade { result.exit ≡ Exit.LoggingEnded →
-        KeepsFiles (F.contents files.old) (F.contents files.new)
-        ⊎ AsksFor log.now (F.writes files.old) (F.writes files.new) }
+        KeepsFiles (F.contents session.old.files) (F.contents session.new.files)
+        ⊎ AsksFor log.now (F.writes session.old.files) (F.writes session.new.files) }
     // Where it is done LOG holds the log; so it does where
     // logging ended, unless each file holds what it held.
     ensures written { result.exit ≡ Exit.Done →
-        HoldsLog (F.contents files.old script.now) Exit.Done (O.contents out.old)
-        (O.contents out.new) (F.contents files.new log.now) }
+        HoldsLog (F.contents session.old.files script.now) Exit.Done (O.contents session.old.out)
+        (O.contents session.new.out) (F.contents session.new.files log.now) }
     ensures left { result.exit ≡ Exit.LoggingEnded
-        → KeepsFiles (F.contents files.old) (F.contents files.new)
-        ⊎ HoldsLog (F.contents files.old script.now) Exit.LoggingEnded (O.contents out.old)
-        (O.contents out.new) (F.contents files.new log.now) }
-    ensures apart { script.now ≡ log.now → F.writes files.new ≡ F.writes files.old }
+        → KeepsFiles (F.contents session.old.files) (F.contents session.new.files)
+        ⊎ HoldsLog (F.contents session.old.files script.now) Exit.LoggingEnded
+        (O.contents session.old.out)
+        (O.contents session.new.out) (F.contents session.new.files log.now) }
+    ensures apart { script.now ≡ log.now → F.writes session.new.files ≡ F.writes session.old.files }
     // A script whose bytes are known, and too many, is refused as a file, and nothing is printed.
-    ensures within { IsTooLong 4194304 (F.contents files.old script.now)
+    ensures within { IsTooLong 4194304 (F.contents session.old.files script.now)
         → result.exit ≡ Exit.Refused }
 {
-    let recorded = record_script(alloc, script, log, files, out);
-    let more = explain_recording(alloc, explains, recorded, script, log, files);
-    end_recording(alloc, recorded, more.as_str(), out, err)
+    let alloc = session.alloc;
+    let recorded = record_script(alloc, script, log, &mut session.files, &mut session.out);
+    let more = explain_recording(
+        alloc,
+        session.explains,
+        recorded,
+        script,
+        log,
+        &mut session.files,
+    );
+    end_recording(
+        alloc,
+        recorded,
+        more.as_str(),
+        &mut session.out,
+        &mut session.err,
+    )
 }
 
 // Runs the script in a file, and writes its log.

@@ -3,11 +3,8 @@
 //! (`specs/Replays`).
 //! Its theorems are in proofs/replay_log/.
 pub use replaying::replay;
-pub use stop::Stop;
 pub use what::upto_of;
 
-mod ending;
 mod images;
 mod replaying;
-mod stop;
 mod what;

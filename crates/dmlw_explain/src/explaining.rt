@@ -8,7 +8,7 @@ use crate::advice::write_advice;
 use crate::files::{
     write_file_of_judging, write_file_of_reading, write_file_of_recording, write_file_of_writing,
 };
-use crate::logs::{Stopped, write_log, write_next, write_size};
+use crate::logs::{write_log, write_next, write_size};
 use crate::refused_line::write_line;
 use crate::script_text::{Grammar, has_line};
 use bio::Status;
@@ -132,12 +132,11 @@ pub struct ReplayNames<'a> {
     pub out: &'a str,
 }
 
-/// What `--explain` adds to how a replay of these files ended, which stopped so, if it did,
-/// likewise.
+/// What `--explain` adds to how a replay of these files ended, likewise.
 pub fn explain_replaying<F: Files>(
     alloc: Global,
     explains: bool,
-    stopped: Option<Stopped>,
+    done: Result<u64, RunError>,
     names: ReplayNames,
     files: &mut F,
 ) -> String
@@ -149,7 +148,7 @@ pub fn explain_replaying<F: Files>(
     if !explains {
         return text;
     }
-    match write_replaying(alloc, stopped, names, files, &mut text) {
+    match write_replaying(alloc, done, names, files, &mut text) {
         Ok(()) => text,
         Err(_) => String::new(alloc),
     }
@@ -158,7 +157,7 @@ pub fn explain_replaying<F: Files>(
 // Writes what there is to say of a replay that ended so.
 fn write_replaying<F: Files, W: Write>(
     alloc: Global,
-    stopped: Option<Stopped>,
+    done: Result<u64, RunError>,
     names: ReplayNames,
     files: &mut F,
     to: &mut W,
@@ -167,18 +166,18 @@ fn write_replaying<F: Files, W: Write>(
     ensures unwritten { F.writes files.new ≡ F.writes files.old }
 {
     let ReplayNames { log, first, out } = names;
-    let Some(stopped) = stopped else {
+    let Err(error) = done else {
         return Ok(());
     };
-    match stopped.refusal {
+    match error.fault().refusal {
         Refusal::File => write_file_of_writing(alloc, log, first, out, files, to),
         Refusal::PastTarget => {
             let sentence =
                 "it reaches past the end of the image: give it the sectors of the device that was recorded";
-            write_next(alloc, log, stopped.applied, sentence, files, to)?;
+            write_next(alloc, log, error.applied(), sentence, files, to)?;
             write_size(alloc, first, files, to)
         }
-        _ => write_log(alloc, log, stopped, files, to),
+        refusal => write_log(alloc, log, refusal, files, to),
     }
 }
 
@@ -191,11 +190,11 @@ pub struct CopyNames<'a> {
     pub out: &'a str,
 }
 
-/// What `--explain` adds to how a copy of a log ended, which stopped so, if it did, likewise.
+/// What `--explain` adds to how a copy of a log ended, likewise.
 pub fn explain_copying<F: Files>(
     alloc: Global,
     explains: bool,
-    stopped: Option<Stopped>,
+    done: Result<u64, RunError>,
     names: CopyNames,
     files: &mut F,
 ) -> String
@@ -207,7 +206,7 @@ pub fn explain_copying<F: Files>(
     if !explains {
         return text;
     }
-    match write_copying(alloc, stopped, names, files, &mut text) {
+    match write_copying(alloc, done, names, files, &mut text) {
         Ok(()) => text,
         Err(_) => String::new(alloc),
     }
@@ -216,7 +215,7 @@ pub fn explain_copying<F: Files>(
 // Writes what there is to say of a copy that ended so.
 fn write_copying<F: Files, W: Write>(
     alloc: Global,
-    stopped: Option<Stopped>,
+    done: Result<u64, RunError>,
     names: CopyNames,
     files: &mut F,
     to: &mut W,
@@ -225,21 +224,21 @@ fn write_copying<F: Files, W: Write>(
     ensures unwritten { F.writes files.new ≡ F.writes files.old }
 {
     let CopyNames { log, out } = names;
-    let Some(stopped) = stopped else {
+    let Err(error) = done else {
         return Ok(());
     };
-    match stopped.refusal {
+    match error.fault().refusal {
         Refusal::File => write_file_of_writing(alloc, log, log, out, files, to),
         Refusal::Full => {
             let sentence = "it doesn't fit: give the new log more sectors";
-            write_next(alloc, log, stopped.applied, sentence, files, to)
+            write_next(alloc, log, error.applied(), sentence, files, to)
         }
         Refusal::Unaligned => {
             let sentence =
                 "its place and its length aren't both multiples of 4096 bytes, as each of a log with such sectors is";
-            write_next(alloc, log, stopped.applied, sentence, files, to)
+            write_next(alloc, log, error.applied(), sentence, files, to)
         }
-        _ => write_log(alloc, log, stopped, files, to),
+        refusal => write_log(alloc, log, refusal, files, to),
     }
 }
 
@@ -307,17 +306,13 @@ fn write_reading<F: Files, W: Write>(
     ensures kept { KeepsFiles (F.contents files.old) (F.contents files.new) }
     ensures unwritten { F.writes files.new ≡ F.writes files.old }
 {
-    let Some(Fault { refusal, .. }) = refusal_of(done) else {
+    let Err(error) = done else {
         return Ok(());
     };
-    if refusal == Refusal::File {
-        return write_file_of_reading(alloc, log, files, to);
+    match error.fault().refusal {
+        Refusal::File => write_file_of_reading(alloc, log, files, to),
+        refusal => write_log(alloc, log, refusal, files, to),
     }
-    let stopped = Stopped {
-        refusal,
-        applied: 0,
-    };
-    write_log(alloc, log, stopped, files, to)
 }
 
 // Writes what there is to say of a judging that ended so.
@@ -332,9 +327,10 @@ fn write_judging<F: Files, W: Write>(
     ensures kept { KeepsFiles (F.contents files.old) (F.contents files.new) }
     ensures unwritten { F.writes files.new ≡ F.writes files.old }
 {
-    let Some(Fault { line, refusal }) = refusal_of(done) else {
+    let Err(error) = done else {
         return Ok(());
     };
+    let Fault { line, refusal } = error.fault();
     match line {
         Some(number) => write_line_of(alloc, Grammar::Recorder, script, number, refusal, files, to),
         None if refusal == Refusal::File => write_file_of_judging(alloc, script, image, files, to),
@@ -349,16 +345,7 @@ fn fault_of(done: Result<Status, RunError>) -> Option<Fault> {
             let end = status.end?;
             Some(Fault::from(Refusal::from(end)))
         }
-        Err(fault) => refusal_of(Err(fault)),
-    }
-}
-
-// What a command is refused by, that ended so.
-fn refusal_of(done: Result<(), RunError>) -> Option<Fault> {
-    match done {
-        Ok(()) => None,
-        Err(RunError::Refused(fault)) => Some(fault),
-        Err(RunError::LoggingEnded(end)) => Some(Fault::from(Refusal::from(end))),
+        Err(error) => Some(error.fault()),
     }
 }
 

@@ -8,7 +8,6 @@ pub use explaining::{
     CopyNames, ReplayNames, explain_copying, explain_judging, explain_reading, explain_recording,
     explain_replaying, explain_running,
 };
-pub use logs::Stopped;
 
 mod advice;
 mod counted;

@@ -108,3 +108,28 @@ pub trait Files {
     fn is_same(&self, first: &str, second: &str) -> bool
         ensures { first.now ≡ second.now → result ≡ true };
 }
+
+// Files that are lent are files.
+impl<F: Files> Files for &mut F {
+    ghost contents = { λ files. F.contents files.now };
+
+    ghost writes = { λ files. F.writes files.now };
+
+    ghost has_failure = { λ files. F.has_failure files.now };
+
+    fn read(&mut self, alloc: Global, name: &str, limit: u64) -> Result<Vec<u8>, FileError> {
+        Files::read(&mut **self, alloc, name, limit)
+    }
+
+    fn write(&mut self, alloc: Global, name: &str, disk: SectorDisk) -> Result<(), FileError> {
+        Files::write(&mut **self, alloc, name, disk)
+    }
+
+    fn failure(&self) -> Option<&FileFailure> {
+        Files::failure(&**self)
+    }
+
+    fn is_same(&self, first: &str, second: &str) -> bool {
+        Files::is_same(&**self, first, second)
+    }
+}

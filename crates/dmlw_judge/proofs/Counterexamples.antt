@@ -156,11 +156,13 @@ none_by_file script fault (no_moment bytes image plan events read spelled rehear
 abbrev told : RunError → Refusal
 told (faults.Refused fault) = fault.refusal
 told (faults.LoggingEnded end) = refusals.File
+told (faults.StoppedAfter applied refusal) = refusal
 
 -- the line that a fault names
 abbrev line_of : RunError → Option ℕ
 line_of (faults.Refused fault) = fault.line
 line_of (faults.LoggingEnded end) = None
+line_of (faults.StoppedAfter applied refusal) = None
 
 -- neither files nor memory are at fault at a line
 file_line : (fault : RunError) → IsFileError fault → line_of fault ≡ None
@@ -356,6 +358,7 @@ ends_usage asked t ended told is = ends told.done (sym told.tells.exits ∙ is)
     ends (Ok (verdicts.No sector by)) same = cc
     ends (Err (faults.Refused fault)) same = cc
     ends (Err (faults.LoggingEnded end)) same = cc
+    ends (Err (faults.StoppedAfter applied refusal)) same = cc
 
 -- one that is done, or has ruled out what is no image; and one that has ruled an image out, and
 -- told so on the error stream
@@ -376,6 +379,10 @@ ends_no_image script t ended told is = ends told.done told.judged told.tells.exi
         let both : exits.LoggingEnded ≡ exits.Done = sym same ∙ is in cc
     ends (Err (faults.LoggingEnded end)) judges same (inr is) =
         let both : exits.LoggingEnded ≡ exits.RuledOut = sym same ∙ is in cc
+    ends (Err (faults.StoppedAfter applied refusal)) judges same (inl is) =
+        let both : exits.Refused ≡ exits.Done = sym same ∙ is in cc
+    ends (Err (faults.StoppedAfter applied refusal)) judges same (inr is) =
+        let both : exits.Refused ≡ exits.RuledOut = sym same ∙ is in cc
 
 ends_telling : (asked : Question) (ended : Ended)
     → EndsJudging asked None None None None (err_stream false (Some []) (Some (1 ∷ []))) ended
@@ -392,6 +399,8 @@ ends_telling asked ended told is = ends told.done told.tells
         let both : exits.Refused ≡ exits.RuledOut = sym tells.exits ∙ is in cc
     ends (Err (faults.LoggingEnded end)) tells =
         let both : exits.LoggingEnded ≡ exits.RuledOut = sym tells.exits ∙ is in cc
+    ends (Err (faults.StoppedAfter applied refusal)) tells =
+        let both : exits.Refused ≡ exits.RuledOut = sym tells.exits ∙ is in cc
 
 -- no entry of no events belongs to their first moment, and of a mark its one entry belongs to the
 -- moment before it and to the one behind

@@ -22,7 +22,7 @@ use crate::moments::{explain_moment, last_moment};
 use bio::CoreEvent;
 use dmlw_commands::{Ended, end, end_well};
 use dmlw_explain::explain_judging;
-use dmlw_files::{Files, read_image, read_text};
+use dmlw_files::{Files, Session, read_image, read_text};
 use dmlw_script::{Script, read_script};
 use refusals::Refusal;
 use run_error::RunError;
@@ -31,32 +31,55 @@ use sectors::SECTOR_BYTES;
 use std::alloc::Global;
 use std::io::Write;
 
+/// What is asked: of the image in one file, had power failed after the first `moment` of the
+/// recorder's events by the script in another one. Both are named.
+#[derive(Clone, Copy, Debug)]
+pub(crate) struct Asked<'a> {
+    pub(crate) script: &'a str,
+    pub(crate) moment: u64,
+    pub(crate) image: &'a str,
+}
+
 // Runs the script in a file as `record` does, and prints the answer on the image in another one,
 // after the first `moment` of the recorder's events, where zeroes were on the data disk at first. A
 // fault is reported to `err`, with what helps where it `explains`.
 pub(crate) fn ask<A: Answer, F: Files, O: Write, E: Write>(
-    alloc: Global,
-    explains: bool,
-    script: &str,
-    moment: u64,
-    image: &str,
-    files: &mut F,
-    out: &mut O,
-    err: &mut E,
+    asked: Asked<'_>,
+    session: &mut Session<F, O, E>,
 ) -> Ended
     ensures ends { EndsAnswering A.meaning
         (record {
-          script = F.contents files.old script.now;
-          image = F.contents files.old image.now;
-          moment = moment;
+          script = F.contents session.old.files asked.entry.script.now;
+          image = F.contents session.old.files asked.entry.image.now;
+          moment = asked.entry.moment;
         })
-        (F.writes files.old) (F.writes files.new) (O.contents out.old) (O.contents out.new)
-        (err_stream explains (E.contents err.old) (E.contents err.new)) result }
-    ensures kept { KeepsFiles (F.contents files.old) (F.contents files.new) }
+        (F.writes session.old.files) (F.writes session.new.files) (O.contents session.old.out)
+        (O.contents session.new.out)
+        (err_stream session.old.explains (E.contents session.old.err)
+        (E.contents session.new.err)) result }
+    ensures kept { KeepsFiles (F.contents session.old.files) (F.contents session.new.files) }
 {
-    let answered: Result<A, RunError> = answer_files(alloc, script, moment, image, files, out);
-    let more = explain_answered(alloc, explains, &answered, script, moment, image, files);
-    end_answering(alloc, &answered, more.as_str(), out, err)
+    let alloc = session.alloc;
+    let answered: Result<A, RunError> = answer_files(
+        alloc,
+        asked,
+        &mut session.files,
+        &mut session.out,
+    );
+    let more = explain_answered(
+        alloc,
+        session.explains,
+        &answered,
+        asked,
+        &mut session.files,
+    );
+    end_answering(
+        alloc,
+        &answered,
+        more.as_str(),
+        &mut session.out,
+        &mut session.err,
+    )
 }
 
 // What `--explain` adds to what a question came to: lines
@@ -65,9 +88,7 @@ fn explain_answered<A: Answer, F: Files>(
     alloc: Global,
     explains: bool,
     answered: &Result<A, RunError>,
-    script: &str,
-    moment: u64,
-    image: &str,
+    asked: Asked<'_>,
     files: &mut F,
 ) -> String
     ensures silent { explains ≡ false → string_bytes result ≡ [] }
@@ -75,11 +96,18 @@ fn explain_answered<A: Answer, F: Files>(
     ensures unwritten { F.writes files.new ≡ F.writes files.old }
 {
     match answered {
-        Ok(answer) => answer.explain(alloc, explains, script, files),
+        Ok(answer) => answer.explain(alloc, explains, asked.script, files),
         Err(fault) if *fault == RunError::from(Refusal::BadMoment) => {
-            explain_moment(alloc, explains, script, moment, image, files)
+            explain_moment(alloc, explains, asked, files)
         }
-        Err(fault) => explain_judging(alloc, explains, Err(*fault), script, image, files),
+        Err(fault) => explain_judging(
+            alloc,
+            explains,
+            Err(*fault),
+            asked.script,
+            asked.image,
+            files,
+        ),
     }
 }
 
@@ -100,32 +128,30 @@ fn end_answering<A: Answer, O: Write, E: Write>(
 {
     match answered {
         Ok(answer) => end_well(answer.exit(), more, err),
-        Err(fault) => end(alloc, Err(*fault), more, out, err),
+        Err(fault) => end::<(), O, E>(alloc, Err(*fault), more, out, err),
     }
 }
 
 // Reads both files, and prints the answer on the image.
 fn answer_files<A: Answer, F: Files, O: Write>(
     alloc: Global,
-    script: &str,
-    moment: u64,
-    image: &str,
+    asked: Asked<'_>,
     files: &mut F,
     out: &mut O,
 ) -> Result<A, RunError>
     ensures judged { Answers A.meaning
         (record {
-          script = F.contents files.old script.now;
-          image = F.contents files.old image.now;
-          moment = moment;
+          script = F.contents files.old asked.entry.script.now;
+          image = F.contents files.old asked.entry.image.now;
+          moment = asked.entry.moment;
         })
         (O.contents out.old) (O.contents out.new) result }
     ensures kept { KeepsFiles (F.contents files.old) (F.contents files.new) }
     ensures unwritten { F.writes files.new ≡ F.writes files.old }
 {
-    let text = read_text(alloc, script, files)?;
-    let image = read_image(alloc, image, files)?;
-    print_answer(answer_text(alloc, &text, moment, &image), out)
+    let text = read_text(alloc, asked.script, files)?;
+    let image = read_image(alloc, asked.image, files)?;
+    print_answer(answer_text(alloc, &text, asked.moment, &image), out)
 }
 
 // Prints an answer, where there is one.

@@ -5,11 +5,11 @@ ghost use Rattle.dmlw_files.specs.Files.{KeepsFiles};
 ghost use Rattle.dmlw_judge.specs.Judgements.{EndsJudging, verdict_meaning};
 
 use crate::answer::Answer;
-use crate::answering::ask;
+use crate::answering::{Asked, ask};
 use crate::step_lines::explain_event;
 use bio::CoreEvent;
 use dmlw_commands::{Ended, Exit};
-use dmlw_files::Files;
+use dmlw_files::{Files, Session};
 use judge::{First, Verdict, could_hold};
 use std::alloc::{AllocError, Global};
 use std::io;
@@ -26,26 +26,29 @@ use std::io::Write;
 /// image of another size than the disk (34). A log that can't be made is the end of logging. A
 /// fault is reported to `err`, with what helps where it `explains`.
 pub fn judge<F: Files, O: Write, E: Write>(
-    alloc: Global,
-    explains: bool,
     script: &str,
     moment: u64,
     image: &str,
-    files: &mut F,
-    out: &mut O,
-    err: &mut E,
+    session: &mut Session<F, O, E>,
 ) -> Ended
     ensures ends { EndsJudging
         (record {
-          script = F.contents files.old script.now;
-          image = F.contents files.old image.now;
+          script = F.contents session.old.files script.now;
+          image = F.contents session.old.files image.now;
           moment = moment;
         })
-        (F.writes files.old) (F.writes files.new) (O.contents out.old) (O.contents out.new)
-        (err_stream explains (E.contents err.old) (E.contents err.new)) result }
-    ensures kept { KeepsFiles (F.contents files.old) (F.contents files.new) }
+        (F.writes session.old.files) (F.writes session.new.files) (O.contents session.old.out)
+        (O.contents session.new.out)
+        (err_stream session.old.explains (E.contents session.old.err)
+        (E.contents session.new.err)) result }
+    ensures kept { KeepsFiles (F.contents session.old.files) (F.contents session.new.files) }
 {
-    ask::<Verdict, F, O, E>(alloc, explains, script, moment, image, files, out, err)
+    let asked = Asked {
+        script,
+        moment,
+        image,
+    };
+    ask::<Verdict, F, O, E>(asked, session)
 }
 
 impl Answer for Verdict {

@@ -7,6 +7,7 @@ ghost use Rattle.bio.specs.Events.{is_stop};
 ghost use Rattle.dmlw_files.specs.Files.{KeepsFiles};
 ghost use Rattle.pending.specs.Moments.{last_moment};
 
+use crate::answering::Asked;
 use bio::CoreEvent;
 use dmlw_explain::{Counted, counted_sectors};
 use dmlw_files::{Files, read_image, read_text};
@@ -47,9 +48,7 @@ struct Moments {
 pub(crate) fn explain_moment<F: Files>(
     alloc: Global,
     explains: bool,
-    script: &str,
-    moment: u64,
-    image: &str,
+    asked: Asked<'_>,
     files: &mut F,
 ) -> String
     ensures silent { explains ≡ false → string_bytes result ≡ [] }
@@ -60,7 +59,7 @@ pub(crate) fn explain_moment<F: Files>(
     if !explains {
         return text;
     }
-    match write_moment(alloc, script, moment, image, files, &mut text) {
+    match write_moment(alloc, asked, files, &mut text) {
         Ok(()) => text,
         Err(_) => String::new(alloc),
     }
@@ -69,15 +68,18 @@ pub(crate) fn explain_moment<F: Files>(
 // Writes how many events the run of a script has, or how many sectors its disk and an image.
 fn write_moment<F: Files, W: Write>(
     alloc: Global,
-    script: &str,
-    moment: u64,
-    image: &str,
+    asked: Asked<'_>,
     files: &mut F,
     to: &mut W,
 ) -> fmt::Result
     ensures kept { KeepsFiles (F.contents files.old) (F.contents files.new) }
     ensures unwritten { F.writes files.new ≡ F.writes files.old }
 {
+    let Asked {
+        script,
+        moment,
+        image,
+    } = asked;
     let text = read_text(alloc, script, files).map_err(|_| fmt::Error)?;
     let moments = moments_of(alloc, &text).ok_or(fmt::Error)?;
     let image_sectors = read_image(alloc, image, files)

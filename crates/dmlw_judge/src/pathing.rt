@@ -4,10 +4,9 @@ ghost use Rattle.dmlw_commands.specs.Endings.{err_stream};
 ghost use Rattle.dmlw_files.specs.Files.{KeepsFiles};
 ghost use Rattle.dmlw_judge.specs.Paths.{EndsFinding};
 
-use crate::answering::ask;
+use crate::answering::{Asked, ask};
 use dmlw_commands::Ended;
-use dmlw_files::Files;
-use std::alloc::Global;
+use dmlw_files::{Files, Session};
 use std::io::Write;
 use world::Finding;
 
@@ -21,24 +20,27 @@ use world::Finding;
 /// is printed, and it exits as ruled out, with nothing on `err`. What is refused, and how that is
 /// reported, is as with `judge`.
 pub fn path<F: Files, O: Write, E: Write>(
-    alloc: Global,
-    explains: bool,
     script: &str,
     moment: u64,
     image: &str,
-    files: &mut F,
-    out: &mut O,
-    err: &mut E,
+    session: &mut Session<F, O, E>,
 ) -> Ended
     ensures ends { EndsFinding
         (record {
-          script = F.contents files.old script.now;
-          image = F.contents files.old image.now;
+          script = F.contents session.old.files script.now;
+          image = F.contents session.old.files image.now;
           moment = moment;
         })
-        (F.writes files.old) (F.writes files.new) (O.contents out.old) (O.contents out.new)
-        (err_stream explains (E.contents err.old) (E.contents err.new)) result }
-    ensures kept { KeepsFiles (F.contents files.old) (F.contents files.new) }
+        (F.writes session.old.files) (F.writes session.new.files) (O.contents session.old.out)
+        (O.contents session.new.out)
+        (err_stream session.old.explains (E.contents session.old.err)
+        (E.contents session.new.err)) result }
+    ensures kept { KeepsFiles (F.contents session.old.files) (F.contents session.new.files) }
 {
-    ask::<Finding, F, O, E>(alloc, explains, script, moment, image, files, out, err)
+    let asked = Asked {
+        script,
+        moment,
+        image,
+    };
+    ask::<Finding, F, O, E>(asked, session)
 }

@@ -1,6 +1,6 @@
 //! Running the seats of a script, from the names of its files to how it ended.
 //! Its clauses are written in specs/RunsLog; its theorems in proofs/running/.
-ghost use Rattle.std.specs.Prelude.{◌≡◌, ◌⊎◌, IfErr, IfOk, OnErr, OnOk, Some, false};
+ghost use Rattle.std.specs.Prelude.{◌≡◌, ◌⊎◌, IfErr, IfOk, OnErr, OnOk, Some};
 ghost use Rattle.std.specs.Io.KnownBytes.{Appends};
 ghost use Rattle.run_error.specs.Errors.{IsFileError};
 ghost use Rattle.dmlw_script.specs.RunGrammar.{IsRunText};
@@ -17,7 +17,7 @@ use bio::Status;
 use dmlw_commands::record::print_end;
 use dmlw_commands::{Ended, end_recording};
 use dmlw_explain::explain_running;
-use dmlw_files::{Files, read_text};
+use dmlw_files::{Files, Session, read_text};
 use dmlw_script::{RunScript, read_run_script};
 use refusals::Refusal;
 use run_error::RunError;
@@ -33,42 +33,55 @@ use std::thread::Threads;
 /// to `err`, with what helps where it `explains`.
 pub fn run<F: Files, O: Write, E: Write, H: Threads + Wait + Sync>(
     rt: &H,
-    alloc: Global,
-    explains: bool,
     script: &str,
     log: &str,
-    files: &mut F,
-    out: &mut O,
-    err: &mut E,
+    session: &mut Session<F, O, E>,
 ) -> Ended
-    ensures ends { EndsRunning (F.contents files.old script.now) log.now (F.writes files.old)
-        (F.writes files.new)
-        (O.contents out.old) (O.contents out.new)
-        (err_stream explains (E.contents err.old) (E.contents err.new)) result }
+    ensures ends { EndsRunning (F.contents session.old.files script.now) log.now
+        (F.writes session.old.files)
+        (F.writes session.new.files)
+        (O.contents session.old.out) (O.contents session.new.out)
+        (err_stream session.old.explains (E.contents session.old.err)
+        (E.contents session.new.err)) result }
     // Where it is refused each file holds what it held, and a script isn't written over. So it does
     // where logging ended, unless the log was asked to be written.
     ensures kept { IsRefusal result.exit
-        → KeepsFiles (F.contents files.old) (F.contents files.new) }
+        → KeepsFiles (F.contents session.old.files) (F.contents session.new.files) }
     ensures unmade { result.exit ≡ Exit.LoggingEnded →
-        KeepsFiles (F.contents files.old) (F.contents files.new)
-        ⊎ AsksFor log.now (F.writes files.old) (F.writes files.new) }
+        KeepsFiles (F.contents session.old.files) (F.contents session.new.files)
+        ⊎ AsksFor log.now (F.writes session.old.files) (F.writes session.new.files) }
     // Where it is done LOG holds the log; so it does where
     // logging ended, unless each file holds what it held.
     ensures written { result.exit ≡ Exit.Done →
-        HoldsRun (F.contents files.old script.now) Exit.Done (O.contents out.old)
-        (O.contents out.new) (F.contents files.new log.now) }
+        HoldsRun (F.contents session.old.files script.now) Exit.Done (O.contents session.old.out)
+        (O.contents session.new.out) (F.contents session.new.files log.now) }
     ensures left { result.exit ≡ Exit.LoggingEnded
-        → KeepsFiles (F.contents files.old) (F.contents files.new)
-        ⊎ HoldsRun (F.contents files.old script.now) Exit.LoggingEnded (O.contents out.old)
-        (O.contents out.new) (F.contents files.new log.now) }
-    ensures apart { script.now ≡ log.now → F.writes files.new ≡ F.writes files.old }
+        → KeepsFiles (F.contents session.old.files) (F.contents session.new.files)
+        ⊎ HoldsRun (F.contents session.old.files script.now) Exit.LoggingEnded
+        (O.contents session.old.out)
+        (O.contents session.new.out) (F.contents session.new.files log.now) }
+    ensures apart { script.now ≡ log.now → F.writes session.new.files ≡ F.writes session.old.files }
     // A script whose bytes are known, and too many, is refused as a file, and nothing is printed.
-    ensures within { IsTooLong 4194304 (F.contents files.old script.now)
+    ensures within { IsTooLong 4194304 (F.contents session.old.files script.now)
         → result.exit ≡ Exit.Refused }
 {
-    let done = run_named(rt, alloc, script, log, files, out);
-    let more = explain_running(alloc, explains, done, script, log, files);
-    end_recording(alloc, done, more.as_str(), out, err)
+    let alloc = session.alloc;
+    let done = run_named(rt, alloc, script, log, &mut session.files, &mut session.out);
+    let more = explain_running(
+        alloc,
+        session.explains,
+        done,
+        script,
+        log,
+        &mut session.files,
+    );
+    end_recording(
+        alloc,
+        done,
+        more.as_str(),
+        &mut session.out,
+        &mut session.err,
+    )
 }
 
 // Runs the script in a file, and writes its log.

@@ -1,6 +1,6 @@
 //! What `execute` and `refuse` do, where a transcript can't show it.
 use dmlw_cli::{execute, refuse};
-use dmlw_files::{Files, HostFiles};
+use dmlw_files::{Files, HostFiles, Session};
 use std::alloc::{AllocError, Global};
 use std::io;
 use std::io::{Print, Write};
@@ -23,10 +23,15 @@ pub fn output_of<F: Files>(
     files: &mut F,
 ) -> Result<String, Fail> {
     let words = words_of(alloc, line)?;
-    let mut out = Vec::new(alloc);
-    let mut err = Vec::new(alloc);
-    let ended = execute(rt, alloc, &words, files, &mut out, &mut err);
-    told(alloc, ended.exit.status(), &out, &err)
+    let mut session = Session {
+        alloc,
+        explains: false,
+        files,
+        out: Vec::new(alloc),
+        err: Vec::new(alloc),
+    };
+    let ended = execute(rt, &words, &mut session);
+    told(alloc, ended.exit.status(), &session.out, &session.err)
 }
 
 // The program's name, and the words of a command line after it.
@@ -177,12 +182,16 @@ impl Write for Counted {
 
 #[test]
 fn tells_a_fault_in_one_write(rt: HostRuntime) {
-    let mut files = OneFile::new(b"data 16\nlog 32\nno\n".as_slice());
-    let mut err = Counted { writes: 0 };
-    let mut out = Vec::new(rt.alloc());
+    let mut session = Session {
+        alloc: rt.alloc(),
+        explains: false,
+        files: OneFile::new(b"data 16\nlog 32\nno\n".as_slice()),
+        out: Vec::new(rt.alloc()),
+        err: Counted { writes: 0 },
+    };
     let words = ["dmlw", "record", "script", "log"];
-    let ended = execute(&rt, rt.alloc(), &words, &mut files, &mut out, &mut err);
-    assert!(rt; ended.exit.status() == 1 && err.writes == 1);
+    let ended = execute(&rt, &words, &mut session);
+    assert!(rt; ended.exit.status() == 1 && session.err.writes == 1);
 }
 
 // Rows of the page: the exit statuses, and numbers and names of refusals.
@@ -203,17 +212,26 @@ const ROWS: &str = "| 0 | done |
 | 33 | PastEntries |
 | 34 | BadMoment |";
 
+// A session over a file of no bytes.
+fn session_of_nothing(alloc: Global) -> Session<OneFile<'static>, Vec<u8>, Vec<u8>> {
+    Session {
+        alloc,
+        explains: false,
+        files: OneFile::new(b"".as_slice()),
+        out: Vec::new(alloc),
+        err: Vec::new(alloc),
+    }
+}
+
 // The page of the formats is printed as it is (`bench/outside.py` compares it with
 // docs/FORMATS.md).
 #[test]
 fn prints_the_formats(rt: HostRuntime) {
-    let mut files = OneFile::new(b"".as_slice());
-    let mut out = Vec::new(rt.alloc());
-    let mut err = Vec::new(rt.alloc());
+    let mut session = session_of_nothing(rt.alloc());
     let words = ["dmlw", "help", "formats"];
-    let ended = execute(&rt, rt.alloc(), &words, &mut files, &mut out, &mut err);
-    assert!(rt; ended.exit.status() == 0 && err.is_empty());
-    let page = str::from_utf8(&out).unwrap_or_default();
+    let ended = execute(&rt, &words, &mut session);
+    assert!(rt; ended.exit.status() == 0 && session.err.is_empty());
+    let page = str::from_utf8(&session.out).unwrap_or_default();
     assert!(rt; page.starts_with("# Formats\n"));
     check_page(&rt, page);
 }
@@ -228,19 +246,10 @@ fn check_page(rt: &(impl Abort + Print), page: &str) {
 // A command line of no word at all is none of the program's.
 #[test]
 fn shows_help_where_no_word_is_given(rt: HostRuntime) {
-    let mut files = OneFile::new(b"".as_slice());
-    let mut out = Vec::new(rt.alloc());
-    let mut err = Vec::new(rt.alloc());
+    let mut session = session_of_nothing(rt.alloc());
     let words: [&str; 0] = [];
-    let ended = execute(
-        &rt,
-        rt.alloc(),
-        words.as_slice(),
-        &mut files,
-        &mut out,
-        &mut err,
-    );
-    assert!(rt; ended.exit.status() == 2 && out.is_empty() && !err.is_empty());
+    let ended = execute(&rt, words.as_slice(), &mut session);
+    assert!(rt; ended.exit.status() == 2 && session.out.is_empty() && !session.err.is_empty());
 }
 
 // The status of a word that can't be read for this reason.

@@ -1,14 +1,17 @@
 -- Why a command ends before its time, and how that is shown.
 -- Any crate above may cite it.
-use Rattle.std.specs.Prelude.{◌≡◌, ◌⊎◌, ℕ, List}
+use Rattle.std.specs.Prelude.{◌≡◌, ◌⊎◌, ℕ, List, ◌++◌, codes}
+use Rattle.std.specs.Fmt.{decimal}
 use Rattle.std.specs.declared.io.ErrorKind.{ErrorKind}
 use Rattle.std.specs.declared.io.ErrorKind.TheVariants as kinds
+use Rattle.refusals.specs.declared.fault.Fault.{Fault}
 use Rattle.refusals.specs.declared.refusal.Refusal.{Refusal}
 use Rattle.refusals.specs.declared.refusal.Refusal.TheVariants as refusals
 use Rattle.refusals.specs.Texts.{fault_text, refusal_text, without_line}
 use Rattle.bio.specs.Refusals.{end_refusal}
 use Rattle.run_error.specs.declared.run_error.RunError.{RunError}
 use Rattle.run_error.specs.declared.run_error.RunError.TheVariants.{Refused, LoggingEnded}
+use Rattle.run_error.specs.declared.run_error.RunError.TheVariants.{StoppedAfter}
 
 -- a refusal that names no line
 abbrev pub refused_by : Refusal → RunError
@@ -27,7 +30,22 @@ io_refusal _ = refusals.File
 abbrev pub IsFileError : RunError → Type 0
 IsFileError error = (error ≡ refused_by refusals.File) ⊎ (error ≡ memory_error)
 
--- how it is shown: by its fault, or by the refusal of the cause that ended logging
+-- the fault that it is told by: its own, or the refusal of the cause that ended logging, or the one
+-- at which a log's entries stopped
+abbrev pub fault_of : RunError → Fault
+fault_of (Refused fault) = fault
+fault_of (LoggingEnded end) = without_line (end_refusal end)
+fault_of (StoppedAfter applied refusal) = without_line refusal
+
+-- how many entries of a log were taken before
+abbrev pub taken_before : RunError → ℕ
+taken_before (StoppedAfter applied refusal) = applied
+taken_before other = 0
+
+-- how it is shown: by its fault, by the refusal of the cause that ended logging, or by the refusal
+-- at which a log's entries stopped, and after how many of them
 abbrev pub error_text : RunError → List ℕ
 error_text (Refused fault) = fault_text fault
 error_text (LoggingEnded end) = refusal_text (end_refusal end)
+error_text (StoppedAfter applied refusal) =
+    refusal_text refusal ++ codes " after " ++ decimal applied ++ codes " entries"

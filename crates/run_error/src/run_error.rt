@@ -3,7 +3,8 @@
 ghost use Rattle.std.specs.Prelude.{◌≡◌, Some};
 ghost use Rattle.std.specs.IoError.{error_kind};
 ghost use Rattle.refusals.specs.Texts.{without_line};
-ghost use Rattle.run_error.specs.Errors.{error_text, io_refusal, memory_error, refused_by};
+ghost use Rattle.run_error.specs.Errors.{error_text, fault_of, io_refusal, memory_error};
+ghost use Rattle.run_error.specs.Errors.{refused_by, taken_before};
 ghost use Rattle.run_error.specs.declared.run_error.RunError.TheVariants.{Refused, LoggingEnded};
 
 use bio::End;
@@ -11,14 +12,39 @@ use refusals::{Fault, Refusal};
 use std::alloc::AllocError;
 use std::{fmt, io};
 
-/// Why a command ended before its time. It is shown as its
-/// fault: its line, if it names one, and its number and name.
+/// Why a command ended before its time. It is shown as its fault: its line, if it names one, and
+/// its number and name; and where a log was taken entry by entry, behind how many it stopped.
 #[derive(Clone, Copy, Debug, PartialEq, Eq)]
 pub enum RunError {
     /// It was refused, for a script perhaps at a line.
     Refused(Fault),
     /// Logging ended before its time.
     LoggingEnded(End),
+    /// A replay or a copy of a log stopped, after so many of its entries.
+    StoppedAfter { applied: u64, refusal: Refusal },
+}
+
+impl RunError {
+    /// The fault that it is told by: a script's line, if one is at fault, and a refusal.
+    pub fn fault(self) -> Fault
+        ensures { result ≡ fault_of self }
+    {
+        match self {
+            RunError::Refused(fault) => fault,
+            RunError::LoggingEnded(end) => Fault::from(Refusal::from(end)),
+            RunError::StoppedAfter { refusal, .. } => Fault::from(refusal),
+        }
+    }
+
+    /// How many entries of a log were taken before; 0 where none were to be.
+    pub fn applied(self) -> u64
+        ensures { result ≡ taken_before self }
+    {
+        match self {
+            RunError::StoppedAfter { applied, .. } => applied,
+            _ => 0,
+        }
+    }
 }
 
 impl fmt::Display for RunError {
@@ -30,6 +56,9 @@ impl fmt::Display for RunError {
             RunError::LoggingEnded(end) => {
                 let refusal = Refusal::from(*end);
                 write!(f, "{refusal}")
+            }
+            RunError::StoppedAfter { applied, refusal } => {
+                write!(f, "{refusal} after {applied} entries")
             }
         }
     }

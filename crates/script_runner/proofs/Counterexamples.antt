@@ -569,10 +569,12 @@ message_refused m plan place error text old told = told.refused
 abbrev line_of : RunError → Option ℕ
 line_of (faults.Refused fault) = fault.line
 line_of (faults.LoggingEnded end) = None
+line_of (faults.StoppedAfter applied refusal) = None
 
 abbrev refusal_of : RunError → Refusal
 refusal_of (faults.Refused fault) = fault.refusal
 refusal_of (faults.LoggingEnded end) = refusals.File
+refusal_of (faults.StoppedAfter applied refusal) = refusal
 
 file_busy : (fault : RunError) → IsFileError fault → refusal_of fault ≡ refusals.Busy → ⊥
 file_busy fault (inl is) busy =
@@ -752,6 +754,7 @@ honest_log plan text status lies image honest told =
 abbrev is_end : RunError → Bool
 is_end (faults.Refused fault) = false
 is_end (faults.LoggingEnded end) = true
+is_end (faults.StoppedAfter applied refusal) = false
 
 not_file : (fault : RunError) (end : End) → fault ≡ faults.LoggingEnded end → IsFileError fault → ⊥
 not_file fault end is (inl file) = let same : true ≡ false = ap is_end (sym is ∙ file) in cc

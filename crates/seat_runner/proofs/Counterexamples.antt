@@ -273,7 +273,7 @@ unmade_full plan is = is.fits refl
 -- the refusal of a fault
 abbrev refusal_in : RunError → Option Refusal
 refusal_in (refused fault) = Some fault.refusal
-refusal_in (LoggingEnded end) = None
+refusal_in other = None
 
 -- a run that is told as foreign was found so
 foreign_found : (plan : RunPlan) (fault : RunError) → FailsRun plan fault

@@ -1,5 +1,6 @@
 // A command line over files in memory, and what it tells.
 use dmlw_cli::execute;
+use dmlw_files::Session;
 use std::alloc::{AllocError, Global};
 use std::sync::Wait;
 use std::thread::Threads;
@@ -43,13 +44,18 @@ pub fn ask<H: Threads + Wait + Sync>(
     folder: &mut Folder,
 ) -> Result<Told, AllocError> {
     let words = words_of(alloc, line)?;
-    let mut out = Vec::new(alloc);
-    let mut err = Vec::new(alloc);
-    let ended = execute(rt, alloc, &words, folder, &mut out, &mut err);
+    let mut session = Session {
+        alloc,
+        explains: false,
+        files: folder,
+        out: Vec::new(alloc),
+        err: Vec::new(alloc),
+    };
+    let ended = execute(rt, &words, &mut session);
     Ok(Told {
         status: ended.exit.status(),
-        out: text_of(alloc, out),
-        err: text_of(alloc, err),
+        out: text_of(alloc, session.out),
+        err: text_of(alloc, session.err),
     })
 }
 

@@ -10,11 +10,11 @@
 mod bytes;
 mod calls;
 mod images;
-mod session;
+mod scene;
 mod tally;
 mod transcript;
 
-use crate::session::Session;
+use crate::scene::Scene;
 use crate::tally::Tally;
 use dmlw_files::{Files, HostFiles};
 use std::process::ExitCode;
@@ -58,8 +58,8 @@ fn run<R: AllocGlobal + Threads + Wait + Sync>(
     is_again: bool,
     all: &mut Tally,
 ) -> io::Result<String> {
-    let mut session = Session::new(rt, rt.alloc());
-    run_in(rt, name, text, is_again, &mut session, all)
+    let mut scene = Scene::new(rt, rt.alloc());
+    run_in(rt, name, text, is_again, &mut scene, all)
 }
 
 // The same in a folder.
@@ -68,11 +68,11 @@ fn run_in<R: AllocGlobal + Threads + Wait + Sync>(
     name: &str,
     text: &str,
     is_again: bool,
-    session: &mut Session<'_, R>,
+    scene: &mut Scene<'_, R>,
     all: &mut Tally,
 ) -> io::Result<String> {
     let mut here = Tally::new();
-    let mut shown = transcript::run(rt.alloc(), text, is_again, session, &mut here)?;
+    let mut shown = transcript::run(rt.alloc(), text, is_again, scene, &mut here)?;
     if !is_again {
         shown.push_str(format!(in rt.alloc(); "{name}: {here}\n")?.as_str())?;
     }

@@ -1,5 +1,5 @@
 // A transcript, gone through line by line.
-use crate::session::Session;
+use crate::scene::Scene;
 use crate::tally::Tally;
 use std::alloc::{AllocError, Global};
 use std::sync::Wait;
@@ -49,14 +49,14 @@ pub fn run<H: Threads + Wait + Sync>(
     alloc: Global,
     text: &str,
     is_again: bool,
-    session: &mut Session<'_, H>,
+    scene: &mut Scene<'_, H>,
     tally: &mut Tally,
 ) -> Result<String, AllocError> {
     let mut report = Report {
         text: String::new(alloc),
         is_again,
     };
-    run_steps(alloc, text, &mut report, session, tally)?;
+    run_steps(alloc, text, &mut report, scene, tally)?;
     Ok(report.text)
 }
 
@@ -65,11 +65,11 @@ fn run_steps<H: Threads + Wait + Sync>(
     alloc: Global,
     text: &str,
     report: &mut Report,
-    session: &mut Session<'_, H>,
+    scene: &mut Scene<'_, H>,
     tally: &mut Tally,
 ) -> Result<(), AllocError> {
     let mut step = Step::new(alloc);
-    go_through(text, &mut step, report, session, tally)
+    go_through(text, &mut step, report, scene, tally)
 }
 
 // Takes each line of a transcript.
@@ -77,14 +77,14 @@ fn go_through<H: Threads + Wait + Sync>(
     text: &str,
     step: &mut Step,
     report: &mut Report,
-    session: &mut Session<'_, H>,
+    scene: &mut Scene<'_, H>,
     tally: &mut Tally,
 ) -> Result<(), AllocError> {
     let text = text.strip_suffix("\n").unwrap_or(text);
     for line in text.split('\n') {
-        take_line(line, step, report, session, tally)?;
+        take_line(line, step, report, scene, tally)?;
     }
-    end_step(step, report, session, tally)
+    end_step(step, report, scene, tally)
 }
 
 // Takes one line of a transcript.
@@ -92,11 +92,11 @@ fn take_line<H: Threads + Wait + Sync>(
     line: &str,
     step: &mut Step,
     report: &mut Report,
-    session: &mut Session<'_, H>,
+    scene: &mut Scene<'_, H>,
     tally: &mut Tally,
 ) -> Result<(), AllocError> {
     if let Some(command) = line.strip_prefix("  $ ") {
-        end_step(step, report, session, tally)?;
+        end_step(step, report, scene, tally)?;
         step.begin(command)?;
         return copy_line(line, report);
     }
@@ -107,7 +107,7 @@ fn take_line<H: Threads + Wait + Sync>(
     if let Some(wanted) = line.strip_prefix("  ") {
         return push_line(&mut step.wanted, wanted);
     }
-    end_step(step, report, session, tally)?;
+    end_step(step, report, scene, tally)?;
     copy_line(line, report)
 }
 
@@ -115,19 +115,19 @@ fn take_line<H: Threads + Wait + Sync>(
 fn end_step<H: Threads + Wait + Sync>(
     step: &mut Step,
     report: &mut Report,
-    session: &mut Session<'_, H>,
+    scene: &mut Scene<'_, H>,
     tally: &mut Tally,
 ) -> Result<(), AllocError> {
     if step.command.is_empty() {
         return Ok(());
     }
-    session.run(step.command.as_str(), step.given.as_str())?;
-    let is_same = session.shown() == step.wanted.as_str();
+    scene.run(step.command.as_str(), step.given.as_str())?;
+    let is_same = scene.shown() == step.wanted.as_str();
     tally.count(is_same);
     if report.is_again {
-        push_indented(&mut report.text, session.shown())?;
+        push_indented(&mut report.text, scene.shown())?;
     } else if !is_same {
-        tell_difference(&mut report.text, step.command.as_str(), session.shown())?;
+        tell_difference(&mut report.text, step.command.as_str(), scene.shown())?;
     }
     step.clear();
     Ok(())

@@ -5,7 +5,6 @@ ghost use Rattle.std.specs.Io.KnownBytes.{Appends};
 ghost use Rattle.run_error.specs.Errors.{IsFileError, refused_by};
 ghost use Rattle.dmlw_commands.specs.declared.exit.Exit.{Exit};
 ghost use Rattle.refusals.specs.declared.refusal.Refusal.TheVariants as refusals;
-ghost use Rattle.dmlw_commands.specs.declared.copy_log.stop.Stop.TheVariants as stops;
 ghost use Rattle.dmlw_commands.specs.Endings.{TellsLine, err_stream};
 ghost use Rattle.dmlw_commands.specs.Exits.{IsRefusal, fault_line};
 ghost use Rattle.dmlw_files.specs.Files.{KeepsFiles, MatchesContents, one_more};
@@ -13,12 +12,10 @@ ghost use Rattle.dmlw_files.specs.Images.{image_of};
 ghost use Rattle.dmlw_commands.specs.CopiesLog.{Copies, EndsCopying, FailsCopy, HoldsCopied};
 ghost use Rattle.dmlw_commands.specs.CopiesLog.{IsCopiedFrom, copied_line};
 
-use crate::copy_log::ending::{end_copying, stopped_of};
 use crate::copy_log::images::{Copied, copy_image};
-use crate::copy_log::stop::Stop;
-use crate::{Ended, Exit};
+use crate::{Ended, Exit, end};
 use dmlw_explain::{CopyNames, explain_copying};
-use dmlw_files::{Files, read_image};
+use dmlw_files::{Files, Session, read_image};
 use refusals::Refusal;
 use run_error::RunError;
 use sector_disk::SectorDisk;
@@ -34,38 +31,44 @@ use std::io::Write;
 /// an entry whose place or length in bytes is no multiple of 4,096, before one that doesn't fit,
 /// and at a fault of the log; then nothing is written.
 pub fn copy<F: Files, O: Write, E: Write>(
-    alloc: Global,
-    explains: bool,
     names: CopyNames,
     sectors: u64,
-    files: &mut F,
-    out: &mut O,
-    err: &mut E,
+    session: &mut Session<F, O, E>,
 ) -> Ended
     requires least { 8 ≤ sectors }
     requires most { sectors ≤ 1048576 }
     ensures ends { EndsCopying
-        (F.contents files.old names.entry.log.now) names.entry.out.now sectors
-        (F.writes files.old) (F.writes files.new) (O.contents out.old) (O.contents out.new)
-        (err_stream explains (E.contents err.old) (E.contents err.new)) result }
+        (F.contents session.old.files names.entry.log.now) names.entry.out.now sectors
+        (F.writes session.old.files) (F.writes session.new.files) (O.contents session.old.out)
+        (O.contents session.new.out)
+        (err_stream session.old.explains (E.contents session.old.err)
+        (E.contents session.new.err)) result }
     // Where it is done, OUT holds the image of the new log's disk.
     ensures written { result.exit ≡ Exit.Done
-        → HoldsCopied (F.contents files.old names.entry.log.now) sectors
-        (F.contents files.new names.entry.out.now) }
+        → HoldsCopied (F.contents session.old.files names.entry.log.now) sectors
+        (F.contents session.new.files names.entry.out.now) }
     // It is done or refused; where it is refused each file
     // holds what it held, and a log isn't written over.
     ensures exits { (result.exit ≡ Exit.Done) ⊎ (result.exit ≡ Exit.Refused) }
     ensures kept { IsRefusal result.exit
-        → KeepsFiles (F.contents files.old) (F.contents files.new) }
+        → KeepsFiles (F.contents session.old.files) (F.contents session.new.files) }
     ensures apart { names.entry.log.now ≡ names.entry.out.now
-        → F.writes files.new ≡ F.writes files.old }
+        → F.writes session.new.files ≡ F.writes session.old.files }
     ensures same { names.entry.log.now ≡ names.entry.out.now →
-        TellsLine (err_stream explains (E.contents err.old) (E.contents err.new)) Exit.Refused
+        TellsLine (err_stream session.old.explains (E.contents session.old.err)
+        (E.contents session.new.err)) Exit.Refused
         (fault_line (refused_by refusals.File)) result }
 {
-    let done = copy_file(alloc, names, sectors, files, out);
-    let more = explain_copying(alloc, explains, stopped_of(done), names, files);
-    end_copying(alloc, done, more.as_str(), out, err)
+    let alloc = session.alloc;
+    let done = copy_file(alloc, names, sectors, &mut session.files, &mut session.out);
+    let more = explain_copying(alloc, session.explains, done, names, &mut session.files);
+    end(
+        alloc,
+        done,
+        more.as_str(),
+        &mut session.out,
+        &mut session.err,
+    )
 }
 
 // Copies the log in a file, tells how many entries that were, and has the image written.
@@ -75,7 +78,7 @@ fn copy_file<F: Files, O: Write>(
     sectors: u64,
     files: &mut F,
     out: &mut O,
-) -> Result<u64, Stop>
+) -> Result<u64, RunError>
     requires least { 8 ≤ sectors }
     requires most { sectors ≤ 1048576 }
     ensures copies { Copies (F.contents files.old names.entry.log.now) names.entry.out.now sectors
@@ -87,16 +90,14 @@ fn copy_file<F: Files, O: Write>(
     ensures apart { names.entry.log.now ≡ names.entry.out.now
         → F.writes files.new ≡ F.writes files.old }
     ensures same { names.entry.log.now ≡ names.entry.out.now
-        → result ≡ Err (stops.Fault (refused_by refusals.File)) }
+        → result ≡ Err (refused_by refusals.File) }
 {
     if files.is_same(names.log, names.out) {
-        return Err(Stop::Fault(RunError::from(Refusal::File)));
+        return Err(RunError::from(Refusal::File));
     }
     let Copied { count, disk } = copy_named(alloc, names.log, sectors, files)?;
-    match hand_over(alloc, count, disk, names.out, files, out) {
-        Ok(()) => Ok(count),
-        Err(fault) => Err(Stop::Fault(fault)),
-    }
+    hand_over(alloc, count, disk, names.out, files, out)?;
+    Ok(count)
 }
 
 // Copies the log in a file.
@@ -105,7 +106,7 @@ fn copy_named<F: Files>(
     log: &str,
     sectors: u64,
     files: &mut F,
-) -> Result<Copied, Stop>
+) -> Result<Copied, RunError>
     requires least { 8 ≤ sectors }
     requires most { sectors ≤ 1048576 }
     ensures copied { IfOk result

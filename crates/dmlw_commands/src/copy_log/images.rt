@@ -6,12 +6,11 @@ ghost use Rattle.log_reader.specs.Shown.{reader_of};
 ghost use Rattle.log_store.specs.Shown.{store_of};
 ghost use Rattle.run_error.specs.Errors.{memory_error};
 ghost use Rattle.dmlw_files.specs.Images.{IsImage, image_of};
-ghost use Rattle.dmlw_commands.specs.CopiesLog.{FailsOnImage, IsCopied};
+ghost use Rattle.dmlw_commands.specs.CopiesLog.{FailsOnImage, IsCopied, copy_stopped};
 ghost use Rattle.dmlw_commands.specs.OnDisks.{IsBegun, IsOpened, RefusesOpen};
 
-use crate::copy_log::stop::Stop;
 use bio::{End, SectorSize};
-use log_copy::copy_log;
+use log_copy::{CopyFault, copy_log};
 use log_reader::LogReader;
 use log_store::LogStore;
 use refusals::Refusal;
@@ -31,7 +30,7 @@ pub(crate) struct Copied {
 /// Copies the log that an image has to a new log with sectors of 4,096
 /// bytes, on a disk of so many sectors of 512 bytes, 8 to 1,048,576. In
 /// memory are both disks and one entry; the old log's disk is gone after it.
-pub(crate) fn copy_image(alloc: Global, log: Vec<u8>, sectors: u64) -> Result<Copied, Stop>
+pub(crate) fn copy_image(alloc: Global, log: Vec<u8>, sectors: u64) -> Result<Copied, RunError>
     requires log { IsImage log.items }
     requires least { 8 ≤ sectors }
     requires most { sectors ≤ 1048576 }
@@ -46,7 +45,17 @@ pub(crate) fn copy_image(alloc: Global, log: Vec<u8>, sectors: u64) -> Result<Co
             let disk = store.into_device();
             Ok(Copied { count, disk })
         }
-        Err(fault) => Err(Stop::Copy(fault)),
+        Err(fault) => Err(stopped(fault)),
+    }
+}
+
+// By what a copy ends that stopped so.
+fn stopped(fault: CopyFault) -> RunError
+    ensures { result ≡ copy_stopped fault }
+{
+    RunError::StoppedAfter {
+        applied: fault.applied,
+        refusal: Refusal::from(fault.cause),
     }
 }
 

@@ -9,7 +9,6 @@ ghost use Rattle.dmlw_files.specs.Images.{IsImage, image_of};
 ghost use Rattle.dmlw_commands.specs.ReplayOpened.{stop_by};
 ghost use Rattle.dmlw_commands.specs.Replays.{FailsOnImages, IsReplayed};
 
-use crate::replay_log::stop::Stop;
 use headline::{ReopenError, reopen_and_replay};
 use refusals::Refusal;
 use replay::Upto;
@@ -33,7 +32,7 @@ pub(crate) fn replay_images(
     log: Vec<u8>,
     first: Vec<u8>,
     upto: &Upto,
-) -> Result<Replayed, Stop>
+) -> Result<Replayed, RunError>
     requires log { IsImage log.items }
     requires first { IsImage first.items }
     ensures replayed { IfOk result
@@ -50,12 +49,15 @@ pub(crate) fn replay_images(
 }
 
 // Why a log wasn't replayed that wasn't reopened, or of which the replay stopped.
-fn stop_of(error: ReopenError) -> Stop
+fn stop_of(error: ReopenError) -> RunError
     ensures { result ≡ stop_by error }
 {
     match error {
-        ReopenError::Open(error) => Stop::Fault(RunError::from(Refusal::from(error))),
-        ReopenError::Replay(stop) => Stop::Replay(stop),
+        ReopenError::Open(error) => RunError::from(Refusal::from(error)),
+        ReopenError::Replay(stop) => RunError::StoppedAfter {
+            applied: stop.applied,
+            refusal: Refusal::from(stop.cause),
+        },
     }
 }
 

@@ -5,7 +5,6 @@ ghost use Rattle.std.specs.Io.KnownBytes.{Appends};
 ghost use Rattle.run_error.specs.Errors.{IsFileError, refused_by};
 ghost use Rattle.dmlw_commands.specs.declared.exit.Exit.{Exit};
 ghost use Rattle.refusals.specs.declared.refusal.Refusal.TheVariants as refusals;
-ghost use Rattle.dmlw_commands.specs.declared.replay_log.stop.Stop.TheVariants as stops;
 ghost use Rattle.dmlw_commands.specs.Endings.{TellsLine, err_stream};
 ghost use Rattle.dmlw_commands.specs.Exits.{IsRefusal, fault_line};
 ghost use Rattle.dmlw_files.specs.Files.{KeepsFiles, MatchesContents, one_more};
@@ -13,12 +12,10 @@ ghost use Rattle.dmlw_files.specs.Images.{image_of};
 ghost use Rattle.dmlw_commands.specs.Replays.{EndsReplaying, FailsReplay, HoldsReplayed};
 ghost use Rattle.dmlw_commands.specs.Replays.{IsReplayedFrom, Replays, replayed_line};
 
-use crate::replay_log::ending::{end_replaying, stopped_of};
 use crate::replay_log::images::{Replayed, replay_images};
-use crate::replay_log::stop::Stop;
-use crate::{Ended, Exit};
+use crate::{Ended, Exit, end};
 use dmlw_explain::{ReplayNames, explain_replaying};
-use dmlw_files::{Files, read_image};
+use dmlw_files::{Files, Session, read_image};
 use refusals::Refusal;
 use replay::Upto;
 use run_error::RunError;
@@ -34,37 +31,43 @@ use std::io::Write;
 /// An entry's sectors are the log's; a FUA entry is applied as any other. Both images are whole
 /// sectors of 512 bytes, 1 to 1,048,576.
 pub fn replay<F: Files, O: Write, E: Write>(
-    alloc: Global,
-    explains: bool,
     names: ReplayNames,
     upto: &Upto,
-    files: &mut F,
-    out: &mut O,
-    err: &mut E,
+    session: &mut Session<F, O, E>,
 ) -> Ended
-    ensures ends { EndsReplaying (F.contents files.old names.entry.log.now)
-        (F.contents files.old names.entry.first.now) names.entry.out.now upto.now
-        (F.writes files.old) (F.writes files.new) (O.contents out.old) (O.contents out.new)
-        (err_stream explains (E.contents err.old) (E.contents err.new)) result }
+    ensures ends { EndsReplaying (F.contents session.old.files names.entry.log.now)
+        (F.contents session.old.files names.entry.first.now) names.entry.out.now upto.now
+        (F.writes session.old.files) (F.writes session.new.files) (O.contents session.old.out)
+        (O.contents session.new.out)
+        (err_stream session.old.explains (E.contents session.old.err)
+        (E.contents session.new.err)) result }
     // Where it is done, OUT holds the image that came of it.
     ensures written { result.exit ≡ Exit.Done
-        → HoldsReplayed (F.contents files.old names.entry.log.now)
-        (F.contents files.old names.entry.first.now) upto.now
-        (F.contents files.new names.entry.out.now) }
+        → HoldsReplayed (F.contents session.old.files names.entry.log.now)
+        (F.contents session.old.files names.entry.first.now) upto.now
+        (F.contents session.new.files names.entry.out.now) }
     // It is done or refused; where it is refused each file
     // holds what it held, and a log isn't written over.
     ensures exits { (result.exit ≡ Exit.Done) ⊎ (result.exit ≡ Exit.Refused) }
     ensures kept { IsRefusal result.exit
-        → KeepsFiles (F.contents files.old) (F.contents files.new) }
+        → KeepsFiles (F.contents session.old.files) (F.contents session.new.files) }
     ensures apart { names.entry.log.now ≡ names.entry.out.now
-        → F.writes files.new ≡ F.writes files.old }
+        → F.writes session.new.files ≡ F.writes session.old.files }
     ensures same { names.entry.log.now ≡ names.entry.out.now →
-        TellsLine (err_stream explains (E.contents err.old) (E.contents err.new)) Exit.Refused
+        TellsLine (err_stream session.old.explains (E.contents session.old.err)
+        (E.contents session.new.err)) Exit.Refused
         (fault_line (refused_by refusals.File)) result }
 {
-    let done = replay_files(alloc, names, upto, files, out);
-    let more = explain_replaying(alloc, explains, stopped_of(done), names, files);
-    end_replaying(alloc, done, more.as_str(), out, err)
+    let alloc = session.alloc;
+    let done = replay_files(alloc, names, upto, &mut session.files, &mut session.out);
+    let more = explain_replaying(alloc, session.explains, done, names, &mut session.files);
+    end(
+        alloc,
+        done,
+        more.as_str(),
+        &mut session.out,
+        &mut session.err,
+    )
 }
 
 // Replays the log in a file, tells how many entries that were, and has the image written.
@@ -74,7 +77,7 @@ fn replay_files<F: Files, O: Write>(
     upto: &Upto,
     files: &mut F,
     out: &mut O,
-) -> Result<u64, Stop>
+) -> Result<u64, RunError>
     ensures replays { Replays (F.contents files.old names.entry.log.now)
         (F.contents files.old names.entry.first.now) names.entry.out.now upto.now
         (F.writes files.old) (F.writes files.new) (O.contents out.old) (O.contents out.new) result }
@@ -86,16 +89,14 @@ fn replay_files<F: Files, O: Write>(
     ensures apart { names.entry.log.now ≡ names.entry.out.now
         → F.writes files.new ≡ F.writes files.old }
     ensures same { names.entry.log.now ≡ names.entry.out.now
-        → result ≡ Err (stops.Fault (refused_by refusals.File)) }
+        → result ≡ Err (refused_by refusals.File) }
 {
     if files.is_same(names.log, names.out) {
-        return Err(Stop::Fault(RunError::from(Refusal::File)));
+        return Err(RunError::from(Refusal::File));
     }
     let Replayed { count, disk } = replay_named(alloc, names.log, names.first, upto, files)?;
-    match hand_over(alloc, count, disk, names.out, files, out) {
-        Ok(()) => Ok(count),
-        Err(fault) => Err(Stop::Fault(fault)),
-    }
+    hand_over(alloc, count, disk, names.out, files, out)?;
+    Ok(count)
 }
 
 // Replays the log in a file on the image in another one.
@@ -105,7 +106,7 @@ fn replay_named<F: Files>(
     first: &str,
     upto: &Upto,
     files: &mut F,
-) -> Result<Replayed, Stop>
+) -> Result<Replayed, RunError>
     ensures replayed { IfOk result (λ done.
         IsReplayedFrom (F.contents files.old log.now)
         (F.contents files.old first.now) upto.now done.count (image_of done.disk)) }

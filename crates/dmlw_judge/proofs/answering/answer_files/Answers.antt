@@ -19,13 +19,13 @@ returns-in_err-image-clause-judged g c =
 pub returns-clause-judged : goal.returns-clause-judged
 returns-clause-judged g c =
     let script =
-    subst (MatchesContents (g.F.Files.contents c.args.files.now c.args.script.now))
+    subst (MatchesContents (g.F.Files.contents c.args.files.now c.args.asked.script.now))
     (sym c.deref.ensures.value) c.in_ok-text.ensures.contents in
     let bytes =
     subst (λ (known : Option (List ℕ)). MatchesContents known c.in_ok-image.image.items)
-    (c.in_ok-text.ensures.kept c.args.image.now) c.in_ok-image.ensures.contents in
+    (c.in_ok-text.ensures.kept c.args.asked.image.now) c.in_ok-image.ensures.contents in
     let image =
-    subst (MatchesContents (g.F.Files.contents c.args.files.now c.args.image.now))
+    subst (MatchesContents (g.F.Files.contents c.args.files.now c.args.asked.image.now))
     (sym c.deref-2.ensures.value) bytes in
     answered_files _ _ c.deref.result.now c.deref-2.result.now _ _ c.answer_text.result
     c.print_answer.result script image

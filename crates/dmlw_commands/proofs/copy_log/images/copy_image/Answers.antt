@@ -6,7 +6,7 @@ use Rattle.sector_disk.specs.Shown.{shown_of}
 use Rattle.sector_disk.specs.ShownLaws.{disk_lawful}
 use Rattle.log_reader.specs.Shown.{reader_of}
 use Rattle.log_store.specs.Shown.{store_of}
-use Rattle.dmlw_commands.specs.CopiesLog.{stopped}
+use Rattle.dmlw_commands.specs.CopiesLog.{FailsOnImage, stopped}
 use Rattle.dmlw_commands.specs.OnDisks.{IsCopiedOn}
 use Rattle.dmlw_commands.proofs.Copied.{content_whole, copied_on, fails_to_open, image_left}
 use Rattle.dmlw_commands.proofs.Copied.{log_fits, never_failed, stopped_on}
@@ -50,11 +50,12 @@ returns-clause-fails c =
     let last = c.copy_log.new.log in
     let begun = c.in_ok-store.store in
     let store = c.copy_log.new.store in
-    stopped c.in-Err.fault
+    subst (FailsOnImage c.args.log.items c.args.sectors) (sym c.stopped.ensures)
+    (stopped c.in-Err.fault
     (stopped_on c.args.log.items c.args.sectors c.in-Err.fault (reader_of reader) (reader_of last)
     (store_of begun) (store_of store) c.requires.log
     c.in_ok-reader.ensures.opened c.in_ok-store.ensures.begun
     (content_whole (shown_of reader.device) (disk_lawful reader.device))
     (never_failed (shown_of reader.device) (shown_of last.device) refl refl)
     (never_failed (shown_of begun.device) (shown_of store.device) refl refl) store.kept
-    refl c.in-Err.ensures.goes c.in-Err.ensures.copies c.in-Err.ensures.stops)
+    refl c.in-Err.ensures.goes c.in-Err.ensures.copies c.in-Err.ensures.stops))

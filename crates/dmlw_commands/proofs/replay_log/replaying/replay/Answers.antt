@@ -1,15 +1,13 @@
 -- Answers to the goals of `replay` (src/replaying.rt) that the search leaves.
 use Rattle.std.proofs.Common.{◌≡◌, ◌∙◌, ℕ, Err, Result, subst}
 use Rattle.refusals.specs.declared.refusal.Refusal.TheVariants as refusals
+use Rattle.run_error.specs.declared.run_error.RunError.{RunError}
 use Rattle.run_error.specs.Errors.{refused_by}
-use Rattle.dmlw_commands.specs.Replays.{replay_exit, replay_line}
 use Rattle.dmlw_commands.specs.EndingLaws.{ends_told}
-use Rattle.dmlw_commands.specs.Endings.{ErrStream, TellsLine}
+use Rattle.dmlw_commands.specs.Endings.{ErrStream, Tells, TellsLine}
 use Rattle.dmlw_commands.specs.Exits.{fault_line}
 use Rattle.dmlw_commands.specs.declared.ending.Ended.{Ended}
 use Rattle.dmlw_commands.specs.declared.exit.Exit.TheVariants as exits
-use Rattle.dmlw_commands.specs.declared.replay_log.stop.Stop.{Stop}
-use Rattle.dmlw_commands.specs.declared.replay_log.stop.Stop.TheVariants as stops
 use Rattle.dmlw_commands.proofs.ReplayEnds.{replaying_ends}
 use Rattle.dmlw_commands.proofs.replay_log.replaying.replay.Goals as goal
 
@@ -18,25 +16,25 @@ returns-clause-ends g c =
     let done = c.replay_files-done.ensures in
     let more = c.explain_replaying-more.ensures in
     let told =
-    ends_told _ c.as_str.result.now _ _ c.end_replaying.result
-    (λ off. c.as_str.ensures.value ∙ more.silent off) c.end_replaying.ensures.exit
-    c.end_replaying.ensures.quiet c.end_replaying.ensures.told in
-    replaying_ends _ _ _ _ _ _ _ _ _ _ _ _ _ done.replays c.end_replaying.ensures.kept
+    ends_told _ c.as_str.result.now _ _ c.end.result
+    (λ off. c.as_str.ensures.value ∙ more.silent off) c.end.ensures.exit
+    c.end.ensures.quiet c.end.ensures.told in
+    replaying_ends _ _ _ _ _ _ _ _ _ _ _ _ _ done.replays c.end.ensures.kept
     more.unwritten told
 
 -- what is told of that refusal
-told_of_same : (t : ErrStream) (ended : Ended) (done : Result ℕ Stop)
-    → done ≡ Err (stops.Fault (refused_by refusals.File))
-    → TellsLine t (replay_exit done) (replay_line done) ended
+told_of_same : (t : ErrStream) (ended : Ended) (done : Result ℕ RunError)
+    → done ≡ Err (refused_by refusals.File)
+    → Tells t done ended
     → TellsLine t exits.Refused (fault_line (refused_by refusals.File)) ended
 told_of_same t ended done is told =
-    subst (λ (d : Result ℕ Stop). TellsLine t (replay_exit d) (replay_line d) ended) is told
+    subst (λ (d : Result ℕ RunError). Tells t d ended) is told
 
 pub returns-clause-same : goal.returns-clause-same
 returns-clause-same g c = λ named.
     let more = c.explain_replaying-more.ensures in
     let told =
-    ends_told _ c.as_str.result.now _ _ c.end_replaying.result
-    (λ off. c.as_str.ensures.value ∙ more.silent off) c.end_replaying.ensures.exit
-    c.end_replaying.ensures.quiet c.end_replaying.ensures.told in
-    told_of_same _ c.end_replaying.result _ (c.replay_files-done.ensures.same named) told
+    ends_told _ c.as_str.result.now _ _ c.end.result
+    (λ off. c.as_str.ensures.value ∙ more.silent off) c.end.ensures.exit
+    c.end.ensures.quiet c.end.ensures.told in
+    told_of_same _ c.end.result _ (c.replay_files-done.ensures.same named) told

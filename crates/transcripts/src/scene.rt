@@ -3,7 +3,8 @@ use crate::bytes::{push_sectors, unescaped};
 use crate::calls::{ask_disk, ask_stack};
 use crate::images::change;
 use dmlw_cli::execute;
-use dmlw_files::Output;
+use dmlw_commands::Ended;
+use dmlw_files::{Output, Session};
 use dmlw_script::{read_run_script, read_script};
 use refusals::Refusal;
 use script_printer::{print_run_script, print_script};
@@ -19,17 +20,17 @@ const MAX_SECTORS: u64 = 1_048_576;
 
 /// A folder of files, and what the last command showed. Threads are started and waited for by `rt`.
 #[derive(Drop)]
-pub struct Session<'a, H> {
+pub struct Scene<'a, H> {
     rt: &'a H,
     alloc: Global,
     folder: Folder,
     shown: String,
 }
 
-impl<'a, H: Threads + Wait + Sync> Session<'a, H> {
+impl<'a, H: Threads + Wait + Sync> Scene<'a, H> {
     /// A folder of no files.
-    pub fn new(rt: &'a H, alloc: Global) -> Session<'a, H> {
-        Session {
+    pub fn new(rt: &'a H, alloc: Global) -> Scene<'a, H> {
+        Scene {
             rt,
             alloc,
             folder: Folder::new(alloc),
@@ -222,14 +223,7 @@ impl<'a, H: Threads + Wait + Sync> Session<'a, H> {
         line: &str,
     ) -> Result<(), AllocError> {
         let words = words_of(self.alloc, line)?;
-        let ended = execute(
-            self.rt,
-            self.alloc,
-            &words,
-            &mut self.folder,
-            &mut Output::new(&mut *out),
-            err,
-        );
+        let ended = execute_over(self.rt, self.alloc, &words, &mut self.folder, out, err);
         let is_held = out.is_held() || err.is_held();
         push_told(&mut self.shown, out.taken(), err.taken())?;
         push_ending(
@@ -279,6 +273,25 @@ fn note_refusal(seen: &mut String, shown: &str, is_beginning: bool) -> Result<()
         seen.push_str(told)?;
     }
     Ok(())
+}
+
+// Executes a command line over files and outputs that are lent.
+fn execute_over<H: Threads + Wait + Sync>(
+    rt: &H,
+    alloc: Global,
+    words: &[&str],
+    folder: &mut Folder,
+    out: &mut Outlet,
+    err: &mut Outlet,
+) -> Ended {
+    let mut session = Session {
+        alloc,
+        explains: false,
+        files: folder,
+        out: Output::new(out),
+        err,
+    };
+    execute(rt, words, &mut session)
 }
 
 // The words of a command line, parted by spaces.

@@ -9,6 +9,8 @@ mod gate;
 #[cfg(test)]
 mod large;
 #[cfg(test)]
+mod moments;
+#[cfg(test)]
 mod play;
 #[cfg(test)]
 mod scenes;

@@ -13,7 +13,7 @@ import tempfile
 
 from measure import MIB, ROOT, measure
 
-LIBRARIES = ["sectors", "refusals", "bio", "blockdev", "sector_disk"]
+LIBRARIES = ["refusals", "bio", "blockdev", "sector_disk"]
 
 PROGRAM = """#![tactic(auto)]
 
@@ -56,7 +56,7 @@ def main():
         with open(f"{ROOT}/crates.txt") as it:
             lines = [line for line in it if line.split(":")[0] in LIBRARIES]
         with open(f"{folder}/crates.txt", "w") as it:
-            it.writelines([*lines, "disk_bench: bio blockdev refusals sector_disk sectors\n"])
+            it.writelines([*lines, "disk_bench: bio blockdev refusals sector_disk\n"])
         print(" sectors   writes  seconds  ratio  peak MiB")
         before = None
         for sectors, writes in ((1_048_576, 0), (65_536, 100_000), (65_536, 200_000), (65_536, 400_000)):

@@ -1,3 +1,4 @@
 -- The lemmas of `bio`; the proof of a function stands in the folder of its source file.
+pub mod ContentExamples
 pub mod Examples
 pub mod PossibleRows

@@ -1,4 +1,11 @@
 -- The definitions that the contracts of `bio` are written in.
+pub mod Places
+pub mod Content
+pub mod PlaceLaws
+pub mod ContentLaws
+pub mod SectorLaws
+pub mod Parts
+pub mod PartLaws
 pub mod Moments
 pub mod Causes
 pub mod Refusals

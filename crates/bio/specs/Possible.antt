@@ -3,8 +3,8 @@
 -- Any crate above may cite it.
 use Rattle.std.specs.Prelude.{◌≡◌, ◌⊎◌, ℕ, Bool, false, ◌&&◌, ◌||◌, Option, Some, None, List}
 use Rattle.std.specs.Prelude.{length, slice_get}
-use Rattle.sectors.specs.Places.{any_below}
-use Rattle.sectors.specs.Content.{Content, Patch, discards, nothing, writes}
+use Rattle.bio.specs.Places.{any_below}
+use Rattle.bio.specs.Content.{Content, Patch, discards, nothing, writes}
 use Rattle.bio.specs.declared.request.Bio.{Bio}
 use Rattle.bio.specs.declared.request.Bio.TheVariants.{Write, Flush, Discard, Read}
 use Rattle.bio.specs.declared.event.CoreEvent.{CoreEvent}

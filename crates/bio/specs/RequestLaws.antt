@@ -11,7 +11,7 @@ use Rattle.bio.specs.declared.request.Bio.{Bio}
 use Rattle.bio.specs.declared.request.Bio.TheVariants.{Write, Flush, Discard, Read}
 use Rattle.bio.specs.declared.request.BadBio.{BadBio}
 use Rattle.bio.specs.declared.request.BadBio.TheVariants.{NotWhole, TooLong, PastEnd}
-use Rattle.sectors.specs.PlaceLaws.{bool_cases}
+use Rattle.bio.specs.PlaceLaws.{bool_cases}
 use Rattle.bio.specs.declared.event.CoreEvent.TheVariants.{Submit, Complete, Mark, Stop, Close}
 use Rattle.bio.specs.Check.{check_answer, range_answer}
 use Rattle.bio.specs.EventLaws.{differ-eqb}
@@ -113,7 +113,8 @@ overlaps-common a b = (
       let others = parts.others in
       let below = parts.below in
       let above = parts.above in
-      let within : (top.0 < first_sector a + sector_count a) × (top.0 < first_sector b + sector_count b) =
+      let within : (top.0 < first_sector a + sector_count a)
+      × (top.0 < first_sector b + sector_count b) =
       elim top.3 [ inl is ↦ (omega arith, omega arith) | inr is ↦ (omega arith, omega arith) ] in (
         top.0,
         covers-within a top.0 parts.first top.1 within.0,

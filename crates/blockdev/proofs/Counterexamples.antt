@@ -6,7 +6,7 @@ use Rattle.std.proofs.Common.{replicate, refl, ap, ◌∙◌, inl, inr, arith}
 use Rattle.std.specs.Prelude.{Result, ◌^◌, slice_index_or}
 use Rattle.bio.specs.declared.outcome.DevError.{DevError}
 use Rattle.bio.specs.declared.outcome.DevError.TheVariants.{Io}
-use Rattle.sectors.specs.Content.{Content, Patch, put}
+use Rattle.bio.specs.Content.{Content, Patch, put}
 use Rattle.blockdev.specs.View.{IsLawful, Place, View, last_count}
 use Rattle.blockdev.specs.Calls.{Call, Flushes, IsByteRange, IsRange, Writes}
 use Rattle.blockdev.specs.InTurn.{DoesInTurn}

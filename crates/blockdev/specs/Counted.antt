@@ -4,7 +4,7 @@ use Rattle.std.proofs.Common.{◌≡◌, ℕ, ◌+◌, ◌<◌, ◌≤◌, Bool,
 use Rattle.std.proofs.lemmas.Bool.{cases_lt, or_parts}
 use Rattle.std.specs.Prelude.{◌⊎◌, ◌||◌, Result, min}
 use Rattle.bio.specs.declared.outcome.DevError.{DevError}
-use Rattle.sectors.specs.Content.{Patch}
+use Rattle.bio.specs.Content.{Patch}
 use Rattle.blockdev.specs.View.{IsLawful, View, last_count}
 use Rattle.blockdev.specs.Law.{DeviceFrame, HasCause, WriteDone, NoLie, CrashSetKept, FlushDone}
 

@@ -2,9 +2,9 @@
 -- Any crate above may cite it.
 use Rattle.std.proofs.Common.{◌≡◌, ℕ, ◌+◌, true, List, None, refl, ◌∙◌, inl, inr, arith}
 use Rattle.std.specs.Prelude.{Bool}
-use Rattle.sectors.specs.Content.{Content, HasBytes, Patch, nothing, writes}
-use Rattle.sectors.specs.ContentLaws.{HasBytes-put}
-use Rattle.sectors.specs.PartLaws.{patched-none, patched_cases}
+use Rattle.bio.specs.Content.{Content, HasBytes, Patch, nothing, writes}
+use Rattle.bio.specs.ContentLaws.{HasBytes-put}
+use Rattle.bio.specs.PartLaws.{patched-none, patched_cases}
 use Rattle.blockdev.specs.View.{IsLawful, View}
 use Rattle.blockdev.specs.Law.{AfterPatch, DeviceFrame, IsTorn, WriteDone, FlushDone}
 

@@ -2,11 +2,11 @@
 -- Any crate above may cite it.
 use Rattle.std.proofs.Common.{◌≡◌, ℕ, ◌≤◌, Bool, false, Err, None, refl, sym, ◌∙◌, inl, inr, arith}
 use Rattle.bio.specs.declared.outcome.DevError.{DevError}
-use Rattle.sectors.specs.Content.{Content, HasNoneBelow, HasWholeSectors, Patch, nothing}
-use Rattle.sectors.specs.ContentLaws.{patched-same, put-none}
-use Rattle.sectors.specs.Parts.{HasNoneFrom, IsPart, Joins, SameValues, below, between}
-use Rattle.sectors.specs.PartLaws.{below-joins, below-part, below_all, below_more, below_none}
-use Rattle.sectors.specs.PartLaws.{between-part, patched-part, patched_twice, put-joined, put-same}
+use Rattle.bio.specs.Content.{Content, HasNoneBelow, HasWholeSectors, Patch, nothing}
+use Rattle.bio.specs.ContentLaws.{patched-same, put-none}
+use Rattle.bio.specs.Parts.{HasNoneFrom, IsPart, Joins, SameValues, below, between}
+use Rattle.bio.specs.PartLaws.{below-joins, below-part, below_all, below_more, below_none}
+use Rattle.bio.specs.PartLaws.{between-part, patched-part, patched_twice, put-joined, put-same}
 use Rattle.blockdev.specs.View.{IsLawful, View}
 use Rattle.blockdev.specs.Law.{AfterPatch, DeviceFrame, HasCause, WriteDone, NoLie, CrashSetKept}
 
@@ -44,7 +44,11 @@ goes_part part whole v w is goes = record {
   content = patched-part part whole v.content w.content is goes.content;
   crash = λ left may. wider left (goes.crash left may);
   moment = goes.moment;
-  gains = λ moment left h may. elim (goes.gains moment left h may) [ inl before ↦ inl before | inr during ↦ inr (wider left during) ];
+  gains = λ moment left h may.
+      elim (goes.gains moment left h may) [
+        | inl before ↦ inl before
+        | inr during ↦ inr (wider left during)
+      ];
   keeps = goes.keeps;
   faults = goes.faults;
   lies = goes.lies;
@@ -64,11 +68,13 @@ goes_both patch u v w first second = record {
   content = patched_twice patch u.content v.content w.content first.content second.content;
   crash = λ left may. after_twice patch u.crash v.crash left first.crash (second.crash left may);
   moment = let a = first.moment in let b = second.moment in omega arith;
-  gains = λ moment left h may. elim (second.gains moment left (let a = first.moment in omega arith) may) [
-    | inl before ↦ first.gains moment left h before
-    | inr during ↦ inr (after_twice patch u.crash v.crash left first.crash during)
-  ];
-  keeps = λ moment left h may. second.keeps moment left (let a = first.moment in omega arith) (first.keeps moment left h may);
+  gains = λ moment left h may.
+      elim (second.gains moment left (let a = first.moment in omega arith) may) [
+        | inl before ↦ first.gains moment left h before
+        | inr during ↦ inr (after_twice patch u.crash v.crash left first.crash during)
+      ];
+  keeps = λ moment left h may. second.keeps moment left (let a = first.moment in omega arith)
+      (first.keeps moment left h may);
   faults = let a = first.faults in let b = second.faults in omega arith;
   lies = let a = first.lies in let b = second.lies in omega arith;
   can_lie = second.can_lie ∙ first.can_lie;

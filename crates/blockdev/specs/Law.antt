@@ -3,7 +3,7 @@
 use Rattle.std.specs.Prelude.{◌≡◌, ◌⊎◌, ℕ, ◌<◌, ◌≤◌, Bool, false, IsTrue, Result, Ok, Err, Some}
 use Rattle.bio.specs.declared.outcome.DevError.{DevError}
 use Rattle.bio.specs.declared.outcome.DevError.TheVariants.{Io}
-use Rattle.sectors.specs.Content.{Content, Patch, Patched, put}
+use Rattle.bio.specs.Content.{Content, Patch, Patched, put}
 use Rattle.blockdev.specs.View.{View, last_count}
 
 -- one of these contents, with the call's values in some of their sectors, none or all included

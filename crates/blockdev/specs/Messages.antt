@@ -4,8 +4,8 @@ use Rattle.std.proofs.Common.{◌≡◌, ℕ, Bool, refl, ap, ◌∙◌, inl, ar
 use Rattle.std.specs.Prelude.{◌||◌}
 use Rattle.refusals.specs.declared.refusal.Refusal.{Refusal}
 use Rattle.refusals.specs.declared.refusal.Refusal.TheVariants as refusals
-use Rattle.sectors.specs.Content.{Content, nothing}
-use Rattle.sectors.specs.ContentLaws.{patched-same}
+use Rattle.bio.specs.Content.{Content, nothing}
+use Rattle.bio.specs.ContentLaws.{patched-same}
 use Rattle.blockdev.specs.declared.message.MessageError.{MessageError}
 use Rattle.blockdev.specs.declared.message.MessageError.TheVariants as errors
 use Rattle.blockdev.specs.Counted.{counted, sum_of}

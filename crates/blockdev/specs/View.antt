@@ -2,7 +2,7 @@
 -- `Law` says how a call changes it; `IsLawful` is what each `BlockDev` owes at all times.
 -- Any crate above may cite it.
 use Rattle.std.specs.Prelude.{ℕ, Bool, ◌-◌, ◌<◌, ◌≤◌, ◌^◌}
-use Rattle.sectors.specs.Content.{Content, HasWholeSectors}
+use Rattle.bio.specs.Content.{Content, HasWholeSectors}
 
 -- Where a device lies on the disk beneath all layers: its
 -- first sector there, and how many sectors that disk has.

@@ -3,7 +3,7 @@
 //! Its clauses are written in specs/Law; its theorems in proofs/laws/.
 ghost use Rattle.std.specs.Prelude.{◌≡◌, ◌<◌, ◌≤◌, Bool, List, None, true, ℕ};
 ghost use Rattle.blockdev.specs.Law.{DeviceFrame, IsTorn, WriteDone, FlushDone};
-ghost use Rattle.sectors.specs.Content.{Content, HasBytes, HasWholeSectors, Patch, nothing, writes};
+ghost use Rattle.bio.specs.Content.{Content, HasBytes, HasWholeSectors, Patch, nothing, writes};
 
 use crate::BlockDev;
 

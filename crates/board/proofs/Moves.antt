@@ -12,7 +12,8 @@ use Rattle.board.specs.declared.rule.Knows.{Knows}
 use Rattle.board.specs.Posts.{opening, last_of, word_of, IsFit, MayFollow, IsRising, Begins}
 use Rattle.board.specs.Rules.{writer_of, reader_of, told_by, as_reader, Publishes, Looks, Compares}
 use Rattle.board.specs.Rules.{Fits, IsPosted}
-use Rattle.board.specs.PostLaws.{begins_itself, begins_longer, begins_none, last_of-push, rises_more}
+use Rattle.board.specs.PostLaws.{begins_itself, begins_longer, begins_none, last_of-push}
+use Rattle.board.specs.PostLaws.{rises_more}
 use Rattle.board.specs.PostLaws.{opening_rises}
 use Rattle.board.proofs.Words.{word_once}
 
@@ -220,8 +221,10 @@ pub joins : (id other : ℕ) (pass part : Knows)
     → Joins Posted id pass other part (told_by pass part) (reader_of [])
 joins id other pass part s posted there apart from =
     let both = told_by pass part in
-    let theirs : get_elem? s.views other ≡ some part = ⊎_elim (λ (t : (other ≡ id) × (both ≡ part)). absurd (apart t.0))
-    (λ (t : (other ≢ id) × (get_elem? s.views other ≡ some part)). t.1) (at_set s.views id other both part from) in
+    let theirs : get_elem? s.views other ≡ some part =
+    ⊎_elim (λ (t : (other ≡ id) × (both ≡ part)). absurd (apart t.0))
+    (λ (t : (other ≢ id) × (get_elem? s.views other ≡ some part)). t.1)
+    (at_set s.views id other both part from) in
     let mine = posted.fits id pass there in record {
       place = posted.place;
       statuses = posted.statuses;

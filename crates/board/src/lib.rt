@@ -8,8 +8,7 @@
 //! readers.
 #![tactic(auto)]
 
-ghost use Rattle.std.specs.Prelude.{◌≡◌, ℕ, List, [], ◌∷◌, ◌++◌, Option, MatchBool};
-ghost use Rattle.bio.specs.declared.outcome.End.{End as Cause};
+ghost use Rattle.std.specs.Prelude.{◌≡◌, List, [], ◌∷◌, ◌++◌, Option, MatchBool};
 ghost use Rattle.board.specs.Posts.{opening, last_of, Stays, MayFollow, MayPost, IsRising, Begins};
 
 mod rule;

@@ -1,6 +1,5 @@
 // The rule over the passes of a board's writer and readers, and the steps that they take under it.
 // Its clauses are written in specs/Posts and specs/Rules; the search alone proves it.
-ghost use Rattle.std.specs.Prelude.{ℕ};
 
 use atomic_table::{Join, Play, Split, Table, TableRule};
 use bio::Status;

@@ -282,7 +282,8 @@ module _ {T : Type 0} where
     holds = holds-more t.holds;
     sized = t.sized;
     free = let f = t.free in omega (arith, length-append lasts (None ∷ []));
-    full = λ row less. let f = t.full row less in let e = ap (times row) (default-grown chains 0 []) in omega arith;
+    full = λ row less. let f = t.full row less in
+        let e = ap (times row) (default-grown chains 0 []) in omega arith;
   }
 
   -- so many chains with nothing, and no rows

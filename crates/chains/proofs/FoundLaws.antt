@@ -62,5 +62,6 @@ chains-found {next} {lasts} {loose} {chains} h =
     let small : i < length lasts = let e = h.size in omega arith in
     let long : length (chain_in chains i) ≤ length next =
     let part = one-of length chains i [] refl in let all = h.all in omega arith in
-    chain-found next (last_in lasts i) (chain_in chains i) (h.each i) (λ row. let few = few-in h i row in omega arith) long
+    chain-found next (last_in lasts i) (chain_in chains i) (h.each i)
+    (λ row. let few = few-in h i row in omega arith) long
     ∙ sym (get_or-map (chain_of next) lasts i None [] small))

@@ -167,8 +167,21 @@ holds-turned {next} {lasts} {loose} {chains} h chain front row back is =
         holds-put h next loose chain (Some row) (back ++ (front ++ row ∷ []))
         (last-there lasts chain last there) refl turned
         (λ other apart. h.each other)
-        (λ r. let e = ap (times r) is in omega (arith, times-append r front (row ∷ back), times-append r back (front ++ row ∷ []), times-append r front (row ∷ [])))
-        (let e = ap length is in omega (arith, length-append front (row ∷ back), length-append back (front ++ row ∷ []), length-append front (row ∷ [])))
+        (λ r. let e = ap (times r) is in
+        omega (
+          arith,
+          times-append r front (row ∷ back),
+          times-append r back
+              (front ++ row ∷ []),
+          times-append r front (row ∷ []),
+        ))
+        (let e = ap length is in
+        omega (
+          arith,
+          length-append front (row ∷ back),
+          length-append back (front ++ row ∷ []),
+          length-append front (row ∷ []),
+        ))
 
     by_last : (last : Option ℕ) → last_in lasts chain ≡ last
         → Holds next (set lasts chain (Some row)) loose
@@ -217,7 +230,9 @@ pub last-is-row : {next : List ℕ} {lasts : List (Option ℕ)} {loose : List �
     {chains : List (List ℕ)} → Holds next lasts loose chains
     → (chain last : ℕ) → last_in lasts chain ≡ Some last → last < length next
 last-is-row {next} {lasts} {loose} {chains} h chain last there =
-    is-row h chain last (let some = last-counts next last (chain_in chains chain) (ring-at h chain last there) in omega arith)
+    is-row h chain last
+    (let some = last-counts next last (chain_in chains chain) (ring-at h chain last there) in
+    omega arith)
 
 -- The first row taken out of a chain that has others: the last leads to the one behind it.
 pub holds-cut : {next : List ℕ} {lasts : List (Option ℕ)} {loose : List ℕ} {chains : List (List ℕ)}
@@ -266,7 +281,8 @@ holds-cut {next} {lasts} {loose} {chains} h chain last there apart =
         omega arith in
         chain-kept next new (last_in lasts other) (chain_in chains other) last last
         (h.each other) same none none)
-        (λ row. let d = ap (times row) first.is in let b = ap (times row) first.behind in omega arith)
+        (λ row. let d = ap (times row) first.is in
+        let b = ap (times row) first.behind in omega arith)
         (let d = ap length first.is in let b = ap length first.behind in omega arith)
 
 -- the only row taken out of a chain
@@ -286,7 +302,8 @@ holds-emptied {next} {lasts} {loose} {chains} h chain last there same =
         (last-there lasts chain last there) refl
         first.behind
         (λ other away. h.each other)
-        (λ row. let d = ap (times row) first.is in let b = ap (times row) first.behind in omega arith)
+        (λ row. let d = ap (times row) first.is in
+        let b = ap (times row) first.behind in omega arith)
         (let d = ap length first.is in let b = ap length first.behind in omega arith)
     by_rest (second ∷ rest) first = absurd (
         let few = few-in h chain last in
@@ -427,11 +444,17 @@ holds-embraced {next} {lasts} {loose} {chains} two rows h moved chain one there 
         (sources-none next (after next two) more two one other.leads (omega arith))
         (sources-end next (after next two) more two other.leads (omega arith)) in
         let P : List ℕ → Type 0 = λ rs. Leads new one rs two in
-        let front : Leads new one rows two = subst P (sym other.is)
-        (get_or-set_other (set next one (after next two)) two one (after next one) 0 away ∙ get_or-set_same next one (after next two) 0 small, went) in
+        let front : Leads new one rows two = subst P (sym other.is) (
+          get_or-set_other (set next one (after next two)) two one (after next one) 0 away
+              ∙ get_or-set_same next one (after next two) 0 small,
+          went,
+        ) in
         let Q : List ℕ → Type 0 = λ rs. Leads new two rs one in
-        let back : Leads new two (chain_in chains chain) one = subst Q (sym first.is)
-        (get_or-set_same (set next one (after next two)) two (after next one) 0 (omega (arith, length-set next one (after next two))), kept) in
+        let back : Leads new two (chain_in chains chain) one = subst Q (sym first.is) (
+          get_or-set_same (set next one (after next two)) two (after next one) 0
+              (omega (arith, length-set next one (after next two))),
+          kept,
+        ) in
         holds-put h new loose chain (Some one) (rows ++ chain_in chains chain)
         (last-there lasts chain one there)
         (length-set (set next one (after next two)) two (after next one)
@@ -519,7 +542,8 @@ holds-joined {next} {lasts} {loose} {chains} h from onto last there less new not
         let rows : chain_in chains from ≡ end.0 ++ last ∷ [] = first.is ∙ end.1 in
         let here : chain_in (fronted chains from onto) onto ≡ end.0 ++ last ∷ chain_in chains onto =
         in-put (set chains from []) onto (chain_in chains from ++ chain_in chains onto) within
-        ∙ ap (λ rs. rs ++ chain_in chains onto) rows ∙ append_assoc end.0 (last ∷ []) (chain_in chains onto) in
+        ∙ ap (λ rs. rs ++ chain_in chains onto) rows ∙ append_assoc end.0 (last ∷ [])
+        (chain_in chains onto) in
         holds-at (set noted onto (Some last)) (set noted onto (Some last))
         (set (fronted chains from onto) onto (chain_in chains onto ++ (end.0 ++ last ∷ [])))
         (joined chains from onto) refl

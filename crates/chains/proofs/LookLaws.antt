@@ -45,7 +45,8 @@ module _ {T : Type 0} where
           let here : row ≡ first = is ∙ leads.0 in
           let front = times-same first first [] refl in
           let at = full first (omega arith) in
-          let value = value-there (value_at rows row) (ap (λ r. filled (value_at rows r)) here ∙ at.1) in
+          let value = value-there (value_at rows row)
+          (ap (λ r. filled (value_at rows r)) here ∙ at.1) in
           let end : left ≡ None =
           rest ∙ ap (λ b. cond b None (Some row)) (eq-eqb row last (here ∙ leads.1)) in
           let less = at.0 in
@@ -64,16 +65,19 @@ module _ {T : Type 0} where
           let here : row ≡ first = is ∙ leads.0 in
           let front = times-same first first (second ∷ todo) refl in
           let at = full first (omega arith) in
-          let value = value-there (value_at rows row) (ap (λ r. filled (value_at rows r)) here ∙ at.1) in
+          let value = value-there (value_at rows row)
+          (ap (λ r. filled (value_at rows r)) here ∙ at.1) in
           let ends = leads-end next first second todo last leads.1 in
           let one = times-same last last [] refl in
           let counts = ap (times last) ends.1 in
           let apart : row ≢ last = λ e.
           let same = times-same last first (second ∷ todo) (sym here ∙ e) in
           absurd (omega (arith, times-append last ends.0 (last ∷ []))) in
-          let on : left ≡ Some row = rest ∙ ap (λ b. cond b None (Some row)) (ne_eqb row last apart) in
+          let on : left ≡ Some row =
+          rest ∙ ap (λ b. cond b None (Some row)) (ne_eqb row last apart) in
           let less = at.0 in
-          let found = way-found next before first (second ∷ todo) last (length next) leads few long in
+          let found = way-found next before first (second ∷ todo) last (length next)
+          leads few long in
           let behind =
           way-found next first second todo last (length next) leads.1 (omega arith)
           (omega arith) in
@@ -97,7 +101,11 @@ module _ {T : Type 0} where
                   ∙ ap (λ r. value.0 ∷ values_left next rows last (Some r)) (sym here)
                   ∙ ap (λ l. value.0 ∷ values_left next rows last l) (sym on),
             ),
-            record { sized = sized; way = λ r e. let same : first ≡ r = let both = sym on ∙ e in sym here ∙ some-is both in subst P same go_on },
+            record {
+              sized = sized;
+              way = λ r e. let same : first ≡ r = let both = sym on ∙ e in
+                  sym here ∙ some-is both in subst P same go_on;
+            },
           )
 
   -- a chain that is looked through from its first on
@@ -134,10 +142,14 @@ module _ {T : Type 0} where
       } in (
         record {
           sized = t.sized;
-          way = λ r e. let one : row ≡ r = cc in let Q : ℕ → Type 0 = λ x. IsWay links.next.items rows last x in subst Q one (subst P (sym is) way);
+          way = λ r e. let one : row ≡ r = cc in
+              let Q : ℕ → Type 0 = λ x. IsWay links.next.items rows last x in
+              subst Q one (subst P (sym is) way);
         },
         ap (λ l. values_of rows (rows_from links.next.items l (length links.next.items) row)) is
-            ∙ ap (λ rs. values_of rows rs) (sym (ring-found links.next.items row (chain_in chains chain) (length links.next.items) ring (let f = few row in omega arith) (omega arith)))
+            ∙ ap (λ rs. values_of rows rs)
+            (sym (ring-found links.next.items row (chain_in chains chain)
+            (length links.next.items) ring (let f = few row in omega arith) (omega arith)))
             ∙ sym (chain-map (values_of rows) chains chain refl),
       )
 

@@ -115,7 +115,8 @@ module _ {T : Type 0} where
                   let few = few-in t.holds 0 r in
                   let past = (t.holds).within r (let e = t.sized in omega arith) in
                   let beyond = ap filled (get_or_past rows r None (omega arith)) in
-                  let none : times r (chain_in chains 0) ≡ 0 = let part = one-of (times r) chains 0 [] refl in omega arith in
+                  let none : times r (chain_in chains 0) ≡ 0 =
+                  let part = one-of (times r) chains 0 [] refl in omega arith in
                   omega arith
               | inr apart ↦
                   let none = times-other r (length rows) [] apart in
@@ -132,7 +133,8 @@ module _ {T : Type 0} where
       shown-by (rows ++ None ∷ []) chains (map (values_of rows) chains)
       (sym (length-map chains (values_of rows))) (λ chain.
       values-grown rows (None ∷ []) (chain_in chains chain)
-      (λ row some. let small = is-row t.holds chain row (omega arith) in let sized = t.sized in omega arith)
+      (λ row some. let small = is-row t.holds chain row (omega arith) in
+      let sized = t.sized in omega arith)
       ∙ sym (chain-map (values_of rows) chains chain refl))
 
   -- the first row of a chain and its value are taken: the row is loose
@@ -168,7 +170,8 @@ module _ {T : Type 0} where
               | inr apart ↦
                   let none = times-other r row [] apart in
                   let full = t.full r (omega (arith, length-set rows row None)) in
-                  let other = ap filled (get_or-set_other rows row r None None (λ e. apart (sym e))) in
+                  let other =
+                  ap filled (get_or-set_other rows row r None None (λ e. apart (sym e))) in
                   omega arith
             ];
       }
@@ -183,7 +186,8 @@ module _ {T : Type 0} where
       let front = times-same row row rest refl in
       let counts = ap (times row) is in
       let few = few-in t.holds chain row in
-      let within : chain < length chains = there chains chain (let e = ap length is in omega arith) in
+      let within : chain < length chains =
+      there chains chain (let e = ap length is in omega arith) in
       let seen = map (values_of rows) chains in
       let there_too : chain < length seen = omega (arith, length-map chains (values_of rows)) in
       let found = value-there (value_at rows row) (chain-full t chain row shown (omega arith)) in

@@ -156,8 +156,11 @@ pub ring-parts : (next : List ℕ) (last : ℕ) (rows : List ℕ) → IsRing nex
     → (rest : List ℕ) × (rows ≡ after next last ∷ rest) × Leads next (after next last) rest last
 ring-parts next last [] ring = absurd (let some = ring.some in omega arith)
 ring-parts next last (row ∷ rows) ring =
-    let e = ring.leads.0 in
-    (rows, ap (λ first. first ∷ rows) (sym e), (let P : ℕ → Type 0 = λ first. Leads next first rows last in subst P (sym e) ring.leads.1))
+    let e = ring.leads.0 in (
+      rows,
+      ap (λ first. first ∷ rows) (sym e),
+      (let P : ℕ → Type 0 = λ first. Leads next first rows last in subst P (sym e) ring.leads.1),
+    )
 
 -- a ring seen from another of its rows
 pub ring-turned : (next : List ℕ) (last : ℕ) (front : List ℕ) (row : ℕ) (back : List ℕ)

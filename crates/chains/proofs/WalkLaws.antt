@@ -99,7 +99,8 @@ module _ {T : Type 0} where
       )
       by_chain (row ∷ rest) is =
           let value = first-value t chain row rest shown is in
-          let front = ap (λ xs. values_of rows xs) is ∙ values-first rows row rest value.0 value.1 in (
+          let front = ap (λ xs. values_of rows xs) is ∙ values-first rows row rest
+          value.0 value.1 in (
             ap (λ xs. values_of rows (drop 1 xs)) is ∙ sym (ap (λ vs. drop 1 vs) front),
             ap (λ xs. values_of rows (take 1 xs)) is ∙ values-first rows row [] value.0 value.1
                 ∙ sym (ap (λ vs. take 1 vs) front),
@@ -113,7 +114,8 @@ module _ {T : Type 0} where
   turned-table {next} {lasts} {rows} {chains} t chain at shown noted =
       let first = first-of (ring-at t.holds chain at noted) in
       let is = (first.1).is in
-      let same : drop 1 (chain_in chains chain) ++ take 1 (chain_in chains chain) ≡ first.0 ++ ([] ++ after next at ∷ []) =
+      let same : drop 1 (chain_in chains chain) ++ take 1 (chain_in chains chain) ≡ first.0
+      ++ ([] ++ after next at ∷ []) =
       ap (λ xs. drop 1 xs ++ take 1 xs) is in
       let noted = set lasts chain (Some (after next at)) in
       table-kept t next noted (turned chains chain)
@@ -182,14 +184,17 @@ module _ {T : Type 0} where
       let xs = chain_in chains walk.chain in
       let rest = first-row (s.table).holds walk.chain at row (walk-last walk s ∙ is) first in
       let value = last_in new.lasts.items onto in
-      let seen : set (set (seen_lasts lasts (Some walk)) walk.chain left) onto value ≡ set new.lasts.items walk.chain left =
+      let seen : set (set (seen_lasts lasts (Some walk)) walk.chain left) onto value
+      ≡ set new.lasts.items walk.chain left =
       ap (λ ls. set ls onto value) (set-set lasts walk.chain walk.at left)
       ∙ set_comm lasts walk.chain onto left value (λ e. apart (sym e))
       ∙ ap (λ ls. set ls walk.chain left) (ap (λ ls. set ls onto value) (sym same) ∙ sym noted) in
-      let put_there : preceded (shortened chains walk.chain) onto row ≡ lifted chains walk.chain onto =
+      let put_there : preceded (shortened chains walk.chain) onto row
+      ≡ lifted chains walk.chain onto =
       ap (λ ys. set (shortened chains walk.chain) onto (row ∷ ys))
       (in-other chains walk.chain onto (drop 1 xs) apart)
-      ∙ ap (λ zs. set (shortened chains walk.chain) onto (zs ++ chain_in chains onto)) (sym (ap (λ ys. take 1 ys) rest.1)) in
+      ∙ ap (λ zs. set (shortened chains walk.chain) onto (zs ++ chain_in chains onto))
+      (sym (ap (λ ys. take 1 ys) rest.1)) in
       table-kept s.table new.next.items (set new.lasts.items walk.chain left)
       (lifted chains walk.chain onto)
       (holds-at (set (set (seen_lasts lasts (Some walk)) walk.chain left) onto value)

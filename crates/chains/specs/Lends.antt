@@ -12,4 +12,5 @@ with_value shown chain value = record shown { chains = with_first shown.chains c
 
 -- once the borrow ends, the chain's first is the last value written through the reference
 abbrev pub lends_first : (T : RattleType) → MutBor (Shown T.Denot) → ℕ → MutBor T.Denot → Fml
-lends_first T chains chain reference = Lends (the_row T) T chains reference (with_value chains.now chain)
+lends_first T chains chain reference =
+    Lends (the_row T) T chains reference (with_value chains.now chain)

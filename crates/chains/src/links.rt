@@ -1,7 +1,7 @@
 //! The links between rows, and the one call that changes them.
 //! Its clauses are written in specs/; the search alone proves it.
-ghost use Rattle.std.specs.Prelude.{◌≡◌, ℕ, ◌+◌, ◌-◌, ◌^◌, ◌<◌, ◌≤◌, min, None, [], ◌∷◌, ◌++◌};
-ghost use Rattle.std.specs.Prelude.{length, replicate, IfOk, OnOk, OnErr, vec_len, vec_capacity};
+ghost use Rattle.std.specs.Prelude.{◌≡◌, ◌+◌, ◌-◌, ◌^◌, ◌<◌, ◌≤◌, min, None, [], ◌∷◌, ◌++◌};
+ghost use Rattle.std.specs.Prelude.{length, replicate, IfOk, OnOk, vec_len, vec_capacity};
 ghost use Rattle.chains.specs.inside.Rings.{after, last_in};
 ghost use Rattle.chains.specs.inside.Changes.{IsWithin, lasts_after, next_after};
 

@@ -1,10 +1,10 @@
 //! Chains of values, and the calls that change them.
 //! Its clauses are written in specs/; its theorems in proofs/table/.
-ghost use Rattle.std.specs.Prelude.{◌≡◌, ◌≢◌, ℕ, ◌+◌, ◌<◌, ◌≤◌, ◌==◌, None, Some, Option, List, []};
-ghost use Rattle.std.specs.Prelude.{◌∷◌, ◌++◌, length, replicate, max, IfOk, OnOk, OnErr, IfSome};
+ghost use Rattle.std.specs.Prelude.{◌≡◌, ◌≢◌, ◌+◌, ◌<◌, ◌≤◌, ◌==◌, None, Some, Option, []};
+ghost use Rattle.std.specs.Prelude.{◌∷◌, ◌++◌, length, replicate, max, IfOk, OnOk, OnErr};
 ghost use Rattle.std.specs.Prelude.{OnSome, slice_get};
 ghost use Rattle.std.specs.Option.{option_copied};
-ghost use Rattle.chains.specs.Edits.{chain_in, fronted, joined, lengthened, preceded, shortened};
+ghost use Rattle.chains.specs.Edits.{chain_in, fronted, joined, lengthened, shortened};
 ghost use Rattle.chains.specs.Edits.{with_first};
 ghost use Rattle.chains.specs.Shown.{ChangesFew, KeepsRoom, count_in};
 

@@ -14,7 +14,11 @@ use Rattle.clap.specs.declared.builder.command.Command.{Command}
 use Rattle.clap.specs.declared.builder.command.Command.TheViews.{out-Command as fields_of}
 use Rattle.clap.specs.declared.error.Error.{Error}
 use Rattle.clap.specs.declared.error.kind.ErrorKind.{ErrorKind}
-use Rattle.clap.specs.declared.error.kind.ErrorKind.TheVariants.{DisplayHelp, DisplayHelpOnMissingArgumentOrSubcommand, DisplayVersion, InvalidSubcommand, MissingRequiredArgument, OutOfMemory, UnknownArgument}
+use Rattle.clap.specs.declared.error.kind.ErrorKind.TheVariants.{DisplayHelp}
+use Rattle.clap.specs.declared.error.kind.ErrorKind.TheVariants.{DisplayHelpOnMissingArgumentOrSubcommand}
+use Rattle.clap.specs.declared.error.kind.ErrorKind.TheVariants.{DisplayVersion, InvalidSubcommand}
+use Rattle.clap.specs.declared.error.kind.ErrorKind.TheVariants.{MissingRequiredArgument}
+use Rattle.clap.specs.declared.error.kind.ErrorKind.TheVariants.{OutOfMemory, UnknownArgument}
 use Rattle.replay.specs.declared.upto.Upto.{Upto}
 use Rattle.replay.specs.declared.upto.Upto.TheVariants.{Count, Flush, Mark}
 use Rattle.text_words.specs.Words.{is_number, number_value}
@@ -96,7 +100,8 @@ name_help = refl
 name_shorter : name_of (codes "rec") ≡ None
 name_shorter = refl
 
-all_eight : all_names ≡ names.Record ∷ names.Run ∷ names.List ∷ names.Status ∷ names.Replay ∷ names.Copy ∷ names.Judge ∷ names.Path ∷ []
+all_eight : all_names ≡ names.Record ∷ names.Run ∷ names.List ∷ names.Status ∷ names.Replay
+    ∷ names.Copy ∷ names.Judge ∷ names.Path ∷ []
 all_eight = refl
 
 -- the words that a command takes
@@ -300,7 +305,8 @@ enters_other : (entered : Entered) → Enters (codes "dmlw" ∷ codes "list" ∷
 unfolding clap_on_literals
 enters_other entered told is =
     let same : Some (codes "list") ≡ Some (codes "status") =
-    ap (λ (found : Option Entered). option_map (λ e. e.0) found) told.enters ∙ ap (λ (name : Text). Some name) is in
+    ap (λ (found : Option Entered). option_map (λ e. e.0) found) told.enters
+    ∙ ap (λ (name : Text). Some name) is in
     let byte = same_number 108 115 (one_byte _ _ (same_some _ _ same)) in omega arith
 
 -- ---- tasks
@@ -422,11 +428,19 @@ asks_copy_sectors (log, out, word, is, count) =
 -- a SECTORS below 8 and one past 1,048,576, and one that may be, told as none
 asks_sectors : AsksBy names.Copy (copy_rows (codes "7"))
     (tasks.Flawed flaws.Sectors (str (codes "7")))
-asks_sectors = (refl, λ n count. let same = same_number 7 n count.number.1 in let least = count.least in omega arith)
+asks_sectors = (
+  refl,
+  λ n count. let same = same_number 7 n count.number.1 in
+      let least = count.least in omega arith,
+)
 
 asks_sectors_past : AsksBy names.Copy (copy_rows (codes "1048577"))
     (tasks.Flawed flaws.Sectors (str (codes "1048577")))
-asks_sectors_past = (refl, λ n count. let same = same_number 1048577 n count.number.1 in let most = count.most in omega arith)
+asks_sectors_past = (
+  refl,
+  λ n count. let same = same_number 1048577 n count.number.1 in
+      let most = count.most in omega arith,
+)
 
 asks_sectors_fine : AsksBy names.Copy (copy_rows (codes "8"))
     (tasks.Flawed flaws.Sectors (str (codes "8"))) → ⊥
@@ -562,7 +576,8 @@ list_asks task read =
 
 read_other : IsRead list_line (tasks.List (str (codes "b"))) → ⊥
 read_other read =
-    let asks : Some (codes "a") ≡ Some (codes "b") = list_asks (tasks.List (str (codes "b"))) read in
+    let asks : Some (codes "a") ≡ Some (codes "b") =
+    list_asks (tasks.List (str (codes "b"))) read in
     let byte = same_number 97 98 (one_byte _ _ (same_some _ _ asks)) in omega arith
 
 pub read_another : IsRead list_line (tasks.Status (str (codes "a"))) → ⊥

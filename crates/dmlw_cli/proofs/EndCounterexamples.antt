@@ -12,7 +12,11 @@ use Rattle.refusals.specs.declared.refusal.Refusal.TheVariants as refusals
 use Rattle.clap.specs.Words.{Text, kind_of}
 use Rattle.clap.specs.declared.error.Error.{Error}
 use Rattle.clap.specs.declared.error.kind.ErrorKind.{ErrorKind}
-use Rattle.clap.specs.declared.error.kind.ErrorKind.TheVariants.{DisplayHelp, DisplayHelpOnMissingArgumentOrSubcommand, DisplayVersion, MissingRequiredArgument, OutOfMemory, UnknownArgument}
+use Rattle.clap.specs.declared.error.kind.ErrorKind.TheVariants.{DisplayHelp}
+use Rattle.clap.specs.declared.error.kind.ErrorKind.TheVariants.{DisplayHelpOnMissingArgumentOrSubcommand}
+use Rattle.clap.specs.declared.error.kind.ErrorKind.TheVariants.{DisplayVersion}
+use Rattle.clap.specs.declared.error.kind.ErrorKind.TheVariants.{MissingRequiredArgument}
+use Rattle.clap.specs.declared.error.kind.ErrorKind.TheVariants.{OutOfMemory, UnknownArgument}
 use Rattle.replay.specs.declared.upto.Upto.{Upto}
 use Rattle.run_error.specs.declared.run_error.RunError.{RunError}
 use Rattle.run_error.specs.declared.run_error.RunError.TheVariants as faults
@@ -281,11 +285,13 @@ what_usage t ended (upto, named, told) is = replayed_usage told.done (sym told.t
 -- what is told of a flaw, and a flaw that asks for a file,
 -- ends as refused, prints on the output, or is told by no line
 flaw_what : flaw_text flaws.What (codes "x")
-    ≡ codes "error: invalid value 'x' for '<WHAT>'\n  [possible values: entries:<n>, mark:<text>, flush]\n\nFor more information, try 'dmlw help replay'.\n"
+    ≡ codes
+    "error: invalid value 'x' for '<WHAT>'\n  [possible values: entries:<n>, mark:<text>, flush]\n\nFor more information, try 'dmlw help replay'.\n"
 flaw_what = refl
 
 flaw_moment : flaw_text flaws.Moment (codes "-")
-    ≡ codes "error: invalid value '-' for '<M>'\n  [possible values: a number of 1 to 20 digits, below 2^64]\n\nFor more information, try 'dmlw help judge'.\n"
+    ≡ codes
+    "error: invalid value '-' for '<M>'\n  [possible values: a number of 1 to 20 digits, below 2^64]\n\nFor more information, try 'dmlw help judge'.\n"
 flaw_moment = refl
 
 flaw_asking : (t : ErrStream) (ended : Ended)

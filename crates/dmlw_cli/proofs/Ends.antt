@@ -22,8 +22,8 @@ use Rattle.dmlw_run.specs.RunsLog.{PrintsRun, Runs}
 use Rattle.dmlw_commands.specs.CopiesLog.{Copies, PrintsCopy}
 use Rattle.world.specs.declared.finding.Finding.{Finding}
 use Rattle.world.specs.declared.finding.Finding.TheVariants as findings
-use Rattle.dmlw_judge.specs.Judgements.{exit_answered, exit_judged}
-use Rattle.dmlw_judge.specs.Paths.{finding_meaning}
+use Rattle.dmlw_commands.specs.Judgements.{exit_answered, exit_judged}
+use Rattle.dmlw_commands.specs.Paths.{finding_meaning}
 use Rattle.dmlw_commands.specs.Replays.{PrintsReplay, Replays}
 use Rattle.judge.specs.declared.verdict.Verdict.{Verdict}
 use Rattle.judge.specs.declared.verdict.Verdict.TheVariants as verdicts
@@ -102,7 +102,8 @@ ends_recorded contents log writes_old writes_new old new (Err (faults.Refused fa
 ends_recorded contents log writes_old writes_new old new (Err (faults.LoggingEnded end))
     (inl same, fails) =
     ends_silently writes_old writes_new LoggingEnded same
-ends_recorded contents log writes_old writes_new old new (Err (faults.LoggingEnded end)) (inr (file, status, asked), fails) = absurd (not_file end file)
+ends_recorded contents log writes_old writes_new old new (Err (faults.LoggingEnded end))
+    (inr (file, status, asked), fails) = absurd (not_file end file)
 ends_recorded contents log writes_old writes_new old new (Err (faults.StoppedAfter applied refusal))
     (inl same, fails) =
     ends_silently writes_old writes_new Refused same
@@ -124,7 +125,8 @@ ends_run contents log writes_old writes_new old new (Err (faults.Refused fault))
 ends_run contents log writes_old writes_new old new (Err (faults.LoggingEnded end))
     (inl same, fails) =
     ends_silently writes_old writes_new LoggingEnded same
-ends_run contents log writes_old writes_new old new (Err (faults.LoggingEnded end)) (inr (file, status, asked), fails) = absurd (not_file end file)
+ends_run contents log writes_old writes_new old new (Err (faults.LoggingEnded end))
+    (inr (file, status, asked), fails) = absurd (not_file end file)
 ends_run contents log writes_old writes_new old new (Err (faults.StoppedAfter applied refusal))
     (inl same, fails) =
     ends_silently writes_old writes_new Refused same
@@ -319,7 +321,8 @@ told_finding t (Err cause) ended off tells = told_fault t cause ended off tells
 text_tells : (kind : ErrorKind) (t : ErrStream) (ended : Ended) → EndsUntasked kind ended.exit
     → TellsUntasked kind t ended → t.explains ≡ false
     → TellsBy ended.exit ended t.before t.after
-text_tells OutOfMemory t ended ends tells off = told_by {T = Unit {0}} t (Err memory_error) ended off tells
+text_tells OutOfMemory t ended ends tells off =
+    told_by {T = Unit {0}} t (Err memory_error) ended off tells
 text_tells DisplayHelp t ended ends (done, fault, tells) off = told_by t done ended off tells
 text_tells DisplayVersion t ended ends (done, fault, tells) off = told_by t done ended off tells
 text_tells _ t ended ends tells off =
@@ -343,8 +346,10 @@ task_tells (tasks.Replay files upto) contents writes_old writes_new old new t en
     told_by t ends.done ended off ends.tells
 task_tells (tasks.Copy files sectors) contents writes_old writes_new old new t ended ends off =
     told_by t ends.done ended off ends.tells
-task_tells (tasks.Judge script moment image) contents writes_old writes_new old new t ended ends off = told_judging t ends.done ended off ends.tells
-task_tells (tasks.Path script moment image) contents writes_old writes_new old new t ended ends off = told_finding t ends.done ended off ends.tells
+task_tells (tasks.Judge script moment image) contents writes_old writes_new old new t ended ends
+    off = told_judging t ends.done ended off ends.tells
+task_tells (tasks.Path script moment image) contents writes_old writes_new old new t ended ends
+    off = told_finding t ends.done ended off ends.tells
 task_tells (tasks.Formats page) contents writes_old writes_new old new t ended ends off =
     told_by t ends.told.done ended off ends.told.tells
 task_tells (tasks.Show error) contents writes_old writes_new old new t ended ends off =

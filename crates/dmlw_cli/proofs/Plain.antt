@@ -19,9 +19,9 @@ use Rattle.dmlw_commands.specs.Lists.{ListsImage, Shows, ShowsStatus}
 use Rattle.dmlw_commands.specs.Records.{file}
 use Rattle.dmlw_run.specs.RunsLog.{EndsRunning}
 use Rattle.dmlw_run.specs.RunsLog.{file as run_file}
-use Rattle.dmlw_judge.specs.Judgements.{EndsAnswering, EndsJudging, Meaning, Question}
-use Rattle.dmlw_judge.specs.Judgements.{file as unjudged, verdict_meaning}
-use Rattle.dmlw_judge.specs.Paths.{EndsFinding, finding_meaning}
+use Rattle.dmlw_commands.specs.Judgements.{EndsAnswering, EndsJudging, Meaning, Question}
+use Rattle.dmlw_commands.specs.Judgements.{file as unjudged, verdict_meaning}
+use Rattle.dmlw_commands.specs.Paths.{EndsFinding, finding_meaning}
 use Rattle.dmlw_explain.specs.declared.explaining.CopyNames.{CopyNames}
 use Rattle.dmlw_explain.specs.declared.explaining.ReplayNames.{ReplayNames}
 use Rattle.dmlw_commands.specs.CopiesLog.{EndsCopying, HoldsCopied, file as uncopied}
@@ -114,7 +114,8 @@ plain_asks : (name : Name) (program : Text) (words : List Text) (rows : List Row
     → Enters (command_words program name words) (name_text name, rows) → HasWords name rows
     → IsRead (without_explain (command_words program name words)) task → AsksBy name rows task
 plain_asks name program words rows task plain enters has read =
-    let plainly : IsRead (command_words program name words) task = subst (λ (ws : List Text). IsRead ws task) (stays_plain name program words plain) read in
+    let plainly : IsRead (command_words program name words) task =
+    subst (λ (ws : List Text). IsRead ws task) (stays_plain name program words plain) read in
     asks_for name rows task
     (read_asks (command_words program name words) task (name_text name, rows)
     (names_help name program words task plainly) enters
@@ -349,12 +350,13 @@ replay_ends (tasks.Flawed flaws.What told) log first out what given contents bef
     let (is_word, none) = asks in
     absurd (subst (λ (w : Text). IsWhat w given → ⊥) (sym (same_some what told.now is_word))
     (none given) is)
-replay_ends (tasks.Show error) log first out what given contents before after old new t ended is asks ends = (
-  given,
-  is,
-  replay_refused (contents log) (contents first) out given before after old new t ended
-      (memory_ends (kind_of error) before after old new t ended asks ends),
-)
+replay_ends (tasks.Show error) log first out what given contents before after old new t ended
+    is asks ends = (
+      given,
+      is,
+      replay_refused (contents log) (contents first) out given before after old new t ended
+          (memory_ends (kind_of error) before after old new t ended asks ends),
+    )
 replay_ends task log first out what given contents before after old new t ended is asks ends =
     absurd asks
 
@@ -379,7 +381,8 @@ image_left (tasks.Show error) log first out what given contents later before aft
     is asks ends leaves done =
     absurd (not_done ended.exit
     (memory_ends (kind_of error) before after old new t ended asks ends).ends done)
-image_left task log first out what given contents later before after old new t ended is asks ends leaves done = absurd asks
+image_left task log first out what given contents later before after old new t ended is asks ends
+    leaves done = absurd asks
 
 -- what is said of the names and the number that a copy's
 -- task has is said of the words that ask for it
@@ -391,7 +394,8 @@ of_copy files asked log out word sectors P is asks says =
     let (is_log, is_out, found, is_word, named) = asks in
     let log_name : files.log.now ≡ log = sym (same_some log files.log.now is_log) in
     let out_name : files.out.now ≡ out = sym (same_some out files.out.now is_out) in
-    let same : asked ≡ sectors = sym named.number.1 ∙ ap number_value (sym (same_some word found is_word)) ∙ is.number.1 in
+    let same : asked ≡ sectors =
+    sym named.number.1 ∙ ap number_value (sym (same_some word found is_word)) ∙ is.number.1 in
     subst (P log out) same
     (subst (λ (name : Text). P log name asked) out_name
     (subst (λ (name : Text). P name files.out.now asked) log_name says))
@@ -442,7 +446,8 @@ copy_left (tasks.Show error) log out word sectors contents later before after ol
     asks ends leaves done =
     absurd (not_done ended.exit
     (memory_ends (kind_of error) before after old new t ended asks ends).ends done)
-copy_left task log out word sectors contents later before after old new t ended is asks ends leaves done = absurd asks
+copy_left task log out word sectors contents later before after old new t ended is asks ends leaves
+    done = absurd asks
 
 -- the question of a judging by names of files
 abbrev pub asked_of : (List ℕ → Option (List ℕ)) → Text → ℕ → Text → Question
@@ -674,7 +679,8 @@ replay_done contents later before after old new errors_old errors_new ended prog
     let asks =
     plain_asks names.Replay program (log ∷ first ∷ out ∷ what ∷ [])
     (plain_rows names.Replay (log ∷ first ∷ out ∷ what ∷ [])) does.task plain
-    (replay_enters program log first out what plain_log plain_first plain_out plain_what) (refl, (refl, (refl, (refl, tt)))) does.read in
+    (replay_enters program log first out what plain_log plain_first plain_out plain_what)
+    (refl, (refl, (refl, (refl, tt)))) does.read in
     subst (λ (explains : Bool). ReplaysWhat what (contents log)
     (contents first) out before after old new (err_stream explains errors_old errors_new) ended)
     (stays_silent names.Replay program (log ∷ first ∷ out ∷ what ∷ []) plain)
@@ -698,7 +704,8 @@ replay_leaves contents later before after old new errors_old errors_new ended pr
     let asks =
     plain_asks names.Replay program (log ∷ first ∷ out ∷ what ∷ [])
     (plain_rows names.Replay (log ∷ first ∷ out ∷ what ∷ [])) does.task plain
-    (replay_enters program log first out what plain_log plain_first plain_out plain_what) (refl, (refl, (refl, (refl, tt)))) does.read in
+    (replay_enters program log first out what plain_log plain_first plain_out plain_what)
+    (refl, (refl, (refl, (refl, tt)))) does.read in
     image_left does.task log first out what given contents later before after old new _ ended is
     asks does.ends does.leaves
 
@@ -718,7 +725,8 @@ copy_done contents later before after old new errors_old errors_new ended progra
     let asks =
     plain_asks names.Copy program (log ∷ out ∷ word ∷ [])
     (plain_rows names.Copy (log ∷ out ∷ word ∷ [])) does.task plain
-    (copy_enters program log out word plain_log plain_out plain_word) (refl, (refl, (refl, tt))) does.read in
+    (copy_enters program log out word plain_log plain_out plain_word)
+    (refl, (refl, (refl, tt))) does.read in
     subst (λ (explains : Bool). EndsCopying (contents log) out sectors before after old new
     (err_stream explains errors_old errors_new) ended)
     (stays_silent names.Copy program (log ∷ out ∷ word ∷ []) plain)
@@ -740,7 +748,8 @@ copy_leaves contents later before after old new errors_old errors_new ended prog
     let asks =
     plain_asks names.Copy program (log ∷ out ∷ word ∷ [])
     (plain_rows names.Copy (log ∷ out ∷ word ∷ [])) does.task plain
-    (copy_enters program log out word plain_log plain_out plain_word) (refl, (refl, (refl, tt))) does.read in
+    (copy_enters program log out word plain_log plain_out plain_word)
+    (refl, (refl, (refl, tt))) does.read in
     copy_left does.task log out word sectors contents later before after old new _ ended is asks
     does.ends does.leaves
 
@@ -760,7 +769,8 @@ judge_done contents later before after old new errors_old errors_new ended progr
     let asks =
     plain_asks names.Judge program (script ∷ m ∷ image ∷ [])
     (plain_rows names.Judge (script ∷ m ∷ image ∷ [])) does.task plain
-    (judge_enters program script m image plain_script plain_m plain_image) (refl, (refl, (refl, tt))) does.read in
+    (judge_enters program script m image plain_script plain_m plain_image)
+    (refl, (refl, (refl, tt))) does.read in
     subst (λ (explains : Bool). EndsJudging
     (asked_of contents script moment image) before after old new
     (err_stream explains errors_old errors_new) ended)
@@ -784,7 +794,8 @@ path_done contents later before after old new errors_old errors_new ended progra
     let asks =
     plain_asks names.Path program (script ∷ m ∷ image ∷ [])
     (plain_rows names.Path (script ∷ m ∷ image ∷ [])) does.task plain
-    (path_enters program script m image plain_script plain_m plain_image) (refl, (refl, (refl, tt))) does.read in
+    (path_enters program script m image plain_script plain_m plain_image)
+    (refl, (refl, (refl, tt))) does.read in
     subst (λ (explains : Bool). EndsFinding
     (asked_of contents script moment image) before after old new
     (err_stream explains errors_old errors_new) ended)

@@ -24,8 +24,8 @@ use Rattle.dmlw_commands.specs.Exits.{exit_of, fault_line}
 use Rattle.dmlw_files.specs.Files.{AsksFor, KeepsFiles, Write}
 use Rattle.dmlw_commands.specs.Lists.{ListsImage, ShowsStatus}
 use Rattle.dmlw_commands.specs.Records.{HoldsLog}
-use Rattle.dmlw_judge.specs.Judgements.{EndsJudging}
-use Rattle.dmlw_judge.specs.Paths.{EndsFinding}
+use Rattle.dmlw_commands.specs.Judgements.{EndsJudging}
+use Rattle.dmlw_commands.specs.Paths.{EndsFinding}
 use Rattle.dmlw_commands.specs.CopiesLog.{EndsCopying, HoldsCopied}
 use Rattle.dmlw_run.specs.RunsLog.{EndsRunning, HoldsRun}
 use Rattle.dmlw_commands.specs.Replays.{EndsReplaying, HoldsReplayed}
@@ -118,11 +118,14 @@ LeavesReplayed what log_file first_file written =
 -- the argument that such a word stands for, the forms that are possible there, and where help is
 abbrev pub flaw_forms : Flaw → List ℕ
 flaw_forms flaws.What =
-    codes "'<WHAT>'\n  [possible values: entries:<n>, mark:<text>, flush]\n\nFor more information, try 'dmlw help replay'."
+    codes
+    "'<WHAT>'\n  [possible values: entries:<n>, mark:<text>, flush]\n\nFor more information, try 'dmlw help replay'."
 flaw_forms flaws.Sectors =
-    codes "'<SECTORS>'\n  [possible values: a number from 8 to 1048576]\n\nFor more information, try 'dmlw help copy'."
+    codes
+    "'<SECTORS>'\n  [possible values: a number from 8 to 1048576]\n\nFor more information, try 'dmlw help copy'."
 flaw_forms flaws.Moment =
-    codes "'<M>'\n  [possible values: a number of 1 to 20 digits, below 2^64]\n\nFor more information, try 'dmlw help judge'."
+    codes
+    "'<M>'\n  [possible values: a number of 1 to 20 digits, below 2^64]\n\nFor more information, try 'dmlw help judge'."
 
 -- what a user is told of a word that is none of those that stand in its place
 abbrev pub flaw_text : Flaw → List ℕ → List ℕ

@@ -37,7 +37,8 @@ name_of word =
 
 -- the commands, in the order of the help
 abbrev pub all_names : List Name
-all_names = names.Record ∷ names.Run ∷ names.List ∷ names.Status ∷ names.Replay ∷ names.Copy ∷ names.Judge ∷ names.Path ∷ []
+all_names = names.Record ∷ names.Run ∷ names.List ∷ names.Status ∷ names.Replay ∷ names.Copy
+    ∷ names.Judge ∷ names.Path ∷ []
 
 -- the arguments of a command, in their order
 abbrev pub arguments : Name → List Text

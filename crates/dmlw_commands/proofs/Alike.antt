@@ -3,7 +3,7 @@
 use Rattle.std.proofs.Common.{◌≡◌, ◌∙◌, ℕ, ◌/◌, List, map, take, Option, None, ap, arith, length}
 use Rattle.std.proofs.Common.{refl, subst, sym}
 use Rattle.std.proofs.lemmas.List.{length-map}
-use Rattle.sectors.specs.Content.{Content, sector_of}
+use Rattle.bio.specs.Content.{Content, sector_of}
 use Rattle.log_format.specs.declared.decode.Super.{Super}
 use Rattle.log_format.specs.declared.entry.Entry.{Entry}
 use Rattle.log_format.specs.LogOf.{IsLogOf}
@@ -26,7 +26,8 @@ copy_read log image count sectors new found fault is reading =
     let long = is.size in
     let size : sectors ≡ length image / 512 = omega arith in
     let whole = subst (λ (n : ℕ). IsLogOf n (sector_of image) 4096 es) size is.copied in
-    let read = log_is_read (length image / 512) 4096 (sector_of image) new es whole reading.super_block in
+    let read = log_is_read (length image / 512) 4096 (sector_of image) new es whole
+    reading.super_block in
     let same =
     same_reading (length image / 512)
     (sector_of image) new new es found None fault read.1 reading in

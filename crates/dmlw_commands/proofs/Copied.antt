@@ -7,10 +7,10 @@ use Rattle.std.specs.Prelude.{slice_get}
 use Rattle.std.proofs.Math.Nat.{eq-zero-or-pos}
 use Rattle.std.specs.List.{list_all}
 use Rattle.std.proofs.lemmas.List.{take_all}
-use Rattle.sectors.specs.Content.{AgreeBelow, Content, HasWholeSectors, sector_of}
+use Rattle.bio.specs.Content.{AgreeBelow, Content, HasWholeSectors, sector_of}
 use Rattle.bio.specs.declared.outcome.End.TheVariants as ends
 use Rattle.blockdev.specs.View.{IsLawful, View}
-use Rattle.sectors.specs.SectorLaws.{length-gather, sector_of-gather}
+use Rattle.bio.specs.SectorLaws.{length-gather, sector_of-gather}
 use Rattle.sector_disk.specs.declared.disk.SectorDisk.{SectorDisk}
 use Rattle.sector_disk.specs.Shown.{shown_of}
 use Rattle.sector_disk.specs.ShownLaws.{disk_lawful}
@@ -74,7 +74,8 @@ fails_to_open log sectors fault stop (inr refuses) same =
     subst (FailsOnImage log sectors) (sym same) (unopened fault refuses)
 
 -- what came of the image in a file came of the file
-pub copied_from : (log_file : Option (List ℕ)) (log : List ℕ) (sectors : ℕ) (r : Result Copied RunError)
+pub copied_from : (log_file : Option (List ℕ)) (log : List ℕ) (sectors : ℕ)
+    (r : Result Copied RunError)
     → MatchesContents log_file log → IsImage log
     → IfOk r (λ done. IsCopied log done.count sectors (image_of done.disk))
     → IfOk r (λ done. IsCopiedFrom log_file done.count sectors (image_of done.disk))
@@ -83,7 +84,8 @@ copied_from log_file log sectors (Ok done) read image is =
 copied_from log_file log sectors (Err stop) read image is = is
 
 -- and what failed of it failed of the file
-pub failed_from : (log_file : Option (List ℕ)) (log : List ℕ) (sectors : ℕ) (r : Result Copied RunError)
+pub failed_from : (log_file : Option (List ℕ)) (log : List ℕ) (sectors : ℕ)
+    (r : Result Copied RunError)
     → MatchesContents log_file log → IsImage log
     → IfErr r (FailsOnImage log sectors) → IfErr r (FailsCopy log_file sectors)
 failed_from log_file log sectors (Ok done) read image fails = fails
@@ -193,7 +195,8 @@ copied_on log sectors count r v w image opened begun whole_sectors honest curren
     let all : count ≡ r.head.count = omega arith in
     let within : 0 < count → count ≤ length es = λ some. let few = placed.some some in
     omega arith in
-    let ended = no_fault r.device.size r.device.content r.head es read.fault count read.reads all within in
+    let ended = no_fault r.device.size r.device.content r.head es read.fault count
+    read.reads all within in
     let taken : take count es ≡ es = let same = ended.1 in take_all count es (omega arith) in
     let size = goes.size ∙ begun.size in
     let to = goes.sector_bytes ∙ begun.sector_bytes in
@@ -291,8 +294,10 @@ cause_on sectors applied es fault r last v w
     (copies.Log (reads.Log found)) begun first fresh within reader store kept honest goes placed
     is =
     let all = is.1 in (is.0, omega arith)
-cause_on sectors applied es fault r last v w (copies.Log reads.Device) begun first fresh within reader store kept honest goes placed failed = absurd (reader failed)
-cause_on sectors applied es fault r last v w (copies.Log reads.Memory) begun first fresh within reader store kept honest goes placed is = tt
+cause_on sectors applied es fault r last v w (copies.Log reads.Device) begun first fresh within
+    reader store kept honest goes placed failed = absurd (reader failed)
+cause_on sectors applied es fault r last v w (copies.Log reads.Memory) begun first fresh within
+    reader store kept honest goes placed is = tt
 cause_on sectors applied es fault r last v w
     (copies.Log reads.Failed) begun first fresh within reader store kept honest goes placed
     refused =
@@ -319,7 +324,8 @@ cause_on sectors applied es fault r last v w
     (copies.Store ends.Device) begun first fresh within reader store kept honest goes placed
     (is, inr failed) =
     absurd (store failed)
-cause_on sectors applied es fault r last v w (copies.Store ends.Memory) begun first fresh within reader store kept honest goes placed is = tt
+cause_on sectors applied es fault r last v w (copies.Store ends.Memory) begun first fresh within
+    reader store kept honest goes placed is = tt
 
 -- as many entries as were copied there are
 copied_within : (from place count : ℕ) (es : List Entry) (v w : Store) → place ≡ 0

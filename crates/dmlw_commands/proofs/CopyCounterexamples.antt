@@ -4,7 +4,7 @@ use Rattle.std.proofs.Common.{◌≡◌, ◌∙◌, ℕ, ◌<◌, true, false, O
 use Rattle.std.proofs.Common.{◌++◌, Result, Ok, Err, ap, arith, inl, inr, length, refl, subst, sym}
 use Rattle.std.specs.Prelude.{◌/◌, codes, decimal}
 use Rattle.std.specs.List.{list_all}
-use Rattle.sectors.specs.Content.{sector_of}
+use Rattle.bio.specs.Content.{sector_of}
 use Rattle.bio.specs.declared.outcome.End.TheVariants as ends
 use Rattle.log_format.specs.declared.entry.Entry.{Entry}
 use Rattle.log_format.specs.declared.decode.Super.{Super}
@@ -44,12 +44,14 @@ line_twelve = refl
 -- the line of a stop, and how it ends
 line_stop : fault_line (copy_stopped (record { applied = 2; cause = copies.Unaligned }))
     ≡ codes "dmlw: "
-    ++ (refusal_text refusals.Unaligned ++ codes " after " ++ decimal 2 ++ codes " entries") ++ codes "\n"
+    ++ (refusal_text refusals.Unaligned ++ codes " after " ++ decimal 2 ++ codes " entries")
+    ++ codes "\n"
 line_stop = refl
 
 line_full : fault_line (copy_stopped (record { applied = 2; cause = copies.Store ends.Full }))
     ≡ codes "dmlw: "
-    ++ (refusal_text refusals.Full ++ codes " after " ++ decimal 2 ++ codes " entries") ++ codes "\n"
+    ++ (refusal_text refusals.Full ++ codes " after " ++ decimal 2 ++ codes " entries")
+    ++ codes "\n"
 line_full = refl
 
 exit_stop : exit_of (copy_stopped (record { applied = 2; cause = copies.Unaligned }))

@@ -46,12 +46,16 @@ pub done_or_refused : (log_file : Option (List ℕ)) (name : List ℕ) (sectors 
     → Copies log_file name sectors writes_old writes_new old new done
     → (exit_by done ≡ Done) ⊎ (exit_by done ≡ Refused)
 done_or_refused log_file name sectors writes_old writes_new old new (Ok count) prints = inl refl
-done_or_refused log_file name sectors writes_old writes_new old new (Err stop) (inl (fails, none, same)) = inr (file_stop_refused log_file sectors stop fails)
-done_or_refused log_file name sectors writes_old writes_new old new (Err stop) (inr (inl (is, same))) = inr (file_refused stop is)
-done_or_refused log_file name sectors writes_old writes_new old new (Err stop) (inr (inr (is, count, prints))) = inr (file_refused stop is)
+done_or_refused log_file name sectors writes_old writes_new old new (Err stop)
+    (inl (fails, none, same)) = inr (file_stop_refused log_file sectors stop fails)
+done_or_refused log_file name sectors writes_old writes_new old new (Err stop)
+    (inr (inl (is, same))) = inr (file_refused stop is)
+done_or_refused log_file name sectors writes_old writes_new old new (Err stop)
+    (inr (inr (is, count, prints))) = inr (file_refused stop is)
 
 -- a copy that is refused keeps each file, as what it did kept it, and what came after that
-pub refused_keeps : (old middle new : List ℕ → Option (List ℕ)) (done : Result ℕ RunError) (exit : Exit)
+pub refused_keeps : (old middle new : List ℕ → Option (List ℕ))
+    (done : Result ℕ RunError) (exit : Exit)
     → OnErr done (KeepsFiles old middle) → KeepsFiles middle new
     → exit ≡ exit_by done → IsRefusal exit → KeepsFiles old new
 refused_keeps old middle new (Ok count) exit kept same is (inl refused) = absurd (cc (is, refused))
@@ -85,7 +89,8 @@ copies_kept log_file name sectors writes_old writes_new old middle new (Ok count
 copies_kept log_file name sectors writes_old writes_new old middle new (Err stop)
     (inl (fails, none, same)) kept =
     inl (fails, keeps_twice old middle new none kept, same)
-copies_kept log_file name sectors writes_old writes_new old middle new (Err stop) (inr (inl (is, same))) kept = inr (inl (is, same))
+copies_kept log_file name sectors writes_old writes_new old middle new (Err stop)
+    (inr (inl (is, same))) kept = inr (inl (is, same))
 copies_kept log_file name sectors writes_old writes_new old middle new (Err stop)
     (inr (inr (is, count, prints))) kept =
     inr (inr (
@@ -103,14 +108,15 @@ pub copying_ends : (log_file : Option (List ℕ)) (name : List ℕ) (sectors : �
     → writes_new ≡ writes_middle
     → Tells t done ended
     → EndsCopying log_file name sectors writes_old writes_new old new t ended
-copying_ends log_file name sectors writes_old writes_middle writes_new old middle new t done ended came kept same tells = record {
-  done = done;
-  copied = copies_kept log_file name sectors writes_old writes_new old middle new done
-      (subst (λ (writes : Option
-      (List Write)). Copies log_file name sectors writes_old writes old middle done)
-      (sym same) came) kept;
-  tells = tells;
-}
+copying_ends log_file name sectors writes_old writes_middle writes_new old middle new t done ended
+    came kept same tells = record {
+      done = done;
+      copied = copies_kept log_file name sectors writes_old writes_new old middle new done
+          (subst (λ (writes : Option
+          (List Write)). Copies log_file name sectors writes_old writes old middle done)
+          (sym same) came) kept;
+      tells = tells;
+    }
 
 -- a copy was done, and what came of it was handed over
 pub handed_over : (log_file : Option (List ℕ)) (name : List ℕ) (sectors : ℕ)
@@ -119,12 +125,13 @@ pub handed_over : (log_file : Option (List ℕ)) (name : List ℕ) (sectors : �
     → IsCopiedFrom log_file count sectors image → writes_middle ≡ writes_old
     → Appends old new (copied_line count) × (writes_new ≡ one_more writes_middle name image)
     → PrintsCopy log_file name sectors writes_old writes_new old new count
-handed_over log_file name sectors writes_old writes_middle writes_new old new count image copied same (printed, asked) = record {
-  image = image;
-  copied = copied;
-  printed = printed;
-  asked = asked ∙ ap (λ (writes : Option (List Write)). one_more writes name image) same;
-}
+handed_over log_file name sectors writes_old writes_middle writes_new old new count image copied
+    same (printed, asked) = record {
+      image = image;
+      copied = copied;
+      printed = printed;
+      asked = asked ∙ ap (λ (writes : Option (List Write)). one_more writes name image) same;
+    }
 
 -- a copy was done, and what came of it couldn't be handed over
 pub not_handed_over : (log_file : Option (List ℕ)) (name : List ℕ) (sectors : ℕ)
@@ -157,7 +164,8 @@ fails_by_file log_file sectors fault stop is same =
 -- nothing was printed, and no file asked for, where copying fails before that
 pub not_copied : (log_file : Option (List ℕ)) (name : List ℕ) (sectors : ℕ)
     (writes_old writes_new : Option (List Write)) (old : Option (List ℕ))
-    (stop : RunError) (r : Result ℕ RunError) → FailsCopy log_file sectors stop → writes_new ≡ writes_old
+    (stop : RunError) (r : Result ℕ RunError) → FailsCopy log_file sectors stop →
+    writes_new ≡ writes_old
     → IsErrAnd r (λ e. e ≡ stop)
     → Copies log_file name sectors writes_old writes_new old old r
 not_copied log_file name sectors writes_old writes_new old stop (Ok count) fails same is = absurd is

@@ -5,7 +5,7 @@ use Rattle.std.proofs.Common.{◌≡◌, ◌∙◌, ◌⊎◌, ◌++◌, ℕ, tr
 use Rattle.std.proofs.Common.{None, Result, Ok, Err, ap, inl, inr, refl, subst, sym}
 use Rattle.std.specs.Prelude.{codes, decimal}
 use Rattle.std.specs.Io.KnownBytes.{Appends}
-use Rattle.sectors.specs.Content.{sector_of}
+use Rattle.bio.specs.Content.{sector_of}
 use Rattle.bio.specs.declared.outcome.End.{End}
 use Rattle.bio.specs.declared.outcome.End.TheVariants.{Full}
 use Rattle.bio.specs.declared.outcome.Status.{Status}
@@ -18,8 +18,8 @@ use Rattle.log_format.specs.Entries.{mark_entry}
 use Rattle.log_reader.specs.declared.fault.LogFault.{LogFault}
 use Rattle.log_reader.specs.declared.fault.OpenError.TheVariants as opens
 use Rattle.log_reader.specs.Readings.{CountsTooMany, HasStatus, IsReading}
-use Rattle.dmlw_script.specs.Grammar.{IsTextOf}
-use Rattle.dmlw_script.specs.Plans.{ScriptValue}
+use Rattle.script_reader.specs.Grammar.{IsTextOf}
+use Rattle.script_reader.specs.Plans.{ScriptValue}
 use Rattle.run_error.specs.declared.run_error.RunError.{RunError}
 use Rattle.run_error.specs.declared.run_error.RunError.TheVariants as faults
 use Rattle.run_error.specs.Errors.{IsFileError, refused_by}
@@ -273,7 +273,8 @@ writes_named : (contents : Option (List ℕ)) (bytes : List ℕ) (before after :
     → Records contents (1 ∷ []) (Some [])
     (Some (record { name = 2 ∷ []; bytes = bytes } ∷ [])) before after (Ok status) → ⊥
 writes_named contents bytes before after status told =
-    let same : record { name = 2 ∷ []; bytes = bytes } ∷ [] ≡ record { name = 1 ∷ []; bytes = told.0 } ∷ [] = options told.2 in
+    let same : record { name = 2 ∷ []; bytes = bytes } ∷ []
+    ≡ record { name = 1 ∷ []; bytes = told.0 } ∷ [] = options told.2 in
     named_other (2 ∷ []) refl (ap (λ (write : Write). write.name) (heads same))
   where
     options : {a b : List Write} → Some a ≡ Some b → a ≡ b
@@ -300,7 +301,7 @@ holds_exit : (contents before after written : Option (List ℕ)) (exit : Exit)
     → (exit ≡ exit_at told.status.end) × IsPrintedLog contents told.status told.bytes before after
 holds_exit contents before after written exit told = (told.ends, told.printed)
 
--- what the law `one_script` of `dmlw_script` says: a text is one script's at most
+-- what the law `one_script` of `script_reader` says: a text is one script's at most
 abbrev OneScript : Type 0
 OneScript = (text : List ℕ) (plan other : ScriptValue) → IsTextOf text plan → IsTextOf text other
     → plan ≡ other
@@ -315,7 +316,8 @@ fails_spelled one_script bytes plan before after fault spelled (file f is) = inl
 fails_spelled one_script bytes plan before after fault spelled
     (unread again line refusal read none first kept) =
     absurd (none plan (subst (λ (t : List ℕ). IsTextOf t plan) (sym read) spelled))
-fails_spelled one_script bytes plan before after fault spelled (ran again script f read spells fails) =
+fails_spelled one_script bytes plan before after fault spelled
+    (ran again script f read spells fails) =
     let one =
     one_script bytes plan script spelled
     (subst (λ (t : List ℕ). IsTextOf t script) read spells) in

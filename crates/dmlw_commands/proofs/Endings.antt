@@ -20,7 +20,7 @@ use Rattle.dmlw_files.specs.Files.{AsksFor, KeepsFiles, MatchesContents, Write}
 use Rattle.dmlw_commands.specs.Lists.{Shows, ShowsFile}
 use Rattle.dmlw_commands.specs.Records.{FailsRecording, HoldsLog, IsPrintedLog, Records, PrintsLog}
 use Rattle.dmlw_commands.specs.Records.{WritesLog, file, run as ran, text as unread}
-use Rattle.dmlw_script.specs.Plans.{ScriptValue}
+use Rattle.script_reader.specs.Plans.{ScriptValue}
 use Rattle.dmlw_commands.proofs.Listing.{IsKept, shows_kept}
 use Rattle.script_runner.specs.CallLaws.{appends_kept, keeps_twice}
 
@@ -61,20 +61,21 @@ prints_kept : (contents : Option (List ℕ)) (log : List ℕ)
     (status : Status)
     → PrintsLog contents log writes_old writes_new old middle status → Keeps middle new
     → PrintsLog contents log writes_old writes_new old new status
-prints_kept contents log writes_old writes_new old middle new status (bytes, output, writes) kept = (
-  bytes,
-  record {
-    text = output.text;
-    script = output.script;
-    lines = output.lines;
-    lies = output.lies;
-    read = output.read;
-    spelled = output.spelled;
-    recorded = output.recorded;
-    output = appends_kept old middle new _ output.output kept;
-  },
-  writes,
-)
+prints_kept contents log writes_old writes_new old middle new status
+    (bytes, output, writes) kept = (
+      bytes,
+      record {
+        text = output.text;
+        script = output.script;
+        lines = output.lines;
+        lies = output.lies;
+        read = output.read;
+        spelled = output.spelled;
+        recorded = output.recorded;
+        output = appends_kept old middle new _ output.output kept;
+      },
+      writes,
+    )
 
 -- what recording has printed is kept
 records_kept : (contents : Option (List ℕ)) (log : List ℕ)
@@ -131,12 +132,13 @@ pub showing_ends : (shows : Shows) (stable : IsKept shows) (contents : Option (L
     (ended : Ended)
     → ShowsFile shows contents old middle done → Keeps middle new → writes_new ≡ writes_old
     → Tells t done ended → EndsShowing shows contents writes_old writes_new old new t ended
-showing_ends shows stable contents writes_old writes_new old middle new t done ended shown kept unwritten tells = record {
-  unwritten = unwritten;
-  done = done;
-  shown = shows_kept shows stable contents old middle new done shown kept;
-  tells = tells;
-}
+showing_ends shows stable contents writes_old writes_new old middle new t done ended shown kept
+    unwritten tells = record {
+      unwritten = unwritten;
+      done = done;
+      shown = shows_kept shows stable contents old middle new done shown kept;
+      tells = tells;
+    }
 
 -- a recording has asked for its log, or each file holds what it held, also after a call that asks
 -- for none and leaves them
@@ -146,8 +148,10 @@ pub keeps_or_asks : (contents : Option (List ℕ)) (log : List ℕ)
     → WritesLog contents log writes_old writes_mid before after done
     → OnErr done (KeepsFiles old mid) → KeepsFiles mid new → writes_new ≡ writes_mid
     → KeepsFiles old new ⊎ AsksFor log writes_old writes_new
-keeps_or_asks contents log writes_old writes_mid writes_new before after old mid new (Ok status) asked kept same unwritten = inr (asked.0, unwritten ∙ asked.2)
-keeps_or_asks contents log writes_old writes_mid writes_new before after old mid new (Err fault) asked kept same unwritten = inl (λ name. same name ∙ kept name)
+keeps_or_asks contents log writes_old writes_mid writes_new before after old mid new (Ok status)
+    asked kept same unwritten = inr (asked.0, unwritten ∙ asked.2)
+keeps_or_asks contents log writes_old writes_mid writes_new before after old mid new (Err fault)
+    asked kept same unwritten = inl (λ name. same name ∙ kept name)
 
 -- a log that was written is held where its file is
 pub holds_log : (contents : Option (List ℕ)) (status : Status) (bytes wrote : List ℕ)
@@ -197,8 +201,10 @@ pub done_holds : (contents : Option (List ℕ)) (before middle after : Option (L
 done_holds contents before middle after mid new name (Ok status) exit log quiet kept same is =
     log_kept contents (exit_at status.end) exits.Done before middle after mid new name log quiet
     kept (sym is ∙ same)
-done_holds contents before middle after mid new name (Err (faults.Refused fault)) exit log quiet kept same is = absurd (cc (same, is))
-done_holds contents before middle after mid new name (Err (faults.LoggingEnded end)) exit log quiet kept same is = absurd (cc (same, is))
+done_holds contents before middle after mid new name (Err (faults.Refused fault)) exit log quiet
+    kept same is = absurd (cc (same, is))
+done_holds contents before middle after mid new name (Err (faults.LoggingEnded end)) exit log quiet
+    kept same is = absurd (cc (same, is))
 done_holds contents before middle after mid new name
     (Err (faults.StoppedAfter applied refusal)) exit log quiet kept same is =
     absurd (cc (same, is))
@@ -215,7 +221,8 @@ ended_holds contents before middle after old mid new name
     (Ok status) exit log none quiet kept same is =
     inr (log_kept contents (exit_at status.end) exits.LoggingEnded before middle after mid new name
     log quiet kept (sym is ∙ same))
-ended_holds contents before middle after old mid new name (Err fault) exit log none quiet kept same is = inl (λ file. kept file ∙ none file)
+ended_holds contents before middle after old mid new name (Err fault) exit log none quiet kept same
+    is = inl (λ file. kept file ∙ none file)
 
 -- a recording that came so far isn't refused
 not_refused : (end : Option End) → IsRefusal (exit_at end) → ⊥

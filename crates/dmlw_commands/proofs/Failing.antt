@@ -9,9 +9,9 @@ use Rattle.std.specs.declared.io.ErrorKind.TheVariants as kinds
 use Rattle.script_runner.specs.CallLaws.{appends_twice, keeps_same}
 use Rattle.bio.specs.declared.outcome.Status.{Status}
 use Rattle.refusals.specs.declared.fault.Fault.{Fault}
-use Rattle.dmlw_script.specs.Grammar.{IsTextOf}
-use Rattle.dmlw_script.specs.Plans.{ScriptValue}
-use Rattle.dmlw_script.specs.Reading.{IsFaultOf, is_memory}
+use Rattle.script_reader.specs.Grammar.{IsTextOf}
+use Rattle.script_reader.specs.Plans.{ScriptValue}
+use Rattle.script_reader.specs.Reading.{IsFaultOf, is_memory}
 use Rattle.run_error.specs.declared.run_error.RunError.{RunError}
 use Rattle.run_error.specs.declared.run_error.RunError.TheVariants.{Refused}
 use Rattle.script_runner.specs.declared.recording.Lies.{Lies}
@@ -153,7 +153,8 @@ pub unwritten_log : (contents : Option (List ℕ)) (log : List ℕ)
     → writes_mid ≡ writes_old → writes_new ≡ one_more writes_mid log bytes
     → IsErrAnd r (λ fault. fault ≡ refused_by (file_refusal error))
     → WritesLog contents log writes_old writes_new before after r
-unwritten_log contents log writes_old writes_mid writes_new before after status image bytes error (Ok done) prints same kept asked fails = absurd fails
+unwritten_log contents log writes_old writes_mid writes_new before after status image bytes error
+    (Ok done) prints same kept asked fails = absurd fails
 unwritten_log contents log writes_old writes_mid writes_new before after status image bytes error
     (Err fault) prints same kept asked is =
     inr (

@@ -11,3 +11,8 @@ mod CopyEnds
 mod Copied
 mod Alike
 mod CopyCounterexamples
+mod Stopping
+mod Answered
+mod Agreeing
+mod Replaying
+mod JudgeCounterexamples

@@ -4,7 +4,7 @@ use Rattle.std.proofs.Common.{◌≡◌, ◌∙◌, ℕ, ◌<◌, true, false, O
 use Rattle.std.proofs.Common.{◌++◌, Result, Ok, Err, ap, arith, drop, inl, inr, length, refl}
 use Rattle.std.proofs.Common.{replicate, slice_index_or, subst, sym}
 use Rattle.std.specs.Prelude.{◌/◌, codes, decimal}
-use Rattle.sectors.specs.Content.{sector_of}
+use Rattle.bio.specs.Content.{sector_of}
 use Rattle.text_words.specs.Words.{is_number, number_value}
 use Rattle.bio.specs.declared.outcome.DevError.TheVariants.{Io}
 use Rattle.log_format.specs.declared.entry.Entry.{Entry}
@@ -91,7 +91,8 @@ line_twelve = refl
 -- the line of a stop, and how it ends
 line_stop : fault_line (replay_stopped (record { applied = 2; cause = replays.PastEntries }))
     ≡ codes "dmlw: "
-    ++ (refusal_text refusals.PastEntries ++ codes " after " ++ decimal 2 ++ codes " entries") ++ codes "\n"
+    ++ (refusal_text refusals.PastEntries ++ codes " after " ++ decimal 2 ++ codes " entries")
+    ++ codes "\n"
 line_stop = refl
 
 exit_stop : exit_of (replay_stopped (record { applied = 2; cause = replays.PastEntries }))

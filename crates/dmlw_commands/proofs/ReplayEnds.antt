@@ -48,12 +48,16 @@ pub done_or_refused : (log_file first_file : Option (List ℕ)) (name : List ℕ
     → (exit_by done ≡ Done) ⊎ (exit_by done ≡ Refused)
 done_or_refused log_file first_file name upto writes_old writes_new old new (Ok count) prints =
     inl refl
-done_or_refused log_file first_file name upto writes_old writes_new old new (Err stop) (inl (fails, none, same)) = inr (files_refused log_file first_file upto stop fails)
-done_or_refused log_file first_file name upto writes_old writes_new old new (Err stop) (inr (inl (is, same))) = inr (file_refused stop is)
-done_or_refused log_file first_file name upto writes_old writes_new old new (Err stop) (inr (inr (is, count, prints))) = inr (file_refused stop is)
+done_or_refused log_file first_file name upto writes_old writes_new old new (Err stop)
+    (inl (fails, none, same)) = inr (files_refused log_file first_file upto stop fails)
+done_or_refused log_file first_file name upto writes_old writes_new old new (Err stop)
+    (inr (inl (is, same))) = inr (file_refused stop is)
+done_or_refused log_file first_file name upto writes_old writes_new old new (Err stop)
+    (inr (inr (is, count, prints))) = inr (file_refused stop is)
 
 -- a replay that is refused keeps each file, as what it did kept it, and what came after that
-pub refused_keeps : (old middle new : List ℕ → Option (List ℕ)) (done : Result ℕ RunError) (exit : Exit)
+pub refused_keeps : (old middle new : List ℕ → Option (List ℕ))
+    (done : Result ℕ RunError) (exit : Exit)
     → OnErr done (KeepsFiles old middle) → KeepsFiles middle new
     → exit ≡ exit_by done → IsRefusal exit → KeepsFiles old new
 refused_keeps old middle new (Ok count) exit kept same is (inl refused) = absurd (cc (is, refused))
@@ -91,7 +95,8 @@ replays_kept log_file first_file name upto writes_old writes_new old middle new
 replays_kept log_file first_file name upto writes_old writes_new old middle new (Err stop)
     (inl (fails, none, same)) kept =
     inl (fails, keeps_twice old middle new none kept, same)
-replays_kept log_file first_file name upto writes_old writes_new old middle new (Err stop) (inr (inl (is, same))) kept = inr (inl (is, same))
+replays_kept log_file first_file name upto writes_old writes_new old middle new (Err stop)
+    (inr (inl (is, same))) kept = inr (inl (is, same))
 replays_kept log_file first_file name upto writes_old writes_new old middle new (Err stop)
     (inr (inr (is, count, prints))) kept =
     inr (inr (
@@ -109,14 +114,16 @@ pub replaying_ends : (log_file first_file : Option (List ℕ)) (name : List ℕ)
     → Keeps middle new → writes_new ≡ writes_middle
     → Tells t done ended
     → EndsReplaying log_file first_file name upto writes_old writes_new old new t ended
-replaying_ends log_file first_file name upto writes_old writes_middle writes_new old middle new t done ended came kept same tells = record {
-  done = done;
-  replayed = replays_kept log_file first_file name upto writes_old writes_new old middle new done
-      (subst (λ (writes : Option
-      (List Write)). Replays log_file first_file name upto writes_old writes old middle done)
-      (sym same) came) kept;
-  tells = tells;
-}
+replaying_ends log_file first_file name upto writes_old writes_middle writes_new old middle new t
+    done ended came kept same tells = record {
+      done = done;
+      replayed = replays_kept log_file first_file name upto writes_old writes_new old
+          middle new done
+          (subst (λ (writes : Option
+          (List Write)). Replays log_file first_file name upto writes_old writes old middle done)
+          (sym same) came) kept;
+      tells = tells;
+    }
 
 -- a replay was done, and what came of it was handed over
 pub handed_over : (log_file first_file : Option (List ℕ)) (name : List ℕ) (upto : Upto)
@@ -125,12 +132,13 @@ pub handed_over : (log_file first_file : Option (List ℕ)) (name : List ℕ) (u
     → IsReplayedFrom log_file first_file upto count image → writes_middle ≡ writes_old
     → Appends old new (replayed_line count) × (writes_new ≡ one_more writes_middle name image)
     → PrintsReplay log_file first_file name upto writes_old writes_new old new count
-handed_over log_file first_file name upto writes_old writes_middle writes_new old new count image replayed same (printed, asked) = record {
-  image = image;
-  replayed = replayed;
-  printed = printed;
-  asked = asked ∙ ap (λ (writes : Option (List Write)). one_more writes name image) same;
-}
+handed_over log_file first_file name upto writes_old writes_middle writes_new old new count image
+    replayed same (printed, asked) = record {
+      image = image;
+      replayed = replayed;
+      printed = printed;
+      asked = asked ∙ ap (λ (writes : Option (List Write)). one_more writes name image) same;
+    }
 
 -- a replay was done, and what came of it couldn't be handed over
 pub not_handed_over : (log_file first_file : Option (List ℕ)) (name : List ℕ) (upto : Upto)

@@ -3,8 +3,8 @@
 use Rattle.std.proofs.Common.{◌≡◌, ◌∙◌, ◌⊎◌, ℕ, ◌+◌, ◌*◌, ◌/◌, ◌<◌, ◌≤◌, List, Option, Result, Ok}
 use Rattle.std.proofs.Common.{Err, IfErr, IfOk, ap, arith, inl, inr, length, refl, subst, sym}
 use Rattle.std.proofs.lemmas.Option.{slice_get_within}
-use Rattle.sectors.specs.Content.{Content, sector_of}
-use Rattle.sectors.specs.SectorLaws.{length-gather, sector_of-gather}
+use Rattle.bio.specs.Content.{Content, sector_of}
+use Rattle.bio.specs.SectorLaws.{length-gather, sector_of-gather}
 use Rattle.blockdev.specs.View.{View}
 use Rattle.blockdev.specs.Law.{NoLie}
 use Rattle.bio.specs.declared.outcome.DevError.TheVariants as devices
@@ -174,12 +174,18 @@ cause_on es fault upto head log last v w disk applied replays.PastTarget size re
     let here : 0 + applied ≡ applied = omega arith in
     subst (λ (n : ℕ). ReachesPast head.sectorsize es applied n) size
     (subst (λ (p : ℕ). ReachesPast head.sectorsize es p v.size) here reaches)
-cause_on es fault upto head log last v w disk applied (replays.Log (reads.Log found)) size reader target is = is
-cause_on es fault upto head log last v w disk applied (replays.Log reads.Device) size reader target failed = absurd (reader failed)
-cause_on es fault upto head log last v w disk applied (replays.Log reads.Memory) size reader target is = tt
-cause_on es fault upto head log last v w disk applied (replays.Log reads.Failed) size reader target refused = cc
-cause_on es fault upto head log last v w disk applied (replays.Target devices.Io) size reader target failed = absurd (target (failed refl))
-cause_on es fault upto head log last v w disk applied (replays.Target devices.Memory) size reader target is = tt
+cause_on es fault upto head log last v w disk applied (replays.Log (reads.Log found)) size reader
+    target is = is
+cause_on es fault upto head log last v w disk applied (replays.Log reads.Device) size reader target
+    failed = absurd (reader failed)
+cause_on es fault upto head log last v w disk applied (replays.Log reads.Memory) size reader
+    target is = tt
+cause_on es fault upto head log last v w disk applied (replays.Log reads.Failed) size reader
+    target refused = cc
+cause_on es fault upto head log last v w disk applied (replays.Target devices.Io) size reader target
+    failed = absurd (target (failed refl))
+cause_on es fault upto head log last v w disk applied (replays.Target devices.Memory) size reader
+    target is = tt
 
 -- as many entries as were applied when a replay stopped, there are
 applied_within : (size : ℕ) (es : List Entry) (old new : Content) (applied : ℕ)

@@ -15,3 +15,6 @@ pub mod ReplayOpened
 pub mod Whats
 pub mod CopiesLog
 pub mod OnDisks
+pub mod Judgements
+pub mod Paths
+pub mod Beginnings

@@ -2,7 +2,7 @@
 -- Any crate above may cite it.
 use Rattle.std.specs.Prelude.{◌≡◌, ◌⊎◌, ℕ, ◌/◌, false, IsTrue, List, length, map, None}
 use Rattle.std.specs.List.{list_all}
-use Rattle.sectors.specs.Content.{AgreeBelow, sector_of}
+use Rattle.bio.specs.Content.{AgreeBelow, sector_of}
 use Rattle.blockdev.specs.View.{View}
 use Rattle.log_format.specs.declared.entry.Entry.{Entry}
 use Rattle.log_format.specs.declared.decode.Super.{Super}

@@ -6,10 +6,10 @@ use Rattle.std.specs.Io.KnownBytes.{Appends, Keeps}
 use Rattle.bio.specs.Texts.{status_text}
 use Rattle.bio.specs.declared.outcome.Status.{Status}
 use Rattle.refusals.specs.declared.refusal.Refusal.{Refusal}
-use Rattle.dmlw_script.specs.Grammar.{IsTextOf}
-use Rattle.dmlw_script.specs.Lines.{lines_of}
-use Rattle.dmlw_script.specs.Plans.{ScriptValue}
-use Rattle.dmlw_script.specs.Reading.{IsFirstFault}
+use Rattle.script_reader.specs.Grammar.{IsTextOf}
+use Rattle.script_reader.specs.Lines.{lines_of}
+use Rattle.script_reader.specs.Plans.{ScriptValue}
+use Rattle.script_reader.specs.Reading.{IsFirstFault}
 use Rattle.run_error.specs.declared.run_error.RunError.{RunError}
 use Rattle.script_runner.specs.declared.recording.Lies.{Lies}
 use Rattle.run_error.specs.declared.run_error.RunError.TheVariants.{Refused}

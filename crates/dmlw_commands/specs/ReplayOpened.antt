@@ -1,7 +1,7 @@
 -- What a replay leaves of a disk in memory, and why it stops.
 -- Any crate above may cite it.
 use Rattle.std.specs.Prelude.{◌≡◌, ℕ, ◌/◌, ◌<◌, ◌≤◌, List, Option, length}
-use Rattle.sectors.specs.Content.{AgreeBelow, sector_of}
+use Rattle.bio.specs.Content.{AgreeBelow, sector_of}
 use Rattle.blockdev.specs.View.{View}
 use Rattle.log_format.specs.declared.entry.Entry.{Entry}
 use Rattle.log_format.specs.declared.decode.Super.{Super}

@@ -3,8 +3,8 @@
 ghost use Rattle.std.specs.Prelude.{◌≡◌};
 ghost use Rattle.dmlw_files.specs.Files.{KeepsFiles};
 
+use bio::SECTOR_BYTES;
 use dmlw_files::{FileFailure, Files, MAX_IMAGE_BYTES, MAX_SCRIPT_BYTES};
-use sectors::SECTOR_BYTES;
 use std::alloc::Global;
 use std::fmt;
 use std::fmt::Write;

@@ -75,7 +75,7 @@ fn write_words<W: Write>(layer: &[u8], line: Numbered, to: &mut W) -> fmt::Resul
 fn blocks_of(layer: &[u8]) -> Option<u64> {
     let sectors = number_at(layer, 2)?;
     let bytes = number_at(layer, 6)?;
-    let size = bytes / sectors::SECTOR_BYTES;
+    let size = bytes / bio::SECTOR_BYTES;
     if size == 0 {
         return None;
     }

@@ -4,8 +4,8 @@ use Rattle.std.proofs.Common.{◌≡◌, ◌∙◌, ℕ, zero, suc, ◌+◌, ◌
 use Rattle.std.proofs.Common.{Some, ap, arith, sym}
 use Rattle.std.proofs.lemmas.List.{append_assoc, append-nil}
 use Rattle.std.specs.Io.KnownBytes.{Appends}
-use Rattle.sectors.specs.Content.{Content, HasWholeSectors, gather, moved, sector_of}
-use Rattle.sectors.specs.SectorLaws.{gather-shift, sector_of-gather}
+use Rattle.bio.specs.Content.{Content, HasWholeSectors, gather, moved, sector_of}
+use Rattle.bio.specs.SectorLaws.{gather-shift, sector_of-gather}
 use Rattle.sector_disk.specs.declared.disk.SectorDisk.{SectorDisk}
 use Rattle.sector_disk.specs.Shown.{shown_of}
 use Rattle.sector_disk.specs.ShownLaws.{content_whole}
@@ -30,8 +30,10 @@ pub written_more : (c d : Content) (a b w : Option (List ℕ)) (piece : List ℕ
     → Appends a w (gather c 0 upto)
 written_more c d None b w piece from first count size upto before begins ends next read same all =
     tt
-written_more c d (Some a) None w piece from first count size upto before begins ends next read same all = absurd before
-written_more c d (Some a) (Some b) None piece from first count size upto before begins ends next read same all = absurd next
+written_more c d (Some a) None w piece from first count size upto before begins ends next read same
+    all = absurd before
+written_more c d (Some a) (Some b) None piece from first count size upto before begins ends next
+    read same all = absurd next
 written_more c d (Some a) (Some b)
     (Some w) piece from first count size upto before begins ends next read same all =
     let bytes : piece ≡ gather c first size =

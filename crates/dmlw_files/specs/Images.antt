@@ -2,7 +2,7 @@
 -- Any crate above may cite it.
 use Rattle.std.proofs.Common.{◌≡◌, ◌≤◌, ℕ, List, Option, Some, None, length, subst, sym}
 use Rattle.std.specs.Prelude.{◌%◌}
-use Rattle.sectors.specs.Content.{gather}
+use Rattle.bio.specs.Content.{gather}
 use Rattle.sector_disk.specs.declared.disk.SectorDisk.{SectorDisk}
 use Rattle.sector_disk.specs.Shown.{shown_of}
 use Rattle.dmlw_files.specs.Files.{IsWithin, MatchesContents}

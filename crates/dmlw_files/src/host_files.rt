@@ -4,9 +4,9 @@ ghost use Rattle.std.specs.Prelude.{◌≡◌, ◌≤◌, IfOk, None, is_some, l
 
 use crate::files::{FileError, FileFailure, Files};
 use crate::pieces::{PIECE, used_sectors, write_sectors};
+use bio::SECTOR_BYTES;
 use blockdev::BlockDev;
 use sector_disk::SectorDisk;
-use sectors::SECTOR_BYTES;
 use std::alloc::Global;
 use std::fs::{File, OpenFile, OpenOptions, Permissions};
 use std::io::Read;

@@ -6,9 +6,9 @@ ghost use Rattle.dmlw_files.specs.Files.{KeepsFiles, MatchesContents};
 ghost use Rattle.dmlw_files.specs.Images.{HoldsImage, IsImage};
 
 use crate::files::Files;
+use bio::SECTOR_BYTES;
 use refusals::Refusal;
 use run_error::RunError;
-use sectors::SECTOR_BYTES;
 use std::alloc::Global;
 
 /// The most bytes of an image: those of 1,048,576 sectors.

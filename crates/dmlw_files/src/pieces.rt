@@ -1,16 +1,15 @@
 //! How the image of a disk is written, piece by piece in
 //! one buffer, so that it is never in memory as a whole.
-//! Its clauses are in words of `sector_disk` and `sectors`; its theorems in proofs/pieces/.
+//! Its clauses are in words of `bio` and `sector_disk`; its theorems in proofs/pieces/.
 ghost use Rattle.std.specs.Prelude.{◌≡◌, ◌≤◌, ◌<◌, ◌/◌, ◌%◌, ◌+◌, IfSome, OnOk, length, replicate};
 ghost use Rattle.std.specs.Prelude.{true, unwrap_or, ℕ};
 ghost use Rattle.std.specs.Io.KnownBytes.{Appends};
-ghost use Rattle.sectors.specs.Content.{gather, sector_of};
+ghost use Rattle.bio.specs.Content.{gather, sector_of};
 ghost use Rattle.sector_disk.specs.Shown.{shown_of};
 
-use bio::Ms;
+use bio::{Ms, SECTOR_BYTES};
 use blockdev::BlockDev;
 use sector_disk::SectorDisk;
-use sectors::SECTOR_BYTES;
 use std::io;
 use std::io::Write;
 

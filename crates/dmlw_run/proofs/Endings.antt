@@ -33,20 +33,21 @@ prints_kept : (contents : Option (List ℕ)) (log : List ℕ)
     (status : Status)
     → PrintsRun contents log writes_old writes_new old middle status → Keeps middle new
     → PrintsRun contents log writes_old writes_new old new status
-prints_kept contents log writes_old writes_new old middle new status (bytes, output, writes) kept = (
-  bytes,
-  record {
-    text = output.text;
-    script = output.script;
-    tallies = output.tallies;
-    lies = output.lies;
-    read = output.read;
-    spelled = output.spelled;
-    ran = output.ran;
-    output = appends_kept old middle new _ output.output kept;
-  },
-  writes,
-)
+prints_kept contents log writes_old writes_new old middle new status
+    (bytes, output, writes) kept = (
+      bytes,
+      record {
+        text = output.text;
+        script = output.script;
+        tallies = output.tallies;
+        lies = output.lies;
+        read = output.read;
+        spelled = output.spelled;
+        ran = output.ran;
+        output = appends_kept old middle new _ output.output kept;
+      },
+      writes,
+    )
 
 -- what running has printed is kept
 runs_kept : (contents : Option (List ℕ)) (log : List ℕ)
@@ -86,13 +87,15 @@ pub running_ends : (contents : Option (List ℕ)) (log : List ℕ)
     → writes_new ≡ writes_middle
     → TellsLine t (exit_after done) (told_line done) ended
     → EndsRunning contents log writes_old writes_new old new t ended
-running_ends contents log writes_old writes_middle writes_new old middle new t done ended records kept same tells = record {
-  done = done;
-  ran = runs_kept contents log writes_old writes_new old middle new done
-      (subst (λ (writes : Option (List Write)). Runs contents log writes_old writes old middle done)
-      (sym same) records) kept;
-  tells = tells;
-}
+running_ends contents log writes_old writes_middle writes_new old middle new t done ended records
+    kept same tells = record {
+      done = done;
+      ran = runs_kept contents log writes_old writes_new old middle new done
+          (subst (λ (writes : Option (List Write)). Runs contents log writes_old writes
+          old middle done)
+          (sym same) records) kept;
+      tells = tells;
+    }
 
 -- a run has asked for its log, or each file holds what it
 -- held, also after a call that asks for none and leaves them
@@ -102,8 +105,10 @@ pub keeps_or_asks : (contents : Option (List ℕ)) (log : List ℕ)
     → WritesRun contents log writes_old writes_mid before after done
     → OnErr done (KeepsFiles old mid) → KeepsFiles mid new → writes_new ≡ writes_mid
     → KeepsFiles old new ⊎ AsksFor log writes_old writes_new
-keeps_or_asks contents log writes_old writes_mid writes_new before after old mid new (Ok status) asked kept same unwritten = inr (asked.0, unwritten ∙ asked.2)
-keeps_or_asks contents log writes_old writes_mid writes_new before after old mid new (Err fault) asked kept same unwritten = inl (λ name. same name ∙ kept name)
+keeps_or_asks contents log writes_old writes_mid writes_new before after old mid new (Ok status)
+    asked kept same unwritten = inr (asked.0, unwritten ∙ asked.2)
+keeps_or_asks contents log writes_old writes_mid writes_new before after old mid new (Err fault)
+    asked kept same unwritten = inl (λ name. same name ∙ kept name)
 
 -- a log that was written is held where its file is
 pub holds_log : (contents : Option (List ℕ)) (status : Status) (bytes wrote : List ℕ)
@@ -155,8 +160,10 @@ pub done_holds : (contents : Option (List ℕ)) (before middle after : Option (L
 done_holds contents before middle after mid new name (Ok status) exit log quiet kept same is =
     log_kept contents (exit_at status.end) exits.Done before middle after mid new name log quiet
     kept (sym is ∙ same)
-done_holds contents before middle after mid new name (Err (faults.Refused fault)) exit log quiet kept same is = absurd (cc (same, is))
-done_holds contents before middle after mid new name (Err (faults.LoggingEnded end)) exit log quiet kept same is = absurd (cc (same, is))
+done_holds contents before middle after mid new name (Err (faults.Refused fault)) exit log quiet
+    kept same is = absurd (cc (same, is))
+done_holds contents before middle after mid new name (Err (faults.LoggingEnded end)) exit log quiet
+    kept same is = absurd (cc (same, is))
 done_holds contents before middle after mid new name
     (Err (faults.StoppedAfter applied refusal)) exit log quiet kept same is =
     absurd (cc (same, is))
@@ -173,7 +180,8 @@ ended_holds contents before middle after old mid new name
     (Ok status) exit log none quiet kept same is =
     inr (log_kept contents (exit_at status.end) exits.LoggingEnded before middle after mid new name
     log quiet kept (sym is ∙ same))
-ended_holds contents before middle after old mid new name (Err fault) exit log none quiet kept same is = inl (λ file. kept file ∙ none file)
+ended_holds contents before middle after old mid new name (Err fault) exit log none quiet kept same
+    is = inl (λ file. kept file ∙ none file)
 
 -- a run that came so far isn't refused
 not_refused : (end : Option End) → IsRefusal (exit_at end) → ⊥

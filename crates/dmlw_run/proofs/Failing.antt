@@ -9,10 +9,10 @@ use Rattle.std.specs.declared.io.ErrorKind.TheVariants as kinds
 use Rattle.script_runner.specs.CallLaws.{appends_twice, keeps_same}
 use Rattle.bio.specs.declared.outcome.Status.{Status}
 use Rattle.refusals.specs.declared.fault.Fault.{Fault}
-use Rattle.dmlw_script.specs.RunGrammar.{IsRunText}
-use Rattle.dmlw_script.specs.RunPlans.{RunPlan}
-use Rattle.dmlw_script.specs.Reading.{is_memory}
-use Rattle.dmlw_script.specs.RunReading.{IsRunFaultAt}
+use Rattle.script_reader.specs.RunGrammar.{IsRunText}
+use Rattle.script_reader.specs.RunPlans.{RunPlan}
+use Rattle.script_reader.specs.Reading.{is_memory}
+use Rattle.script_reader.specs.RunReading.{IsRunFaultAt}
 use Rattle.run_error.specs.declared.run_error.RunError.{RunError}
 use Rattle.run_error.specs.declared.run_error.RunError.TheVariants.{Refused}
 use Rattle.script_runner.specs.declared.recording.Lies.{Lies}
@@ -156,7 +156,8 @@ pub unwritten_log : (contents : Option (List ℕ)) (log : List ℕ)
     → writes_mid ≡ writes_old → writes_new ≡ one_more writes_mid log bytes
     → IsErrAnd r (λ fault. fault ≡ refused_by (file_refusal error))
     → WritesRun contents log writes_old writes_new before after r
-unwritten_log contents log writes_old writes_mid writes_new before after status image bytes error (Ok done) prints same kept asked fails = absurd fails
+unwritten_log contents log writes_old writes_mid writes_new before after status image bytes error
+    (Ok done) prints same kept asked fails = absurd fails
 unwritten_log contents log writes_old writes_mid writes_new before after status image bytes error
     (Err fault) prints same kept asked is =
     inr (

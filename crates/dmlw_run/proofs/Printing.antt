@@ -13,7 +13,8 @@ lines_more : (from : ℕ) (tallies : List Tally) (tally : Tally) (number : ℕ)
     → number ≡ from + length tallies
     → seat_lines from (tallies ++ tally ∷ []) ≡ seat_lines from tallies ++ seat_line number tally
 lines_more from [] tally number is =
-    append-nil (seat_line from tally) ∙ ap (λ (n : ℕ). seat_line n tally) (let same : from ≡ number = omega (arith, is) in same)
+    append-nil (seat_line from tally) ∙ ap (λ (n : ℕ). seat_line n tally)
+    (let same : from ≡ number = omega (arith, is) in same)
 lines_more from (first ∷ tallies) tally number is =
     ap (λ (rest : List ℕ). seat_line from first ++ rest)
     (lines_more (suc from) tallies tally number (omega (arith, is)))

@@ -11,10 +11,10 @@ use Rattle.dmlw_commands.specs.Endings.{ErrStream, TellsLine}
 use Rattle.dmlw_commands.specs.Exits.{exit_after, exit_at, told_line}
 use Rattle.dmlw_commands.specs.Records.{end_lines}
 use Rattle.dmlw_files.specs.Files.{MatchesContents, Write, one_more}
-use Rattle.dmlw_script.specs.Lines.{lines_of}
-use Rattle.dmlw_script.specs.RunGrammar.{IsRunText}
-use Rattle.dmlw_script.specs.RunPlans.{RunPlan}
-use Rattle.dmlw_script.specs.RunReading.{IsFirstRunFault}
+use Rattle.script_reader.specs.Lines.{lines_of}
+use Rattle.script_reader.specs.RunGrammar.{IsRunText}
+use Rattle.script_reader.specs.RunPlans.{RunPlan}
+use Rattle.script_reader.specs.RunReading.{IsFirstRunFault}
 use Rattle.run_error.specs.declared.run_error.RunError.{RunError}
 use Rattle.run_error.specs.declared.run_error.RunError.TheVariants.{Refused}
 use Rattle.run_error.specs.Errors.{IsFileError}

@@ -7,7 +7,7 @@ use Rattle.bio.specs.declared.outcome.DevError.{DevError}
 use Rattle.blockdev.specs.Counted.{cause_counted, counted, goes_counted, one_more, sum_of}
 use Rattle.blockdev.specs.Law.{DeviceFrame, HasCause}
 use Rattle.blockdev.specs.View.{View, last_count}
-use Rattle.sectors.specs.Content.{Patch}
+use Rattle.bio.specs.Content.{Patch}
 use Rattle.dust_layer.specs.declared.parts.Stop.{Stop}
 use Rattle.dust_layer.specs.declared.parts.Stop.TheVariants.{Below, Struck}
 use Rattle.dust_layer.specs.DustRule.{answer_of, faults_after}

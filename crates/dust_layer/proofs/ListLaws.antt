@@ -34,7 +34,8 @@ bypass-keeps : {D : Type 0} (does : Doing D) (call : Call) (now : ℕ) (result :
     × (new.faults ≡ old.faults)
 bypass-keeps does call now result old new mode dusted =
     let passed : IsPassed does call now result (held old) (held new) =
-    subst (λ (m : Mode). IsDoneBy does m old.block call now result (held old) (held new)) mode dusted.done in
+    subst (λ (m : Mode). IsDoneBy does m old.block call now result (held old) (held new)) mode
+    dusted.done in
     (passed.below, passed.list, passed.faults)
 
 -- no call changes the mode, or the blocks' size
@@ -57,7 +58,8 @@ write-mends : {D : Type 0} (does : Doing D) (block first : ℕ) (bytes : List �
     → ByBlock does block (Writes first bytes fua) bad after old now new (Ok end)
     → IsTouched block first (length bytes / 512) place → after place ≡ None
 write-mends does block first bytes fua bad after old now new end place is touched =
-    is.list place ∙ without-in _ _ bad place touched.low (let low = touched.low in let high = touched.high in omega (arith, low, high))
+    is.list place ∙ without-in _ _ bad place touched.low
+    (let low = touched.low in let high = touched.high in omega (arith, low, high))
 
 read-leaves : {D : Type 0} (does : Doing D) (block first : ℕ) (before bytes : List ℕ)
     (bad after : Bad) (old : D) (now : ℕ) (new : D) (end : ℕ)

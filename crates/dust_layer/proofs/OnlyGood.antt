@@ -22,7 +22,8 @@ ended : {D : Type 0} (does : D → Call → ℕ → Result ℕ DevError → D �
     → ByBlock does block call bad after old now new stop
     → IsTouched block (first_of call) (count_of call) place → stops call bad place ≡ false
 ended does block call bad after old now new (Ok at) end place is blocks touched =
-    blocks.passes.free place touched.low (let low = touched.low in let high = touched.high in omega (arith, low, high))
+    blocks.passes.free place touched.low (let low = touched.low in let high = touched.high in
+    omega (arith, low, high))
 ended does block call bad after old now new (Err Struck) end place is blocks touched = absurd (cc)
 ended does block call bad after old now new (Err (Below error)) end place is blocks touched =
     absurd (cc)
@@ -43,8 +44,10 @@ pub good_writes : {D : Type 0} (does : D → Call → ℕ → Result ℕ DevErro
     → IsDusted does (Writes first bytes fua) now (Ok end) old new
     → IsTouched old.block first (length bytes / 512) place → left_at (listed old.bad) place ≡ 0
 good_writes does old new first bytes fua now end place mode dusted touched =
-    let checked : IsChecked does old.block (Writes first bytes fua) now (Ok end) (held old) (held new) =
-    subst (λ (m : Mode). IsDoneBy does m old.block (Writes first bytes fua) now (Ok end) (held old) (held new)) mode dusted.done in
+    let checked : IsChecked does old.block (Writes first bytes fua) now (Ok end)
+    (held old) (held new) =
+    subst (λ (m : Mode). IsDoneBy does m old.block (Writes first bytes fua) now (Ok end) (held old)
+    (held new)) mode dusted.done in
     none-left (left_at (listed old.bad) place)
     (ended does old.block (Writes first bytes fua) (listed old.bad)
     (listed new.bad) old.lower now new.lower checked.stop end place checked.answer
@@ -56,8 +59,10 @@ pub good_discards : {D : Type 0} (does : D → Call → ℕ → Result ℕ DevEr
     → IsDusted does (Discards first count) now (Ok end) old new
     → IsTouched old.block first count place → left_at (listed old.bad) place ≡ 0
 good_discards does old new first count now end place mode dusted touched =
-    let checked : IsChecked does old.block (Discards first count) now (Ok end) (held old) (held new) =
-    subst (λ (m : Mode). IsDoneBy does m old.block (Discards first count) now (Ok end) (held old) (held new)) mode dusted.done in
+    let checked : IsChecked does old.block (Discards first count) now (Ok end)
+    (held old) (held new) =
+    subst (λ (m : Mode). IsDoneBy does m old.block (Discards first count) now (Ok end) (held old)
+    (held new)) mode dusted.done in
     none-left (left_at (listed old.bad) place)
     (ended does old.block (Discards first count) (listed old.bad)
     (listed new.bad) old.lower now new.lower checked.stop end place checked.answer
@@ -69,8 +74,10 @@ pub good_reads : {D : Type 0} (does : D → Call → ℕ → Result ℕ DevError
     → IsDusted does (Reads first before after) now (Ok end) old new
     → IsTouched old.block first (length before / 512) place → listed old.bad place ≡ None
 good_reads does old new first before after now end place mode dusted touched =
-    let checked : IsChecked does old.block (Reads first before after) now (Ok end) (held old) (held new) =
-    subst (λ (m : Mode). IsDoneBy does m old.block (Reads first before after) now (Ok end) (held old) (held new)) mode dusted.done in
+    let checked : IsChecked does old.block (Reads first before after) now (Ok end)
+    (held old) (held new) =
+    subst (λ (m : Mode). IsDoneBy does m old.block (Reads first before after) now (Ok end)
+    (held old) (held new)) mode dusted.done in
     not-listed (listed old.bad place)
     (ended does old.block (Reads first before after) (listed old.bad)
     (listed new.bad) old.lower now new.lower checked.stop end place checked.answer

@@ -203,7 +203,8 @@ with_read verb words order e =
     × (option_map (λ block. orders.Remove block) (number_of words) ≡ Some order)).
     subst (λ (v : List ℕ). AsksFor (v ++ 32 ∷ words) order)
     (sym (same_bytes verb (codes "removebadblock") g.0)) (remove_read words order g.1))
-    (λ (g : (bytes_eq verb (codes "removebadblock") ≡ false) × (None ≡ Some order)). absurd (let never = g.1 in cc))
+    (λ (g : (bytes_eq verb (codes "removebadblock") ≡ false) × (None ≡ Some order)). absurd
+    (let never = g.1 in cc))
     (chosen _ _ _ _ h.1))
     (chosen _ _ _ _ e)
 

@@ -15,12 +15,12 @@ use Rattle.blockdev.specs.JoinLaws.{goes_cut, goes_next, goes_none, lands_all}
 use Rattle.blockdev.specs.JoinLaws.{lands_first, lands_next, no_lie_parts}
 use Rattle.blockdev.specs.Law.{DeviceFrame, WriteDone, NoLie}
 use Rattle.blockdev.specs.View.{View}
-use Rattle.sectors.specs.Content.{HasNoneBelow}
-use Rattle.sectors.specs.ContentLaws.{over-after, over-below}
-use Rattle.sectors.specs.Content.{sector_of}
-use Rattle.sectors.specs.PlaceLaws.{last_or_below}
-use Rattle.sectors.specs.PartLaws.{discards-between, writes-between}
-use Rattle.sectors.specs.Parts.{HasNoneFrom, SameValues, below, between}
+use Rattle.bio.specs.Content.{HasNoneBelow}
+use Rattle.bio.specs.ContentLaws.{over-after, over-below}
+use Rattle.bio.specs.Content.{sector_of}
+use Rattle.bio.specs.PlaceLaws.{last_or_below}
+use Rattle.bio.specs.PartLaws.{discards-between, writes-between}
+use Rattle.bio.specs.Parts.{HasNoneFrom, SameValues, below, between}
 use Rattle.dust_layer.specs.declared.parts.Change.{Change}
 use Rattle.dust_layer.specs.declared.parts.Change.TheVariants as changes
 use Rattle.dust_layer.specs.Bad.{Bad, IsList, left_at, with_entry, without}
@@ -213,27 +213,29 @@ pub passed_next : {D : Type 0} (does : D → Call → ℕ → Result ℕ DevErro
     → does mid (part_within from to call) at (Ok end) new → at ≤ end
     → IsList after (list_passed call (begin_of block call) (suc count) bad)
     → HasPassed does block call bad after (suc count) to old now new end
-passed_next does block call bad before after count from to old now mid at new end so_far free is_to done later list = record {
-  reached = is_to ∙ ap (reach block (first_of call) (count_of call)) (omega arith);
-  passes = record {
-    free =
-        λ place low high. elim (last_or_below (place - begin_of block call) count (omega arith)) [
-          | inl here ↦ subst (λ (p : ℕ). stops call bad p ≡ false) (omega arith) free
-          | inr early ↦ so_far.passes.free place low (omega arith)
-        ];
-    parts = (
-      mid,
-      at,
-      so_far.passes.parts,
-      subst (λ (p : ℕ). does mid
-          (part_within p (reach block (first_of call) (count_of call)
-          (suc (begin_of block call + count))) call) at (Ok end) new) so_far.reached
-          (subst (λ (p : ℕ). does mid (part_within from p call) at (Ok end) new) is_to done),
-    );
-  };
-  list = list;
-  moment = let h = so_far.moment in omega arith;
-}
+passed_next does block call bad before after count from to old now mid at new end so_far free is_to
+    done later list = record {
+      reached = is_to ∙ ap (reach block (first_of call) (count_of call)) (omega arith);
+      passes = record {
+        free =
+            λ place low high.
+            elim (last_or_below (place - begin_of block call) count (omega arith)) [
+              | inl here ↦ subst (λ (p : ℕ). stops call bad p ≡ false) (omega arith) free
+              | inr early ↦ so_far.passes.free place low (omega arith)
+            ];
+        parts = (
+          mid,
+          at,
+          so_far.passes.parts,
+          subst (λ (p : ℕ). does mid
+              (part_within p (reach block (first_of call) (count_of call)
+              (suc (begin_of block call + count))) call) at (Ok end) new) so_far.reached
+              (subst (λ (p : ℕ). does mid (part_within from p call) at (Ok end) new) is_to done),
+        );
+      };
+      list = list;
+      moment = let h = so_far.moment in omega arith;
+    }
 
 -- ---- a write or a discard
 
@@ -454,8 +456,10 @@ changes_step does shown block first count change bad before struck after done fr
     let part =
     next_part does block first count change bad before done from old now mid at positive
     some size within so_far.passed in
-    let ends : to ≡ reach block first count (suc (first / block + done)) = is_to ∙ ap (reach block first count) (let b = first / block in omega arith) in
-    let reached : to ≡ reach block (first_of call) (count_of call) (suc (begin_of block call + done)) =
+    let ends : to ≡ reach block first count (suc (first / block + done)) =
+    is_to ∙ ap (reach block first count) (let b = first / block in omega arith) in
+    let reached : to ≡ reach block (first_of call) (count_of call)
+    (suc (begin_of block call + done)) =
     ends
     ∙ ap (λ (f : ℕ). reach block f count (suc (f / block + done)))
     (sym (change-first first count change))
@@ -468,12 +472,14 @@ changes_step does shown block first count change bad before struck after done fr
     stops-change first count change (begin_of block call) done bad before so_far.passed.list
     ∙ ap (λ (b : ℕ). nat_lt 0 (left_at before (b + done))) begin ∙ sym free in
     let passed : HasPassed does block call bad after (suc done) to old now new end =
-    passed_next does block call bad before after done from to old now mid at new end so_far.passed passes reached did later list in
+    passed_next does block call bad before after done from to old now mid at new end so_far.passed
+    passes reached did later list in
     subst (λ (n : ℕ). Changes does shown block call (fua_of change) bad after n to old now new end)
     (omega arith)
     (changes_next does shown block first count change bad before after done from to old now mid at
     new end size part.low
-    (let h = part.order in omega arith) (let h = part.high in omega (arith, ends)) so_far passed goes lands)
+    (let h = part.order in omega arith) (let h = part.high in omega (arith, ends)) so_far
+    passed goes lands)
 
 -- where a part of it begins and ends, by its block
 part-change : (block first count : ℕ) (change : Change) (done from to : ℕ)
@@ -486,7 +492,8 @@ part-change : (block first count : ℕ) (change : Change) (done from to : ℕ)
     (begin_of block (call_of first count change) + done)
 part-change block first count change done from to size begins ends =
     let call = call_of first count change in
-    let behind : to ≡ reach block (first_of call) (count_of call) (suc (begin_of block call + done)) =
+    let behind : to ≡ reach block (first_of call) (count_of call)
+    (suc (begin_of block call + done)) =
     ends ∙ ap (reach block first count) (let b = first / block in omega arith)
     ∙ ap (λ (f : ℕ). reach block f count (suc (f / block + done)))
     (sym (change-first first count change))
@@ -571,7 +578,8 @@ pub changes_done : {D : Type 0} (does : D → Call → ℕ → Result ℕ DevErr
     → IsDone does block (call_of first count change) bad list old now new end
 changes_done does shown block first count change bad list done from old now new end size is so_far =
     let call = call_of first count change in
-    let all : done ≡ blocks_of block call = is ∙ sym (blocks-change block first count change size) in record {
+    let all : done ≡ blocks_of block call =
+    is ∙ sym (blocks-change block first count change size) in record {
       passes =
           subst (λ (n : ℕ). Passes does block call bad n old now new end) all so_far.passed.passes;
       list =
@@ -626,7 +634,8 @@ changes_fails does shown block first count change bad list done from to old now 
     let part =
     next_part does block first count change bad list done from old now mid at positive some
     size within so_far.passed in
-    let ends : to ≡ reach block first count (suc (first / block + done)) = is_to ∙ ap (reach block first count) (let b = first / block in omega arith) in
+    let ends : to ≡ reach block first count (suc (first / block + done)) =
+    is_to ∙ ap (reach block first count) (let b = first / block in omega arith) in
     let order : from ≤ to = let h = part.order in omega (arith, ends) in
     let high : to ≤ first + count = let h = part.high in omega (arith, ends) in
     goes_cut to (patch_of call) (shown old) (shown new)

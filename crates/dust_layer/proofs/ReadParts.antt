@@ -16,9 +16,9 @@ use Rattle.blockdev.specs.JoinLaws.{goes_both, goes_none}
 use Rattle.blockdev.specs.JoinLaws.{stays_both, stays_none}
 use Rattle.blockdev.specs.Law.{DeviceFrame, CrashSetKept}
 use Rattle.blockdev.specs.View.{View}
-use Rattle.sectors.specs.Content.{Content, gather, nothing}
-use Rattle.sectors.specs.SectorLaws.{gather-ext}
-use Rattle.sectors.specs.PartLaws.{patched-none}
+use Rattle.bio.specs.Content.{Content, gather, nothing}
+use Rattle.bio.specs.SectorLaws.{gather-ext}
+use Rattle.bio.specs.PartLaws.{patched-none}
 use Rattle.dust_layer.specs.Bad.{Bad}
 use Rattle.dust_layer.specs.Walk.{DoesParts, FailsBelow}
 use Rattle.dust_layer.specs.Walk.{block_behind, bytes_within}
@@ -92,8 +92,14 @@ passed_read does block first before xs ys bad done from old now new end same so_
         let b = reach block first (length before / 512) (suc place) in
         let order : a ≤ b =
         reach-order block first (length before / 512) place (suc place) (omega arith) in
-        let begins : first ≤ a = elim (cases_lt place (first / block)) [ inl less ↦ absurd (omega arith) | inr more ↦ let x = place * block in let y = length before / 512 in omega arith ] in
-        let ends : b ≤ from = let h = reach-order block first (length before / 512) (suc place) (first / block + done) (omega arith) in let e = so_far.reached in omega (arith, h, e) in
+        let begins : first
+        ≤ a = elim (cases_lt place (first / block)) [
+          | inl less ↦ absurd (omega arith)
+          | inr more ↦ let x = place * block in let y = length before / 512 in
+              omega arith
+        ] in
+        let ends : b ≤ from = let h = reach-order block first (length before / 512) (suc place)
+        (first / block + done) (omega arith) in let e = so_far.reached in omega (arith, h, e) in
         ap (λ (bytes : List ℕ). Reads a
         (take (512 * (b - a)) (drop (512 * (a - first)) before)) bytes)
         (bytes-same (512 * (a - first)) (512 * (b - a)) (512 * (from - first)) xs ys
@@ -150,7 +156,8 @@ next_read : {D : Type 0} (does : D → Call → ℕ → Result ℕ DevError → 
 next_read does shown block first before xs bad done from to old now mid at positive some within
     is_to so_far =
     subst (IsNextPart block first (length before / 512) done from)
-    (ap (reach block first (length before / 512)) (let b = first / block in omega arith) ∙ sym is_to)
+    (ap (reach block first (length before / 512)) (let b = first / block in omega arith)
+    ∙ sym is_to)
     (next_part_from block first
     (length before / 512) done from positive some within so_far.passed.reached)
 
@@ -179,11 +186,18 @@ reading_step does shown block first before xs ys bad done from to old now mid at
     let order = part.order in
     let ends : to ≡ reach block first (length before / 512) (suc (first / block + done)) =
     is_to ∙ ap (reach block first (length before / 512)) (let b = first / block in omega arith) in
-    let asked : does mid (Reads from (bytes_within first from to before) (bytes_within first from to ys)) at (Ok end) new =
-    subst (λ (bs : List ℕ). does mid (Reads from (take (512 * (to - from)) bs) (bytes_within first from to ys)) at (Ok end) new) so_far.rest did in
-    let passed : HasPassed does block (Reads first before ys) bad bad (suc done) to old now new end =
+    let asked : does mid
+    (Reads from (bytes_within first from to before) (bytes_within first from to ys)) at
+    (Ok end) new =
+    subst
+    (λ (bs : List ℕ). does mid
+    (Reads from (take (512 * (to - from)) bs) (bytes_within first from to ys)) at (Ok end)
+    new) so_far.rest did in
+    let passed : HasPassed does block (Reads first before ys) bad bad (suc done) to
+    old now new end =
     passed_next does block (Reads first before ys) bad bad bad done from to old now mid at new end
-    (passed_read does block first before xs ys bad done from old now mid at (sym same) so_far.passed) free ends asked later (λ place. refl) in
+    (passed_read does block first before xs ys bad done from old now mid at (sym same)
+    so_far.passed) free ends asked later (λ place. refl) in
     let content : (s : ℕ) → (shown mid).content s ≡ (shown old).content s =
     λ s. patched-none nothing (shown old).content
     (shown mid).content so_far.goes.content s refl in
@@ -237,8 +251,13 @@ reading_failed does shown block first before xs ys bad done from to old now mid 
     is_to ∙ ap (reach block first (length before / 512)) (let b = first / block in omega arith) in
     let ends : to ≡ reach block first (length before / 512) (suc (first / block + done)) =
     is_to ∙ ap (reach block first (length before / 512)) (let b = first / block in omega arith) in
-    let asked : does mid (Reads from (bytes_within first from to before) (bytes_within first from to ys)) at (Err error) new =
-    subst (λ (bs : List ℕ). does mid (Reads from (take (512 * (to - from)) bs) (bytes_within first from to ys)) at (Err error) new) so_far.rest did in record {
+    let asked : does mid
+    (Reads from (bytes_within first from to before) (bytes_within first from to ys)) at
+    (Err error) new =
+    subst
+    (λ (bs : List ℕ). does mid
+    (Reads from (take (512 * (to - from)) bs) (bytes_within first from to ys)) at
+    (Err error) new) so_far.rest did in record {
       count = done;
       mid = mid;
       end = at;
@@ -280,7 +299,8 @@ reading_bytes does shown block first before xs bad done from old now new end pos
     let behind : first / block + done ≡ block_behind block first n = let a = first / block in
     let b = (first + n - 1) / block in omega (arith, order, is) in
     let ends : from ≡ first + n =
-    so_far.passed.reached ∙ ap (reach block first n) behind ∙ reach_last block first n positive some in
+    so_far.passed.reached ∙ ap (reach block first n) behind
+    ∙ reach_last block first n positive some in
     let all : from - first ≡ n = omega (arith, ends) in
     sym (take_all (512 * (from - first)) xs (omega (arith, all, size, whole)))
     ∙ so_far.bytes ∙ ap (gather (shown old).content first) all

@@ -7,7 +7,7 @@ use Rattle.bio.specs.declared.outcome.DevError.{DevError}
 use Rattle.blockdev.specs.Calls.{Call, Discards, Flushes, Reads, Writes}
 use Rattle.blockdev.specs.Law.{HasCause}
 use Rattle.blockdev.specs.View.{View}
-use Rattle.sectors.specs.Content.{Patch, discards, nothing, writes}
+use Rattle.bio.specs.Content.{Patch, discards, nothing, writes}
 use Rattle.dust_layer.specs.declared.parts.Stop.{Stop}
 use Rattle.dust_layer.specs.declared.parts.Stop.TheVariants.{Below, Struck}
 use Rattle.dust_layer.specs.Bad.{Bad, IsList, left_at, with_entry, without}

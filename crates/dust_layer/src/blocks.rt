@@ -1,10 +1,10 @@
 //! Writes, discards and reads that go block by block, as far as the first block that fails them.
 //! `Dust` does its calls so where bad blocks fail calls.
 //! Its clauses are written in specs/; its theorems in proofs/blocks/.
-ghost use Rattle.std.specs.Prelude.{◌≡◌, ◌<◌, ◌≤◌, ◌/◌, OnOk, false, length, ℕ};
+ghost use Rattle.std.specs.Prelude.{◌≡◌, ◌<◌, ◌≤◌, ◌/◌, OnOk, length};
 ghost use Rattle.blockdev.specs.Calls.{IsByteRange, IsRange, Reads};
 ghost use Rattle.blockdev.specs.Law.{DeviceFrame, WriteDone, NoLie, CrashSetKept};
-ghost use Rattle.sectors.specs.Content.{gather, nothing};
+ghost use Rattle.bio.specs.Content.{gather, nothing};
 ghost use Rattle.dust_layer.specs.Bad.{listed};
 ghost use Rattle.dust_layer.specs.Change.{call_of, fua_of};
 ghost use Rattle.dust_layer.specs.Walk.{ByBlock, HasCauseBelow, count_of, patch_of};

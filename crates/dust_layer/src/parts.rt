@@ -1,12 +1,11 @@
 //! The part of a call that falls on some of its sectors, done on the device beneath.
 //! `blocks` calls it for each block that a write, a discard or a read touches.
 //! Its clauses are written in specs/Change and specs/Walk; its theorems in proofs/parts/.
-ghost use Rattle.std.specs.Prelude.{◌≡◌, ◌<◌, ◌≤◌, ◌+◌, ◌-◌, ◌*◌, ◌/◌, Err, OnOk, drop, length};
-ghost use Rattle.std.specs.Prelude.{take, ℕ};
+ghost use Rattle.std.specs.Prelude.{◌≡◌, ◌<◌, ◌≤◌, ◌+◌, ◌-◌, ◌*◌, ◌/◌, OnOk, drop, length};
+ghost use Rattle.std.specs.Prelude.{take};
 ghost use Rattle.blockdev.specs.Calls.{IsByteRange, IsRange, Reads};
 ghost use Rattle.blockdev.specs.Law.{DeviceFrame, HasCause, WriteDone, NoLie, CrashSetKept};
-ghost use Rattle.sectors.specs.Content.{gather, nothing};
-ghost use Rattle.sectors.specs.Parts.{between};
+ghost use Rattle.bio.specs.Content.{gather, nothing};
 ghost use Rattle.dust_layer.specs.Change.{call_of, fua_of};
 ghost use Rattle.dust_layer.specs.Walk.{bytes_within, count_of, part_within, patch_of, reach};
 

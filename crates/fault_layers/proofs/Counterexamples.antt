@@ -5,7 +5,7 @@ use Rattle.std.proofs.Common.{◌≡◌, ℕ, ◌+◌, List, [], ◌∷◌, Ok, 
 use Rattle.std.proofs.Common.{arith}
 use Rattle.bio.specs.declared.outcome.DevError.TheVariants.{Io}
 use Rattle.blockdev.specs.Calls.{Flushes, Reads}
-use Rattle.sectors.specs.Content.{Content}
+use Rattle.bio.specs.Content.{Content}
 use Rattle.fault_layers.specs.declared.delay.DelayGate.{DelayGate}
 use Rattle.fault_layers.specs.declared.gate.Kind.TheVariants.{Discard, Flush, Read, Write}
 use Rattle.fault_layers.specs.declared.gate.Verdict.TheVariants.{Delay, Drop, Fail, Pass}

@@ -3,7 +3,7 @@
 use Rattle.std.specs.Prelude.{◌≡◌, ℕ, ◌+◌}
 use Rattle.blockdev.specs.Calls.{Call, Discards, Flushes, Reads, Writes}
 use Rattle.blockdev.specs.View.{View}
-use Rattle.sectors.specs.Content.{Content, moved}
+use Rattle.bio.specs.Content.{Content, moved}
 
 -- the same call, so many sectors further on
 abbrev pub call_from : ℕ → Call → Call

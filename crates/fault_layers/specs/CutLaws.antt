@@ -6,10 +6,10 @@ use Rattle.blockdev.specs.Calls.{IsRange}
 use Rattle.blockdev.specs.View.{IsLawful, Place, View}
 use Rattle.blockdev.specs.Law.{AfterPatch, DeviceFrame, WriteDone, NoLie}
 use Rattle.blockdev.specs.Messages.{Unchanged}
-use Rattle.sectors.specs.Content.{Content, Patch, Patched, discards, gather, moved, nothing, put}
-use Rattle.sectors.specs.Content.{sector_of, writes}
-use Rattle.sectors.specs.ContentLaws.{over-shift}
-use Rattle.sectors.specs.PlaceLaws.{collect-ext}
+use Rattle.bio.specs.Content.{Content, Patch, Patched, discards, gather, moved, nothing, put}
+use Rattle.bio.specs.Content.{sector_of, writes}
+use Rattle.bio.specs.ContentLaws.{over-shift}
+use Rattle.bio.specs.PlaceLaws.{collect-ext}
 use Rattle.fault_layers.specs.Cut.{SeenFrom, cut}
 
 -- a patch of the device beneath has the values of a patch of the range, in the same sectors

@@ -5,7 +5,7 @@ pub use Rattle.blockdev.specs.Counted
 pub use Rattle.blockdev.specs.Law
 pub use Rattle.blockdev.specs.Messages
 pub use Rattle.blockdev.specs.View
-pub use Rattle.sectors.specs.Content
+pub use Rattle.bio.specs.Content
 pub use Rattle.table_line.specs.Ranges
 pub mod Cut
 pub mod CutLaws

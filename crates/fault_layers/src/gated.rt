@@ -135,7 +135,6 @@ impl<D: BlockDev + Drop, G: Gate + Drop> BlockDev for Gated<D, G> {
 
 impl<D: Message + Drop, G: Gate + Drop> Message for Gated<D, G> {
     ghost use Rattle.std.specs.Prelude.{◌≡◌};
-    ghost use Rattle.blockdev.specs.Messages.{unchanged_counted};
 
     // What the device beneath answers, and the gate and its counts stay.
     ghost answers = { λ old layer text result new.

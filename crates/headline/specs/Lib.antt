@@ -4,6 +4,6 @@ pub use Rattle.log_reader.specs.Reads
 pub use Rattle.pending.specs.Beginnings
 pub use Rattle.recorder.specs.Shown
 pub use Rattle.replay.specs.Replays
-pub use Rattle.sectors.specs.Content
+pub use Rattle.bio.specs.Content
 pub mod Headline
 pub mod Reopened

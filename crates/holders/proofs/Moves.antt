@@ -157,7 +157,9 @@ split_keeps passes id v holding kept there =
     let mine = kept.fits id v there in
     let own = mine.held holding in
     let owner = moved kept.owner v.number (length (set passes id (without v))) in
-    let front : (j : ℕ) (pass : Knows) → get_elem? (set passes id (without v)) j ≡ some pass → Fits kept.place owner kept.all j pass = fits_set kept.place owner kept.all passes id (without v)
+    let front : (j : ℕ) (pass : Knows) → get_elem? (set passes id (without v)) j ≡ some pass →
+    Fits kept.place owner kept.all j pass =
+    fits_set kept.place owner kept.all passes id (without v)
     (λ j pass apart e.
     let was = kept.fits j pass e in record {
       kept = was.kept;
@@ -196,8 +198,10 @@ pub join_keeps : (passes : List Knows) (id : ℕ) (all : List (Option ℕ)) (oth
 join_keeps passes id all other number held kept there apart from =
     let mine = (kept.fits id (keeper_of all) there).kept refl in
     let both = both_of all number held in
-    let theirs : get_elem? passes other ≡ some (holder_of number held) = ⊎_elim (λ (t : (other ≡ id) × (both ≡ holder_of number held)). absurd (apart t.0))
-    (λ (t : (other ≢ id) × (get_elem? passes other ≡ some (holder_of number held))). t.1) (at_set passes id other both (holder_of number held) from) in
+    let theirs : get_elem? passes other ≡ some (holder_of number held) =
+    ⊎_elim (λ (t : (other ≡ id) × (both ≡ holder_of number held)). absurd (apart t.0))
+    (λ (t : (other ≢ id) × (get_elem? passes other ≡ some (holder_of number held))). t.1)
+    (at_set passes id other both (holder_of number held) from) in
     let own = (kept.fits other (holder_of number held) theirs).held refl in
     let owner = moved kept.owner number id in record {
       place = kept.place;

@@ -70,11 +70,13 @@ Agree pass = slice_get pass.all pass.number ≡ Some pass.held
 
 -- one holder more, that holds nothing
 abbrev pub Enrols : Step (Unit {0}) → Me (Unit {0}) Knows → ℕ → Me (Unit {0}) Knows → Type 0
-Enrols step before found after = after ≡ (both_of (before.0.all ++ None ∷ []) (length before.0.all) None, [])
+Enrols step before found after =
+    after ≡ (both_of (before.0.all ++ None ∷ []) (length before.0.all) None, [])
 
 -- the two agree, and the holder holds this from now on
 abbrev pub Sets : Knows → Option ℕ → Me (Unit {0}) Knows → Type 0
-Sets pass held after = Agree pass × (after ≡ (both_of (slice_set pass.all pass.number held) pass.number held, []))
+Sets pass held after =
+    Agree pass × (after ≡ (both_of (slice_set pass.all pass.number held) pass.number held, []))
 
 -- the holder holds the number that is written
 abbrev pub Begins : Step (Unit {0}) → Me (Unit {0}) Knows → ℕ → Me (Unit {0}) Knows → Type 0
@@ -96,7 +98,8 @@ pub record Fits (place : ℕ) (owner : ℕ → ℕ) (all : List (Option ℕ)) (b
   -- only one pass is the keeper's, and it knows what all hold
   pub kept : pass.keeps ≡ true → (by ≡ place) × (pass.all ≡ all)
   -- only one pass is the holder's of its number, and it holds what stands there
-  pub held : pass.holds ≡ true → (owner pass.number ≡ by) × (slice_get all pass.number ≡ Some pass.held)
+  pub held : pass.holds ≡ true → (owner pass.number ≡ by)
+      × (slice_get all pass.number ≡ Some pass.held)
 
 -- The rule: one keeper, one holder a number, and the keeper knows what each of them holds.
 pub record IsKept (passes : List Knows) : Type 0 where

@@ -8,7 +8,7 @@
 #![tactic(auto)]
 
 ghost use Rattle.std.specs.Prelude.{◌≡◌, ℕ, List, [], ◌∷◌, ◌++◌, length, Option, None, Some};
-ghost use Rattle.std.specs.Prelude.{slice_get, slice_set, true, false};
+ghost use Rattle.std.specs.Prelude.{slice_get, slice_set};
 ghost use Rattle.atomic_table.specs.Seated.{TableId};
 ghost use Rattle.holders.specs.Rules.{Grip, keeper_of, holder_of};
 

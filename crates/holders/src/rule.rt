@@ -1,6 +1,5 @@
 // The rule over the passes of a keeper and its holders, and the steps that they take under it.
 // Its clauses are written in specs/Rules; the search alone proves it.
-ghost use Rattle.std.specs.Prelude.{ℕ};
 
 use atomic_table::{Join, Play, Split, Table, TableRule};
 use std::alloc::Global;

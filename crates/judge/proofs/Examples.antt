@@ -4,10 +4,10 @@ use Rattle.std.proofs.Common.{◌≡◌, ℕ, zero, suc, true, false, None, Some
 use Rattle.std.proofs.Common.{take, get_or, slice_get, replicate, refl, ap, sym, ◌∙◌, inl, inr}
 use Rattle.std.proofs.Common.{arith}
 use Rattle.std.specs.Prelude.{◌≤◌, ◌<◌, ◌++◌, ◌==◌, ◌&&◌, if◌then◌else◌, nat_lt, unwrap_or}
-use Rattle.sectors.specs.PlaceLaws.{none_first_below}
+use Rattle.bio.specs.PlaceLaws.{none_first_below}
 use Rattle.std.proofs.lemmas.Bool.{and_parts, le-ltb}
-use Rattle.sectors.specs.Content as contents
-use Rattle.sectors.specs.Content.{Content}
+use Rattle.bio.specs.Content as contents
+use Rattle.bio.specs.Content.{Content}
 use Rattle.bio.specs.declared.event.CoreEvent.{CoreEvent}
 use Rattle.bio.specs.declared.event.CoreEvent.TheVariants.{Submit, Complete}
 use Rattle.bio.specs.declared.request.Bio.TheVariants.{Write, Flush}
@@ -89,7 +89,8 @@ last-newer (suc (suc (suc zero))) kept = cc
 last-newer (suc (suc (suc (suc zero)))) kept = cc
 last-newer (suc (suc (suc (suc (suc zero))))) kept = cc
 last-newer (suc (suc (suc (suc (suc (suc later)))))) kept =
-    let parts = and_parts (is_durable events (suc (suc (suc (suc (suc (suc later))))))) false kept in
+    let parts =
+    and_parts (is_durable events (suc (suc (suc (suc (suc (suc later))))))) false kept in
     absurd (let contra : false ≡ true = parts.1 in cc)
 
 kept-newer : IsLastKept events 3 1

@@ -4,8 +4,8 @@ use Rattle.std.proofs.Common.{◌≡◌, ℕ, suc, ◌<◌, ◌≤◌, Bool, tru
 use Rattle.std.proofs.Common.{None, List, length, set, refl, ap, sym, ◌∙◌, inl, inr, arith}
 use Rattle.std.proofs.lemmas.List.{length-set, get_or-set_same, get_or-set_other}
 use Rattle.std.specs.Prelude.{slice_get, if◌then◌else◌}
-use Rattle.sectors.specs.Content.{Content}
-use Rattle.sectors.specs.PlaceLaws.{bool_cases, last_or_below}
+use Rattle.bio.specs.Content.{Content}
+use Rattle.bio.specs.PlaceLaws.{bool_cases, last_or_below}
 use Rattle.bio.specs.declared.event.CoreEvent.{CoreEvent}
 use Rattle.bio.specs.Events.{end_of}
 use Rattle.bio.specs.Possible.{covers_at, is_replaced, values_at}
@@ -58,7 +58,11 @@ fit_not event end last now place from sector old held fails low before = record 
         (ap (is_fit event end last now) same ∙ fails))
     | inr earlier ↦ before.within k h above earlier
   ];
-  outside = λ k outside. elim outside [ inl less ↦ before.outside k (inl less) | inr more ↦ before.outside k (inr (omega arith)) ];
+  outside = λ k outside.
+      elim outside [
+        | inl less ↦ before.outside k (inl less)
+        | inr more ↦ before.outside k (inr (omega arith))
+      ];
 }
 
 -- the sectors outside an event's range don't fit, so that all that do have its place

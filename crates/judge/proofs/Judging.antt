@@ -6,10 +6,10 @@ use Rattle.std.proofs.Common.{sym, ◌∙◌, inl, inr, arith}
 use Rattle.std.proofs.lemmas.Bool.{and_parts, cases_lt}
 use Rattle.std.specs.Prelude.{slice_get, is_none, is_some}
 use Rattle.std.specs.Str.{bytes_eq}
-use Rattle.sectors.specs.Content.{Content, sector_of}
-use Rattle.sectors.specs.Places.{all_below}
-use Rattle.sectors.specs.PlaceLaws.{all_below-each, any_below-none, any_below-some, bool_cases}
-use Rattle.sectors.specs.PlaceLaws.{or_cases, or_second}
+use Rattle.bio.specs.Content.{Content, sector_of}
+use Rattle.bio.specs.Places.{all_below}
+use Rattle.bio.specs.PlaceLaws.{all_below-each, any_below-none, any_below-some, bool_cases}
+use Rattle.bio.specs.PlaceLaws.{or_cases, or_second}
 use Rattle.bio.specs.declared.event.CoreEvent.{CoreEvent}
 use Rattle.bio.specs.Lawful.{is_lawful, is_well_formed, is_within}
 use Rattle.bio.specs.Possible.{PossibleAt, covers_at, has_kept, is_durable, is_kept}
@@ -115,10 +115,13 @@ none_past events sectors sector lawful past =
     let each =
     all_below-each within (length events)
     (and_parts (is_well_formed events) (all_below within (length events)) lawful).1 in
-    any_below-none (is_kept events sector) (length events) (λ id h. elim (bool_cases (is_kept events sector id)) [
+    any_below-none (is_kept events sector) (length events)
+    (λ id h. elim (bool_cases (is_kept events sector id)) [
       | inl kept ↦
-          let covers = (and_parts (is_durable events id) (covers_at sector (slice_get events id)) kept).1 in
-          absurd (let contra : true ≡ false = sym covers ∙ event_within (slice_get events id) sectors sector (each id h) past in cc)
+          let covers =
+          (and_parts (is_durable events id) (covers_at sector (slice_get events id)) kept).1 in
+          absurd (let contra : true ≡ false = sym covers ∙ event_within (slice_get events id)
+          sectors sector (each id h) past in cc)
       | inr other ↦ other
     ])
 

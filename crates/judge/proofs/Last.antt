@@ -4,8 +4,8 @@ use Rattle.std.proofs.Common.{◌≡◌, ℕ, zero, suc, ◌<◌, ◌≤◌, Boo
 use Rattle.std.proofs.Common.{Some, None, List, length, refl, ap, sym, ◌∙◌, inl, inr, arith}
 use Rattle.std.proofs.lemmas.Bool.{and_parts, lt-ltb, ltb-true, le-leb, leb-true, cases_lt}
 use Rattle.std.specs.Prelude.{◌⊎◌, slice_get, nat_lt, nat_le, if◌then◌else◌}
-use Rattle.sectors.specs.Places.{any_below}
-use Rattle.sectors.specs.PlaceLaws.{any_below-ext, any_below-none, bool_cases, or_second}
+use Rattle.bio.specs.Places.{any_below}
+use Rattle.bio.specs.PlaceLaws.{any_below-ext, any_below-none, bool_cases, or_second}
 use Rattle.bio.specs.declared.event.CoreEvent.{CoreEvent}
 use Rattle.bio.specs.Events.{end_of, is_before, is_below, is_flush_submit}
 use Rattle.bio.specs.Possible.{covers_at, ended_ok, is_durable, is_flushed, is_kept, is_replaced}
@@ -59,7 +59,9 @@ any_after-last test end (suc n) = elim (bool_cases (test n)) [
 
         none : (k : ℕ) → k < n → (is_below end k ≡ true) ⊎ (is_below end k ≡ false)
             → (test k && is_below end k) ≡ false
-        none k h (inl below) = absurd (let contra : true ≡ false = sym (later_too end k n (omega arith) below) ∙ not_below in cc)
+        none k h (inl below) = absurd
+            (let contra : true ≡ false = sym (later_too end k n (omega arith) below) ∙ not_below in
+            cc)
         none k h (inr above) = ap (λ b. test k && b) above ∙ and_false (test k)
 
 -- a request ended before a flush that ended with success
@@ -156,7 +158,17 @@ covered_out event sectors from to sector are within covers =
     by_test : (nat_le from sector ≡ true) ⊎ (nat_le from sector ≡ false)
         → (nat_lt sector to ≡ true) ⊎ (nat_lt sector to ≡ false)
         → (sector < from) ⊎ (to ≤ sector)
-    by_test (inr low) high = inl (elim (cases_lt sector from) [ inl less ↦ less | inr more ↦ absurd (let contra = sym low ∙ le-leb from sector more in cc) ])
-    by_test (inl low) (inr high) = inr (elim (cases_lt sector to) [ inl less ↦ absurd (let contra = sym high ∙ lt-ltb sector to less in cc) | inr more ↦ more ])
+    by_test (inr low) high = inl
+        (elim (cases_lt sector from) [
+          | inl less ↦ less
+          | inr more ↦ absurd (let contra = sym low ∙ le-leb from sector more in cc)
+        ])
+    by_test (inl low) (inr high) = inr
+        (elim (cases_lt sector to) [
+          | inl less ↦
+              absurd (let contra = sym high ∙ lt-ltb sector to less in cc)
+          | inr more ↦ more
+        ])
     by_test (inl low) (inl high) =
-        absurd (let contra : true ≡ false = sym (ap (λ b. b && nat_lt sector to) low ∙ high) ∙ (sym (are.each sector within) ∙ covers) in cc)
+        absurd (let contra : true ≡ false = sym (ap (λ b. b && nat_lt sector to) low ∙ high)
+        ∙ (sym (are.each sector within) ∙ covers) in cc)

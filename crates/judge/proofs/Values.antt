@@ -5,8 +5,8 @@ use Rattle.std.proofs.Common.{replicate, ap, sym, ◌∙◌, inl, inr, arith}
 use Rattle.std.proofs.lemmas.List.{drop-replicate, take-replicate}
 use Rattle.std.specs.Prelude.{◌⊎◌}
 use Rattle.std.specs.Str.{bytes_eq}
-use Rattle.sectors.specs.Content.{over, sector_of}
-use Rattle.sectors.specs.ContentLaws.{over-after, over-before, over-in}
+use Rattle.bio.specs.Content.{over, sector_of}
+use Rattle.bio.specs.ContentLaws.{over-after, over-before, over-in}
 use Rattle.judge.specs.Accounts.{is_value}
 
 -- a sector of an image is a part of it

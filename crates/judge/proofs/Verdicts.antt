@@ -4,8 +4,8 @@ use Rattle.std.proofs.Common.{◌≡◌, ℕ, ◌<◌, ◌≤◌, Bool, true, fa
 use Rattle.std.proofs.Common.{List, length, refl, ap, sym, ◌∙◌, subst, inl, inr, arith}
 use Rattle.std.proofs.lemmas.Bool.{and_parts, cases_lt}
 use Rattle.std.specs.Prelude.{slice_get}
-use Rattle.sectors.specs.Content.{Content}
-use Rattle.sectors.specs.PlaceLaws.{any_below-at, option_cases, slice_get-within}
+use Rattle.bio.specs.Content.{Content}
+use Rattle.bio.specs.PlaceLaws.{any_below-at, option_cases, slice_get-within}
 use Rattle.bio.specs.declared.event.CoreEvent.{CoreEvent}
 use Rattle.bio.specs.Events.{end_of, is_before, is_flush_submit, submits}
 use Rattle.bio.specs.Possible.{ended_ok, is_durable, is_kept, is_replaced}
@@ -39,9 +39,15 @@ one_cause : (events : List CoreEvent) (sector : ℕ) (by other : Option ℕ)
     → IsRuledOutBy events sector by → IsRuledOutBy events sector other → by ≡ other
 one_cause events sector None None a b = refl
 one_cause events sector None (Some id) a b =
-    absurd (let contra : true ≡ false = sym (any_below-at (is_kept events sector) (length events) id (kept_within events sector id b.kept) b.kept) ∙ a in cc)
+    absurd (let contra : true
+    ≡ false = sym
+    (any_below-at (is_kept events sector) (length events) id
+    (kept_within events sector id b.kept) b.kept) ∙ a in cc)
 one_cause events sector (Some id) None a b =
-    absurd (let contra : true ≡ false = sym (any_below-at (is_kept events sector) (length events) id (kept_within events sector id a.kept) a.kept) ∙ b in cc)
+    absurd (let contra : true
+    ≡ false = sym
+    (any_below-at (is_kept events sector) (length events) id
+    (kept_within events sector id a.kept) a.kept) ∙ b in cc)
 one_cause events sector (Some id) (Some later) a b =
     let up = b.last id a.kept in
     let down = a.last later b.kept in
@@ -55,7 +61,11 @@ one_sector : (sectors : ℕ) (events : List CoreEvent) (first now : Content) (se
     → sector ≡ other
 one_sector sectors events first now sector other by cause a b = elim (cases_lt sector other) [
   | inl less ↦ absurd (a.fails (b.lowest sector less))
-  | inr from ↦ elim (cases_lt other sector) [ inl less ↦ absurd (b.fails (a.lowest other less)) | inr upto ↦ omega arith ]
+  | inr from ↦
+      elim (cases_lt other sector) [
+        | inl less ↦ absurd (b.fails (a.lowest other less))
+        | inr upto ↦ omega arith
+      ]
 ]
 
 -- a verdict is one
@@ -90,7 +100,8 @@ durable_by_last events flush id last =
     last_is (is_sure_flush events) (length events) flush
     (flush_within events flush last.flush)
     (ap (λ b. b && ended_ok events flush) last.flush ∙ last.ended)
-    (λ later sure. let parts = and_parts (is_flush_submit (slice_get events later)) (ended_ok events later) sure in last.last later parts.0 parts.1) in
+    (λ later sure. let parts = and_parts (is_flush_submit (slice_get events later))
+    (ended_ok events later) sure in last.last later parts.0 parts.1) in
     ap (λ b. ended_ok events id && (submits has_fua (slice_get events id) || b))
     (flushed_last events id ∙ ap (is_below_last (end_of events id)) found)
 

@@ -3,7 +3,7 @@
 use Rattle.std.specs.Prelude.{◌≡◌, ℕ, zero, suc, ◌<◌, Bool, false, not, ◌&&◌, Option, Some, None}
 use Rattle.std.specs.Prelude.{List, length, get_or, slice_get, if◌then◌else◌}
 use Rattle.std.specs.Str.{bytes_eq}
-use Rattle.sectors.specs.Content.{Content}
+use Rattle.bio.specs.Content.{Content}
 use Rattle.bio.specs.declared.event.CoreEvent.{CoreEvent}
 use Rattle.bio.specs.Events.{end_of}
 use Rattle.bio.specs.Possible.{is_kept, is_replaced, values_at}
@@ -26,7 +26,8 @@ is_value (Some value) bytes = bytes_eq value bytes
 -- the sector has the value that the request of this place put there, and could hold it
 abbrev pub is_held_from : List CoreEvent → Content → ℕ → ℕ → Bool
 is_held_from events now sector id =
-    not (is_replaced events sector id) && is_value (values_at (slice_get events id) sector) (now sector)
+    not (is_replaced events sector id)
+    && is_value (values_at (slice_get events id) sector) (now sector)
 
 -- the account of a content of so many sectors after these events: where each request ended, and for
 -- each sector the last durable request over it and the last one whose value it has and could hold
@@ -35,5 +36,7 @@ pub record IsAccount (events : List CoreEvent) (now : Content) (sectors : ℕ)
   pub last_size : length account.last.items ≡ sectors
   pub held_size : length account.held.items ≡ sectors
   pub ends : (id : ℕ) → place_at account.ends.items id ≡ end_of events id
-  pub last : (sector : ℕ) → sector < sectors → place_at account.last.items sector ≡ last_below (is_kept events sector) (length events)
-  pub held : (sector : ℕ) → sector < sectors → place_at account.held.items sector ≡ last_below (is_held_from events now sector) (length events)
+  pub last : (sector : ℕ) → sector < sectors → place_at account.last.items sector
+      ≡ last_below (is_kept events sector) (length events)
+  pub held : (sector : ℕ) → sector < sectors → place_at account.held.items sector
+      ≡ last_below (is_held_from events now sector) (length events)

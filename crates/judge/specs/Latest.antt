@@ -9,4 +9,5 @@ use Rattle.bio.specs.Possible.{ended_ok}
 pub record IsLastFlush (events : List CoreEvent) (id : ℕ) : Type 0 where
   pub flush : is_flush_submit (slice_get events id) ≡ true
   pub ended : ended_ok events id ≡ true
-  pub last : (later : ℕ) → is_flush_submit (slice_get events later) ≡ true → ended_ok events later ≡ true → later ≤ id
+  pub last : (later : ℕ) → is_flush_submit (slice_get events later) ≡ true → ended_ok events later
+      ≡ true → later ≤ id

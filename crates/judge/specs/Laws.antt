@@ -7,10 +7,10 @@ use Rattle.std.proofs.lemmas.Bool.{and_parts}
 use Rattle.std.specs.Prelude.{slice_get, is_some, if◌then◌else◌}
 use Rattle.std.proofs.lemmas.Slice.Eq.{bytes_eq-Decides}
 use Rattle.std.specs.Str.{bytes_eq}
-use Rattle.sectors.specs.Content.{Content}
-use Rattle.sectors.specs.Places.{any_below}
-use Rattle.sectors.specs.PlaceLaws.{any_below-at, bool_cases, last_or_below, option_cases}
-use Rattle.sectors.specs.PlaceLaws.{or_second, slice_get-within}
+use Rattle.bio.specs.Content.{Content}
+use Rattle.bio.specs.Places.{any_below}
+use Rattle.bio.specs.PlaceLaws.{any_below-at, bool_cases, last_or_below, option_cases}
+use Rattle.bio.specs.PlaceLaws.{or_second, slice_get-within}
 use Rattle.bio.specs.declared.event.CoreEvent.{CoreEvent}
 use Rattle.bio.specs.Possible.{covers_at, has_kept, is_durable, is_kept, is_replaced, values_at}
 use Rattle.judge.specs.Accounts.{is_held_from, is_value, last_below}
@@ -44,7 +44,8 @@ pub last_below-found : (test : ℕ → Bool) (n p : ℕ) → last_below test n �
 last_below-found test zero p e = cc
 last_below-found test (suc n) p e = elim (bool_cases (test n)) [
   | inl here ↦
-      let same : n ≡ p = let is = sym (ap (λ b. if b then Some n else last_below test n) here) ∙ e in cc in
+      let same : n ≡ p =
+      let is = sym (ap (λ b. if b then Some n else last_below test n) here) ∙ e in cc in
       record {
         within = omega arith;
         here = ap test (sym same) ∙ here;
@@ -79,7 +80,9 @@ pub kept_within : (events : List CoreEvent) (sector id : ℕ) → is_kept events
     → id < length events
 kept_within events sector id kept = elim (option_cases (slice_get events id)) [
   | inl none ↦
-      absurd (let contra : false ≡ true = sym (ap (covers_at sector) none) ∙ (and_parts (is_durable events id) (covers_at sector (slice_get events id)) kept).1 in cc)
+      absurd (let contra : false ≡ true = sym (ap (covers_at sector) none)
+      ∙ (and_parts (is_durable events id) (covers_at sector (slice_get events id)) kept).1 in
+      cc)
   | inr some ↦ slice_get-within events id some.0 some.1
 ]
 

@@ -8,4 +8,4 @@ pub mod Texts
 pub mod inside
 pub use Rattle.bio.specs.Lawful
 pub use Rattle.bio.specs.Possible
-pub use Rattle.sectors.specs.Content
+pub use Rattle.bio.specs.Content

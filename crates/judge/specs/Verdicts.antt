@@ -1,7 +1,7 @@
 -- What a verdict on an image says.
 -- Any crate above may cite it.
 use Rattle.std.specs.Prelude.{◌≡◌, ℕ, ◌<◌, ◌≤◌, true, false, Option, Some, None, List}
-use Rattle.sectors.specs.Content.{Content}
+use Rattle.bio.specs.Content.{Content}
 use Rattle.bio.specs.declared.event.CoreEvent.{CoreEvent}
 use Rattle.bio.specs.Possible.{Possible, PossibleAt, has_kept, is_kept}
 use Rattle.judge.specs.declared.verdict.Verdict.{Verdict}

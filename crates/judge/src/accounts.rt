@@ -4,7 +4,7 @@
 ghost use Rattle.std.specs.Prelude.{◌≡◌, ◌/◌, ◌%◌, ◌<◌, IfOk, List, length, true};
 ghost use Rattle.bio.specs.declared.event.CoreEvent.{CoreEvent};
 ghost use Rattle.bio.specs.Lawful.{is_lawful};
-ghost use Rattle.sectors.specs.Content.{sector_of};
+ghost use Rattle.bio.specs.Content.{sector_of};
 ghost use Rattle.std.specs.Str.{bytes_eq};
 ghost use Rattle.judge.specs.Accounts.{IsAccount, place_at};
 ghost use Rattle.judge.specs.Firsts.{IsFirstOf, first_on};

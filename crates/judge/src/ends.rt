@@ -1,13 +1,12 @@
 //! Where each request of an event list ended, in one pass; whether it succeeded or came before
 //! another. `Account::of` begins with it.
 //! Its clauses are written in specs/Accounts and specs/inside/Last; its theorems in proofs/ends/.
-ghost use Rattle.std.specs.Prelude.{◌≡◌, ◌==◌, ◌&&◌, ◌≤◌, IfOk, Some, length, nat_lt, slice_get, ℕ};
-ghost use Rattle.bio.specs.Events.{is_end_of, is_flush_submit, submits};
-ghost use Rattle.bio.specs.Possible.{ended_ok, is_durable, is_success};
-ghost use Rattle.bio.specs.Requests.{has_fua};
-ghost use Rattle.sectors.specs.Places.{or_here};
-ghost use Rattle.judge.specs.Accounts.{last_below, place_at};
-ghost use Rattle.judge.specs.inside.Last.{AreEnds, is_below_last, is_sure_flush};
+ghost use Rattle.std.specs.Prelude.{◌≡◌, ◌==◌, ◌&&◌, ◌≤◌, IfOk, Some, length, nat_lt, ℕ};
+ghost use Rattle.bio.specs.Events.{is_end_of};
+ghost use Rattle.bio.specs.Possible.{ended_ok, is_success};
+ghost use Rattle.bio.specs.Places.{or_here};
+ghost use Rattle.judge.specs.Accounts.{place_at};
+ghost use Rattle.judge.specs.inside.Last.{AreEnds, is_below_last};
 
 use bio::CoreEvent;
 use std::alloc::{AllocError, Global};

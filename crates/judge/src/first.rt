@@ -1,5 +1,7 @@
-/// What was on a device before the first event.
+// The first content, before any event.
 // The search alone proves it.
+
+/// What was on a device before the first event.
 #[derive(Clone, Copy, Debug)]
 pub enum First<'a> {
     /// Zeroes in each sector.

@@ -1,21 +1,19 @@
 //! For each sector of an image, the latest request whose value it has and could
 //! still hold. `Account::of` ends with it.
 //! Its clauses are written in specs/; its theorems in proofs/held/.
-ghost use Rattle.std.specs.Prelude.{◌≡◌, ◌&&◌, ◌<◌, ◌≤◌, ◌⊎◌, ◌+◌, ◌*◌, ◌/◌, ◌%◌, IfOk, List};
-ghost use Rattle.std.specs.Prelude.{MatchOption, Option, Some, if◌then◌else◌, length, nat_le};
-ghost use Rattle.std.specs.Prelude.{nat_lt, not, slice_get, ℕ};
-ghost use Rattle.std.specs.Str.{bytes_eq};
+ghost use Rattle.std.specs.Prelude.{◌≡◌, ◌&&◌, ◌<◌, ◌≤◌, ◌⊎◌, ◌+◌, ◌*◌, ◌/◌, IfOk};
+ghost use Rattle.std.specs.Prelude.{MatchOption, Option, Some, if◌then◌else◌, length};
+ghost use Rattle.std.specs.Prelude.{ℕ};
 ghost use Rattle.bio.specs.declared.event.CoreEvent.TheVariants.{Submit};
-ghost use Rattle.bio.specs.Possible.{covers_at, values_at, values_of};
-ghost use Rattle.sectors.specs.Content.{discards, sector_of, writes};
+ghost use Rattle.bio.specs.Possible.{values_at, values_of};
+ghost use Rattle.bio.specs.Content.{discards, sector_of, writes};
 ghost use Rattle.judge.specs.inside.Accounts.{AreFit, AreHeld, is_fit};
-ghost use Rattle.judge.specs.inside.Last.{AreEnds, AreLastKept, is_below_last};
+ghost use Rattle.judge.specs.inside.Last.{AreEnds, AreLastKept};
 ghost use Rattle.judge.specs.Accounts.{is_value, place_at};
 
 use crate::ends::{end_at, is_before};
 use crate::kept::covered;
-use bio::{Bio, CoreEvent};
-use sectors::SECTOR_BYTES;
+use bio::{Bio, CoreEvent, SECTOR_BYTES};
 use std::alloc::{AllocError, Global};
 
 /// A sector's size in bytes.

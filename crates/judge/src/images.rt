@@ -2,7 +2,7 @@
 //! Its clauses are written in specs/Firsts and specs/Verdicts; its theorems in proofs/images/.
 ghost use Rattle.std.specs.Prelude.{◌≡◌, ◌/◌, ◌%◌, IfOk, length, take, true};
 ghost use Rattle.bio.specs.Lawful.{is_lawful};
-ghost use Rattle.sectors.specs.Content.{sector_of};
+ghost use Rattle.bio.specs.Content.{sector_of};
 ghost use Rattle.judge.specs.Firsts.{IsFirstOf, first_on};
 ghost use Rattle.judge.specs.Verdicts.{IsVerdict};
 

@@ -1,11 +1,9 @@
 //! For each sector, the durable request over it that was submitted last: it rules out older values.
 //! Its clauses are written in specs/Accounts and specs/inside/Last; its theorems in proofs/kept/.
-ghost use Rattle.std.specs.Prelude.{◌≡◌, ◌&&◌, ◌<◌, ◌≤◌, ◌/◌, ◌%◌, IfOk, Some, false, true, length};
-ghost use Rattle.std.specs.Prelude.{nat_le, nat_lt, slice_get, ℕ};
+ghost use Rattle.std.specs.Prelude.{◌≡◌, ◌&&◌, ◌<◌, ◌≤◌, IfOk, Some, false, true, length};
+ghost use Rattle.std.specs.Prelude.{slice_get, ℕ};
 ghost use Rattle.bio.specs.declared.event.CoreEvent.TheVariants.{Submit};
-ghost use Rattle.bio.specs.Events.{is_flush_submit, submits};
 ghost use Rattle.bio.specs.Possible.{covers_at, is_durable};
-ghost use Rattle.bio.specs.Requests.{has_fua};
 ghost use Rattle.judge.specs.Accounts.{last_below, place_at};
 ghost use Rattle.judge.specs.inside.Last.{AreCovered, AreEnds, AreLastKept, ArePut, is_sure_flush};
 

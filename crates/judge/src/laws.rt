@@ -5,7 +5,7 @@ ghost use Rattle.bio.specs.declared.event.CoreEvent.{CoreEvent};
 ghost use Rattle.bio.specs.Events.{is_before, submits};
 ghost use Rattle.bio.specs.Possible.{ended_ok, is_durable, is_replaced};
 ghost use Rattle.bio.specs.Requests.{has_fua};
-ghost use Rattle.sectors.specs.Content.{Content};
+ghost use Rattle.bio.specs.Content.{Content};
 ghost use Rattle.judge.specs.declared.verdict.Verdict.{Verdict};
 ghost use Rattle.judge.specs.declared.verdict.Verdict.TheVariants.{Yes, No};
 ghost use Rattle.judge.specs.Latest.{IsLastFlush};

@@ -7,7 +7,7 @@ use Rattle.bio.specs.declared.outcome.DevError.TheVariants.{Io}
 use Rattle.blockdev.specs.Calls.{Flushes, Reads}
 use Rattle.blockdev.specs.View.{Place, View}
 use Rattle.fault_layers.specs.declared.gate.Verdict.TheVariants.{Delay, Drop, Fail, Pass}
-use Rattle.sectors.specs.Content.{Content}
+use Rattle.bio.specs.Content.{Content}
 use Rattle.table_line.specs.declared.feature.Feature.TheVariants as features
 use Rattle.table_line.specs.declared.layer_spec.LayerSpec.{LayerSpec}
 use Rattle.table_line.specs.declared.layer_spec.Target.{Target}

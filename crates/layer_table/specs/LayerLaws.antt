@@ -66,9 +66,12 @@ pub does_with : {D : Type 0} {g : Ghosts D} (layers : D → List Layer) (disk : 
 does_with {D} {g} layers disk kept below (slots.Bare device) call now result
     (slots.Bare after) does =
     below device call now result after does
-does_with {D} {g} layers disk kept below (slots.Bare device) call now result (slots.Decided after) does = absurd does
-does_with {D} {g} layers disk kept below (slots.Bare device) call now result (slots.Dusted after) does = absurd does
-does_with {D} {g} layers disk kept below (slots.Decided layer) call now result (slots.Bare after) does = absurd does
+does_with {D} {g} layers disk kept below (slots.Bare device) call now result (slots.Decided after)
+    does = absurd does
+does_with {D} {g} layers disk kept below (slots.Bare device) call now result (slots.Dusted after)
+    does = absurd does
+does_with {D} {g} layers disk kept below (slots.Decided layer) call now result (slots.Bare after)
+    does = absurd does
 does_with {D} {g} layers disk kept below (slots.Decided layer) call now result
     (slots.Decided after) does =
     let verdict = any_verdict layer.gate (kind_of call) now in (
@@ -112,40 +115,46 @@ does_with {D} {g} layers disk kept below (slots.Decided layer) call now result
       decided_keeps (λ (range : Linear D g). range.length) verdict _ call now result layer after
           does.0 (λ begun did. did.2),
     )
-does_with {D} {g} layers disk kept below (slots.Decided layer) call now result (slots.Dusted after) does = absurd does
-does_with {D} {g} layers disk kept below (slots.Dusted layer) call now result (slots.Bare after) does = absurd does
-does_with {D} {g} layers disk kept below (slots.Dusted layer) call now result (slots.Decided after) does = absurd does
-does_with {D} {g} layers disk kept below (slots.Dusted layer) call now result (slots.Dusted after) does = (
-  record {
-    list = listed after.bad;
-    rule = same_dust layer after does.block does.mode;
-    done =
-        (done_carried IsShifted (shifted
-        (SoManyDo (length (layers layer.lower.lower))) layer.lower.offset)
-        (λ range. (length (layers range.lower) ≡ length (layers layer.lower.lower))
-        × (range.offset ≡ layer.lower.offset))
-        (λ range. under_of layers disk range.lower)
-        (λ range call now result next holds did. (
-          subst (λ (offset : ℕ). SoManyDo (length (layers layer.lower.lower))
-              (under_of layers disk range.lower) (call_from offset call) now result
-              (under_of layers disk next.lower)) holds.1
-              (subst (λ (count : ℕ). SoManyDo count (under_of layers disk range.lower)
-              (call_from range.offset call) now result
-              (under_of layers disk next.lower)) holds.0
-              (below range.lower (call_from range.offset call) now result next.lower did.0)),
-          (
-            kept range.lower (call_from range.offset call) now result next.lower did.0 ∙ holds.0,
-            did.1 ∙ holds.1,
-          ),
-        ))
-        layer.mode layer.block call now result (held layer) (held after) (refl, refl) does.done).0;
-    lies = refl;
-  },
-  dusted_keeps (λ (range : Linear D g). range.offset)
-      (λ range call now result next did. did.1) call now result layer after does,
-  dusted_keeps (λ (range : Linear D g). range.length)
-      (λ range call now result next did. did.2) call now result layer after does,
-)
+does_with {D} {g} layers disk kept below (slots.Decided layer) call now result (slots.Dusted after)
+    does = absurd does
+does_with {D} {g} layers disk kept below (slots.Dusted layer) call now result (slots.Bare after)
+    does = absurd does
+does_with {D} {g} layers disk kept below (slots.Dusted layer) call now result (slots.Decided after)
+    does = absurd does
+does_with {D} {g} layers disk kept below (slots.Dusted layer) call now result
+    (slots.Dusted after) does = (
+      record {
+        list = listed after.bad;
+        rule = same_dust layer after does.block does.mode;
+        done =
+            (done_carried IsShifted (shifted
+            (SoManyDo (length (layers layer.lower.lower))) layer.lower.offset)
+            (λ range. (length (layers range.lower) ≡ length (layers layer.lower.lower))
+            × (range.offset ≡ layer.lower.offset))
+            (λ range. under_of layers disk range.lower)
+            (λ range call now result next holds did. (
+              subst (λ (offset : ℕ). SoManyDo (length (layers layer.lower.lower))
+                  (under_of layers disk range.lower) (call_from offset call) now result
+                  (under_of layers disk next.lower)) holds.1
+                  (subst (λ (count : ℕ). SoManyDo count (under_of layers disk range.lower)
+                  (call_from range.offset call) now result
+                  (under_of layers disk next.lower)) holds.0
+                  (below range.lower (call_from range.offset call) now result next.lower did.0)),
+              (
+                kept range.lower (call_from range.offset call) now result next.lower
+                    did.0 ∙ holds.0,
+                did.1 ∙ holds.1,
+              ),
+            ))
+            layer.mode layer.block call now result (held layer) (held after)
+            (refl, refl) does.done).0;
+        lies = refl;
+      },
+      dusted_keeps (λ (range : Linear D g). range.offset)
+          (λ range call now result next did. did.1) call now result layer after does,
+      dusted_keeps (λ (range : Linear D g). range.length)
+          (λ range call now result next did. did.2) call now result layer after does,
+    )
 
 -- how many layers stand with one in this slot or none
 abbrev pub count_with : Bool → ℕ → ℕ

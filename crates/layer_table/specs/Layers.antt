@@ -15,7 +15,7 @@ use Rattle.dust_layer.specs.Bad.{Bad, listed}
 use Rattle.dust_layer.specs.DustRule.{IsDoneBy}
 use Rattle.fault_layers.specs.declared.gate.Verdict.{Verdict}
 use Rattle.fault_layers.specs.declared.gate.Verdict.TheVariants.{Delay, Drop, Fail, Pass}
-use Rattle.sectors.specs.Content.{Content}
+use Rattle.bio.specs.Content.{Content}
 use Rattle.fault_layers.specs.Cut.{call_from, cut, SeenFrom}
 use Rattle.fault_layers.specs.Decided.{kind_of, KeepsBuffer}
 use Rattle.sector_disk.specs.declared.disk.SectorDisk.{SectorDisk}

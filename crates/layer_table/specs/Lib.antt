@@ -10,7 +10,7 @@ pub use Rattle.dust_layer.specs.DustRule
 pub use Rattle.dust_layer.specs.MessageRule
 pub use Rattle.fault_layers.specs.Decided
 pub use Rattle.fault_layers.specs.DelayRule
-pub use Rattle.sectors.specs.Content
+pub use Rattle.bio.specs.Content
 pub use Rattle.table_line.specs.Ranges
 pub use Rattle.table_line.specs.Standing
 pub mod AnyRule

@@ -7,7 +7,7 @@ use Rattle.blockdev.specs.View.{View}
 use Rattle.fault_layers.specs.Cut.{cut}
 use Rattle.sector_disk.specs.declared.disk.SectorDisk.{SectorDisk}
 use Rattle.sector_disk.specs.Shown.{shown_of}
-use Rattle.sectors.specs.Content.{moved}
+use Rattle.bio.specs.Content.{moved}
 use Rattle.layer_table.specs.declared.slot.Slot.{Slot}
 use Rattle.layer_table.specs.declared.slot.Slot.TheVariants as slots
 use Rattle.layer_table.specs.Layers.{IsPartOf}

@@ -146,7 +146,8 @@ pub dust_top : (layer : Layer) (layers : List Layer) (old : SectorDisk) (call : 
     → FollowsBlocks block bad mode layer layers old call now result after new
 dust_top layer layers old call now result [] new block bad mode is does = absurd does
 dust_top layer layers old call now result (top ∷ others) new block bad mode is does =
-    let done = at_top layer layers old call now result top others new (Dusting block bad mode) is does in
+    let done = at_top layer layers old call now result top others new
+    (Dusting block bad mode) is does in
     record {
       others = others;
       list = done.list;

@@ -4,7 +4,7 @@
 ghost use Rattle.std.specs.Prelude.{◌≡◌, ◌≤◌, ℕ, [], MatchBool, Some, length, slice_get};
 ghost use Rattle.lock_state.specs.declared.served.Seen.{Seen as Noted};
 ghost use Rattle.lock_state.specs.Comparing.{AllTell, Each, Fails, IsDoneOnce, IsNoted, IsServed};
-ghost use Rattle.lock_state.specs.Comparing.{Tells, is_ok_of, seen_more};
+ghost use Rattle.lock_state.specs.Comparing.{Tells, seen_more};
 
 use crate::compare::same_bio;
 use crate::note::Done;

@@ -5,7 +5,7 @@ pub use Rattle.log_format.specs.Replay
 pub use Rattle.log_reader.specs.Reads
 pub use Rattle.log_store.specs.Calls
 pub use Rattle.log_store.specs.Store
-pub use Rattle.sectors.specs.Content
+pub use Rattle.bio.specs.Content
 pub mod Resized
 pub mod Refusals
 pub mod Copies

@@ -11,7 +11,7 @@ use Rattle.std.specs.Prelude.{◌⊎◌, slice_get, nat_lt, if◌then◌else◌}
 use Rattle.bio.specs.declared.request.Bio.{Bio}
 use Rattle.bio.specs.declared.event.CoreEvent.{CoreEvent}
 use Rattle.bio.specs.declared.event.CoreEvent.TheVariants.{Submit}
-use Rattle.sectors.specs.PlaceLaws.{bool_cases, option_cases, first_below-found, first_below-none}
+use Rattle.bio.specs.PlaceLaws.{bool_cases, option_cases, first_below-found, first_below-none}
 use Rattle.bio.specs.Requests.{covers, has_flush, has_fua, overlaps}
 use Rattle.bio.specs.Events.{end_of, first_place, is_flush_submit, is_stop}
 use Rattle.bio.specs.Lawful.{is_well_formed}
@@ -78,7 +78,8 @@ going-on events moment p safe less = elim (option_cases (first_place is_stop eve
   | inl none ↦ ap (λ stop. unless_stopped stop (Some p)) none
   | inr some ↦
       ap (λ stop. unless_stopped stop (Some p)) some.1
-      ∙ ap (λ b. if b then Some p else None) (lt-ltb p some.0 (let later = safe.going some.0 some.1 in omega arith))
+      ∙ ap (λ b. if b then Some p else None)
+      (lt-ltb p some.0 (let later = safe.going some.0 some.1 in omega arith))
 ]
 
 -- what comes no later than what comes before the Stop comes before it
@@ -90,7 +91,8 @@ in-time (Some stop) first event e less = by_test (nat_lt event stop) refl e
   where
     by_test : (b : Bool) → nat_lt event stop ≡ b → (if b then Some event else None) ≡ Some event
         → (if nat_lt first stop then Some first else None) ≡ Some first
-    by_test true f e = ap (λ b. if b then Some first else None) (lt-ltb first stop (let before = ltb-true event stop f in omega arith))
+    by_test true f e = ap (λ b. if b then Some first else None)
+        (lt-ltb first stop (let before = ltb-true event stop f in omega arith))
     by_test false f e = cc
 
 -- The end of a request before the moment, and the request.
@@ -214,8 +216,11 @@ durable-queued events moment sector id safe durable =
             let queued = queued-by events id durable.end flushed.1 bio there.submitted there.ends
             (let a = flushed.4 in let b = ended.1 in omega arith) ended.0
             (flush-needs events flush flushed.1 durable.end bio has.0 has.1 has.2 at.ends flushed.4)
-            (going-on events moment flushed.1 safe at.before) in
-            (queued.first_event, queued.queued, (let before = at.before in let upper = queued.order in omega arith))
+            (going-on events moment flushed.1 safe at.before) in (
+              queued.first_event,
+              queued.queued,
+              (let before = at.before in let upper = queued.order in omega arith),
+            )
       ]
     ]
   where
@@ -265,7 +270,9 @@ found-needed events earlier later end event found ends queued =
     elim (bool_cases (has_flush second || has_fua second)) [
       | inl own ↦
           let by_own : Some end ≡ Some event =
-          sym ends ∙ sym (ap (λ b. if b then end_of events later else first_need log_writes_order events later (end_of events later)) own) ∙ of_second in
+          sym ends ∙ sym
+          (ap (λ b. if b then end_of events later else first_need log_writes_order events later
+          (end_of events later)) own) ∙ of_second in
           let same : end ≡ event = cc in
           let P : ℕ → Type 0 =
           λ e. (log_writes_order events found.end (Some (Submit found.first)) e
@@ -318,7 +325,8 @@ found-needed events earlier later end event found ends queued =
         → (overlaps found.first found.second ≡ true) ⊎ (has_flush found.second ≡ true)
         → overlaps found.first found.second ≡ true
     meets plain (inl overlap) = overlap
-    meets plain (inr flush) = absurd (let own = ap (λ b. b || has_fua found.second) flush in let contra : true ≡ false = sym own ∙ plain in cc)
+    meets plain (inr flush) = absurd (let own = ap (λ b. b || has_fua found.second) flush in
+        let contra : true ≡ false = sym own ∙ plain in cc)
 
 -- What a queued request finds is queued by the same event or before it.
 pub found-queued : (events : List CoreEvent) (earlier later event : ℕ)
@@ -368,7 +376,8 @@ found-first size events earlier later i j x y well_formed found first second =
             (earlier, x) well_formed swapped second first in
             let first_same : sorted.first_event ≡ event = let a = sorted.first_queued.queues in
             let b = queues.1.2.queues in cc in
-            let second_same : sorted.second_event ≡ queued.first_event = let a = sorted.second_queued.queues in let b = queued.queued in cc in
+            let second_same : sorted.second_event ≡ queued.first_event =
+            let a = sorted.second_queued.queues in let b = queued.queued in cc in
             let early_end : own_end events earlier (slice_get events earlier) ≡ Some found.end =
             ap (own_end events earlier) found.first_is ∙ found.ends in
             let ends_same : sorted.second_end ≡ found.end = let a = sorted.second_queued.ends in
@@ -389,9 +398,11 @@ pub found-stands : (size : ℕ) (events : List CoreEvent) (earlier later j : ℕ
     → IsListedAt (completion_list (dm_log_writes size) events) later j
     → (i : ℕ) × IsListedAt (completion_list (dm_log_writes size) events) earlier i × (i < j)
 found-stands size events earlier later j well_formed found listed =
-    let queues = listed-queued (dm_log_writes size) events j (later, listed.0) well_formed listed.1 in
+    let queues =
+    listed-queued (dm_log_writes size) events j (later, listed.0) well_formed listed.1 in
     let queued = found-queued events earlier later queues.1.0 found queues.1.2.queues in
-    let stands = queued-listed (dm_log_writes size) events earlier queued.first_event queued.queued in
+    let stands =
+    queued-listed (dm_log_writes size) events earlier queued.first_event queued.queued in
     let entry = entry_at size (slice_get events earlier) in (
       stands.0,
       (entry, stands.1),

@@ -3,9 +3,9 @@
 use Rattle.std.proofs.Common.{◌≡◌, ℕ, zero, suc, ◌*◌, ◌<◌, Option, Some, None, List, [], ◌∷◌, true}
 use Rattle.std.proofs.Common.{length, take, refl, ap, sym, ◌∙◌, inl, inr, arith}
 use Rattle.std.specs.Prelude.{◌⊎◌, slice_get, option_map, unwrap_or}
-use Rattle.sectors.specs.Content.{Content, Patch, over, put, sector_of}
-use Rattle.sectors.specs.ContentLaws.{over_cases}
-use Rattle.sectors.specs.PlaceLaws.{all_below-each, option_cases, slice_get-within}
+use Rattle.bio.specs.Content.{Content, Patch, over, put, sector_of}
+use Rattle.bio.specs.ContentLaws.{over_cases}
+use Rattle.bio.specs.PlaceLaws.{all_below-each, option_cases, slice_get-within}
 use Rattle.bio.specs.declared.event.CoreEvent.{CoreEvent}
 use Rattle.bio.specs.declared.event.CoreEvent.TheVariants.{Submit, Complete, Mark, Stop, Close}
 use Rattle.bio.specs.Lawful.{all_aligned, submits_aligned}

@@ -6,10 +6,10 @@ use Rattle.std.proofs.Common.{inl, inr, arith}
 use Rattle.std.proofs.lemmas.Bool.{and_parts}
 use Rattle.std.proofs.lemmas.List.{length-take, take-append-drop}
 use Rattle.std.specs.Prelude.{slice_get, unwrap_or}
-use Rattle.sectors.specs.Content.{Content, over, sector_of}
-use Rattle.sectors.specs.ContentLaws.{over-in, over_cases}
-use Rattle.sectors.specs.PlaceLaws.{bool_cases, option_cases, first_below-found}
-use Rattle.sectors.specs.PlaceLaws.{slice_get-append_front, slice_get-within}
+use Rattle.bio.specs.Content.{Content, over, sector_of}
+use Rattle.bio.specs.ContentLaws.{over-in, over_cases}
+use Rattle.bio.specs.PlaceLaws.{bool_cases, option_cases, first_below-found}
+use Rattle.bio.specs.PlaceLaws.{slice_get-append_front, slice_get-within}
 use Rattle.bio.specs.declared.request.Bio.{Bio}
 use Rattle.bio.specs.declared.request.Bio.TheVariants as bios
 use Rattle.bio.specs.declared.event.CoreEvent.{CoreEvent}
@@ -50,7 +50,8 @@ moment-from events moment well_formed last = elim (option_cases (first_place is_
     going = λ stop found. cc;
   }
   | inr some ↦
-      let same : last_moment events ≡ some.0 = ap (λ found. unwrap_or found (length events)) some.1 in
+      let same : last_moment events ≡ some.0 =
+      ap (λ found. unwrap_or found (length events)) some.1 in
       let inside =
       (first_below-found (λ k. is_stop (slice_get events k))
       (length events) some.0 some.1).within in
@@ -138,7 +139,8 @@ durable-of events moment sector id within inside kept =
                 before = flush_ends.2;
               },
               ap is_flush_submit (sym same) ∙ outer.0,
-              (let one : before.0 ≡ end.0 = let a = before.1 in let b = end.1 in cc in let less = before.2 in omega arith),
+              (let one : before.0 ≡ end.0 = let a = before.1 in let b = end.1 in cc in
+                  let less = before.2 in omega arith),
             )
       ];
     }
@@ -212,7 +214,8 @@ item-before events moment id bio event well_formed is queued by_then =
     elim (option_cases (end_of events id)) [
       | inl endless ↦ absurd (let none = open-queue_event events id bio is endless in cc)
       | inr some ↦
-          let after = queued-after events id some.0 event (Some (Submit bio)) is refl some.1 queued in
+          let after = queued-after events id some.0 event (Some (Submit bio)) is refl
+          some.1 queued in
           let ended = (ends-there events id some.0 some.1).1 in
           omega arith
     ]
@@ -222,13 +225,17 @@ value-covers : (bio : Bio) (sector : ℕ) (now : List ℕ) → values_of bio sec
     → covers bio sector ≡ true
 value-covers (bios.Write first bytes flush fua meta) sector now e =
     elim (over_cases first (length bytes / 512) (sector_of bytes) sector) [
-      | inl within ↦ covers-within (bios.Write first bytes flush fua meta) sector refl (let at = within.2 in omega arith) (let at = within.2 in let less = within.1 in omega arith)
+      | inl within ↦ covers-within (bios.Write first bytes flush fua meta) sector refl
+          (let at = within.2 in omega arith)
+          (let at = within.2 in let less = within.1 in omega arith)
       | inr none ↦ cc
     ]
 value-covers bios.Flush sector now e = cc
 value-covers (bios.Discard first count) sector now e =
     elim (over_cases first count (λ _. replicate 512 0) sector) [
-      | inl within ↦ covers-within (bios.Discard first count) sector refl (let at = within.2 in omega arith) (let at = within.2 in let less = within.1 in omega arith)
+      | inl within ↦ covers-within (bios.Discard first count) sector refl
+          (let at = within.2 in omega arith)
+          (let at = within.2 in let less = within.1 in omega arith)
       | inr none ↦ cc
     ]
 value-covers (bios.Read first count) sector now e = cc
@@ -239,7 +246,8 @@ covers-value (bios.Write first bytes flush fua meta) sector h e =
     let parts = covers-parts (bios.Write first bytes flush fua meta) sector h in
     let at : sector ≡ first + (sector - first) = let low = parts.1 in omega arith in
     let here = ap (over first (length bytes / 512) (sector_of bytes)) at
-    ∙ over-in first (length bytes / 512) (sector_of bytes) (sector - first) (let low = parts.1 in let high = parts.2 in omega arith) in
+    ∙ over-in first (length bytes / 512) (sector_of bytes) (sector - first)
+    (let low = parts.1 in let high = parts.2 in omega arith) in
     cc
 covers-value bios.Flush sector h e =
     let parts = covers-parts bios.Flush sector h in
@@ -248,7 +256,8 @@ covers-value (bios.Discard first count) sector h e =
     let parts = covers-parts (bios.Discard first count) sector h in
     let at : sector ≡ first + (sector - first) = let low = parts.1 in omega arith in
     let here = ap (over first count (λ _. replicate 512 0)) at
-    ∙ over-in first count (λ _. replicate 512 0) (sector - first) (let low = parts.1 in let high = parts.2 in omega arith) in
+    ∙ over-in first count (λ _. replicate 512 0) (sector - first)
+    (let low = parts.1 in let high = parts.2 in omega arith) in
     cc
 covers-value (bios.Read first count) sector h e = cc
 
@@ -350,7 +359,8 @@ last-unreplaced size events moment count sector id place now entry sized safe be
             before = before.2;
             why = inl ((overlaps-common bio second).1 (sector, over, durable.over));
           } in
-          let there = durable-entry size events moment count sector later sized safe belongs durable in
+          let there = durable-entry size events moment count sector later sized safe
+          belongs durable in
           let less =
           found-first size events id later last.place there.0 entry there.1 safe.well_formed
           both stands there.2 in
@@ -374,7 +384,8 @@ possible-at size events first moment count sector sized well_formed until belong
       | inr last ↦
           let item = entry-item items count last.place last.entry last.is in
           let id = item.0.0 in
-          let by = item-by size events moment last.place item.0 well_formed item.1 (let a = item.3 in let b = belongs.to in omega arith) in
+          let by = item-by size events moment last.place item.0 well_formed item.1
+          (let a = item.3 in let b = belongs.to in omega arith) in
           let value : values_at (slice_get events id) sector ≡ Some (replay size es first sector) =
           sym (entry-values size (slice_get events id) sector sized.right
           (aligned-at size events id sized.aligned))

@@ -7,7 +7,7 @@ use Rattle.std.specs.Prelude.{slice_get, nat_lt}
 use Rattle.bio.specs.declared.request.Bio.{Bio}
 use Rattle.bio.specs.declared.event.CoreEvent.{CoreEvent}
 use Rattle.bio.specs.declared.event.CoreEvent.TheVariants.{Submit}
-use Rattle.sectors.specs.PlaceLaws.{bool_cases, is_first_below, none_first_below}
+use Rattle.bio.specs.PlaceLaws.{bool_cases, is_first_below, none_first_below}
 use Rattle.bio.specs.Requests.{has_flush, has_fua, overlaps}
 use Rattle.bio.specs.Events.{end_of, first_place, is_before, is_flush_submit, is_stop}
 use Rattle.bio.specs.Lawful.{is_well_formed}
@@ -86,23 +86,24 @@ need-recorded events end bio place (AtFua id ok last is earlier submitted has ch
 recorded-need : (events : List CoreEvent) (end : ℕ) (bio : Bio) (place : ℕ)
     → log_writes_order events end (Some (Submit bio)) place (slice_get events place) ≡ true
     → IsNeed events end bio place
-recorded-need events end bio place h = elim (recorded-cases events end bio place (slice_get events place) h) [
-  | inl closes ↦ AtClose closes
-  | inr need ↦
-      elim (or_cases (has_flush need.last && nat_lt end need.id)
-      (has_fua need.last && is_linked events need.last place place end bio) need.needed) [
-        | inl flushes ↦
-            let parts = and_parts (has_flush need.last) (nat_lt end need.id) flushes in
-            AtFlush need.id need.ok need.last need.is need.earlier need.submitted parts.0
-            (ltb-true end need.id parts.1)
-        | inr chained ↦
-            let parts =
-            and_parts (has_fua need.last)
-            (is_linked events need.last place place end bio) chained in
-            AtFua need.id need.ok need.last need.is need.earlier need.submitted parts.0
-            (linked-chain events need.last place place end bio parts.1)
-      ]
-]
+recorded-need events end bio place h =
+    elim (recorded-cases events end bio place (slice_get events place) h) [
+      | inl closes ↦ AtClose closes
+      | inr need ↦
+          elim (or_cases (has_flush need.last && nat_lt end need.id)
+          (has_fua need.last && is_linked events need.last place place end bio) need.needed) [
+            | inl flushes ↦
+                let parts = and_parts (has_flush need.last) (nat_lt end need.id) flushes in
+                AtFlush need.id need.ok need.last need.is need.earlier need.submitted parts.0
+                (ltb-true end need.id parts.1)
+            | inr chained ↦
+                let parts =
+                and_parts (has_fua need.last)
+                (is_linked events need.last place place end bio) chained in
+                AtFua need.id need.ok need.last need.is need.earlier need.submitted parts.0
+                (linked-chain events need.last place place end bio parts.1)
+          ]
+    ]
 
 -- the test of an event that doesn't need the request
 no-need : (events : List CoreEvent) (id end k : ℕ) (bio : Bio)

@@ -6,7 +6,7 @@ pub use Rattle.bio.specs.Possible
 pub use Rattle.bio.specs.Check
 pub use Rattle.log_format.specs.Entries
 pub use Rattle.log_format.specs.Replay
-pub use Rattle.sectors.specs.Content
+pub use Rattle.bio.specs.Content
 pub mod QueueEvent
 pub mod Moments
 pub mod Chains

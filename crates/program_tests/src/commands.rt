@@ -8,8 +8,7 @@ use std::process::Abort;
 use std::sync::Wait;
 use std::test::Fail;
 use std::thread::Threads;
-use test_devices::{holds, is_told};
-use test_files::{Folder, OneFile};
+use test_devices::{Folder, OneFile, holds, is_told};
 
 // A script of a write, a flush and a close.
 const FIRST: &str = "data 16\nlog 32\nw a 5 1 41\nc a\nf b\nc b\nclose\n";

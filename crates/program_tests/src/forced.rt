@@ -8,8 +8,7 @@ use std::process::Abort;
 use std::sync::Wait;
 use std::test::Fail;
 use std::thread::Threads;
-use test_devices::holds;
-use test_files::{Folder, Numbers};
+use test_devices::{Folder, Numbers, holds};
 
 // The heads of scripts: their disks, and layers that fail calls and tell no lie.
 const HEADS: [&str; 7] = [

@@ -7,8 +7,8 @@ use Rattle.std.proofs.Common.{sym, ◌∙◌, inl, inr, arith}
 use Rattle.std.specs.Prelude.{slice_get, unwrap_or}
 use Rattle.bio.specs.declared.outcome.DevError.{DevError}
 use Rattle.bio.specs.declared.outcome.DevError.TheVariants.{Io}
-use Rattle.sectors.specs.Content as contents
-use Rattle.sectors.specs.Content.{Content}
+use Rattle.bio.specs.Content as contents
+use Rattle.bio.specs.Content.{Content}
 use Rattle.blockdev.specs.Calls.{Call, Discards, Flushes, Writes}
 use Rattle.blockdev.specs.InTurn.{DoesInTurn}
 use Rattle.blockdev.specs.View.{View}
@@ -93,7 +93,8 @@ part_other : (told : IsAppliedInPart 512 (write ∷ []) 0 0 (all 0) (all 2)) →
 unfolding write all contents.over
 part_other told is = elim (told.content 6) [
   | inl old ↦ let same = one_value 2 0 old in omega arith
-  | inr new ↦ let same = one_value 2 0 (new ∙ ap (λ (e : Entry). unwrap_or (values e 6) (replicate 512 0)) is) in omega arith
+  | inr new ↦ let same = one_value 2 0
+      (new ∙ ap (λ (e : Entry). unwrap_or (values e 6) (replicate 512 0)) is) in omega arith
 ]
   where
     values : Entry → ℕ → Option (List ℕ)

@@ -2,7 +2,7 @@
 -- Any crate above may cite it.
 use Rattle.std.proofs.Common.{ℕ, List, [], ◌∷◌, ap}
 use Rattle.std.specs.Prelude.{unwrap_or}
-use Rattle.sectors.specs.Content.{AgreeBelow, Content, put}
+use Rattle.bio.specs.Content.{AgreeBelow, Content, put}
 use Rattle.log_format.specs.declared.entry.Entry.{Entry}
 use Rattle.log_format.specs.Entries.{kind_of}
 use Rattle.log_format.specs.Replay.{kind_values, replay}

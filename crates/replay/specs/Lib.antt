@@ -2,7 +2,7 @@
 pub use Rattle.blockdev.specs.InTurn
 pub use Rattle.log_format.specs.Replay
 pub use Rattle.log_reader.specs.Reads
-pub use Rattle.sectors.specs.Content
+pub use Rattle.bio.specs.Content
 pub mod Refusals
 pub mod Replays
 pub mod Calls

@@ -2,7 +2,6 @@
 //! Its clauses are written in specs/Errors; the search alone proves it.
 ghost use Rattle.std.specs.Prelude.{◌≡◌, Some};
 ghost use Rattle.std.specs.IoError.{error_kind};
-ghost use Rattle.refusals.specs.Texts.{without_line};
 ghost use Rattle.run_error.specs.Errors.{error_text, fault_of, io_refusal, memory_error};
 ghost use Rattle.run_error.specs.Errors.{refused_by, taken_before};
 ghost use Rattle.run_error.specs.declared.run_error.RunError.TheVariants.{Refused, LoggingEnded};

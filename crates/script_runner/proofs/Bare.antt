@@ -11,7 +11,7 @@ use Rattle.layer_table.specs.Layers.{disk_of, layers_of, layers_under, stack_doe
 use Rattle.sector_disk.specs.declared.disk.SectorDisk.{SectorDisk}
 use Rattle.log_format.specs.Placing.{first_sector}
 use Rattle.table_line.specs.declared.layer_spec.LayerSpec.{LayerSpec}
-use Rattle.dmlw_script.specs.Plans.{Disk}
+use Rattle.script_reader.specs.Plans.{Disk}
 use Rattle.run_error.specs.declared.run_error.RunError.{RunError}
 use Rattle.run_error.specs.declared.run_error.RunError.TheVariants.{LoggingEnded}
 use Rattle.script_runner.specs.OnDisks.{IsUnmade}
@@ -37,5 +37,7 @@ bare_log_fails does bytes disk fault bare un =
     let memory =
     bare_refuses (layers_of refused.last) (disk_of un.stack) (disk_of refused.last)
     (first_sector bytes 0) refused.error
-    (subst (λ (ls : List Layer). LayersDo ls (disk_of un.stack) (Writes 0 (first_sector bytes 0) true) 0 (Err refused.error) (layers_of refused.last) (disk_of refused.last)) none done) in
+    (subst (λ (ls : List Layer). LayersDo ls (disk_of un.stack)
+    (Writes 0 (first_sector bytes 0) true) 0 (Err refused.error) (layers_of refused.last)
+    (disk_of refused.last)) none done) in
     refused.ends_by ∙ ap (λ (e : DevError). LoggingEnded (end_cause e)) memory

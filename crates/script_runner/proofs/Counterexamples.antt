@@ -6,8 +6,8 @@ use Rattle.std.proofs.Common.{refl, replicate, slice_index_or, subst, sym}
 use Rattle.std.specs.Prelude.{codes, decimal, is_ok, slice_get}
 use Rattle.std.specs.List.{list_all}
 use Rattle.std.proofs.lemmas.List.{length-replicate}
-use Rattle.sectors.specs.Content.{AgreeBelow, Content, moved, sector_of}
-use Rattle.sectors.specs.PlaceLaws.{slice_get-append_here}
+use Rattle.bio.specs.Content.{AgreeBelow, Content, moved, sector_of}
+use Rattle.bio.specs.PlaceLaws.{slice_get-append_here}
 use Rattle.refusals.specs.declared.refusal.Refusal.{Refusal}
 use Rattle.refusals.specs.declared.refusal.Refusal.TheVariants as refusals
 use Rattle.bio.specs.declared.event.CoreEvent.{CoreEvent}
@@ -39,17 +39,17 @@ use Rattle.log_store.specs.Calls.{HasFaulted}
 use Rattle.log_store.specs.Shown.{store_of}
 use Rattle.log_store.specs.Store.{entries_of}
 use Rattle.pending.specs.CoreState.{CoreState, added_to, new_state, records, sized_state}
-use Rattle.dmlw_script.specs.declared.command.Command.{Command}
-use Rattle.dmlw_script.specs.declared.command.Command.TheVariants as commands
-use Rattle.dmlw_script.specs.declared.command.Step.TheVariants as steps
-use Rattle.dmlw_script.specs.declared.command.Submission.{Submission}
-use Rattle.dmlw_script.specs.declared.command.Submission.TheVariants as submits
-use Rattle.dmlw_script.specs.declared.disk_name.DiskName.TheVariants as disks
-use Rattle.dmlw_script.specs.declared.command.WriteOptions.{WriteOptions}
-use Rattle.dmlw_script.specs.declared.script_id.ScriptId.{ScriptId}
-use Rattle.dmlw_script.specs.Ids.{script_id}
-use Rattle.dmlw_script.specs.Lines.{command_line}
-use Rattle.dmlw_script.specs.Plans.{Disk, ScriptValue, head_count, name_at, top_of}
+use Rattle.script_reader.specs.declared.command.Command.{Command}
+use Rattle.script_reader.specs.declared.command.Command.TheVariants as commands
+use Rattle.script_reader.specs.declared.command.Step.TheVariants as steps
+use Rattle.script_reader.specs.declared.command.Submission.{Submission}
+use Rattle.script_reader.specs.declared.command.Submission.TheVariants as submits
+use Rattle.script_reader.specs.declared.disk_name.DiskName.TheVariants as disks
+use Rattle.script_reader.specs.declared.command.WriteOptions.{WriteOptions}
+use Rattle.script_reader.specs.declared.script_id.ScriptId.{ScriptId}
+use Rattle.script_reader.specs.Ids.{script_id}
+use Rattle.script_reader.specs.Lines.{command_line}
+use Rattle.script_reader.specs.Plans.{Disk, ScriptValue, head_count, name_at, top_of}
 use Rattle.recorder.specs.declared.recorder.Recorder.{Recorder}
 use Rattle.recorder.specs.declared.reply.Reply.TheVariants as replies
 use Rattle.recorder.specs.RecorderView.{log_of}
@@ -521,7 +521,8 @@ close_place : {D L : Type 0} {d : Ghosts D} {l : Ghosts L} (m : Answering D L) (
     → plan.commands ≡ commands.Step steps.Close ∷ [] → RefusesClose m plan place refusal text old
     → (place ≡ 0) × (text ≡ [])
 close_place {D} {L} {d} {l} m plan place refusal text old alone told =
-    let none = none_before told.before told.rest (commands.Step steps.Close) _ (sym alone ∙ told.split) in
+    let none = none_before told.before told.rest (commands.Step steps.Close) _
+    (sym alone ∙ told.split) in
     let ran =
     subst (λ (before : List Command). RunsLines m plan.names before text old told.mid) none
     told.ran in
@@ -533,7 +534,8 @@ close_busy : {D L : Type 0} {d : Ghosts D} {l : Ghosts L} (m : Answering D L) (p
     → none_open (core_of old.recorder).events ≡ true
     → RefusesClose m plan place refusals.Busy text old → ⊥
 close_busy {D} {L} {d} {l} m plan place text old alone none_is told =
-    let none = none_before told.before told.rest (commands.Step steps.Close) _ (sym alone ∙ told.split) in
+    let none = none_before told.before told.rest (commands.Step steps.Close) _
+    (sym alone ∙ told.split) in
     let ran =
     subst (λ (before : List Command). RunsLines m plan.names before text old told.mid) none
     told.ran in
@@ -590,12 +592,18 @@ close_line : {D L : Type 0} {d : Ghosts D} {l : Ghosts L} (m : Answering D L) (t
     → line_of fault ≡ command_line text (head_count plan)
 close_line {D} {L} {d} {l} m text plan before after old fault alone
     (close place refusal printed refuses grew) busy =
-    ap (λ (n : ℕ). command_line text n) (let first = (close_place {d = d} {l = l} m plan place refusal printed old alone refuses).0 in omega arith)
+    ap (λ (n : ℕ). command_line text n)
+    (let first = (close_place {d = d} {l = l} m plan place refusal printed old alone
+    refuses).0 in omega arith)
 close_line {D} {L} {d} {l} m text plan before after old fault alone
     (message place error printed refuses grew) busy =
-    absurd (let none = none_before refuses.before refuses.rest (commands.Step steps.Close) _ (sym alone ∙ refuses.split) in
-    let same : commands.Step steps.Close ∷ [] ≡ commands.Step (steps.Message refuses.over refuses.layer refuses.asked) ∷ refuses.rest =
-    sym alone ∙ refuses.split ∙ ap (λ (front : List Command). front ++ commands.Step (steps.Message refuses.over refuses.layer refuses.asked) ∷ refuses.rest) none in
+    absurd (let none = none_before refuses.before refuses.rest (commands.Step steps.Close) _
+    (sym alone ∙ refuses.split) in
+    let same : commands.Step steps.Close ∷ []
+    ≡ commands.Step (steps.Message refuses.over refuses.layer refuses.asked) ∷ refuses.rest =
+    sym alone ∙ refuses.split
+    ∙ ap (λ (front : List Command). front ++ commands.Step
+    (steps.Message refuses.over refuses.layer refuses.asked) ∷ refuses.rest) none in
     cc)
 close_line {D} {L} {d} {l} m text plan before after old fault alone (run_file again is) busy =
     absurd (file_busy again is busy)
@@ -617,8 +625,11 @@ close_printing {D} {L} {d} {l} m text plan old fault alone
     let none =
     none_before refuses.before refuses.rest (commands.Step steps.Close) _
     (sym alone ∙ refuses.split) in
-    let same : commands.Step steps.Close ∷ [] ≡ commands.Step (steps.Message refuses.over refuses.layer refuses.asked) ∷ refuses.rest =
-    sym alone ∙ refuses.split ∙ ap (λ (front : List Command). front ++ commands.Step (steps.Message refuses.over refuses.layer refuses.asked) ∷ refuses.rest) none in
+    let same : commands.Step steps.Close ∷ []
+    ≡ commands.Step (steps.Message refuses.over refuses.layer refuses.asked) ∷ refuses.rest =
+    sym alone ∙ refuses.split
+    ∙ ap (λ (front : List Command). front ++ commands.Step
+    (steps.Message refuses.over refuses.layer refuses.asked) ∷ refuses.rest) none in
     cc
 close_printing {D} {L} {d} {l} m text plan old fault alone (run_file again is) busy =
     file_busy again is busy
@@ -765,8 +776,10 @@ unmade_printing : (text : List ℕ) (plan : ScriptValue) (fault : RunError) (end
     → FailsOnDisks text plan (Some []) (Some (1 ∷ [])) fault → ⊥
 unmade_printing text plan fault end is (disk_file again file) = not_file again end is file
 unmade_printing text plan fault end is (unmade again none kept) = cc
-unmade_printing text plan fault end is (disk_run start again starts (close place refusal printed refuses grew)) = cc
-unmade_printing text plan fault end is (disk_run start again starts (message place error printed refuses grew)) = cc
+unmade_printing text plan fault end is
+    (disk_run start again starts (close place refusal printed refuses grew)) = cc
+unmade_printing text plan fault end is
+    (disk_run start again starts (message place error printed refuses grew)) = cc
 unmade_printing text plan fault end is (disk_run start again starts (run_file other file)) =
     not_file other end is file
 

@@ -6,20 +6,20 @@ use Rattle.std.specs.List.{AllZip}
 use Rattle.std.specs.Prelude.{slice_get}
 use Rattle.std.proofs.lemmas.List.{append-nil}
 use Rattle.std.proofs.lemmas.Option.{slice_get_within}
-use Rattle.sectors.specs.PlaceLaws.{bool_cases, last_or_below, length-snoc, slice_get-append_front}
-use Rattle.sectors.specs.PlaceLaws.{slice_get-append_here}
+use Rattle.bio.specs.PlaceLaws.{bool_cases, last_or_below, length-snoc, slice_get-append_front}
+use Rattle.bio.specs.PlaceLaws.{slice_get-append_here}
 use Rattle.bio.specs.declared.event.CoreEvent.{CoreEvent}
 use Rattle.bio.specs.declared.event.CoreEvent.TheVariants as core_events
 use Rattle.bio.specs.declared.request.Bio.{Bio}
 use Rattle.blockdev.specs.declared.device.BlockDev.{Ghosts}
-use Rattle.dmlw_script.specs.declared.command.Command.{Command}
-use Rattle.dmlw_script.specs.declared.command.Command.TheVariants as commands
-use Rattle.dmlw_script.specs.declared.command.Step.{Step}
-use Rattle.dmlw_script.specs.declared.command.Step.TheVariants as steps
-use Rattle.dmlw_script.specs.declared.command.Submission.{Submission}
-use Rattle.dmlw_script.specs.declared.disk_name.DiskName.TheVariants as disks
-use Rattle.dmlw_script.specs.declared.script_id.ScriptId.{ScriptId}
-use Rattle.dmlw_script.specs.Plans.{name_at}
+use Rattle.script_reader.specs.declared.command.Command.{Command}
+use Rattle.script_reader.specs.declared.command.Command.TheVariants as commands
+use Rattle.script_reader.specs.declared.command.Step.{Step}
+use Rattle.script_reader.specs.declared.command.Step.TheVariants as steps
+use Rattle.script_reader.specs.declared.command.Submission.{Submission}
+use Rattle.script_reader.specs.declared.disk_name.DiskName.TheVariants as disks
+use Rattle.script_reader.specs.declared.script_id.ScriptId.{ScriptId}
+use Rattle.script_reader.specs.Plans.{name_at}
 use Rattle.pending.specs.CoreState.{CoreState, records}
 use Rattle.recorder.specs.declared.recorder.Recorder.{Recorder}
 use Rattle.recorder.specs.declared.reply.Reply.TheVariants as replies

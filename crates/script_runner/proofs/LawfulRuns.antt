@@ -3,7 +3,7 @@
 use Rattle.std.proofs.Common.{◌≡◌, ℕ, zero, suc, Bool, true, false, Option, Some, None, List, []}
 use Rattle.std.proofs.Common.{◌∷◌, ◌++◌, Result, Ok, Err, inl, inr, refl, subst, sym}
 use Rattle.std.specs.Prelude.{if◌then◌else◌, is_ok, slice_get}
-use Rattle.sectors.specs.PlaceLaws.{bool_cases}
+use Rattle.bio.specs.PlaceLaws.{bool_cases}
 use Rattle.bio.specs.declared.event.CoreEvent.{CoreEvent}
 use Rattle.bio.specs.declared.event.CoreEvent.TheVariants as events
 use Rattle.bio.specs.declared.outcome.End.{End}
@@ -16,13 +16,13 @@ use Rattle.bio.specs.Lawful.{has_no_close, is_lawful, is_recording, is_text, is_
 use Rattle.bio.specs.Lawful.{is_within}
 use Rattle.blockdev.specs.declared.device.BlockDev.{Ghosts}
 use Rattle.refusals.specs.declared.refusal.Refusal.TheVariants as refusals
-use Rattle.dmlw_script.specs.declared.command.Command.{Command}
-use Rattle.dmlw_script.specs.declared.command.Command.TheVariants as commands
-use Rattle.dmlw_script.specs.declared.command.Step.{Step}
-use Rattle.dmlw_script.specs.declared.command.Step.TheVariants as steps
-use Rattle.dmlw_script.specs.declared.disk_name.DiskName.TheVariants as disks
-use Rattle.dmlw_script.specs.declared.script_id.ScriptId.{ScriptId}
-use Rattle.dmlw_script.specs.Plans.{IsPlan, IsWellFormed, ScriptValue, name_at, top_of}
+use Rattle.script_reader.specs.declared.command.Command.{Command}
+use Rattle.script_reader.specs.declared.command.Command.TheVariants as commands
+use Rattle.script_reader.specs.declared.command.Step.{Step}
+use Rattle.script_reader.specs.declared.command.Step.TheVariants as steps
+use Rattle.script_reader.specs.declared.disk_name.DiskName.TheVariants as disks
+use Rattle.script_reader.specs.declared.script_id.ScriptId.{ScriptId}
+use Rattle.script_reader.specs.Plans.{IsPlan, IsWellFormed, ScriptValue, name_at, top_of}
 use Rattle.pending.specs.CoreState.{CoreState, added_to, records, stopped_by}
 use Rattle.recorder.specs.declared.recorder.Recorder.{Recorder}
 use Rattle.recorder.specs.declared.reply.Reply.{Reply}
@@ -285,7 +285,8 @@ pub run_lawful : (plan : ScriptValue) (text : List ℕ) (start last : DiskRun) �
     → is_lawful (top_of plan.data_disk) (core_of last.recorder).events ≡ true
 run_lawful plan text start last is starts ran well_formed =
     let none : AreWithin (top_of plan.data_disk) (core_of start.recorder).events =
-    subst (λ (c : CoreState). AreWithin (top_of plan.data_disk) c.events) (sym starts.log_disk.begun.core) (λ place. refl) in
+    subst (λ (c : CoreState). AreWithin (top_of plan.data_disk) c.events)
+    (sym starts.log_disk.begun.core) (λ place. refl) in
     let within =
     lines_within stack_answering (bytes_of plan.log_size)
     (top_of plan.data_disk) plan.names [] plan.commands text start last is.well_formed ran

@@ -7,8 +7,8 @@ use Rattle.bio.specs.Lawful.{has_no_close}
 use Rattle.bio.specs.Sizes.{bytes_of}
 use Rattle.bio.specs.declared.sector_size.SectorSize.{SectorSize}
 use Rattle.bio.specs.declared.sector_size.SectorSize.TheVariants as sizes
-use Rattle.sectors.specs.Content.{AgreeBelow, Content, gather, sector_of, writes}
-use Rattle.sectors.specs.SectorLaws.{length-gather, sector_of-gather}
+use Rattle.bio.specs.Content.{AgreeBelow, Content, gather, sector_of, writes}
+use Rattle.bio.specs.SectorLaws.{length-gather, sector_of-gather}
 use Rattle.blockdev.specs.declared.device.BlockDev.{Ghosts}
 use Rattle.blockdev.specs.Law.{DeviceFrame}
 use Rattle.blockdev.specs.View.{Place}
@@ -42,7 +42,7 @@ use Rattle.script_runner.specs.Begun.{IsNewOn}
 use Rattle.script_runner.specs.OnDisks.{DiskRecorder, DiskRun, IsCounted, IsNew, IsRecorded}
 use Rattle.script_runner.specs.OnDisks.{IsStackOf, Starts, left_on, seen_on, stack_answering}
 use Rattle.script_runner.specs.OnDisks.{zeroes}
-use Rattle.dmlw_script.specs.Plans.{top_of, Disk, IsDisk, ScriptValue}
+use Rattle.script_reader.specs.Plans.{top_of, Disk, IsDisk, ScriptValue}
 use Rattle.script_runner.specs.declared.recording.Lies.{Lies}
 use Rattle.script_runner.specs.Runs.{RunsLines}
 use Rattle.script_runner.specs.Written.{IsWritten}
@@ -201,7 +201,8 @@ same_lies lies over_data over_log here there = rw (sym here, sym there) refl
 -- nothing has to be placed where nothing is recorded
 new_written : (bytes : ℕ) (disk : Disk) (recorder : DiskRecorder) → IsNew bytes disk recorder
     → IsWritten recorder
-new_written bytes disk recorder new = λ closed on. absurd (let recording = ap (λ (c : CoreState). has_no_close c.events) new.begun.core in cc)
+new_written bytes disk recorder new = λ closed on. absurd
+    (let recording = ap (λ (c : CoreState). has_no_close c.events) new.begun.core in cc)
 
 -- what a script's recording leaves
 pub is_recorded : (plan : ScriptValue) (text : List ℕ) (start last : DiskRun) (log : Stack)
@@ -232,24 +233,35 @@ is_recorded plan text start last log status lies image picks room starts ran goe
     let new = starts.log_disk in
     let size : (stack_shown device).size ≡ top_of plan.log_disk =
     goes.size ∙ new.begun.made.size ∙ stack_size plan.log_disk new.stack new.blank in
-    let place : (stack_shown device).place ≡ record { origin = top_origin 0 plan.log_disk.layers; disk = plan.log_disk.sectors } =
+    let place : (stack_shown device).place
+    ≡ record { origin = top_origin 0 plan.log_disk.layers; disk = plan.log_disk.sectors } =
     goes.place ∙ new.begun.made.place ∙ stack_place plan.log_disk new.stack new.blank in
     let bytes : (core_of last.recorder).sector_bytes ≡ bytes_of plan.log_size =
     goes.sector_bytes ∙ ap (λ (c : CoreState). c.sector_bytes) new.begun.core in
     let part = part_of_disk device in
     let sectors : (shown_of (disk_of device)).size ≡ plan.log_disk.sectors =
     sym part.disk ∙ ap (λ (p : Place). p.disk) place in
-    let here : AgreeBelow (shown_of (disk_of device)).size (left_on plan.ending (disk_of device)) (sector_of image) =
+    let here : AgreeBelow (shown_of (disk_of device)).size (left_on plan.ending (disk_of device))
+    (sector_of image) =
     subst (λ (s : Stack). AgreeBelow (shown_of (disk_of s)).size (left_on plan.ending (disk_of s))
     (sector_of image)) same
-    (subst (λ (o : Option (List ℕ)). AgreeBelow (shown_of (disk_of log)).size (left_on o (disk_of log)) (sector_of image)) ending agrees) in
-    let agree : AgreeBelow plan.log_disk.sectors (left_on plan.ending (disk_of device)) (sector_of image) =
-    subst (λ (n : ℕ). AgreeBelow n (left_on plan.ending (disk_of device)) (sector_of image)) sectors here in
+    (subst (λ (o : Option (List ℕ)). AgreeBelow (shown_of (disk_of log)).size
+    (left_on o (disk_of log)) (sector_of image)) ending agrees) in
+    let agree : AgreeBelow plan.log_disk.sectors (left_on plan.ending (disk_of device))
+    (sector_of image) =
+    subst (λ (n : ℕ). AgreeBelow n (left_on plan.ending (disk_of device)) (sector_of image))
+    sectors here in
     let seen =
     part.crash (left_on plan.ending (disk_of device))
     (may_leave plan.ending (disk_of device)) in
-    let told : lies ≡ record { data_disk = (stack_shown last.disk).lies; log_disk = (stack_shown device).lies } =
-    subst (λ (s : Stack). lies ≡ record { data_disk = (stack_shown last.disk).lies; log_disk = (stack_shown s).lies }) same lied in
+    let told : lies
+    ≡ record {
+      data_disk = (stack_shown last.disk).lies;
+      log_disk = (stack_shown device).lies;
+    } =
+    subst (λ (s : Stack). lies
+    ≡ record { data_disk = (stack_shown last.disk).lies; log_disk = (stack_shown s).lies }) same
+    lied in
     let honest : lies.log_disk ≡ 0 → (stack_shown device).lies ≡ 0 =
     λ none. sym (ap (λ (l : Lies). l.log_disk) told) ∙ none in
     record {

@@ -5,7 +5,7 @@ use Rattle.std.specs.Prelude.{Bool, Err, IfOk, Ok, Result}
 use Rattle.bio.specs.Sizes.{bytes_of}
 use Rattle.bio.specs.declared.sector_size.SectorSize.{SectorSize}
 use Rattle.blockdev.specs.declared.device.BlockDev.{Ghosts}
-use Rattle.dmlw_script.specs.Plans.{Disk, ScriptValue}
+use Rattle.script_reader.specs.Plans.{Disk, ScriptValue}
 use Rattle.layer_table.specs.declared.stack.Stack.{Stack}
 use Rattle.pending.specs.CoreState.{CoreState}
 use Rattle.recorder.specs.declared.recorder.Recorder.{Recorder}

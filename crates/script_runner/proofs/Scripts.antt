@@ -8,12 +8,12 @@ use Rattle.std.proofs.lemmas.List.Sums.{sum_by-append}
 use Rattle.refusals.specs.declared.refusal.Refusal.{Refusal}
 use Rattle.bio.specs.Sizes.{bytes_of}
 use Rattle.blockdev.specs.declared.device.BlockDev.{Ghosts}
-use Rattle.dmlw_script.specs.declared.command.Command.{Command}
-use Rattle.dmlw_script.specs.declared.command.Command.TheVariants as commands
-use Rattle.dmlw_script.specs.declared.script_id.ScriptId.{ScriptId}
-use Rattle.dmlw_script.specs.Lines.{command_line}
-use Rattle.dmlw_script.specs.Plans.{head_count, top_of, CanFollow, HasName, IsPlan, ScriptValue}
-use Rattle.dmlw_script.specs.Plans.{submissions}
+use Rattle.script_reader.specs.declared.command.Command.{Command}
+use Rattle.script_reader.specs.declared.command.Command.TheVariants as commands
+use Rattle.script_reader.specs.declared.script_id.ScriptId.{ScriptId}
+use Rattle.script_reader.specs.Lines.{command_line}
+use Rattle.script_reader.specs.Plans.{head_count, top_of, CanFollow, HasName, IsPlan, ScriptValue}
+use Rattle.script_reader.specs.Plans.{submissions}
 use Rattle.recorder.specs.Shown.{core_of}
 use Rattle.run_error.specs.declared.run_error.RunError.{RunError}
 use Rattle.run_error.specs.declared.run_error.RunError.TheVariants.{Refused}
@@ -52,9 +52,11 @@ command_next plan items place other same orderly within =
         → ComesNext plan place (slice_index_or plan.commands place other)
     here inside =
         let command = slice_index_or plan.commands place other in
-        let split : plan.commands ≡ take place plan.commands ++ command ∷ drop (suc place) plan.commands =
+        let split : plan.commands ≡ take place plan.commands ++ command
+        ∷ drop (suc place) plan.commands =
         sym (take-append-drop place plan.commands)
-        ∙ ap (λ (body : List Command). take place plan.commands ++ body) (drop-cons plan.commands place other inside) in
+        ∙ ap (λ (body : List Command). take place plan.commands ++ body)
+        (drop-cons plan.commands place other inside) in
         record {
           rest = drop (suc place) plan.commands;
           split = split;
@@ -247,7 +249,8 @@ pub stops_at_line : {D L : Type 0} {d : Ghosts D} {l : Ghosts L} (m : Answering 
     → PrintsLines m plan.names (take place plan.commands) before mid start now
     → StopsLine m command mid after now (AtLine refusal)
     → EndsRun m text plan before after start (Refused (record { line = line; refusal = refusal }))
-stops_at_line m text plan place line command before mid after refusal start now next here named ran (inl never) = absurd never
+stops_at_line m text plan place line command before mid after refusal start now next here named ran
+    (inl never) = absurd never
 stops_at_line m text plan place line command before mid after refusal start now next here named ran
     (inr (inl stops)) =
     let told = stops.stops in

@@ -6,7 +6,7 @@ use Rattle.std.proofs.Common.{arith}
 use Rattle.std.specs.Prelude.{slice_get}
 use Rattle.std.proofs.lemmas.Bool.{and_parts}
 use Rattle.std.proofs.lemmas.Option.{slice_get_within}
-use Rattle.sectors.specs.PlaceLaws.{bool_cases}
+use Rattle.bio.specs.PlaceLaws.{bool_cases}
 use Rattle.bio.specs.declared.event.CoreEvent.{CoreEvent}
 use Rattle.bio.specs.declared.event.CoreEvent.TheVariants as events
 use Rattle.bio.specs.declared.outcome.End.{End}
@@ -65,7 +65,8 @@ kept_submit {L} {l} bio reply old new submits written =
     elim (bool_cases (records (core_of old) bio)) [
       | inl recorded ↦ elim (submits.recorded recorded) [
         | inl tracked ↦
-            let going = (and_parts (is_recording (core_of old).events) (is_tracked bio) recorded).0 in
+            let going =
+            (and_parts (is_recording (core_of old).events) (is_tracked bio) recorded).0 in
             let recording =
             (and_parts (has_no_stop (core_of old).events)
             (has_no_close (core_of old).events) going).1 in
@@ -86,7 +87,8 @@ kept_complete {L} {l} id ok reply old new completes written =
           let lawful =
           (and_parts (is_well_formed (core_of new).events) _
           (lawful_parts _ 1048576 (core_of new).events new.kept.lawful).0).0 in
-          let well_formed : is_well_formed ((core_of old).events ++ events.Complete id ok ∷ []) ≡ true =
+          let well_formed : is_well_formed ((core_of old).events ++ events.Complete id ok ∷ [])
+          ≡ true =
           ap (λ (c : CoreState). is_well_formed c.events) (sym is) ∙ lawful in
           let parts =
           and_parts (is_well_formed (core_of old).events)

@@ -4,7 +4,7 @@ use Rattle.std.specs.Prelude.{◌≡◌, ℕ, true, Err, [], None}
 use Rattle.bio.specs.Causes.{end_cause}
 use Rattle.bio.specs.declared.outcome.DevError.{DevError}
 use Rattle.bio.specs.declared.outcome.DevError.TheVariants.{Io}
-use Rattle.sectors.specs.Content.{Content, writes}
+use Rattle.bio.specs.Content.{Content, writes}
 use Rattle.blockdev.specs.declared.device.BlockDev.{Ghosts}
 use Rattle.blockdev.specs.Calls.{Writes}
 use Rattle.blockdev.specs.Law.{DeviceFrame}

@@ -6,7 +6,7 @@ use Rattle.std.specs.Io.KnownBytes.{Keeps}
 use Rattle.bio.specs.declared.outcome.Status.{Status}
 use Rattle.bio.specs.Lawful.{has_no_close}
 use Rattle.bio.specs.Sizes.{bytes_of}
-use Rattle.sectors.specs.Content.{AgreeBelow, Content, moved, sector_of}
+use Rattle.bio.specs.Content.{AgreeBelow, Content, moved, sector_of}
 use Rattle.sector_disk.specs.declared.disk.SectorDisk.{SectorDisk}
 use Rattle.sector_disk.specs.Candidates.{left_by}
 use Rattle.sector_disk.specs.Shown.{cache_of, shown_of}
@@ -19,7 +19,7 @@ use Rattle.layer_table.specs.Layers.{AreOver}
 use Rattle.table_line.specs.Standing.{some_drops, top_origin}
 use Rattle.log_store.specs.Shown.{store_of}
 use Rattle.log_store.specs.Store.{entries_of}
-use Rattle.dmlw_script.specs.Plans.{ScriptValue}
+use Rattle.script_reader.specs.Plans.{ScriptValue}
 use Rattle.recorder.specs.declared.recorder.Recorder.{Recorder}
 use Rattle.recorder.specs.RecorderView.{log_of}
 use Rattle.recorder.specs.Replayed.{ReplaysToWhatCouldBe}
@@ -28,7 +28,7 @@ use Rattle.run_error.specs.declared.run_error.RunError.{RunError}
 use Rattle.script_runner.specs.Begun.{IsNewOn, IsUnmadeOn}
 use Rattle.script_runner.specs.declared.recording.Lies.{Lies}
 use Rattle.run_error.specs.Errors.{IsFileError}
-use Rattle.dmlw_script.specs.Plans.{Disk, top_of}
+use Rattle.script_reader.specs.Plans.{Disk, top_of}
 use Rattle.script_runner.specs.declared.running.Running.{Running}
 use Rattle.layer_table.specs.StackMessages.{StackAnswers}
 use Rattle.script_runner.specs.Lines.{answering, Answering}

@@ -2,3 +2,4 @@
 -- Any crate above may cite it.
 pub mod Played
 pub mod Replies
+pub mod Steps

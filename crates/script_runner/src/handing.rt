@@ -1,14 +1,12 @@
 //! Hands a script's request over to the data device.
 //! Its clauses are written in specs/HandOver; its theorems in proofs/handing/.
 ghost use Rattle.std.specs.Prelude.{◌≡◌, ◌*◌, IfSome, Ok, option_map, IsTrue, is_ok, length, true};
-ghost use Rattle.std.specs.Prelude.{false};
 ghost use Rattle.bio.specs.Check.{check_answer, range_answer};
-ghost use Rattle.blockdev.specs.Calls.{Flushes, IsByteRange, IsRange, Writes};
+ghost use Rattle.blockdev.specs.Calls.{Flushes, IsByteRange, Writes};
 ghost use Rattle.script_runner.specs.HandOver.{DoesCall, HandsOver, ReadsSectors};
 
-use bio::{Bio, DevError, Ms};
+use bio::{Bio, DevError, Ms, SECTOR_BYTES};
 use blockdev::BlockDev;
-use sectors::SECTOR_BYTES;
 use std::alloc::Global;
 
 // A sector's size in bytes.

@@ -3,8 +3,7 @@
 // The search alone proves it.
 ghost use Rattle.std.specs.Prelude.{◌≡◌, length, replicate};
 
-use bio::Bytes;
-use sectors::SECTOR_BYTES;
+use bio::{Bytes, SECTOR_BYTES};
 use std::alloc::{AllocError, Global};
 
 // A sector's size in bytes.

@@ -3,17 +3,17 @@
 ghost use Rattle.std.specs.Prelude.{◌≡◌, ◌*◌, ◌<◌, IfErr, IfSome, OnOk, length, option_map};
 ghost use Rattle.std.specs.List.{AllByRecursion};
 ghost use Rattle.std.specs.Io.KnownBytes.{Appends};
-ghost use Rattle.dmlw_script.specs.Plans.{IsName, name_at};
-ghost use Rattle.dmlw_script.specs.Words.{hex_digit};
+ghost use Rattle.script_reader.specs.Plans.{IsName, name_at};
+ghost use Rattle.script_reader.specs.Words.{hex_digit};
 ghost use Rattle.script_runner.specs.Lines.{StopsForFile, submission_text};
 ghost use Rattle.script_runner.specs.inside.Replies.{mark_outcome};
 ghost use Rattle.script_runner.specs.Texts.{first_bytes, outcome_line, outcome_word, read_line};
 
 use crate::request::Request;
 use crate::step_error::StepError;
-use dmlw_script::ScriptId;
+use bio::SECTOR_BYTES;
 use recorder::Reply;
-use sectors::SECTOR_BYTES;
+use script_reader::ScriptId;
 use std::io::Write;
 
 // A sector's size in bytes.

@@ -2,7 +2,7 @@
 //! Its clauses are written in specs/OnDisks; its theorems in proofs/recording/.
 ghost use Rattle.std.specs.Prelude.{◌≡◌, IfErr, IfOk, List, option_copied, ℕ};
 ghost use Rattle.std.specs.Io.KnownBytes.{Appends};
-ghost use Rattle.sectors.specs.Content.{AgreeBelow, gather};
+ghost use Rattle.bio.specs.Content.{AgreeBelow, gather};
 ghost use Rattle.sector_disk.specs.Shown.{shown_of};
 ghost use Rattle.layer_table.specs.Layers.{disk_of};
 ghost use Rattle.script_runner.specs.OnDisks.{FailsOnDisks, IsRecorded, left_on};
@@ -11,10 +11,10 @@ use crate::laws::{closed_runs_leave_whole_logs, lines_go_as_one_call};
 use crate::playing::play_on_disks;
 use bio::Status;
 use blockdev::BlockDev;
-use dmlw_script::Script;
 use layer_table::Stack;
 use recorder::laws::crashed_logs_replay_to_what_could_be;
 use run_error::RunError;
+use script_reader::Script;
 use sector_disk::SectorDisk;
 use std::alloc::Global;
 use std::io::Write;
@@ -62,6 +62,7 @@ pub fn record<O: Write>(
     lines_go_as_one_call::<Stack, Stack>();
     closed_runs_leave_whole_logs::<Stack, Stack>();
     let played = play_on_disks(alloc, text, script, out)?;
+    // It says what always holds of the recorder and its core.
     let _events = played.recorder.events();
     let status = played.recorder.status();
     let data_lies = played.data_lies;

@@ -4,18 +4,18 @@ ghost use Rattle.std.specs.Prelude.{◌≡◌, ◌&&◌, IfErr, IfOk, not, true}
 ghost use Rattle.std.specs.List.{list_any};
 ghost use Rattle.bio.specs.Lawful.{all_aligned, is_lawful};
 ghost use Rattle.bio.specs.Sizes.{bytes_of};
-ghost use Rattle.dmlw_script.specs.Plans.{top_of};
+ghost use Rattle.script_reader.specs.Plans.{top_of};
 ghost use Rattle.run_error.specs.Errors.{memory_error};
 ghost use Rattle.script_runner.specs.Rehearsals.{FailsRehearsal, IsRehearsed, is_memory_stop};
 
 use crate::laws::lines_go_as_one_call;
 use crate::playing::play_on_disks;
 use bio::{CoreEvent, End};
-use dmlw_script::Script;
 use layer_table::Stack;
 use recorder::Recorder;
 use refusals::Refusal;
 use run_error::RunError;
+use script_reader::Script;
 use std::alloc::Global;
 use std::io;
 use std::marker::Model;
@@ -62,6 +62,7 @@ pub fn events_of_run(alloc: Global, text: &[u8], script: &Script) -> Result<Rehe
     ensures faults { IfErr result (FailsRehearsal text.now script.now) }
 {
     lines_go_as_one_call::<Stack, Stack>();
+    // It says what always holds of a script (`IsPlan`).
     let _commands = script.commands();
     let played = play_on_disks(alloc, text, script, &mut io::sink())?;
     let ample = is_ample(played.ample, played.recorder.events());

@@ -1,6 +1,6 @@
 //! A script's run, line by line: `Running` has the
 //! recorder, the data device and the script's requests.
-//! Its clauses are written in specs/Lines and specs/Submitted; its theorems in proofs/running/.
+//! Its clauses are written in specs/; its theorems in proofs/running/.
 ghost use Rattle.std.specs.Prelude.{IsTrue};
 ghost use Rattle.std.specs.List.{list_all};
 ghost use Rattle.script_runner.specs.Submitted.{fits_device, is_asked};
@@ -13,9 +13,9 @@ use crate::request::{Request, are_asked};
 use crate::step_error::StepError;
 use bio::{Bytes, DevError, End, Event, Ms};
 use blockdev::{BlockDev, Message};
-use dmlw_script::{Command, DiskName, ScriptId, Step, Submission};
 use recorder::{Recorder, Reply, Turn, laws};
 use refusals::Refusal;
+use script_reader::{Command, DiskName, ScriptId, Step, Submission};
 use std::alloc::{AllocError, Global};
 use std::io::Write;
 use text_words::ascii_text;
@@ -88,15 +88,15 @@ impl<D: BlockDev + Drop, L: BlockDev + Drop> Running<D, L> {
 }
 
 impl<D: Message + Drop, L: Message + Drop> Running<D, L> {
-    ghost use Rattle.std.specs.Prelude.{◌≡◌, ◌⊎◌, ◌+◌, ◌<◌, IfErr, List, Ok, OnOk, [], length};
+    ghost use Rattle.std.specs.Prelude.{◌≡◌, ◌+◌, ◌<◌, IfErr, List, Ok, OnOk, [], length};
     ghost use Rattle.std.specs.Prelude.{true, ℕ};
     ghost use Rattle.std.specs.List.{AllByRecursion};
-    ghost use Rattle.std.specs.Io.KnownBytes.{Appends, Keeps};
+    ghost use Rattle.std.specs.Io.KnownBytes.{Appends};
     ghost use Rattle.bio.specs.Check.{range_answer};
     ghost use Rattle.blockdev.specs.declared.message.MessageError.{MessageError};
     ghost use Rattle.blockdev.specs.Messages.{message_refusal};
-    ghost use Rattle.dmlw_script.specs.Lines.{is_line_text};
-    ghost use Rattle.dmlw_script.specs.Plans.{HasName, IsName, submission_answer};
+    ghost use Rattle.script_reader.specs.Lines.{is_line_text};
+    ghost use Rattle.script_reader.specs.Plans.{HasName, IsName, submission_answer};
     ghost use Rattle.recorder.specs.declared.reply.Reply.TheVariants as replies;
     ghost use Rattle.recorder.specs.Calls.{Closes};
     ghost use Rattle.recorder.specs.Growth.{RecorderFrame};
@@ -107,6 +107,7 @@ impl<D: Message + Drop, L: Message + Drop> Running<D, L> {
     ghost use Rattle.script_runner.specs.Lines.{RefusesMessage, SetsMoment, StopsForFile};
     ghost use Rattle.script_runner.specs.Lines.{StopsLine, TellsLayer, TellsMark, answering};
     ghost use Rattle.script_runner.specs.Lines.{count_of};
+    ghost use Rattle.script_runner.specs.inside.Steps.{StepKeeps};
 
     // Submits the next request.
     fn submit<O: Write>(
@@ -127,7 +128,6 @@ impl<D: Message + Drop, L: Message + Drop> Running<D, L> {
         ensures count { OnOk result
             (length self.new.requests.items ≡ length self.old.requests.items + 1) }
     {
-        let _sectors = self.disk.sectors();
         let request = ask(&mut self.recorder, &mut self.last, submission);
         print_submission(name_of(names, self.requests.len()), &request, out)?;
         self.requests.push(request)?;
@@ -169,15 +169,12 @@ impl<D: Message + Drop, L: Message + Drop> Running<D, L> {
     // of each, or that the read failed.
     fn read<O: Write>(&mut self, first: u64, count: u64, out: &mut O) -> Result<(), StepError>
         requires { range_answer first count (D.shown self.old.disk).size ≡ Ok tt }
-        ensures moment { self.new.moment ≡ self.old.moment }
-        ensures log_moment { self.new.recorder.store.moment ≡ self.old.recorder.store.moment }
+        ensures keeps { StepKeeps self.old self.new }
         ensures runs { OnOk result ((text : List ℕ) × ReadsData first count text self.old self.new
             × Appends (O.contents out.old) (O.contents out.new) text) }
         ensures faults { IfErr result StopsForFile }
         ensures goes { RecorderFrame (recorder_view self.old.recorder)
             (recorder_view self.new.recorder) }
-        ensures size { (D.shown self.new.disk).size ≡ (D.shown self.old.disk).size }
-        ensures count { length self.new.requests.items ≡ length self.old.requests.items }
     {
         laws::several_calls_go_as_one::<L>();
         let bytes = read_sectors(&mut self.disk, self.alloc, self.moment, first, count);
@@ -186,13 +183,10 @@ impl<D: Message + Drop, L: Message + Drop> Running<D, L> {
 
     // Gives the writer a turn.
     fn turn(&mut self)
-        ensures moment { self.new.moment ≡ self.old.moment }
-        ensures log_moment { self.new.recorder.store.moment ≡ self.old.recorder.store.moment }
+        ensures keeps { StepKeeps self.old self.new }
         ensures turns { GivesTurn [] self.old self.new }
         ensures goes { RecorderFrame (recorder_view self.old.recorder)
             (recorder_view self.new.recorder) }
-        ensures size { (D.shown self.new.disk).size ≡ (D.shown self.old.disk).size }
-        ensures count { length self.new.requests.items ≡ length self.old.requests.items }
     {
         let turn = self.recorder.turn();
         self.short = self.short || matches!(turn, Turn::Ended(End::Memory));
@@ -201,16 +195,13 @@ impl<D: Message + Drop, L: Message + Drop> Running<D, L> {
     // Tells the recorder of a mark, and says so where there is no memory for it.
     fn mark<O: Write>(&mut self, text: &Bytes, out: &mut O) -> Result<(), StepError>
         requires { is_line_text text.now ≡ true }
-        ensures moment { self.new.moment ≡ self.old.moment }
-        ensures log_moment { self.new.recorder.store.moment ≡ self.old.recorder.store.moment }
+        ensures keeps { StepKeeps self.old self.new }
         ensures runs { OnOk result
             ((printed : List ℕ) × TellsMark text.now printed self.old self.new
             × Appends (O.contents out.old) (O.contents out.new) printed) }
         ensures faults { IfErr result StopsForFile }
         ensures goes { OnOk result
             (RecorderFrame (recorder_view self.old.recorder) (recorder_view self.new.recorder)) }
-        ensures size { (D.shown self.new.disk).size ≡ (D.shown self.old.disk).size }
-        ensures count { length self.new.requests.items ≡ length self.old.requests.items }
     {
         let reply = self.recorder.event(Event::Mark(text.clone()?));
         self.short = self.short || matches!(reply, Reply::Refused(_));
@@ -233,15 +224,12 @@ impl<D: Message + Drop, L: Message + Drop> Running<D, L> {
 
     // Ends the recording, and writes the log to its end.
     fn close(&mut self) -> Result<(), StepError>
-        ensures moment { self.new.moment ≡ self.old.moment }
-        ensures log_moment { self.new.recorder.store.moment ≡ self.old.recorder.store.moment }
+        ensures keeps { StepKeeps self.old self.new }
         ensures ends { OnOk result (EndsRecording [] self.old self.new) }
         ensures goes { OnOk result
             (RecorderFrame (recorder_view self.old.recorder) (recorder_view self.new.recorder)) }
         ensures refused { IfErr result (λ stop. (refusal : Refusal) × (stop ≡ AtLine refusal)
             × Closes (replies.Refused refusal) self.old.recorder self.new.recorder) }
-        ensures size { (D.shown self.new.disk).size ≡ (D.shown self.old.disk).size }
-        ensures count { length self.new.requests.items ≡ length self.old.requests.items }
     {
         laws::several_calls_go_as_one::<L>();
         if let Reply::Refused(refusal) = self.recorder.event(Event::Close) {
@@ -256,8 +244,7 @@ impl<D: Message + Drop, L: Message + Drop> Running<D, L> {
     #[tactic(auto, using(crate::proofs::Stepping::line_ascii))]
     fn message(&mut self, over: DiskName, layer: u64, text: &Bytes) -> Result<(), StepError>
         requires { is_line_text text.now ≡ true }
-        ensures moment { self.new.moment ≡ self.old.moment }
-        ensures log_moment { self.new.recorder.store.moment ≡ self.old.recorder.store.moment }
+        ensures keeps { StepKeeps self.old self.new }
         ensures tells { OnOk result
             (TellsLayer (answering D.answers L.answers) over layer text.now [] self.old self.new) }
         ensures refused { IfErr result
@@ -265,8 +252,6 @@ impl<D: Message + Drop, L: Message + Drop> Running<D, L> {
             × RefusesMessage (answering D.answers L.answers) over layer text.now error self.old) }
         ensures goes { RecorderFrame (recorder_view self.old.recorder)
             (recorder_view self.new.recorder) }
-        ensures size { (D.shown self.new.disk).size ≡ (D.shown self.old.disk).size }
-        ensures count { length self.new.requests.items ≡ length self.old.requests.items }
     {
         laws::several_calls_go_as_one::<L>();
         let text = ascii_text(text.as_slice());

@@ -9,19 +9,19 @@ use Rattle.bio.specs.declared.outcome.End.TheVariants as ends
 use Rattle.bio.specs.declared.outcome.Status.{Status}
 use Rattle.bio.specs.Lawful.{has_no_close}
 use Rattle.bio.specs.Sizes.{bytes_of}
-use Rattle.sectors.specs.Content.{Content, gather}
+use Rattle.bio.specs.Content.{Content, gather}
 use Rattle.sector_disk.specs.Shown.{shown_of}
 use Rattle.table_line.specs.Standing.{some_drops}
 use Rattle.layer_table.specs.declared.stack.Stack.{Stack}
 use Rattle.layer_table.specs.Layers.{disk_of, stack_shown}
 use Rattle.log_format.specs.LogOf.{status_of}
 use Rattle.log_store.specs.Calls.{HasFaulted}
-use Rattle.dmlw_script.specs.declared.command.Submission.{Submission}
-use Rattle.dmlw_script.specs.declared.seat_call.Call.{Call}
-use Rattle.dmlw_script.specs.declared.seat_call.Call.TheVariants.{Mark, Submit}
-use Rattle.dmlw_script.specs.declared.seat_call.SeatCall.{SeatCall}
-use Rattle.dmlw_script.specs.Plans.{top_of}
-use Rattle.dmlw_script.specs.RunPlans.{RunPlan}
+use Rattle.script_reader.specs.declared.command.Submission.{Submission}
+use Rattle.script_reader.specs.declared.seat_call.Call.{Call}
+use Rattle.script_reader.specs.declared.seat_call.Call.TheVariants.{Mark, Submit}
+use Rattle.script_reader.specs.declared.seat_call.SeatCall.{SeatCall}
+use Rattle.script_reader.specs.Plans.{top_of}
+use Rattle.script_reader.specs.RunPlans.{RunPlan}
 use Rattle.lock_state.specs.declared.note.Receipt.{Receipt}
 use Rattle.lock_state.specs.Calls.{Holds}
 use Rattle.lock_state.specs.Comparing.{Each}
@@ -120,7 +120,8 @@ joined_two = refl
 
 -- a seat's run is of the calls of its lines, and its tally
 -- and its receipts are those of what these came to
-module _ (lines : List SeatCall) (number : ℕ) (seat : Part) (tally : Tally) (receipts : List Receipt) (is : IsSeatRun lines number seat tally receipts) where
+module _ (lines : List SeatCall) (number : ℕ) (seat : Part) (tally : Tally)
+    (receipts : List Receipt) (is : IsSeatRun lines number seat tally receipts) where
   seat_made : AreMade (new_part number) (calls_of number lines) is.calls seat
   seat_made = is.made
 
@@ -131,7 +132,8 @@ module _ (lines : List SeatCall) (number : ℕ) (seat : Part) (tally : Tally) (r
   seat_kept = is.kept
 
 -- they stand at the seat's place
-module _ (lines : List SeatCall) (tallies : List Tally) (given : List (List Receipt)) (number : ℕ) (seat : Part) (is : HasRun lines tallies given number seat) where
+module _ (lines : List SeatCall) (tallies : List Tally) (given : List (List Receipt)) (number : ℕ)
+    (seat : Part) (is : HasRun lines tallies given number seat) where
   has_tally : slice_get tallies number ≡ Some is.tally
   has_tally = is.counted
 
@@ -142,7 +144,8 @@ module _ (lines : List SeatCall) (tallies : List Tally) (given : List (List Rece
   has_run = is.ran
 
 -- what a recorder that was closed is
-module _ (ground : Ground) (bytes sectors : ℕ) (seats : List Part) (receipts : List Receipt) (closed : Closed Stack Stack) (is : IsClosed ground bytes sectors seats receipts closed) where
+module _ (ground : Ground) (bytes sectors : ℕ) (seats : List Part) (receipts : List Receipt)
+    (closed : Closed Stack Stack) (is : IsClosed ground bytes sectors seats receipts closed) where
   closed_legal : LegalHistory bytes sectors closed.core.state.events closed.by.items seats
   closed_legal = is.legal
 
@@ -189,7 +192,8 @@ module _ (ground : Ground) (bytes sectors : ℕ) (seats : List Part) (receipts :
   closed_holds honest = is.holds honest
 
 -- what a run is
-module _ (plan : RunPlan) (tallies : List Tally) (status : Status) (lies : Lies) (image : List ℕ) (is : IsRun plan tallies status lies image) where
+module _ (plan : RunPlan) (tallies : List Tally) (status : Status) (lies : Lies) (image : List ℕ)
+    (is : IsRun plan tallies status lies image) where
   -- a seat, or a tally, is missing
   seat_missing : length is.seats < plan.seats → ⊥
   seat_missing fewer = let count = is.count in absurd (omega arith)

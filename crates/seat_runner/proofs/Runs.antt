@@ -9,8 +9,8 @@ use Rattle.bio.specs.declared.sector_size.SectorSize.{SectorSize}
 use Rattle.bio.specs.declared.sector_size.SectorSize.TheVariants as sizes
 use Rattle.bio.specs.Sizes.{bytes_of}
 use Rattle.blockdev.specs.View.{Place}
-use Rattle.dmlw_script.specs.Plans.{top_of, Disk}
-use Rattle.dmlw_script.specs.RunPlans.{RunPlan}
+use Rattle.script_reader.specs.Plans.{top_of, Disk}
+use Rattle.script_reader.specs.RunPlans.{RunPlan}
 use Rattle.layer_table.specs.declared.stack.Stack.{Stack}
 use Rattle.layer_table.specs.Layers.{disk_of, stack_shown}
 use Rattle.layer_table.specs.StackLaws.{part_of_disk}
@@ -30,8 +30,8 @@ use Rattle.script_runner.specs.OnDisks.{IsStackOf, seen_on}
 use Rattle.sector_disk.specs.declared.disk.SectorDisk.{SectorDisk}
 use Rattle.sector_disk.specs.Shown.{shown_of}
 use Rattle.sector_disk.specs.ShownLaws.{content_whole, disk_lawful}
-use Rattle.sectors.specs.Content.{AgreeBelow, Content, gather, sector_of}
-use Rattle.sectors.specs.SectorLaws.{length-gather, sector_of-gather}
+use Rattle.bio.specs.Content.{AgreeBelow, Content, gather, sector_of}
+use Rattle.bio.specs.SectorLaws.{length-gather, sector_of-gather}
 use Rattle.seat_runner.specs.declared.tally.Tally.{Tally}
 use Rattle.seat_runner.specs.inside.Playing.{AreNewPlayers, FitsRecorder, HavePlayed, Player}
 use Rattle.seat_runner.specs.inside.Playing.{new_player}
@@ -124,7 +124,8 @@ joined_next players player made so =
     ∙ sym (ap joined (map_push (λ (p : Player). p.receipts) players player))
 
 -- and one more of what each player has
-pub mapped_next : {B : Type 0} (of : Player → B) (players : List Player) (player : Player) (made next : List B) (value : B) → next ≡ made ++ value ∷ []
+pub mapped_next : {B : Type 0} (of : Player → B) (players : List Player) (player : Player)
+    (made next : List B) (value : B) → next ≡ made ++ value ∷ []
     → made ≡ map of players → value ≡ of player → next ≡ map of (players ++ player ∷ [])
 mapped_next {B} of players player made next value pushed so has =
     pushed
@@ -277,14 +278,16 @@ pub is_run : (ground : Ground) (bytes sectors : ℕ) (plan : RunPlan) (log : Sta
     → IsRun plan tallies status lies image
 is_run ground bytes sectors plan log players seats tallies receipts closed status lies image fits on
     room blank played parts told kept close so lied left =
-    let here : IsClosed (ground_of (stack_shown log)) (bytes_of plan.log_size) (top_of plan.data_disk) seats (joined (map (λ (p : Player). p.receipts) players)) closed =
+    let here : IsClosed (ground_of (stack_shown log)) (bytes_of plan.log_size)
+    (top_of plan.data_disk) seats (joined (map (λ (p : Player). p.receipts) players)) closed =
     subst (λ (rs : List Receipt). IsClosed (ground_of (stack_shown log)) (bytes_of plan.log_size)
     (top_of plan.data_disk) seats rs closed) kept
     (subst (λ (g : Ground). IsClosed g (bytes_of plan.log_size)
     (top_of plan.data_disk) seats receipts closed) on
     (subst (λ (n : ℕ). IsClosed ground n (top_of plan.data_disk) seats receipts closed)
     (sym fits.log_size)
-    (subst (λ (n : ℕ). IsClosed ground bytes n seats receipts closed) (sym fits.data_size) close))) in
+    (subst (λ (n : ℕ). IsClosed ground bytes n seats receipts closed)
+    (sym fits.data_size) close))) in
     let is : IsLogStack plan log closed.log image =
     record { room = room; blank = blank; stands = here.stands; bytes = left } in
     let none : lies.log_disk ≡ (stack_shown closed.log).lies = ap (λ (l : Lies). l.log_disk) lied in

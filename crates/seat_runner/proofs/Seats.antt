@@ -10,13 +10,13 @@ use Rattle.std.proofs.lemmas.Bool.Decides.{nat_tests}
 use Rattle.bio.specs.declared.outcome.DevError.TheVariants as devices
 use Rattle.bio.specs.Lawful.{is_text}
 use Rattle.bio.specs.Sizes.{bytes_of}
-use Rattle.dmlw_script.specs.declared.command.Submission.{Submission}
-use Rattle.dmlw_script.specs.declared.seat_call.Call.{Call}
-use Rattle.dmlw_script.specs.declared.seat_call.Call.TheVariants.{Mark, Submit}
-use Rattle.dmlw_script.specs.declared.seat_call.SeatCall.{SeatCall}
-use Rattle.dmlw_script.specs.Lines.{is_line_byte, is_line_text}
-use Rattle.dmlw_script.specs.Plans.{top_of}
-use Rattle.dmlw_script.specs.RunPlans.{CanStand, IsRunPlan, RunPlan}
+use Rattle.script_reader.specs.declared.command.Submission.{Submission}
+use Rattle.script_reader.specs.declared.seat_call.Call.{Call}
+use Rattle.script_reader.specs.declared.seat_call.Call.TheVariants.{Mark, Submit}
+use Rattle.script_reader.specs.declared.seat_call.SeatCall.{SeatCall}
+use Rattle.script_reader.specs.Lines.{is_line_byte, is_line_text}
+use Rattle.script_reader.specs.Plans.{top_of}
+use Rattle.script_reader.specs.RunPlans.{CanStand, IsRunPlan, RunPlan}
 use Rattle.lock_state.specs.declared.note.Receipt.{Receipt}
 use Rattle.lock_state.specs.History.{Part, new_part, one_if}
 use Rattle.seat_runner.specs.declared.tally.Outcome.{Outcome}
@@ -256,7 +256,15 @@ fails submission old new same = record {
 pub refused : (text : List ℕ) (old new : Player) → new ≡ old → Makes (Mark text) old Refused new
 refused text old new same = record {
   came = came_to Refused None;
-  made = (marks.Refused refusals.Memory, (ap (λ (p : Player). p.part) same, λ bad. let no : refusals.Memory ≡ refusals.BadText = bad in cc), refl);
+  made = (
+    marks.Refused refusals.Memory,
+    (
+      ap (λ (p : Player). p.part) same,
+      λ bad. let no : refusals.Memory ≡ refusals.BadText = bad in
+          cc,
+    ),
+    refl,
+  );
   told = refl;
   kept = ap (λ (p : Player). p.receipts) same;
   number = ap (λ (p : Player). p.number) same;
@@ -378,7 +386,8 @@ pub does_next : (lines : List SeatCall) (place next : ℕ) (line : SeatCall)
 does_next lines place next line old between new is few there before one =
     subst (λ (ls : List SeatCall). DoesLines ls old new)
     (sym (ap (λ (n : ℕ). take n lines) is ∙ take_next lines place line there))
-    (did_more (take place lines) line old between new (let short = take_few place lines in omega (arith, short, few)) before one)
+    (did_more (take place lines) line old between new
+    (let short = take_few place lines in omega (arith, short, few)) before one)
 
 -- what holds of each holds of the one that stands there
 stands : {A : Type 0} (P : A → Type 0) (xs : List A) (k : ℕ) (x : A) → AllByRecursion P xs

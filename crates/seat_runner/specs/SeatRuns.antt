@@ -7,13 +7,13 @@ use Rattle.bio.specs.declared.outcome.End.TheVariants as ends
 use Rattle.bio.specs.declared.outcome.Status.{Status}
 use Rattle.bio.specs.Lawful.{has_no_close}
 use Rattle.bio.specs.Sizes.{bytes_of}
-use Rattle.sectors.specs.Content.{Content, gather}
+use Rattle.bio.specs.Content.{Content, gather}
 use Rattle.sector_disk.specs.Shown.{shown_of}
-use Rattle.dmlw_script.specs.declared.seat_call.Call.{Call}
-use Rattle.dmlw_script.specs.declared.seat_call.Call.TheVariants.{Mark, Submit}
-use Rattle.dmlw_script.specs.declared.seat_call.SeatCall.{SeatCall}
-use Rattle.dmlw_script.specs.Plans.{top_of}
-use Rattle.dmlw_script.specs.RunPlans.{RunPlan}
+use Rattle.script_reader.specs.declared.seat_call.Call.{Call}
+use Rattle.script_reader.specs.declared.seat_call.Call.TheVariants.{Mark, Submit}
+use Rattle.script_reader.specs.declared.seat_call.SeatCall.{SeatCall}
+use Rattle.script_reader.specs.Plans.{top_of}
+use Rattle.script_reader.specs.RunPlans.{RunPlan}
 use Rattle.layer_table.specs.declared.stack.Stack.{Stack}
 use Rattle.layer_table.specs.Layers.{disk_of, stack_shown}
 use Rattle.lock_state.specs.declared.note.Receipt.{Receipt}
@@ -46,9 +46,11 @@ use Rattle.table_line.specs.Standing.{some_drops}
 -- it so, and the seat's list has what goes with that answer
 abbrev pub IsMade : Part → Call → Came → Part → Type 0
 IsMade old (Submit submission) came new =
-    (answer : Answer) × Answered old (bio_of submission) answer new × (came ≡ record { outcome = outcome_of answer; receipt = receipt_in answer })
+    (answer : Answer) × Answered old (bio_of submission) answer new
+    × (came ≡ record { outcome = outcome_of answer; receipt = receipt_in answer })
 IsMade old (Mark text) came new =
-    (answer : MarkAnswer) × Marked old text answer new × (came ≡ record { outcome = mark_outcome answer; receipt = mark_receipt_in answer })
+    (answer : MarkAnswer) × Marked old text answer new
+    × (came ≡ record { outcome = mark_outcome answer; receipt = mark_receipt_in answer })
 
 -- a seat made these calls one after the other, which came to these
 abbrev pub AreMade : Part → List Call → List Came → Part → Type 0
@@ -61,7 +63,8 @@ AreMade old (call ∷ calls) (came ∷ others) new =
 -- the calls of a seat's lines, in their order
 abbrev pub calls_of : ℕ → List SeatCall → List Call
 calls_of number [] = []
-calls_of number (line ∷ lines) = if line.seat == number then line.call ∷ calls_of number lines else calls_of number lines
+calls_of number (line ∷ lines) =
+    if line.seat == number then line.call ∷ calls_of number lines else calls_of number lines
 
 -- A new seat of this number made the calls of its lines, one after the other, so many of them came
 -- to what, and these are the receipts that it was given.

@@ -1,6 +1,6 @@
 //! The threads of a run.
 //! Its clauses are written in specs/SeatRuns and specs/inside/Playing; the search alone proves it.
-ghost use Rattle.std.specs.Prelude.{◌≡◌, ◌⊎◌, ℕ, IfErr, IfOk, MatchResult};
+ghost use Rattle.std.specs.Prelude.{◌≡◌, ◌⊎◌, IfErr, IfOk};
 ghost use Rattle.refusals.specs.declared.refusal.Refusal.TheVariants as refusals;
 ghost use Rattle.seat_runner.specs.inside.Playing.{AreNewPlayers, DoesLines, FitsRecorder};
 ghost use Rattle.seat_runner.specs.inside.Playing.{HavePlayed};
@@ -9,9 +9,9 @@ ghost use Rattle.seat_runner.specs.SeatRuns.{IsUnplayed};
 use crate::work::Work;
 use blockdev::BlockDev;
 use board::Names;
-use dmlw_script::RunScript;
 use lock_state::Run;
 use refusals::Refusal;
+use script_reader::RunScript;
 use shared::{Shared, WriterSeat};
 use std::sync::Wait;
 use std::thread;

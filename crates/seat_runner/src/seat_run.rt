@@ -1,18 +1,15 @@
 //! A script's run, from its disks to the log's disk.
 //! Its clauses are written in specs/; its theorems in proofs/seat_run/.
-ghost use Rattle.std.specs.Prelude.{◌≡◌, ◌<◌, ℕ, IfErr, IfOk, length, map};
+ghost use Rattle.std.specs.Prelude.{◌≡◌, ◌<◌, IfErr, IfOk, length, map};
 ghost use Rattle.lock_state.specs.Placed.{ground_of};
 ghost use Rattle.seat_runner.specs.Tallies.{joined};
 ghost use Rattle.bio.specs.declared.outcome.End.TheVariants as ends;
-ghost use Rattle.bio.specs.Sizes.{bytes_of};
-ghost use Rattle.dmlw_script.specs.RunPlans.{IsRunPlan};
+ghost use Rattle.script_reader.specs.RunPlans.{IsRunPlan};
 ghost use Rattle.layer_table.specs.Layers.{disk_of, stack_shown};
-ghost use Rattle.log_store.specs.Calls.{HasFaulted};
 ghost use Rattle.run_error.specs.declared.run_error.RunError.TheVariants.{LoggingEnded};
-ghost use Rattle.run_error.specs.Errors.{memory_error};
 ghost use Rattle.script_runner.specs.OnDisks.{IsStackOf};
 ghost use Rattle.sector_disk.specs.Shown.{shown_of};
-ghost use Rattle.sectors.specs.Content.{gather};
+ghost use Rattle.bio.specs.Content.{gather};
 ghost use Rattle.seat_runner.specs.inside.Playing.{AreNewPlayers, FitsRecorder};
 ghost use Rattle.seat_runner.specs.SeatRuns.{FailsRun, IsClosed, IsRun, IsUnclosed};
 ghost use Rattle.shared.specs.Seats.{AreNewSeats};
@@ -23,11 +20,11 @@ use crate::work::Work;
 use bio::{End, Status};
 use blockdev::BlockDev;
 use board::Names;
-use dmlw_script::RunScript;
 use layer_table::Stack;
 use lock_state::{Receipt, Run, Seat};
 use refusals::Refusal;
 use run_error::RunError;
+use script_reader::RunScript;
 use script_runner::{Lies, new_stack};
 use sector_disk::SectorDisk;
 use shared::{Closed, Ending, Shared, Started, Unclosed, Unnamed, WriterSeat};

@@ -3,8 +3,8 @@
 use Rattle.std.proofs.Common.{◌≡◌, ℕ, ◌-◌, ◌/◌, ◌<◌, false, true, List, [], ◌∷◌, ◌++◌, length}
 use Rattle.std.proofs.Common.{replicate, refl, ap, subst, sym, ◌∙◌, inl, inr, arith}
 use Rattle.std.proofs.lemmas.Bool.{cases_lt}
-use Rattle.sectors.specs.Content.{Content, discards, put, sector_of, writes}
-use Rattle.sectors.specs.ContentLaws.{put-writes}
+use Rattle.bio.specs.Content.{Content, discards, put, sector_of, writes}
+use Rattle.bio.specs.ContentLaws.{put-writes}
 use Rattle.blockdev.specs.View.{View}
 use Rattle.sector_disk.specs.declared.call.Call.{Call}
 use Rattle.sector_disk.specs.declared.disk.SectorDisk.{SectorDisk}
@@ -114,7 +114,11 @@ chosen-within disk picks chosen choice table = record {
   each = λ sector. elim (cases_lt sector disk.sectors) [
     | inl within ↦ choice.within sector within
     | inr past ↦
-        let none = place_past chosen sector (elim (table_cases disk.sectors (length chosen) table) [ inl empty ↦ omega arith | inr whole ↦ omega arith ]) in
+        let none = place_past chosen sector
+        (elim (table_cases disk.sectors (length chosen) table) [
+          | inl empty ↦ omega arith
+          | inr whole ↦ omega arith
+        ]) in
         let some = disk.kept.base_within.each 0 in
         omega arith
   ];

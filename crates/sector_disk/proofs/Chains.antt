@@ -4,8 +4,8 @@ use Rattle.std.proofs.Common.{◌≡◌, ℕ, suc, zero, ◌-◌, ◌<◌, ◌&&
 use Rattle.std.proofs.Common.{◌++◌, length, refl, ap, sym, ◌∙◌, inl, inr, arith}
 use Rattle.std.proofs.lemmas.Bool.{and_parts, ltb-true}
 use Rattle.std.specs.Prelude.{not, nat_lt, slice_get, unwrap_or, Option}
-use Rattle.sectors.specs.PlaceLaws.{last_or_below, length-snoc, slice_get-append_front}
-use Rattle.sectors.specs.PlaceLaws.{slice_get-append_here}
+use Rattle.bio.specs.PlaceLaws.{last_or_below, length-snoc, slice_get-append_front}
+use Rattle.bio.specs.PlaceLaws.{slice_get-append_here}
 use Rattle.sector_disk.specs.declared.call.Call.{Call}
 use Rattle.sector_disk.specs.inside.Storage.{IsPlaced, back, before_at, is_chain, is_open, value_at}
 use Rattle.sector_disk.specs.inside.Storage.{walk}

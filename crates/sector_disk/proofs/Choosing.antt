@@ -8,7 +8,7 @@ use Rattle.std.proofs.lemmas.Bool.{and_parts, cases_lt, le-ltb, leb-true, lt-ltb
 use Rattle.std.proofs.lemmas.List.{get_or-set_other, get_or-set_same}
 use Rattle.std.proofs.lemmas.Option.{unwrap_or-slice_get}
 use Rattle.std.specs.Prelude.{◌⊎◌, nat_le, nat_lt, slice_get, unwrap_or, if◌then◌else◌}
-use Rattle.sectors.specs.PlaceLaws.{last_or_below}
+use Rattle.bio.specs.PlaceLaws.{last_or_below}
 use Rattle.sector_disk.specs.declared.call.Call.{Call}
 use Rattle.sector_disk.specs.Candidates.{Cache, choice_of, left_by, unsynced_at, unsynced_below}
 use Rattle.sector_disk.specs.inside.Chosen.{AreChosen}
@@ -99,14 +99,17 @@ chosen-next calls synced newest picks chosen sector count unsynced pick place ca
     mod-lt (unwrap_or (slice_get picks (unsynced_below cache sector)) 0) some in
     let pick_is : pick % count ≡ choice =
     ap (λ (n : ℕ). pick % n) is
-    ∙ ap (λ (n : ℕ). n % length may) (picked ∙ ap (λ (n : ℕ). unwrap_or (slice_get picks n) 0) before) in
+    ∙ ap (λ (n : ℕ). n % length may)
+    (picked ∙ ap (λ (n : ℕ). unwrap_or (slice_get picks n) 0) before) in
     let place_is : place ≡ walk calls sector (length may - 1 - choice) start =
     found
     ∙ ap (λ (n : ℕ). walk calls sector (n - 1 - pick % count) (get_or newest sector 0)) is
     ∙ ap (λ (n : ℕ). walk calls sector (length may - 1 - n) (get_or newest sector 0)) pick_is
-    ∙ ap (walk calls sector (length may - 1 - choice)) (sym (unwrap_or-slice_get newest sector 0)) in
+    ∙ ap (walk calls sector (length may - 1 - choice))
+    (sym (unwrap_or-slice_get newest sector 0)) in
     let value = candidate-value calls synced sector start (cache.now sector) may choice here low in
-    let within = candidate-within calls synced sector start (cache.now sector) may choice here low in
+    let within =
+    candidate-within calls synced sector start (cache.now sector) may choice here low in
     let set_is = place_of-set_same chosen sector place (omega arith) ∙ place_is in
     record {
       value = λ other less. elim (last_or_below other sector (omega arith)) [
@@ -170,7 +173,8 @@ first_chosen calls synced sectors newest picks chosen cache none empty some plac
     back s h =
         let here = placed.each s h in
         let one = chain-one calls synced s (length (cache.may s)) (place_of newest s)
-        (first-closed calls synced (place_of newest s) some (place_past newest s (omega arith))) here.chain in
+        (first-closed calls synced (place_of newest s) some (place_past newest s (omega arith)))
+        here.chain in
         omega arith
 
     start : (s : ℕ) → s < sectors

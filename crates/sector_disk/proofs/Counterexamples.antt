@@ -8,7 +8,7 @@ use Rattle.bio.specs.declared.outcome.DevError.{DevError}
 use Rattle.bio.specs.declared.outcome.DevError.TheVariants.{Io, Memory}
 use Rattle.blockdev.specs.Calls.{Discards, Flushes as flush, Reads, Writes}
 use Rattle.blockdev.specs.View.{View}
-use Rattle.sectors.specs.Content.{Content}
+use Rattle.bio.specs.Content.{Content}
 use Rattle.sector_disk.specs.declared.disk.SectorDisk.{SectorDisk}
 use Rattle.sector_disk.specs.Candidates.{Flushes, Step, view_of}
 use Rattle.sector_disk.specs.CandidateLaws.{syncs_start}

@@ -3,7 +3,7 @@
 use Rattle.std.proofs.Common.{◌≡◌, ℕ, suc, zero, ◌<◌, false, true, List, [], ◌∷◌, replicate, refl}
 use Rattle.std.proofs.Common.{ap, sym, ◌∙◌, inl, inr, arith}
 use Rattle.std.specs.Prelude.{◌⊎◌, slice_index_or}
-use Rattle.sectors.specs.Content.{Content, discards, over, writes}
+use Rattle.bio.specs.Content.{Content, discards, over, writes}
 use Rattle.sector_disk.specs.Candidates.{Cache, Flushes, MayLeave, Puts, Step, cache_after, left_by}
 use Rattle.sector_disk.specs.CandidateLaws.{is_current, one_contains}
 use Rattle.sector_disk.specs.PickLaws.{picks_leave_one}

@@ -9,9 +9,9 @@ use Rattle.std.proofs.Math.Seq.{take-add}
 use Rattle.std.proofs.lemmas.Bool.{eqb-true}
 use Rattle.std.proofs.lemmas.List.{drop-drop, take_all}
 use Rattle.std.proofs.lemmas.Slice.{drop-put_mid}
-use Rattle.sectors.specs.Content.{Content, gather, sector_of, writes}
-use Rattle.sectors.specs.ContentLaws.{over-in}
-use Rattle.sectors.specs.SectorLaws.{gather-ext}
+use Rattle.bio.specs.Content.{Content, gather, sector_of, writes}
+use Rattle.bio.specs.ContentLaws.{over-in}
+use Rattle.bio.specs.SectorLaws.{gather-ext}
 use Rattle.sector_disk.specs.declared.call.Call.{Call}
 use Rattle.sector_disk.specs.declared.call.Change.{Change}
 use Rattle.sector_disk.specs.declared.call.Change.TheVariants.{Write}

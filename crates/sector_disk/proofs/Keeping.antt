@@ -8,9 +8,9 @@ use Rattle.std.proofs.lemmas.List.{get_or-drop, get_or-replicate, get_or-take, l
 use Rattle.std.proofs.lemmas.Option.{slice_get_past, unwrap_or-slice_get}
 use Rattle.std.proofs.Math.ListN.{get_or}
 use Rattle.std.specs.Prelude.{◌⊎◌, Option, not, nat_le, nat_lt, slice_get, unwrap_or}
-use Rattle.sectors.specs.Content.{Content, over, sector_of}
-use Rattle.sectors.specs.ContentLaws.{over-after, over-before, over-in}
-use Rattle.sectors.specs.PlaceLaws.{length-snoc, slice_get-append_front, slice_get-append_here}
+use Rattle.bio.specs.Content.{Content, over, sector_of}
+use Rattle.bio.specs.ContentLaws.{over-after, over-before, over-in}
+use Rattle.bio.specs.PlaceLaws.{length-snoc, slice_get-append_front, slice_get-append_here}
 use Rattle.sector_disk.specs.declared.call.Call.{Call}
 use Rattle.sector_disk.specs.declared.call.Change.{Change}
 use Rattle.sector_disk.specs.declared.call.Change.TheVariants.{Write, Discard}
@@ -70,31 +70,38 @@ pub kept_opened : (sectors : ℕ) (calls : List Call) (newest base places others
     → IsKept sectors calls newest base begun synced flushed → length newest ≡ 0
     → places ≡ replicate sectors 0 → others ≡ replicate sectors 0
     → IsKept sectors calls places others begun synced flushed
-kept_opened sectors calls newest base places others begun synced flushed kept empty zeroes others_zeroes = record {
-  some = kept.some;
-  few = kept.few;
-  table =
-      ap (is_table sectors) (ap length zeroes ∙ length-replicate sectors 0) ∙ whole_table sectors;
-  base_length = ap length (others_zeroes ∙ sym zeroes);
-  begun_within = kept.begun_within;
-  synced_some = kept.synced_some;
-  synced_within = kept.synced_within;
-  synced_now = kept.synced_now;
-  base_within = record { each = λ s. let h = kept.base_within.each s in let is = ap (λ (xs : List ℕ). place_of xs s) others_zeroes ∙ first_place sectors s in omega arith };
-  placed =
-      let Start : Content → Type 0 =
-      λ start. ArePlaced calls synced sectors places
-      (cache_after start (past_of calls begun flushed)) in
-      subst Start (start_opened sectors calls base others (kept.base_length ∙ empty) others_zeroes)
-      (record {
-        each = λ sector h.
-            let now = (cache_of calls base begun flushed).now sector in
-            let may = (cache_of calls base begun flushed).may sector in
-            let Placed : ℕ → Type 0 = λ place. IsPlaced calls synced sector place now may in
-            subst Placed (new_place sectors newest places empty zeroes sector)
-            (kept.placed.each sector h);
-      });
-}
+kept_opened sectors calls newest base places others begun synced flushed kept empty zeroes
+    others_zeroes = record {
+      some = kept.some;
+      few = kept.few;
+      table =
+          ap (is_table sectors) (ap length zeroes ∙ length-replicate sectors 0)
+          ∙ whole_table sectors;
+      base_length = ap length (others_zeroes ∙ sym zeroes);
+      begun_within = kept.begun_within;
+      synced_some = kept.synced_some;
+      synced_within = kept.synced_within;
+      synced_now = kept.synced_now;
+      base_within = record {
+        each = λ s. let h = kept.base_within.each s in
+            let is = ap (λ (xs : List ℕ). place_of xs s) others_zeroes ∙ first_place sectors s in
+            omega arith;
+      };
+      placed =
+          let Start : Content → Type 0 =
+          λ start. ArePlaced calls synced sectors places
+          (cache_after start (past_of calls begun flushed)) in
+          subst Start (start_opened sectors calls base others (kept.base_length ∙ empty)
+          others_zeroes)
+          (record {
+            each = λ sector h.
+                let now = (cache_of calls base begun flushed).now sector in
+                let may = (cache_of calls base begun flushed).may sector in
+                let Placed : ℕ → Type 0 = λ place. IsPlaced calls synced sector place now may in
+                subst Placed (new_place sectors newest places empty zeroes sector)
+                (kept.placed.each sector h);
+          });
+    }
 
 -- calls that were there stay as they were when one is added:
 -- their values, what came before, whether they are open
@@ -120,7 +127,8 @@ open-kept calls call synced place h =
 within-kept : (calls : List Call) (call : Call) (place : ℕ) → place < length calls
     → nat_lt place (length (calls ++ call ∷ [])) ≡ nat_lt place (length calls)
 within-kept calls call place h =
-    lt-ltb place (length (calls ++ call ∷ [])) (let more = length-snoc calls call in omega arith) ∙ sym (lt-ltb place (length calls) h)
+    lt-ltb place (length (calls ++ call ∷ [])) (let more = length-snoc calls call in omega arith)
+    ∙ sym (lt-ltb place (length calls) h)
 
 -- so a chain stays a chain
 chain-kept : (calls : List Call) (call : Call) (synced sector n place : ℕ)
@@ -135,7 +143,8 @@ chain-kept calls call synced sector (suc zero) place e =
 chain-kept calls call synced sector (suc (suc n)) place e =
     let within = chain-within calls synced sector (suc (suc n)) place e in
     let all = calls ++ call ∷ [] in
-    let next : is_chain all synced sector (suc n) (before_at all place sector) ≡ is_chain calls synced sector (suc n) (before_at calls place sector) =
+    let next : is_chain all synced sector (suc n) (before_at all place sector)
+    ≡ is_chain calls synced sector (suc n) (before_at calls place sector) =
     ap (is_chain all synced sector (suc n)) (before-kept calls call place sector within)
     ∙ chain-kept calls call synced sector (suc n) (before_at calls place sector) (rest e)
     ∙ sym (rest e) in
@@ -422,7 +431,8 @@ kept-put sectors calls newest filled base begun synced flushed call kept opened 
         let Placed : ℕ → Option (List ℕ) → Type 0 =
         λ place o. IsPlaced (calls ++ call ∷ []) synced sector place (unwrap_or o now)
         (candidates_after o call.fua may) in
-        let outside : (sector < call.first) ⊎ (call.first + count_of call.change ≤ sector) → Placed (place_of filled sector) (values_of call sector) =
+        let outside : (sector < call.first) ⊎ (call.first + count_of call.change ≤ sector) →
+        Placed (place_of filled sector) (values_of call sector) =
         λ side.
         let Place : ℕ → Type 0 = λ place. Placed place (values_of call sector) in
         let Value : Option (List ℕ) → Type 0 = λ o. Placed (place_of newest sector) o in

@@ -3,8 +3,8 @@
 use Rattle.std.proofs.Common.{◌≡◌, ℕ, ◌+◌, ◌-◌, ◌<◌, ◌≤◌, Bool, false, Some, List, [], ◌∷◌, length}
 use Rattle.std.proofs.Common.{refl, ap, subst, sym, ◌∙◌, arith}
 use Rattle.std.specs.Prelude.{Option}
-use Rattle.sectors.specs.Content.{Content, Patch, Patched, over}
-use Rattle.sectors.specs.ContentLaws.{over-in}
+use Rattle.bio.specs.Content.{Content, Patch, Patched, over}
+use Rattle.bio.specs.ContentLaws.{over-in}
 use Rattle.sector_disk.specs.declared.disk.SectorDisk.{SectorDisk}
 use Rattle.sector_disk.specs.Candidates.{Cache, Flushes, LeftSince, MayLeave, Puts, Step}
 use Rattle.sector_disk.specs.Candidates.{cache_after, candidates_after, left_by}

@@ -3,8 +3,8 @@
 use Rattle.std.proofs.Common.{◌≡◌, ℕ, suc, zero, ◌+◌, ◌-◌, ◌*◌, ◌≤◌, Bool, true, false, Some, None}
 use Rattle.std.proofs.Common.{List, ◌∷◌, length, refl, ap, subst, sym, ◌∙◌, arith}
 use Rattle.std.specs.Prelude.{Option, slice_get}
-use Rattle.sectors.specs.Content.{AgreeBelow, Content, Patch, gather, nothing, sector_of, writes}
-use Rattle.sectors.specs.SectorLaws.{gather-ext, length-gather, sector_of-gather}
+use Rattle.bio.specs.Content.{AgreeBelow, Content, Patch, gather, nothing, sector_of, writes}
+use Rattle.bio.specs.SectorLaws.{gather-ext, length-gather, sector_of-gather}
 use Rattle.blockdev.specs.JoinLaws.{goes_none}
 use Rattle.blockdev.specs.Law.{DeviceFrame, WriteDone}
 use Rattle.blockdev.specs.View.{View}

@@ -6,10 +6,10 @@ use Rattle.std.proofs.lemmas.Bool.{cases_lt}
 use Rattle.std.specs.Prelude.{◌⊎◌, Option, slice_get, unwrap_or}
 use borrow.Rule.Slice.PartMut.{put_mid}
 use Rattle.std.proofs.lemmas.Slice.{take-put_mid}
-use Rattle.sectors.specs.Content.{Content, HasWholeValues, discards, gather, over, sector_of}
-use Rattle.sectors.specs.Content.{writes}
-use Rattle.sectors.specs.ContentLaws.{over-after, over-before, over-in, over_cases, discards-whole}
-use Rattle.sectors.specs.ContentLaws.{writes-whole}
+use Rattle.bio.specs.Content.{Content, HasWholeValues, discards, gather, over, sector_of}
+use Rattle.bio.specs.Content.{writes}
+use Rattle.bio.specs.ContentLaws.{over-after, over-before, over-in, over_cases, discards-whole}
+use Rattle.bio.specs.ContentLaws.{writes-whole}
 use Rattle.sector_disk.specs.declared.call.Call.{Call}
 use Rattle.sector_disk.specs.declared.call.Change.{Change}
 use Rattle.sector_disk.specs.declared.call.Change.TheVariants.{Write, Discard}

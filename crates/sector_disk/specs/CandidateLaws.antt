@@ -7,8 +7,8 @@ use Rattle.std.proofs.lemmas.Bool.{cases_lt, le-ltb, lt-ltb}
 use Rattle.std.proofs.lemmas.List.Elements.{Contains-append_cases, Contains-append_left}
 use Rattle.std.proofs.lemmas.List.Elements.{Contains-append_right}
 use Rattle.std.specs.Prelude.{◌⊎◌, nat_lt, slice_index_or, unwrap_or, Contains, MatchBool}
-use Rattle.sectors.specs.Content.{Content, HasWholeSectors, HasWholeValues, Patch, nothing}
-use Rattle.sectors.specs.ContentLaws.{patched-same, patched-whole, whole-patched}
+use Rattle.bio.specs.Content.{Content, HasWholeSectors, HasWholeValues, Patch, nothing}
+use Rattle.bio.specs.ContentLaws.{patched-same, patched-whole, whole-patched}
 use Rattle.blockdev.specs.Law.{AfterPatch, AfterWhole, DeviceFrame, WriteDone, FlushDone}
 use Rattle.blockdev.specs.View.{IsLawful}
 use Rattle.sector_disk.specs.Candidates.{Cache, Flushes, LeftDuring, LeftSince, MayLeave, Puts}
@@ -74,8 +74,10 @@ candidate_kept (Some value) old before has = Contains-append_left old (value ∷
 pub left-torn : (patch : Patch) (fua : Bool) (cache : Cache) (left : Content) → IsCurrent cache
     → MayLeave (after_step (Puts patch fua) cache) left → AfterPatch patch (MayLeave cache) left
 left-torn patch fua cache left current may =
-    let at : (sector : ℕ) → (before : List ℕ) × Contains (cache.may sector) before × ((left sector ≡ before) ⊎ (left sector ≡ unwrap_or (patch sector) before)) =
-    λ sector. candidate_torn (patch sector) fua (cache.may sector) (cache.now sector) (left sector) (current sector) (may sector) in
+    let at : (sector : ℕ) → (before : List ℕ) × Contains (cache.may sector) before
+    × ((left sector ≡ before) ⊎ (left sector ≡ unwrap_or (patch sector) before)) =
+    λ sector. candidate_torn (patch sector) fua (cache.may sector) (cache.now sector) (left sector)
+    (current sector) (may sector) in
     (λ sector. (at sector).0, λ sector. (at sector).1, λ sector. (at sector).2)
 
 -- with FUA, wholly
@@ -83,8 +85,10 @@ pub left-durable : (patch : Patch) (fua : Bool) (cache : Cache) (left : Content)
     → IsCurrent cache
     → MayLeave (after_step (Puts patch fua) cache) left → AfterWhole patch (MayLeave cache) left
 left-durable patch fua cache left is current may =
-    let at : (sector : ℕ) → (before : List ℕ) × Contains (cache.may sector) before × (left sector ≡ unwrap_or (patch sector) before) =
-    λ sector. candidate_durable (patch sector) fua (cache.may sector) (cache.now sector) (left sector) is (current sector) (may sector) in
+    let at : (sector : ℕ) → (before : List ℕ) × Contains (cache.may sector) before
+    × (left sector ≡ unwrap_or (patch sector) before) =
+    λ sector. candidate_durable (patch sector) fua (cache.may sector) (cache.now sector)
+    (left sector) is (current sector) (may sector) in
     (λ sector. (at sector).0, λ sector. (at sector).1, λ sector. (at sector).2)
 
 -- after a call without FUA a crash may still leave what it could leave before
@@ -184,7 +188,8 @@ since-during start step past left during_it =
     match_intro (nat_lt (length past) (length past))
     (MayLeave (cache_after start (step ∷ past)) left)
     (LeftSince start past (length past) left ⊎ LeftDuring step (cache_after start past) left)
-    (λ after. let before = le-ltb (length past) (length past) (omega arith) in cc) (λ before. inr during_it)
+    (λ after. let before = le-ltb (length past) (length past) (omega arith) in cc)
+    (λ before. inr during_it)
 
 -- a write or a discard goes as the law has it
 pub goes_puts : (size : ℕ) (start : Content) (past : List Step) (patch : Patch) (fua : Bool)

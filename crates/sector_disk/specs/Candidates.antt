@@ -4,7 +4,7 @@
 use Rattle.std.specs.Prelude.{ℕ, suc, zero, ◌+◌, ◌%◌, ◌⊎◌, nat_lt, Bool, true, false, Option, None}
 use Rattle.std.specs.Prelude.{Some, unwrap_or, List, [], ◌∷◌, ◌++◌, length, slice_get, Contains}
 use Rattle.std.specs.Prelude.{MatchBool, if◌then◌else◌}
-use Rattle.sectors.specs.Content.{Content, Patch, put}
+use Rattle.bio.specs.Content.{Content, Patch, put}
 use Rattle.blockdev.specs.Law.{AfterPatch}
 use Rattle.blockdev.specs.View.{View}
 

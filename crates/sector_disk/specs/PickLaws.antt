@@ -8,9 +8,9 @@ use Rattle.std.proofs.lemmas.Bool.{cases_lt, lt-ltb}
 use Rattle.std.proofs.lemmas.Option.{get_or_from_slice_get, slice_get-get_or}
 use Rattle.std.specs.Prelude.{Bool, Option, nat_lt, slice_get, slice_index_or, unwrap_or, Contains}
 use Rattle.std.specs.Prelude.{if◌then◌else◌}
-use Rattle.sectors.specs.Content.{Content}
-use Rattle.sectors.specs.PlaceLaws.{last_or_below, slice_get-append_front, slice_get-append_here}
-use Rattle.sectors.specs.PlaceLaws.{slice_get-within}
+use Rattle.bio.specs.Content.{Content}
+use Rattle.bio.specs.PlaceLaws.{last_or_below, slice_get-append_front, slice_get-append_here}
+use Rattle.bio.specs.PlaceLaws.{slice_get-within}
 use Rattle.sector_disk.specs.Candidates.{Cache, MayLeave, choice_of, left_by, unsynced_below}
 use Rattle.sector_disk.specs.CandidateLaws.{IsCurrent}
 

@@ -7,7 +7,7 @@ use Rattle.bio.specs.declared.outcome.DevError.TheVariants.{Io, Memory}
 use Rattle.blockdev.specs.Calls as calls
 use Rattle.blockdev.specs.Calls.{Call}
 use Rattle.blockdev.specs.View.{View}
-use Rattle.sectors.specs.Content.{Content, discards, gather, writes}
+use Rattle.bio.specs.Content.{Content, discards, gather, writes}
 use Rattle.sector_disk.specs.declared.disk.SectorDisk.{SectorDisk}
 use Rattle.sector_disk.specs.Candidates.{Cache, Flushes, Puts, Step, cache_after, view_of}
 use Rattle.sector_disk.specs.inside.Storage.{content_at, past_of}

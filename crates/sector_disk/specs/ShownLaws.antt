@@ -3,8 +3,8 @@
 use Rattle.std.proofs.Common.{arith, ◌≡◌, ℕ, suc, zero, ◌+◌, ◌-◌, Bool, true, false, Some, None}
 use Rattle.std.proofs.Common.{List, length, replicate, refl}
 use Rattle.std.specs.Prelude.{Option, slice_get, unwrap_or}
-use Rattle.sectors.specs.Content.{HasWholeSectors, HasWholeValues}
-use Rattle.sectors.specs.ContentLaws.{discards-whole, writes-whole}
+use Rattle.bio.specs.Content.{HasWholeSectors, HasWholeValues}
+use Rattle.bio.specs.ContentLaws.{discards-whole, writes-whole}
 use Rattle.blockdev.specs.View.{IsLawful}
 use Rattle.sector_disk.specs.declared.call.Call.{Call}
 use Rattle.sector_disk.specs.declared.call.Change.{Change}

@@ -2,7 +2,7 @@
 -- made, and at a crash.
 -- Any crate above may cite it.
 use Rattle.std.specs.Prelude.{◌≡◌, ℕ, ◌/◌, ◌%◌, ◌<◌, ◌≤◌}
-use Rattle.sectors.specs.Content.{Content}
+use Rattle.bio.specs.Content.{Content}
 use Rattle.blockdev.specs.Law.{FlushDone}
 use Rattle.blockdev.specs.View.{View}
 

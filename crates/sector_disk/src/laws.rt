@@ -7,7 +7,7 @@ ghost use Rattle.blockdev.specs.Calls.{Discards, Flushes, Writes};
 ghost use Rattle.sector_disk.specs.Candidates.{left_by};
 ghost use Rattle.sector_disk.specs.declared.disk.SectorDisk.{SectorDisk};
 ghost use Rattle.sector_disk.specs.Shown.{Does, cache_of, shown_of};
-ghost use Rattle.sectors.specs.Content.{Content, Patched, discards, sector_of, writes};
+ghost use Rattle.bio.specs.Content.{Content, Patched, discards, sector_of, writes};
 
 /// What any picks leave, a crash may leave.
 pub fn picks_leave_one()

@@ -4,7 +4,7 @@ use dmlw_files::Session;
 use std::alloc::{AllocError, Global};
 use std::sync::Wait;
 use std::thread::Threads;
-use test_files::Folder;
+use test_devices::Folder;
 
 /// What a command told: its status, its output and its faults.
 #[derive(Drop)]

@@ -6,7 +6,7 @@ use crate::{images, targets};
 use std::alloc::{AllocError, Global};
 use std::sync::Wait;
 use std::thread::Threads;
-use test_files::Folder;
+use test_devices::Folder;
 
 // A write that a flush makes sure.
 const FLUSHED: &str = "data 16\nlog 32\nw a 5 1 41\nc a\nf b\nc b\nclose\n";

@@ -6,7 +6,7 @@ use crate::report::Report;
 use std::alloc::{AllocError, Global};
 use std::sync::Wait;
 use std::thread::Threads;
-use test_files::Folder;
+use test_devices::Folder;
 
 // The lines of a run: a write that a flush makes sure, and the close.
 const EVENTS: &str = "w a 5 1 41\nc a\nf b\nc b\nclose\n";

@@ -4,7 +4,7 @@ use crate::report::{Report, check};
 use std::alloc::{AllocError, Global};
 use std::sync::Wait;
 use std::thread::Threads;
-use test_files::Folder;
+use test_devices::Folder;
 
 // Each row is an image: its length in bytes, its log sector size, its count of entries, and of its
 // first entry the sector, the number of sectors, the flags and the length of its data. Behind `=`

@@ -3,7 +3,7 @@ use crate::asking::{Told, Wanted, ask};
 use std::alloc::{AllocError, Global};
 use std::sync::Wait;
 use std::thread::Threads;
-use test_files::Folder;
+use test_devices::Folder;
 
 /// The text of a report, and its count of differences.
 #[derive(Drop)]

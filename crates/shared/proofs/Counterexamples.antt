@@ -18,7 +18,7 @@ use Rattle.log_format.specs.Entries.{end_mark}
 use Rattle.log_format.specs.LogOf.{IsLogOf}
 use Rattle.pending.specs.Beginnings.{entries_of}
 use Rattle.pending.specs.CoreState.{CoreState, items_of, sized_state}
-use Rattle.sectors.specs.Content.{Content}
+use Rattle.bio.specs.Content.{Content}
 use Rattle.lock_state.specs.declared.note.Done.{Done}
 use Rattle.lock_state.specs.declared.note.Item.{Item}
 use Rattle.lock_state.specs.declared.note.Own.{Own}

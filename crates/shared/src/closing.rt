@@ -1,10 +1,10 @@
 // The close of a recorder: what it compares, and what it hands back.
 // Its clauses are written in specs/Closing and specs/Posting; its theorems in proofs/closing/.
-ghost use Rattle.std.specs.Prelude.{◌≡◌, ◌⊎◌, ◌<◌, ◌≤◌, ℕ, List, [], ◌∷◌, length, IfErr, IfOk};
+ghost use Rattle.std.specs.Prelude.{◌≡◌, ◌<◌, ◌≤◌, List, [], length, IfErr, IfOk};
 ghost use Rattle.std.specs.Prelude.{MatchBool, None, true, false};
 ghost use Rattle.bio.specs.Lawful.{has_no_close};
 ghost use Rattle.log_format.specs.LogOf.{status_of};
-ghost use Rattle.sectors.specs.Content.{Content};
+ghost use Rattle.bio.specs.Content.{Content};
 ghost use Rattle.lock_state.specs.Calls.{Holds};
 ghost use Rattle.lock_state.specs.declared.note.Receipt.{Receipt as Naming};
 ghost use Rattle.lock_state.specs.Closing.{IsShort};

@@ -1,7 +1,6 @@
 //! A recorder of one seat: its calls, a close that wasn't
 //! asked for, and one that writes all by itself.
 ghost use Rattle.std.specs.Prelude.{◌≡◌};
-ghost use Rattle.sector_disk.specs.Shown.{shown_of};
 ghost use Rattle.shared_tests.specs.Disks.{disk_ground};
 
 use bio::{Bio, Bytes, Ms};

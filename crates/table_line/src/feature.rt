@@ -1,5 +1,7 @@
-/// What a flakey device does while it is down.
+// The features of a flakey device.
 // The search alone proves it.
+
+/// What a flakey device does while it is down.
 #[derive(Clone, Copy, Debug, PartialEq, Eq)]
 pub enum Feature {
     /// Every call answers Io.

@@ -3,10 +3,10 @@
 //! Its clauses are written in specs/Ranges; the search alone proves it.
 ghost use Rattle.std.specs.Prelude.{◌≡◌};
 ghost use Rattle.table_line.specs.Ranges.{are_delays, is_block_size, is_cycle};
-ghost use Rattle.table_line.specs.Ranges.{is_in_range as is_within, is_target};
+ghost use Rattle.table_line.specs.Ranges.{is_in_range as is_within};
 
 use crate::feature::Feature;
-use sectors::MAX_DEVICE_SECTORS;
+use bio::MAX_DEVICE_SECTORS;
 
 /// The most seconds of a flakey device's turn, up and down together.
 const MAX_CYCLE_SECONDS: u64 = 4_294_967_295;

@@ -65,8 +65,11 @@ closed_step : (t all : Bool) (m end : ℕ) (f : ℕ → Option ℕ) → m ≤ en
 closed_step false all m end f up same = refl
 closed_step true all m end f up same =
     ⊎_elim
-    (λ (low : m < 2 ^ 64). let test : nat_lt m (2 ^ 64) ≡ true = lt-ltb _ _ low in rw test (same low))
-    (λ (high : 2 ^ 64 ≤ m). let test : nat_lt m (2 ^ 64) ≡ false = le-ltb _ _ high in let past : nat_lt end (2 ^ 64) ≡ false = le-ltb _ _ (omega arith) in rw (test, past) (sym (cond-false _ _ _ (and_right all false refl))))
+    (λ (low : m < 2 ^ 64). let test : nat_lt m (2 ^ 64) ≡ true = lt-ltb _ _ low in
+    rw test (same low))
+    (λ (high : 2 ^ 64 ≤ m). let test : nat_lt m (2 ^ 64) ≡ false = le-ltb _ _ high in
+    let past : nat_lt end (2 ^ 64) ≡ false = le-ltb _ _ (omega arith) in
+    rw (test, past) (sym (cond-false _ _ _ (and_right all false refl))))
     (cases_lt m (2 ^ 64))
 
 -- all digits at once
@@ -97,7 +100,8 @@ pub cut_some : (mark : ℕ) (bytes : List ℕ) (place : ℕ)
     → (place < length bytes) × (take place bytes ≡ before_byte mark bytes)
     × (after_byte mark bytes ≡ Some (drop (place + 1) bytes))
 cut_some mark bytes place e =
-    let h : (nat_lt (position_or_len (λ b. b == mark) bytes) (length bytes) ≡ true) × (place ≡ position_or_len (λ b. b == mark) bytes) = chosen_some _ _ _ e in
+    let h : (nat_lt (position_or_len (λ b. b == mark) bytes) (length bytes) ≡ true)
+    × (place ≡ position_or_len (λ b. b == mark) bytes) = chosen_some _ _ _ e in
     rw h.1 (
       ltb-true _ _ h.0,
       front_by_place mark bytes,

@@ -5,15 +5,15 @@ use crate::images::change;
 use dmlw_cli::execute;
 use dmlw_commands::Ended;
 use dmlw_files::{Output, Session};
-use dmlw_script::{read_run_script, read_script};
+use dmlw_script::{print_run_script, print_script};
 use refusals::Refusal;
-use script_printer::{print_run_script, print_script};
+use script_reader::{read_run_script, read_script};
 use sector_disk::SectorDisk;
 use std::alloc::{AllocError, Global};
 use std::sync::Wait;
 use std::thread::Threads;
 use table_line::{parse_line, push_line};
-use test_files::{Folder, Outlet};
+use test_devices::{Folder, Outlet};
 
 // The sectors of the largest disk.
 const MAX_SECTORS: u64 = 1_048_576;

@@ -5,9 +5,9 @@ use Rattle.std.proofs.Common.{None, List, [], ◌∷◌, length, refl, ap, sym, 
 use Rattle.std.proofs.Common.{arith}
 use Rattle.std.proofs.lemmas.Bool.{and_parts, cases_lt, le-leb, leb-true}
 use Rattle.std.specs.Prelude.{is_some, slice_get, unwrap_or}
-use Rattle.sectors.specs.Content.{Content}
-use Rattle.sectors.specs.Places.{all_below, any_below}
-use Rattle.sectors.specs.PlaceLaws.{all_below-each, any_below-at, option_cases, slice_get-within}
+use Rattle.bio.specs.Content.{Content}
+use Rattle.bio.specs.Places.{all_below, any_below}
+use Rattle.bio.specs.PlaceLaws.{all_below-each, any_below-at, option_cases, slice_get-within}
 use Rattle.bio.specs.declared.event.CoreEvent.{CoreEvent}
 use Rattle.bio.specs.declared.event.CoreEvent.TheVariants as core_events
 use Rattle.bio.specs.Lawful.{is_lawful, is_well_formed, is_within}
@@ -86,7 +86,8 @@ none_held sectors events first now account sector lawful possible told none =
         | inl within ↦
             let some = held_somewhere events now sector from.0 from.1 from.2 in
             let last = any_below-last (is_held_from events now sector) (length events) in
-            absurd (let contra : true ≡ false = sym some ∙ last ∙ ap is_some (sym (told.held sector within) ∙ none) in cc)
+            absurd (let contra : true ≡ false = sym some ∙ last
+            ∙ ap is_some (sym (told.held sector within) ∙ none) in cc)
         | inr past ↦
             let covers = value_covers (slice_get events from.0) sector (now sector) from.1 in
             clash (covers_at sector (slice_get events from.0)) covers
@@ -103,7 +104,8 @@ kept_upto : (sectors : ℕ) (events : List CoreEvent) (now : Content) (account :
     → sure_by account.last.items id sector ≡ true
 kept_upto sectors events now account sector id lawful told kept =
     let among = kept_within events sector id kept in
-    let covers = (and_parts (is_durable events id) (covers_at sector (slice_get events id)) kept).1 in
+    let covers =
+    (and_parts (is_durable events id) (covers_at sector (slice_get events id)) kept).1 in
     elim (cases_lt sector sectors) [
       | inr past ↦
           clash (covers_at sector (slice_get events id)) covers

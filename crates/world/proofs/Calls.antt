@@ -6,7 +6,7 @@ use Rattle.std.proofs.lemmas.Bool.{and_parts, eq-eqb, eqb-true}
 use Rattle.std.proofs.lemmas.List.Folds.{list_all-append, list_any-append}
 use Rattle.std.specs.List.{list_all, list_any}
 use Rattle.std.specs.Prelude.{slice_get, if◌then◌else◌}
-use Rattle.sectors.specs.PlaceLaws.{last_or_below, or_cases, or_second}
+use Rattle.bio.specs.PlaceLaws.{last_or_below, or_cases, or_second}
 use Rattle.bio.specs.declared.request.Bio.{Bio}
 use Rattle.bio.specs.declared.event.CoreEvent.{CoreEvent}
 use Rattle.bio.specs.declared.event.CoreEvent.TheVariants as core_events
@@ -103,20 +103,23 @@ pub calls_before : (early late : Step → Bool) (events : List CoreEvent) (n k j
     (first second : Step) → k < j → j < n
     → call_of k (slice_get events k) ≡ first ∷ [] → call_of j (slice_get events j) ≡ second ∷ []
     → early first ≡ true → late second ≡ true → came_before early late (calls_below events n) ≡ true
-calls_before early late events zero k j first second order h is_first is_second passes_first passes_second = absurd (omega arith)
-calls_before early late events (suc n) k j first second order h is_first is_second passes_first passes_second = elim (last_or_below j n h) [
-  | inl same ↦
-      ap (λ front. came_before early late (front ++ calls_below events n))
-      (ap (λ i. call_of i (slice_get events i)) (sym same) ∙ is_second)
-      ∙ ap (λ b. (b && list_any early (calls_below events n))
-      || came_before early late (calls_below events n)) passes_second
-      ∙ ap (λ b. b || came_before early late (calls_below events n))
-      (any_call early events n k first (omega arith) is_first passes_first)
-  | inr below ↦
-      came_append early late (call_of n (slice_get events n)) (calls_below events n)
-      (calls_before early late events n k j first second order below is_first is_second passes_first
-      passes_second)
-]
+calls_before early late events zero k j first second order h is_first is_second passes_first
+    passes_second = absurd (omega arith)
+calls_before early late events (suc n) k j first second order h is_first is_second passes_first
+    passes_second = elim (last_or_below j n h) [
+      | inl same ↦
+          ap (λ front. came_before early late (front ++ calls_below events n))
+          (ap (λ i. call_of i (slice_get events i)) (sym same) ∙ is_second)
+          ∙ ap (λ b. (b && list_any early (calls_below events n))
+          || came_before early late (calls_below events n)) passes_second
+          ∙ ap (λ b. b || came_before early late (calls_below events n))
+          (any_call early events n k first (omega arith) is_first passes_first)
+      | inr below ↦
+          came_append early late (call_of n (slice_get events n)) (calls_below events n)
+          (calls_before early late events n k j first second order below is_first
+          is_second passes_first
+          passes_second)
+    ]
 
 -- a call that stands in the list is that of an event
 call_from : (test : Step → Bool) (events : List CoreEvent) (n : ℕ)

@@ -3,7 +3,7 @@
 use Rattle.std.proofs.Common.{◌≡◌, ℕ, Bool, true, false, Option, Some, None, List, ap, sym, ◌∙◌}
 use Rattle.std.proofs.Common.{inl, inr, arith}
 use Rattle.std.specs.Prelude.{slice_get, unwrap_or}
-use Rattle.sectors.specs.Content.{Content}
+use Rattle.bio.specs.Content.{Content}
 use Rattle.bio.specs.declared.event.CoreEvent.{CoreEvent}
 use Rattle.bio.specs.Lawful.{is_well_formed}
 use Rattle.bio.specs.Possible.{Possible, PossibleAt, covers_at, has_kept, is_kept, is_replaced}

@@ -6,9 +6,9 @@ use Rattle.std.proofs.Common.{inl, inr, arith}
 use Rattle.std.proofs.lemmas.Bool.{and_parts, eq-eqb}
 use Rattle.std.specs.List.{list_any}
 use Rattle.std.specs.Prelude.{◌⊎◌, is_none, slice_get, unwrap_or, if◌then◌else◌}
-use Rattle.sectors.specs.Content.{Content}
-use Rattle.sectors.specs.Places.{collect}
-use Rattle.sectors.specs.PlaceLaws.{bool_cases, last_or_below, option_cases, slice_get-within}
+use Rattle.bio.specs.Content.{Content}
+use Rattle.bio.specs.Places.{collect}
+use Rattle.bio.specs.PlaceLaws.{bool_cases, last_or_below, option_cases, slice_get-within}
 use Rattle.bio.specs.declared.event.CoreEvent.{CoreEvent}
 use Rattle.bio.specs.declared.event.CoreEvent.TheVariants as core_events
 use Rattle.bio.specs.EventLaws.{is_open_at-open}
@@ -49,7 +49,9 @@ open_endless : (events : List CoreEvent) (id : ℕ) → is_well_formed events �
     → list_any (is_end id) (calls_below events (length events)) ≡ false
 open_endless events id well_formed is_open =
     let there = is_open_at-open events id is_open in
-    not_ended events (length events) id well_formed (λ place less ends. absurd (let contra : None ≡ Some place = sym there.endless ∙ ends in cc))
+    not_ended events (length events) id well_formed
+    (λ place less ends. absurd
+    (let contra : None ≡ Some place = sym there.endless ∙ ends in cc))
 
 -- a request that isn't open has one
 ended_called : (events : List CoreEvent) (id : ℕ) → is_request (slice_get events id) ≡ true
@@ -91,7 +93,8 @@ begin_finish events wanted sure m well_formed choice before = record {
   ];
   done = λ sector id chosen which. elim which [
     | inl is_ended ↦
-        let request = covers_request (slice_get events id) sector (choice.covers sector id chosen) in
+        let request =
+        covers_request (slice_get events id) sector (choice.covers sector id chosen) in
         before.late sector id chosen (ended_called events id request is_ended)
     | inr less ↦ absurd (omega arith)
   ];
@@ -117,7 +120,8 @@ finish_open events wanted sure j m well_formed choice is_open before =
     let settles : ℕ → Bool = λ sector. true in
     let touch =
     touch_all events m lands settles j bio there.submitted there.tracked before.on pending
-    (λ sector covered goes. before.waits sector j (is_wanted-some (wanted sector) j goes) is_open (omega arith)) in
+    (λ sector covered goes. before.waits sector j (is_wanted-some (wanted sector) j goes) is_open
+    (omega arith)) in
     let new = touch.0 in
     let t = touch.2 in (
       new,
@@ -137,33 +141,36 @@ finish_open events wanted sure j m well_formed choice is_open before =
                         (before.waits sector id chosen open_too (omega arith))
                   ]
             ];
-        done = λ sector id chosen which. elim (bool_cases (covers bio sector && (lands sector && settles sector))) [
-          | inl both ↦
-              let parts = and_parts (covers bio sector) (lands sector && settles sector) both in
-              let goes = (and_parts (lands sector) true parts.1).0 in
-              let one = is_wanted-some (wanted sector) j goes in
-              ap newest (settles_there
-              (covers bio) lands settles j m new sector t parts.0 goes refl) ∙ sym one ∙ chosen
-          | inr stays ↦
-              let same : newest (new.settled sector) ≡ newest (m.settled sector) =
-              ap newest (t.settled sector ∙ ap (λ b. by_test b j (m.landed sector) (m.settled sector)) stays) in
-              same ∙ before.done sector id chosen (elim which [
-                | inl is_ended ↦ inl is_ended
-                | inr less ↦ elim (last_or_below id j less) [
-                  | inl is ↦
-                      let picked : wanted sector ≡ Some j = chosen ∙ ap (λ (n : ℕ). Some n) is in
-                      let covered =
-                      sym (ap (covers_at sector) there.submitted)
-                      ∙ choice.covers sector j picked in
-                      let goes : lands sector ≡ true =
-                      ap (λ o. is_wanted o j) picked ∙ eq-eqb j j refl in
-                      clash (covers bio sector && (lands sector && settles sector))
-                      (ap (λ b. b && (lands sector && true)) covered
-                      ∙ ap (λ b. b && true) goes) stays
-                  | inr below ↦ inr below
-                ]
-              ])
-        ];
+        done = λ sector id chosen which.
+            elim (bool_cases (covers bio sector && (lands sector && settles sector))) [
+              | inl both ↦
+                  let parts = and_parts (covers bio sector) (lands sector && settles sector) both in
+                  let goes = (and_parts (lands sector) true parts.1).0 in
+                  let one = is_wanted-some (wanted sector) j goes in
+                  ap newest (settles_there
+                  (covers bio) lands settles j m new sector t parts.0 goes refl) ∙ sym one ∙ chosen
+              | inr stays ↦
+                  let same : newest (new.settled sector) ≡ newest (m.settled sector) =
+                  ap newest (t.settled sector
+                  ∙ ap (λ b. by_test b j (m.landed sector) (m.settled sector)) stays) in
+                  same ∙ before.done sector id chosen (elim which [
+                    | inl is_ended ↦ inl is_ended
+                    | inr less ↦ elim (last_or_below id j less) [
+                      | inl is ↦
+                          let picked : wanted sector ≡ Some j =
+                          chosen ∙ ap (λ (n : ℕ). Some n) is in
+                          let covered =
+                          sym (ap (covers_at sector) there.submitted)
+                          ∙ choice.covers sector j picked in
+                          let goes : lands sector ≡ true =
+                          ap (λ o. is_wanted o j) picked ∙ eq-eqb j j refl in
+                          clash (covers bio sector && (lands sector && settles sector))
+                          (ap (λ b. b && (lands sector && true)) covered
+                          ∙ ap (λ b. b && true) goes) stays
+                      | inr below ↦ inr below
+                    ]
+                  ])
+            ];
         bare = λ sector none.
             ap newest (t.settled sector)
             ∙ by_cases (λ ids. newest ids ≡ None)
@@ -173,7 +180,8 @@ finish_open events wanted sure j m well_formed choice is_open before =
             let goes =
             (and_parts (lands sector) true
             (and_parts (covers bio sector) (lands sector && settles sector) both).1).0 in
-            absurd (let contra : None ≡ Some j = sym none ∙ is_wanted-some (wanted sector) j goes in cc))
+            absurd (let contra : None ≡ Some j = sym none ∙ is_wanted-some (wanted sector) j goes in
+            cc))
             (λ fails. before.bare sector none);
       },
     )
@@ -188,7 +196,11 @@ finish_ended events wanted j m is_ended before = record {
   waits = λ sector id chosen is_open upto. before.waits sector id chosen is_open (omega arith);
   done = λ sector id chosen which. before.done sector id chosen (elim which [
     | inl over ↦ inl over
-    | inr less ↦ elim (last_or_below id j less) [ inl is ↦ inl (ap (is_open_at events) is ∙ is_ended) | inr below ↦ inr below ]
+    | inr less ↦
+        elim (last_or_below id j less) [
+          | inl is ↦ inl (ap (is_open_at events) is ∙ is_ended)
+          | inr below ↦ inr below
+        ]
   ]);
   bare = before.bare;
 }
@@ -259,7 +271,9 @@ plan_leaves events first now wanted sure well_formed choice values =
     (collect (λ place. steps_of events wanted sure place (slice_get events place))
     (length events))
     (collect (steps_left events wanted) (length events) ++ Power ∷ []) front.1
-    (go_on events front.0 last (after last Power) (collect (steps_left events wanted) (length events)) (Power ∷ []) rest.1 (go_one events last Power power)) in
+    (go_on events front.0 last (after last Power)
+    (collect (steps_left events wanted) (length events)) (Power ∷ []) rest.1
+    (go_one events last Power power)) in
     record {
       runs = all.runs;
       fits = ap (λ (m : Machine). m.calls) all.ends ∙ finishes.calls;

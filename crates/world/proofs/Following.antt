@@ -7,9 +7,9 @@ use Rattle.std.proofs.Common.{sym, ◌∙◌, subst, inl, inr, arith}
 use Rattle.std.proofs.lemmas.Bool.{and_parts, eq-eqb, eqb-true, lt-ltb}
 use Rattle.std.specs.List.{list_all, list_any}
 use Rattle.std.specs.Prelude.{slice_get, unwrap_or}
-use Rattle.sectors.specs.Places.{collect}
-use Rattle.sectors.specs.PlaceLaws.{any_below-at, bool_cases, each_all_below, last_or_below}
-use Rattle.sectors.specs.PlaceLaws.{or_cases, or_second, slice_get-within}
+use Rattle.bio.specs.Places.{collect}
+use Rattle.bio.specs.PlaceLaws.{any_below-at, bool_cases, each_all_below, last_or_below}
+use Rattle.bio.specs.PlaceLaws.{or_cases, or_second, slice_get-within}
 use Rattle.bio.specs.declared.request.Bio.{Bio}
 use Rattle.bio.specs.declared.event.CoreEvent.{CoreEvent}
 use Rattle.bio.specs.declared.event.CoreEvent.TheVariants as core_events
@@ -127,7 +127,8 @@ no_late_settle events wanted sure sector id new place choice is ends less needs 
     let replaced =
     any_below-at (λ other. is_kept events sector other && is_before events id other)
     (length events) later
-    (kept_within events sector later found.2) (ap (λ b. b && is_before events id later) found.2 ∙ before) in
+    (kept_within events sector later found.2)
+    (ap (λ b. b && is_before events id later) found.2 ∙ before) in
     clash (is_replaced events sector id) replaced (choice.stays sector id is)
 
 -- a durable request makes a sector one that has some
@@ -157,12 +158,19 @@ follow_submit events wanted sure k m bio well_formed choice is before =
     let tracked =
     (and_parts (is_recording (take k events)) (is_tracked bio)
     (well_formed-each events k (core_events.Submit bio) well_formed is)).1 in
-    let unknown : list_any (is_submit k) m.calls ≡ false = elim (bool_cases (list_any (is_submit k) m.calls)) [
-      | inl found ↦ absurd (let there = submit_from events k k (ap (list_any (is_submit k)) (sym before.calls) ∙ found) in let less = there.1 in omega arith)
+    let unknown : list_any (is_submit k) m.calls ≡ false =
+    elim (bool_cases (list_any (is_submit k) m.calls)) [
+      | inl found ↦
+          absurd
+          (let there = submit_from events k k
+          (ap (list_any (is_submit k)) (sym before.calls) ∙ found) in
+          let less = there.1 in omega arith)
       | inr none ↦ none
     ] in
     let open_yet : list_any (is_end k) (calls_below events k) ≡ false =
-    not_ended events k k well_formed (λ place less ends. absurd (let end = end_found events k place ends in let later = end.later in omega arith)) in
+    not_ended events k k well_formed
+    (λ place less ends. absurd
+    (let end = end_found events k place ends in let later = end.later in omega arith)) in
     let submitted = after m (Submit k) in
     let may : has_step events m (Submit k) ≡ true =
     ap (λ b. not b && (is_request (slice_get events k)
@@ -183,9 +191,13 @@ follow_submit events wanted sure k m bio well_formed choice is before =
     ]) in
     let new = touch.0 in
     let t = touch.2 in
-    let calls : (test : Step → Bool) → test (Submit k) ≡ false → list_any test (calls_below events (suc k)) ≡ list_any test (calls_below events k) =
-    λ test fails. ap (λ event. list_any test (call_of k event ++ calls_below events k)) is ∙ ap (λ b. b || list_any test (calls_below events k)) fails in
-    let stays : (sector : ℕ) → ((covers bio sector && (lands sector && settles sector)) ≡ true → newest (k ∷ m.landed sector) ≡ newest (m.settled sector))
+    let calls : (test : Step → Bool) → test (Submit k) ≡ false →
+    list_any test (calls_below events (suc k)) ≡ list_any test (calls_below events k) =
+    λ test fails. ap (λ event. list_any test (call_of k event ++ calls_below events k)) is
+    ∙ ap (λ b. b || list_any test (calls_below events k)) fails in
+    let stays : (sector : ℕ) →
+    ((covers bio sector && (lands sector && settles sector)) ≡ true →
+    newest (k ∷ m.landed sector) ≡ newest (m.settled sector))
     → newest (new.settled sector) ≡ newest (m.settled sector) =
     λ sector both. ap newest (t.settled sector)
     ∙ by_cases (λ ids. newest ids ≡ newest (m.settled sector))
@@ -200,18 +212,21 @@ follow_submit events wanted sure k m bio well_formed choice is before =
             t.calls ∙ ap (λ calls. Submit k ∷ calls) before.calls
             ∙ sym (ap (λ event. call_of k event ++ calls_below events k) is);
         on = t.off ∙ before.on;
-        known = λ sector id among. elim (landed_from (covers bio) lands settles k submitted new sector id t among) [
-          | inl here ↦ let same = here.1 in omega arith
-          | inr older ↦ let less = before.known sector id older in omega arith
-        ];
-        only_late = λ sector id chosen among. elim (landed_from (covers bio) lands settles k submitted new sector id t among) [
-          | inl here ↦
-              let goes = (and_parts (covers bio sector) (lands sector) here.0).1 in
-              clash (not (is_wanted (wanted sector) k))
-              (and_parts (not (is_wanted (wanted sector) k)) (ended_ok events k) goes).0
-              (ap not (wanted_is (wanted sector) k (chosen ∙ ap (λ (n : ℕ). Some n) (sym here.1))))
-          | inr older ↦ calls (is_end id) refl ∙ before.only_late sector id chosen older
-        ];
+        known = λ sector id among.
+            elim (landed_from (covers bio) lands settles k submitted new sector id t among) [
+              | inl here ↦ let same = here.1 in omega arith
+              | inr older ↦ let less = before.known sector id older in omega arith
+            ];
+        only_late = λ sector id chosen among.
+            elim (landed_from (covers bio) lands settles k submitted new sector id t among) [
+              | inl here ↦
+                  let goes = (and_parts (covers bio sector) (lands sector) here.0).1 in
+                  clash (not (is_wanted (wanted sector) k))
+                  (and_parts (not (is_wanted (wanted sector) k)) (ended_ok events k) goes).0
+                  (ap not
+                  (wanted_is (wanted sector) k (chosen ∙ ap (λ (n : ℕ). Some n) (sym here.1))))
+              | inr older ↦ calls (is_end id) refl ∙ before.only_late sector id chosen older
+            ];
         within =
             λ sector id among. still_within (covers bio) lands settles k submitted new sector id t
             (before.within sector id) among;
@@ -294,7 +309,8 @@ may_end events mid k id ok bio well_formed is submitted tracked less ends calls 
     good_end events id k ends
     (is ∙ ap (λ (b : Bool). Some (core_events.Complete id b)) good) in
     let all_landed : has_landed events mid id ≡ true =
-    ap (each_sector (λ sector. is_among (mid.landed sector) id)) submitted ∙ each_of (λ sector. is_among (mid.landed sector) id) bio tracked (landed good) in
+    ap (each_sector (λ sector. is_among (mid.landed sector) id)) submitted
+    ∙ each_of (λ sector. is_among (mid.landed sector) id) bio tracked (landed good) in
     let of_fua : submits has_fua (slice_get events id) ≡ true → has_settled events mid id ≡ true =
     λ fua.
     ap (each_sector (λ sector. is_among (mid.settled sector) id)) submitted
@@ -305,10 +321,12 @@ may_end events mid k id ok bio well_formed is submitted tracked less ends calls 
     (submits has_fua (slice_get events id) || is_flushed events id) end
     (ap (λ b. b || is_flushed events id) fua))
     (ap (covers_at sector) submitted ∙ covered))) in
-    let flush : is_flush_submit (slice_get events id) ≡ true → list_all (settled_if_ended events mid) (before_submit id mid.calls) ≡ true = λ is_flush.
+    let flush : is_flush_submit (slice_get events id) ≡ true →
+    list_all (settled_if_ended events mid) (before_submit id mid.calls) ≡ true = λ is_flush.
     ap (λ steps. list_all (settled_if_ended events mid) (before_submit id steps)) calls
     ∙ ap (list_all (settled_if_ended events mid)) (before_submit_at events k id bio less submitted)
-    ∙ all_calls (settled_if_ended events mid) events id (λ place early. of_event place (slice_get events place) refl early is_flush end) in
+    ∙ all_calls (settled_if_ended events mid) events id
+    (λ place early. of_event place (slice_get events place) refl early is_flush end) in
     both_hold
     (has_landed events mid id
     && (not (submits has_fua (slice_get events id)) || has_settled events mid id))
@@ -391,9 +409,12 @@ follow_end events wanted sure k m id ok well_formed choice is before =
     let earlier = ended.earlier in
     let known : list_any (is_submit id) m.calls ≡ true =
     ap (list_any (is_submit id)) before.calls
-    ∙ any_call (is_submit id) events k id (Submit id) ended.earlier (ap (call_of id) ended.submitted) (eq-eqb id id refl) in
+    ∙ any_call (is_submit id) events k id (Submit id) ended.earlier
+    (ap (call_of id) ended.submitted) (eq-eqb id id refl) in
     let open_yet : list_any (is_end id) (calls_below events k) ≡ false =
-    not_ended events k id well_formed (λ place less ends. absurd (let same = same_some place k (end_of events id) ends ended.ends in omega arith)) in
+    not_ended events k id well_formed
+    (λ place less ends. absurd
+    (let same = same_some place k (end_of events id) ends ended.ends in omega arith)) in
     let pending : is_pending m id ≡ true =
     both_hold (list_any (is_submit id) m.calls) (not (list_any (is_end id) m.calls)) known
     (ap (λ calls. not (list_any (is_end id) calls)) before.calls ∙ ap not open_yet) in
@@ -409,7 +430,8 @@ follow_end events wanted sure k m id ok well_formed choice is before =
     ]) in
     let mid = touch.0 in
     let t = touch.2 in
-    let landed : ok ≡ true → (sector : ℕ) → covers bio sector ≡ true → is_among (mid.landed sector) id ≡ true = λ good sector covered.
+    let landed : ok ≡ true → (sector : ℕ) → covers bio sector ≡ true →
+    is_among (mid.landed sector) id ≡ true = λ good sector covered.
     elim (bool_cases (is_wanted (wanted sector) id)) [
       | inl goes ↦
           ap (λ ids. is_among ids id)
@@ -422,9 +444,11 @@ follow_end events wanted sure k m id ok well_formed choice is before =
           (good_end events id k ended.ends
           (is ∙ ap (λ (b : Bool). Some (core_events.Complete id b)) good)))
     ] in
-    let settled : (sector other place : ℕ) → place ≤ k → end_of events other ≡ Some place → is_kept events sector other ≡ true
+    let settled : (sector other place : ℕ) → place ≤ k → end_of events other ≡ Some place →
+    is_kept events sector other ≡ true
     → is_among (mid.settled sector) other ≡ true = λ sector other place upto ends kept.
-    let covered = (and_parts (is_durable events other) (covers_at sector (slice_get events other)) kept).1 in
+    let covered =
+    (and_parts (is_durable events other) (covers_at sector (slice_get events other)) kept).1 in
     let there = end_found events other place ends in
     let less = there.later in
     elim (bool_cases (is_wanted (wanted sector) other)) [
@@ -444,7 +468,8 @@ follow_end events wanted sure k m id ok well_formed choice is before =
                 ∙ among_new other (m.landed sector)
             | inr below ↦
                 let newest_is = before.late sector other chosen
-                (any_call (is_end other) events k place (End other there.ok) below (ap (call_of place) there.event) (eq-eqb other other refl)) in
+                (any_call (is_end other) events k place (End other there.ok) below
+                (ap (call_of place) there.event) (eq-eqb other other refl)) in
                 let among = newest_among (m.settled sector) other newest_is in
                 more_settled (covers bio) lands settles id m mid sector other t
                 (before.within sector other among) among
@@ -453,7 +478,8 @@ follow_end events wanted sure k m id ok well_formed choice is before =
           let durable =
           (and_parts (is_durable events other)
           (covers_at sector (slice_get events other)) kept).0 in
-          let good = (and_parts (ended_ok events other) (submits has_fua (slice_get events other) || is_flushed events other) durable).0 in
+          let good = (and_parts (ended_ok events other)
+          (submits has_fua (slice_get events other) || is_flushed events other) durable).0 in
           let among =
           before.early_sure sector other (omega arith) covered stays good
           (choice.kept sector other kept) in
@@ -467,14 +493,20 @@ follow_end events wanted sure k m id ok well_formed choice is before =
     ∙ both_hold (is_pending mid id) (not ok || may_succeed events mid id)
     (ap (λ calls. list_any (is_submit id) calls && not (list_any (is_end id) calls)) t.calls
     ∙ pending)
-    (if_so ok (may_succeed events mid id) (may_end events mid k id ok bio well_formed is ended.submitted ended.tracked ended.earlier ended.ends calls landed settled)) in
+    (if_so ok (may_succeed events mid id)
+    (may_end events mid k id ok bio well_formed is ended.submitted ended.tracked ended.earlier
+    ended.ends calls landed settled)) in
     let new = after mid (End id ok) in
     let longer : calls_below events (suc k) ≡ End id ok ∷ calls_below events k =
     ap (λ event. call_of k event ++ calls_below events k) is in
-    let still : (other : ℕ) → list_any (is_end other) (calls_below events k) ≡ true → list_any (is_end other) (calls_below events (suc k)) ≡ true =
-    λ other there. ap (list_any (is_end other)) longer ∙ or_second (id == other) (list_any (is_end other) (calls_below events k)) there in
-    let not_here : (sector other : ℕ) → other ≡ k → covers_at sector (slice_get events other) ≡ true → ⊥ =
-    λ sector other same covered. clash (covers_at sector (slice_get events other)) covered (ap (covers_at sector) (ap (slice_get events) same ∙ is)) in (
+    let still : (other : ℕ) → list_any (is_end other) (calls_below events k) ≡ true →
+    list_any (is_end other) (calls_below events (suc k)) ≡ true =
+    λ other there. ap (list_any (is_end other)) longer
+    ∙ or_second (id == other) (list_any (is_end other) (calls_below events k)) there in
+    let not_here : (sector other : ℕ) → other ≡ k →
+    covers_at sector (slice_get events other) ≡ true → ⊥ =
+    λ sector other same covered. clash (covers_at sector (slice_get events other)) covered
+    (ap (covers_at sector) (ap (slice_get events) same ∙ is)) in (
       new,
       go_on events m mid new (by_sector (lands_late wanted id) (slice_get events id))
           (End id ok ∷ [])
@@ -483,17 +515,19 @@ follow_end events wanted sure k m id ok well_formed choice is before =
       record {
         calls = ap (λ steps. End id ok ∷ steps) calls ∙ sym longer;
         on = t.off ∙ before.on;
-        known = λ sector other among. elim (landed_from (covers bio) lands settles id m mid sector other t among) [
-          | inl here ↦ let same = here.1 in omega arith
-          | inr older ↦ let less = before.known sector other older in omega arith
-        ];
-        only_late = λ sector other chosen among. elim (landed_from (covers bio) lands settles id m mid sector other t among) [
-          | inl here ↦
-              ap (list_any (is_end other)) longer
-              ∙ ap (λ b. b || list_any (is_end other) (calls_below events k))
-              (eq-eqb id other here.1)
-          | inr older ↦ still other (before.only_late sector other chosen older)
-        ];
+        known = λ sector other among.
+            elim (landed_from (covers bio) lands settles id m mid sector other t among) [
+              | inl here ↦ let same = here.1 in omega arith
+              | inr older ↦ let less = before.known sector other older in omega arith
+            ];
+        only_late = λ sector other chosen among.
+            elim (landed_from (covers bio) lands settles id m mid sector other t among) [
+              | inl here ↦
+                  ap (list_any (is_end other)) longer
+                  ∙ ap (λ b. b || list_any (is_end other) (calls_below events k))
+                  (eq-eqb id other here.1)
+              | inr older ↦ still other (before.only_late sector other chosen older)
+            ];
         within =
             λ sector other among. still_within (covers bio) lands settles id m mid sector other t
             (before.within sector other) among;
@@ -511,28 +545,31 @@ follow_end events wanted sure k m id ok well_formed choice is before =
                   (before.early sector other below covered stays good)
                   (before.early_sure sector other below covered stays good needs)
             ];
-        late = λ sector other chosen there. elim (or_cases (id == other) (list_any (is_end other) (calls_below events k)) (sym (ap (list_any (is_end other)) longer) ∙ there)) [
-          | inl same ↦
-              let one = eqb-true id other same in
-              let goes = wanted_is (wanted sector) id (chosen ∙ ap (λ (n : ℕ). Some n) (sym one)) in
-              let covered =
-              sym (ap (covers_at sector) ended.submitted)
-              ∙ choice.covers sector id (chosen ∙ ap (λ (n : ℕ). Some n) (sym one)) in
-              ap newest (settles_there
-              (covers bio) lands settles id m mid sector t covered goes refl)
-              ∙ ap (λ (n : ℕ). Some n) one
-          | inr older ↦
-              ap newest (t.settled sector)
-              ∙ by_cases (λ ids. newest ids ≡ Some other)
-              (covers bio sector && (lands sector && settles sector)) id (m.landed sector)
-              (m.settled sector)
-              (λ both.
-              let goes =
-              (and_parts (lands sector) true
-              (and_parts (covers bio sector) (lands sector && settles sector) both).1).0 in
-              sym (is_wanted-some (wanted sector) id goes) ∙ chosen)
-              (λ fails. before.late sector other chosen older)
-        ];
+        late = λ sector other chosen there.
+            elim (or_cases (id == other) (list_any (is_end other) (calls_below events k))
+            (sym (ap (list_any (is_end other)) longer) ∙ there)) [
+              | inl same ↦
+                  let one = eqb-true id other same in
+                  let goes = wanted_is (wanted sector) id
+                  (chosen ∙ ap (λ (n : ℕ). Some n) (sym one)) in
+                  let covered =
+                  sym (ap (covers_at sector) ended.submitted)
+                  ∙ choice.covers sector id (chosen ∙ ap (λ (n : ℕ). Some n) (sym one)) in
+                  ap newest (settles_there
+                  (covers bio) lands settles id m mid sector t covered goes refl)
+                  ∙ ap (λ (n : ℕ). Some n) one
+              | inr older ↦
+                  ap newest (t.settled sector)
+                  ∙ by_cases (λ ids. newest ids ≡ Some other)
+                  (covers bio sector && (lands sector && settles sector)) id (m.landed sector)
+                  (m.settled sector)
+                  (λ both.
+                  let goes =
+                  (and_parts (lands sector) true
+                  (and_parts (covers bio sector) (lands sector && settles sector) both).1).0 in
+                  sym (is_wanted-some (wanted sector) id goes) ∙ chosen)
+                  (λ fails. before.late sector other chosen older)
+            ];
         bare = λ sector none.
             ap newest (t.settled sector)
             ∙ by_cases (λ ids. newest ids ≡ None)
@@ -557,7 +594,8 @@ follow_other events wanted sure k m none uncovered before =
     let same : calls_below events (suc k) ≡ calls_below events k =
     ap (λ calls. calls ++ calls_below events k) none in
     let not_here : (sector id : ℕ) → id ≡ k → covers_at sector (slice_get events id) ≡ true → ⊥ =
-    λ sector id is covered. clash (covers_at sector (slice_get events id)) covered (ap (λ i. covers_at sector (slice_get events i)) is ∙ uncovered sector) in
+    λ sector id is covered. clash (covers_at sector (slice_get events id)) covered
+    (ap (λ i. covers_at sector (slice_get events i)) is ∙ uncovered sector) in
     record {
       calls = before.calls ∙ sym same;
       on = before.on;
@@ -589,7 +627,8 @@ follow_event : (events : List CoreEvent) (wanted : ℕ → Option ℕ) (sure : �
     × Follows events wanted sure (suc k) new
 follow_event events wanted sure k m (Some (core_events.Submit bio)) well_formed choice is before =
     follow_submit events wanted sure k m bio well_formed choice is before
-follow_event events wanted sure k m (Some (core_events.Complete id ok)) well_formed choice is before = follow_end events wanted sure k m id ok well_formed choice is before
+follow_event events wanted sure k m (Some (core_events.Complete id ok)) well_formed choice is
+    before = follow_end events wanted sure k m id ok well_formed choice is before
 follow_event events wanted sure k m (Some (core_events.Mark text)) well_formed choice is before = (
   m,
   go_none events m,

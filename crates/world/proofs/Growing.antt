@@ -1,7 +1,7 @@
 -- A run that grows by the steps of one place after another.
 -- Its own crate alone cites it, for the theorems of src/plan.rt and src/reaching.rt.
 use Rattle.std.proofs.Common.{◌≡◌, ℕ, suc, List, ◌++◌, ap, sym, ◌∙◌, append_assoc}
-use Rattle.sectors.specs.Places.{collect}
+use Rattle.bio.specs.Places.{collect}
 
 -- the steps of one more place come behind those of the places before it
 pub grown : {A : Type 0} (f : ℕ → List A) (n next : ℕ) (old mid new : List A) → next ≡ suc n

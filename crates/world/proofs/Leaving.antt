@@ -5,9 +5,9 @@ use Rattle.std.proofs.Common.{List, [], ◌∷◌, length, refl, ap, sym, ◌∙
 use Rattle.std.proofs.lemmas.Bool.{and_parts, eq-eqb, eqb-true, ltb-true}
 use Rattle.std.specs.List.{list_any}
 use Rattle.std.specs.Prelude.{◌⊎◌, slice_get, nat_lt, unwrap_or}
-use Rattle.sectors.specs.Content.{Content}
-use Rattle.sectors.specs.PlaceLaws.{any_below-none, any_below-some, bool_cases, first_below-found}
-use Rattle.sectors.specs.PlaceLaws.{option_cases, or_cases, slice_get-within}
+use Rattle.bio.specs.Content.{Content}
+use Rattle.bio.specs.PlaceLaws.{any_below-none, any_below-some, bool_cases, first_below-found}
+use Rattle.bio.specs.PlaceLaws.{option_cases, or_cases, slice_get-within}
 use Rattle.bio.specs.declared.request.Bio.{Bio}
 use Rattle.bio.specs.declared.event.CoreEvent.{CoreEvent}
 use Rattle.bio.specs.declared.event.CoreEvent.TheVariants as core_events
@@ -134,7 +134,10 @@ kept_settled events m sector id sound fits kept =
     elim (or_cases (submits has_fua (slice_get events id)) (is_flushed events id) both.1) [
       | inl fua ↦ sound.fua sector id good fua parts.1
       | inr flushed ↦
-          let found = any_below-some (λ flush. is_flush_submit (slice_get events flush) && (ended_ok events flush && is_before events id flush)) (length events) flushed in
+          let found = any_below-some
+          (λ flush. is_flush_submit (slice_get events flush)
+          && (ended_ok events flush && is_before events id flush))
+          (length events) flushed in
           let flush = found.0 in
           let is_flush =
           and_parts (is_flush_submit (slice_get events flush))
@@ -149,7 +152,8 @@ kept_settled events m sector id sound fits kept =
           let came =
           calls_before (is_good_end id) (is_submit flush) events (length events) end.0 flush
           (End id true) (Submit flush) (omega arith) found.1
-          (end_call events end.0 id true end.2) (submit_call events flush bio.0 bio.1) (good_step id) (eq-eqb flush flush refl) in
+          (end_call events end.0 id true end.2) (submit_call events flush bio.0 bio.1)
+          (good_step id) (eq-eqb flush flush refl) in
           sound.flushed sector id flush
           (ap (list_any (is_good_end flush)) fits ∙ good_called events flush ended.0) is_flush.0
           (ap (came_before (is_good_end id) (is_submit flush)) fits ∙ came) parts.1
@@ -174,7 +178,8 @@ newest_stays events m sector id sound fits is_newest =
           let came =
           calls_before (is_end id) (is_submit later) events (length events) before.0 later
           (End id end.ok) (Submit later) before.2 h
-          (end_call events before.0 id end.ok end.event) (submit_call events later bio.0 bio.1) (eq-eqb id id refl) (eq-eqb later later refl) in
+          (end_call events before.0 id end.ok end.event) (submit_call events later bio.0 bio.1)
+          (eq-eqb id id refl) (eq-eqb later later refl) in
           clash (is_not_newest id (m.settled sector))
           (sound.settled_later sector id later
           (ap (came_before (is_end id) (is_submit later)) fits ∙ came)
@@ -188,7 +193,8 @@ none_kept : (events : List CoreEvent) (m : Machine) (sector : ℕ) → IsSound e
     → m.calls ≡ calls_below events (length events)
     → m.settled sector ≡ [] → has_kept events sector ≡ false
 none_kept events m sector sound fits none =
-    any_below-none (is_kept events sector) (length events) (λ id h. elim (bool_cases (is_kept events sector id)) [
+    any_below-none (is_kept events sector) (length events)
+    (λ id h. elim (bool_cases (is_kept events sector id)) [
       | inl kept ↦
           clash (is_among (m.settled sector) id) (kept_settled events m sector id sound fits kept)
           (ap (λ ids. is_among ids id) none)
@@ -209,7 +215,8 @@ possible_at : (events : List CoreEvent) (m : Machine) (first now : Content) (sec
 possible_at events m first now sector sound fits left = elim (newest_cases (m.settled sector)) [
   | inl none ↦
       let same : durable events first m sector ≡ first sector =
-      ap (λ (ids : List ℕ). unwrap_or (values_of_id events (newest ids) sector) (first sector)) none in
+      ap (λ (ids : List ℕ). unwrap_or (values_of_id events (newest ids) sector) (first sector))
+      none in
       inl (sym left ∙ same, none_kept events m sector sound fits none)
   | inr some ↦
       let id = some.0 in

@@ -9,8 +9,8 @@ use Rattle.std.proofs.lemmas.List.{drop-take, length-take-le, take-append-drop}
 use Rattle.std.proofs.lemmas.Slice.{drop-put_mid, take-put_mid, take-put_mid_below}
 use Rattle.std.proofs.Math.Seq.{drop-append_seam}
 use Rattle.std.specs.Prelude.{◌⊎◌, unwrap_or, if◌then◌else◌}
-use Rattle.sectors.specs.Content.{Patch, over, sector_of}
-use Rattle.sectors.specs.ContentLaws.{over-after, over-before, over-in}
+use Rattle.bio.specs.Content.{Patch, over, sector_of}
+use Rattle.bio.specs.ContentLaws.{over-after, over-before, over-in}
 use Rattle.world.specs.Cells.{IsPut}
 use borrow.Rule.Slice.PartMut.{put_mid}
 

@@ -8,7 +8,7 @@ use Rattle.std.proofs.lemmas.Bool.{and_parts}
 use Rattle.std.proofs.lemmas.Bool.Decides.{eqb_tells}
 use Rattle.std.proofs.lemmas.List.{length-replicate}
 use Rattle.std.specs.Prelude.{is_some, slice_get, unwrap_or, if◌then◌else◌}
-use Rattle.sectors.specs.Content.{Content, put, sector_of}
+use Rattle.bio.specs.Content.{Content, put, sector_of}
 use Rattle.bio.specs.declared.event.CoreEvent.{CoreEvent}
 use Rattle.bio.specs.PossibleLaws.{covered_value}
 use Rattle.world.specs.declared.step.Step.{Step}
@@ -62,7 +62,8 @@ put_newest events m at old first sound some = of_list (m.landed at) refl
     of_list [] is =
         clash (is_some (newest (m.landed at))) some (ap (λ (ids : List ℕ). is_some (newest ids)) is)
     of_list (id ∷ ids) is =
-        let covered = sound.covers at id (ap (λ (list : List ℕ). is_among list id) is ∙ among_new id ids) in
+        let covered =
+        sound.covers at id (ap (λ (list : List ℕ). is_among list id) is ∙ among_new id ids) in
         let value = covered_value (slice_get events id) at covered in
         let there : values_of_id events (newest (m.landed at)) at ≡ Some value.0 =
         ap (λ (list : List ℕ). values_of_id events (newest list) at) is ∙ value.1 in
@@ -126,7 +127,8 @@ runs_on events first (step ∷ steps) old new sound image all =
     (subst (IsSound events) (sym is) (keeps events (machine_of old) step sound may))
     (λ sector within.
     took.left sector (let size = took.sectors in omega arith)
-    ∙ left_durable events (machine_of old) step first (sector_of old.image) sector sound may (image sector (let size = took.sectors in omega arith))
+    ∙ left_durable events (machine_of old) step first (sector_of old.image) sector sound may
+    (image sector (let size = took.sectors in omega arith))
     ∙ ap (λ (m : Machine). durable events first m sector) (sym is))
     all.2 in (
       ap (λ b. b && is_run events (after (machine_of old) step) steps) took.may
@@ -161,15 +163,19 @@ pub fresh_runs : (events : List CoreEvent) (first : List ℕ) (steps : List Step
     → IsRun events first steps new
 fresh_runs events first steps old new fresh all =
     let is = fresh_start first old fresh in
-    let sectors : length old.cells ≡ length first / 512 = ap length fresh.cells ∙ length-replicate {A = CellState} (length first / 512) empty_cell in
+    let sectors : length old.cells ≡ length first / 512 =
+    ap length fresh.cells ∙ length-replicate {A = CellState} (length first / 512) empty_cell in
     let runs =
     runs_on events (sector_of first) steps old new
     (subst (IsSound events) (sym is) (start_sound events))
     (λ sector within.
-    ap (λ (bytes : List ℕ). sector_of bytes sector) fresh.image ∙ ap (λ (m : Machine). durable events (sector_of first) m sector) (sym is)) all in
+    ap (λ (bytes : List ℕ). sector_of bytes sector) fresh.image
+    ∙ ap (λ (m : Machine). durable events (sector_of first) m sector) (sym is)) all in
     record {
       runs = ap (λ (m : Machine). is_run events m steps) (sym is) ∙ runs.0;
       reached = ap (λ (m : Machine). taken m steps) (sym is) ∙ runs.1;
       left = λ sector within.
-          runs.3 sector (omega arith) ∙ ap (λ (m : Machine). durable events (sector_of first) m sector) (sym (ap (λ (m : Machine). taken m steps) (sym is) ∙ runs.1));
+          runs.3 sector (omega arith)
+          ∙ ap (λ (m : Machine). durable events (sector_of first) m sector)
+          (sym (ap (λ (m : Machine). taken m steps) (sym is) ∙ runs.1));
     }

@@ -5,7 +5,7 @@ use Rattle.std.proofs.Common.{ap, sym, ◌∙◌, inl, inr}
 use Rattle.std.proofs.lemmas.Bool.{and_parts, eqb-true}
 use Rattle.std.specs.List.{list_all, list_any}
 use Rattle.std.specs.Prelude.{slice_get, if◌then◌else◌}
-use Rattle.sectors.specs.PlaceLaws.{bool_cases, or_cases, or_second}
+use Rattle.bio.specs.PlaceLaws.{bool_cases, or_cases, or_second}
 use Rattle.bio.specs.declared.event.CoreEvent.{CoreEvent}
 use Rattle.bio.specs.EventLaws.{differ-eqb}
 use Rattle.bio.specs.Events.{is_flush_submit, is_request, submits}
@@ -115,7 +115,8 @@ land_keeps : (events : List CoreEvent) (m : Machine) (id sector : ℕ) → IsSou
     → is_pending m id ≡ true
     → covers_at sector (slice_get events id) ≡ true → IsSound events (after m (Land id sector))
 land_keeps events m id sector sound pending covered =
-    let parts = and_parts (list_any (is_submit id) m.calls) (not (list_any (is_end id) m.calls)) pending in
+    let parts = and_parts (list_any (is_submit id) m.calls)
+    (not (list_any (is_end id) m.calls)) pending in
     let open_yet = not_true (list_any (is_end id) m.calls) parts.1 in
     record {
       ended = sound.ended;
@@ -198,7 +199,8 @@ came_submit early id [] h = cc
 came_submit early id (call ∷ calls) h = elim (bool_cases (is_submit id call)) [
   | inl here ↦
       ap (λ b. list_any early (if b then calls else before_submit id calls)) here
-      ∙ elim (or_cases (is_submit id call && list_any early calls) (came_before early (is_submit id) calls) h) [
+      ∙ elim (or_cases (is_submit id call && list_any early calls)
+      (came_before early (is_submit id) calls) h) [
         | inl one ↦ (and_parts (is_submit id call) (list_any early calls) one).1
         | inr older ↦ came_early early (is_submit id) calls older
       ]
@@ -248,13 +250,18 @@ end_keeps : (events : List CoreEvent) (m : Machine) (id : ℕ) (ok : Bool) → I
     → is_pending m id ≡ true
     → (not ok || may_succeed events m id) ≡ true → IsSound events (after m (End id ok))
 end_keeps events m id ok sound pending may =
-    let parts = and_parts (list_any (is_submit id) m.calls) (not (list_any (is_end id) m.calls)) pending in
+    let parts = and_parts (list_any (is_submit id) m.calls)
+    (not (list_any (is_end id) m.calls)) pending in
     let landed = has_landed events m id in
     let fua = not (submits has_fua (slice_get events id)) || has_settled events m id in
     let flush =
     not (is_flush_submit (slice_get events id))
     || list_all (settled_if_ended events m) (before_submit id m.calls) in
-    let of_fua : ok ≡ true → fua ≡ true = λ good. (and_parts landed fua (and_parts (landed && fua) flush (other_way ok (landed && fua && flush) may good)).0).1 in
+    let of_fua : ok ≡ true →
+    fua ≡ true = λ good.
+    (and_parts landed fua
+    (and_parts (landed && fua) flush
+    (other_way ok (landed && fua && flush) may good)).0).1 in
     let of_flush : ok ≡ true → flush ≡ true =
     λ good. (and_parts (landed && fua) flush
     (other_way ok (landed && fua && flush) may good)).1 in
@@ -267,34 +274,36 @@ end_keeps events m id ok sound pending may =
       submitted = sound.submitted;
       covers = sound.covers;
       settled = sound.settled;
-      fua = λ sector other good is_fua covered. elim (or_cases (id == other && ok) (list_any (is_good_end other) m.calls) good) [
-        | inl here ↦
-            let both = and_parts (id == other) ok here in
-            let same = eqb-true id other both.0 in
-            let all =
-            other_way (submits has_fua (slice_get events id)) (has_settled events m id)
-            (of_fua both.1)
-            (ap (λ i. submits has_fua (slice_get events i)) same ∙ is_fua) in
-            each_covered (λ at. is_among (m.settled at) other) (slice_get events other) sector
-            (ap (has_settled events m) (sym same) ∙ all) covered
-        | inr older ↦ sound.fua sector other older is_fua covered
-      ];
-      flushed = λ sector other late good is_flush came covered. elim (or_cases (id == late && ok) (list_any (is_good_end late) m.calls) good) [
-        | inl here ↦
-            let both = and_parts (id == late) ok here in
-            let same = eqb-true id late both.0 in
-            let all =
-            other_way (is_flush_submit (slice_get events id))
-            (list_all (settled_if_ended events m) (before_submit id m.calls))
-            (of_flush both.1)
-            (ap (λ i. is_flush_submit (slice_get events i)) same ∙ is_flush) in
-            let ended =
-            came_submit (is_good_end other) id m.calls
-            (ap (λ i. came_before (is_good_end other) (is_submit i) m.calls) same ∙ came) in
-            each_covered (λ at. is_among (m.settled at) other) (slice_get events other) sector
-            (good_settled events m other (before_submit id m.calls) all ended) covered
-        | inr older ↦ sound.flushed sector other late older is_flush came covered
-      ];
+      fua = λ sector other good is_fua covered.
+          elim (or_cases (id == other && ok) (list_any (is_good_end other) m.calls) good) [
+            | inl here ↦
+                let both = and_parts (id == other) ok here in
+                let same = eqb-true id other both.0 in
+                let all =
+                other_way (submits has_fua (slice_get events id)) (has_settled events m id)
+                (of_fua both.1)
+                (ap (λ i. submits has_fua (slice_get events i)) same ∙ is_fua) in
+                each_covered (λ at. is_among (m.settled at) other) (slice_get events other) sector
+                (ap (has_settled events m) (sym same) ∙ all) covered
+            | inr older ↦ sound.fua sector other older is_fua covered
+          ];
+      flushed = λ sector other late good is_flush came covered.
+          elim (or_cases (id == late && ok) (list_any (is_good_end late) m.calls) good) [
+            | inl here ↦
+                let both = and_parts (id == late) ok here in
+                let same = eqb-true id late both.0 in
+                let all =
+                other_way (is_flush_submit (slice_get events id))
+                (list_all (settled_if_ended events m) (before_submit id m.calls))
+                (of_flush both.1)
+                (ap (λ i. is_flush_submit (slice_get events i)) same ∙ is_flush) in
+                let ended =
+                came_submit (is_good_end other) id m.calls
+                (ap (λ i. came_before (is_good_end other) (is_submit i) m.calls) same ∙ came) in
+                each_covered (λ at. is_among (m.settled at) other) (slice_get events other) sector
+                (good_settled events m other (before_submit id m.calls) all ended) covered
+            | inr older ↦ sound.flushed sector other late older is_flush came covered
+          ];
       landed_later = sound.landed_later;
       settled_later = sound.settled_later;
     }

@@ -12,7 +12,7 @@ use Rattle.bio.specs.declared.event.CoreEvent.{CoreEvent}
 use Rattle.bio.specs.Lawful.{is_lawful}
 use Rattle.bio.specs.Possible.{covers_at}
 use Rattle.bio.specs.RequestLaws.{event_within}
-use Rattle.sectors.specs.PlaceLaws.{option_cases, slice_get-within}
+use Rattle.bio.specs.PlaceLaws.{option_cases, slice_get-within}
 use Rattle.world.specs.declared.step.Step.TheVariants.{Land, Destage}
 use Rattle.world.specs.Cells.{CellState, IsPut, Steps, WorldState, empty_cell, landed_of, landing}
 use Rattle.world.specs.Cells.{machine_of, settled_of, settling}
@@ -79,7 +79,8 @@ land_within events id sector old lawful size may =
     let fresh =
     and_parts (is_pending m id && covers_at sector (slice_get events id))
     (not (is_among (m.landed sector) id)) parts.1 in
-    let covered = (and_parts (is_pending m id) (covers_at sector (slice_get events id)) fresh.0).1 in
+    let covered =
+    (and_parts (is_pending m id) (covers_at sector (slice_get events id)) fresh.0).1 in
     elim (cases_lt sector (length old.cells)) [
       | inl less ↦ less
       | inr past ↦ elim (option_cases (slice_get events id)) [

@@ -5,7 +5,7 @@ use Rattle.std.proofs.Common.{None, List, ◌∷◌, refl, ap, sym, ◌∙◌, s
 use Rattle.std.proofs.lemmas.Bool.{eq-eqb, eqb-true}
 use Rattle.std.proofs.lemmas.Bool.Decides.{eqb_tells}
 use Rattle.std.specs.Prelude.{◌⊎◌, if◌then◌else◌}
-use Rattle.sectors.specs.PlaceLaws.{all_below-each, or_cases, or_second}
+use Rattle.bio.specs.PlaceLaws.{all_below-each, or_cases, or_second}
 use Rattle.bio.specs.declared.event.CoreEvent.{CoreEvent}
 use Rattle.bio.specs.declared.event.CoreEvent.TheVariants as core_events
 use Rattle.bio.specs.Possible.{covers_at}
@@ -45,7 +45,11 @@ with_other sector ids old other differ = ap (λ (b : Bool). if b then ids else o
 -- a request is among these and one more just where it is that one or among these
 pub among_cases : (new id : ℕ) (ids : List ℕ) → is_among (new ∷ ids) id ≡ true
     → (new ≡ id) ⊎ (is_among ids id ≡ true)
-among_cases new id ids h = elim (or_cases (new == id) (is_among ids id) h) [ inl same ↦ inl (eqb-true new id same) | inr older ↦ inr older ]
+among_cases new id ids
+    h = elim (or_cases (new == id) (is_among ids id) h) [
+      | inl same ↦ inl (eqb-true new id same)
+      | inr older ↦ inr older
+    ]
 
 pub among_more : (new id : ℕ) (ids : List ℕ) → is_among ids id ≡ true
     → is_among (new ∷ ids) id ≡ true

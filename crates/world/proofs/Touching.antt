@@ -6,8 +6,8 @@ use Rattle.std.proofs.lemmas.Bool.{and_parts, cases_lt, le-leb, le-ltb, leb-true
 use Rattle.std.proofs.lemmas.Bool.Decides.{eqb_tells}
 use Rattle.std.specs.List.{list_any}
 use Rattle.std.specs.Prelude.{◌⊎◌, is_some, nat_le, nat_lt, slice_get, if◌then◌else◌}
-use Rattle.sectors.specs.Places.{collect}
-use Rattle.sectors.specs.PlaceLaws.{bool_cases}
+use Rattle.bio.specs.Places.{collect}
+use Rattle.bio.specs.PlaceLaws.{bool_cases}
 use Rattle.bio.specs.declared.request.Bio.{Bio}
 use Rattle.bio.specs.declared.event.CoreEvent.{CoreEvent}
 use Rattle.bio.specs.declared.event.CoreEvent.TheVariants as core_events
@@ -224,7 +224,9 @@ touched_both first second both lands settles id old mid new yes_so not_so a b = 
         a.landed at ∙ ap (λ t. by_test (t && lands at) id (old.landed at)
         (old.landed at)) yet in
         let stays : mid.settled at ≡ old.settled at =
-        a.settled at ∙ ap (λ t. by_test (t && (lands at && settles at)) id (old.landed at) (old.settled at)) yet in
+        a.settled at
+        ∙ ap (λ t. by_test (t && (lands at && settles at)) id (old.landed at) (old.settled at))
+        yet in
         b.settled at
         ∙ ap (λ ids. by_test (second at && (lands at && settles at)) id ids (mid.settled at)) same
         ∙ ap (λ ids. by_test (second at && (lands at && settles at)) id (old.landed at) ids) stays
@@ -326,11 +328,13 @@ touch_range events m lands settles id first (suc n) on pending covered fresh =
     let touched = front.2 in
     let same : mid.landed (first + n) ≡ m.landed (first + n) =
     touched.landed (first + n)
-    ∙ ap (λ t. by_test (t && lands (first + n)) id (m.landed (first + n)) (m.landed (first + n))) (past_range first n (first + n) (omega arith)) in
+    ∙ ap (λ t. by_test (t && lands (first + n)) id (m.landed (first + n)) (m.landed (first + n)))
+    (past_range first n (first + n) (omega arith)) in
     let last = touch_one events mid lands settles id (first + n) (touched.off ∙ on)
     (ap (λ calls. list_any (is_submit id) calls && not (list_any (is_end id) calls)) touched.calls
     ∙ pending)
-    (covered n (omega arith)) (λ goes. ap (λ ids. is_among ids id) same ∙ fresh n (omega arith) goes) in (
+    (covered n (omega arith))
+    (λ goes. ap (λ ids. is_among ids id) same ∙ fresh n (omega arith) goes) in (
       last.0,
       go_on events m mid last.0
           (collect (λ k. touch (lands (first + k)) (settles (first + k)) id (first + k)) n)
@@ -398,7 +402,11 @@ landed_from done lands settles id old new sector other touched among =
     → (((done sector && lands sector) ≡ true) × (id ≡ other))
     ⊎ (is_among (old.landed sector) other ≡ true))
     (done sector && lands sector) id (old.landed sector) (old.landed sector)
-    (λ lands_here h. elim (among_cases id other (old.landed sector) h) [ inl same ↦ inl (lands_here, same) | inr older ↦ inr older ])
+    (λ lands_here h.
+    elim (among_cases id other (old.landed sector) h) [
+      | inl same ↦ inl (lands_here, same)
+      | inr older ↦ inr older
+    ])
     (λ stays h. inr h)
     (subst (λ ids. is_among ids other ≡ true) (touched.landed sector) among)
 

@@ -2,7 +2,7 @@
 -- Any crate above may cite it.
 use Rattle.std.specs.Prelude.{◌≡◌, ℕ, ◌<◌, ◌/◌, ◌==◌, Bool, true, false, Option, Some, None, List}
 use Rattle.std.specs.Prelude.{[], ◌∷◌, length, replicate, slice_get, if◌then◌else◌}
-use Rattle.sectors.specs.Content.{Content, Patch, put, sector_of}
+use Rattle.bio.specs.Content.{Content, Patch, put, sector_of}
 use Rattle.bio.specs.declared.event.CoreEvent.{CoreEvent}
 use Rattle.world.specs.declared.step.Step.{Step}
 use Rattle.world.specs.declared.step.Step.TheVariants.{Destage}
@@ -79,7 +79,8 @@ put_at patch at old sector = if sector == at then put patch old sector else old 
 -- what a sector of the image has after a step: after its
 -- destage the value of the newest request that landed there
 abbrev pub left_after : List CoreEvent → Machine → Step → Content → Content
-left_after events m (Destage at) old sector = put_at (values_of_id events (newest (m.landed at))) at old sector
+left_after events m (Destage at) old sector =
+    put_at (values_of_id events (newest (m.landed at))) at old sector
 left_after events m _ old sector = old sector
 
 -- of two images the new one has the call's value in this sector, and all else as it was
@@ -93,7 +94,8 @@ pub record IsPut (patch : Patch) (at : ℕ) (old new : List ℕ) : Type 0 where
 pub record Steps (events : List CoreEvent) (step : Step) (old new : WorldState) : Type 0 where
   pub may : has_step events (machine_of old) step ≡ true
   pub after : IsLike (machine_of new) (after (machine_of old) step)
-  pub left : (sector : ℕ) → sector < length old.cells → sector_of new.image sector ≡ left_after events (machine_of old) step (sector_of old.image) sector
+  pub left : (sector : ℕ) → sector < length old.cells → sector_of new.image sector
+      ≡ left_after events (machine_of old) step (sector_of old.image) sector
   pub sectors : length new.cells ≡ length old.cells
   pub size : length new.image ≡ length old.image
 
@@ -109,4 +111,5 @@ pub record IsRun (events : List CoreEvent) (first : List ℕ) (steps : List Step
     (world : WorldState) : Type 0 where
   pub runs : is_run events start steps ≡ true
   pub reached : taken start steps ≡ machine_of world
-  pub left : (sector : ℕ) → sector < length first / 512 → sector_of world.image sector ≡ durable events (sector_of first) (taken start steps) sector
+  pub left : (sector : ℕ) → sector < length first / 512 → sector_of world.image sector
+      ≡ durable events (sector_of first) (taken start steps) sector

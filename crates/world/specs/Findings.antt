@@ -1,7 +1,7 @@
 -- What is found of an image: a run that leaves it, or what rules it out.
 -- Any crate above may cite it.
 use Rattle.std.specs.Prelude.{ℕ, List}
-use Rattle.sectors.specs.Content.{Content}
+use Rattle.bio.specs.Content.{Content}
 use Rattle.bio.specs.declared.event.CoreEvent.{CoreEvent}
 use Rattle.judge.specs.declared.verdict.Verdict.TheVariants as verdicts
 use Rattle.judge.specs.Verdicts.{IsVerdict}

@@ -9,4 +9,4 @@ pub mod inside
 pub use Rattle.bio.specs.Lawful
 pub use Rattle.bio.specs.Possible
 pub use Rattle.judge.specs.Firsts
-pub use Rattle.sectors.specs.Content
+pub use Rattle.bio.specs.Content

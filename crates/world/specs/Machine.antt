@@ -4,7 +4,7 @@
 use Rattle.std.specs.Prelude.{ℕ, ◌+◌, ◌==◌, Bool, true, false, not, ◌&&◌, ◌||◌, Option, Some, None}
 use Rattle.std.specs.Prelude.{is_some, List, [], ◌∷◌, slice_get, if◌then◌else◌}
 use Rattle.std.specs.List.{list_all, list_any}
-use Rattle.sectors.specs.Places.{all_below}
+use Rattle.bio.specs.Places.{all_below}
 use Rattle.bio.specs.declared.event.CoreEvent.{CoreEvent}
 use Rattle.bio.specs.declared.event.CoreEvent.TheVariants as core_events
 use Rattle.bio.specs.Events.{is_flush_submit, is_request, submits}
@@ -63,7 +63,8 @@ newest (id ∷ ids) = Some id
 
 -- each sector of the request that this event submits passes the test
 abbrev pub each_sector : (ℕ → Bool) → Option CoreEvent → Bool
-each_sector test (Some (core_events.Submit bio)) = all_below (λ place. test (first_sector bio + place)) (sector_count bio)
+each_sector test (Some (core_events.Submit bio)) =
+    all_below (λ place. test (first_sector bio + place)) (sector_count bio)
 each_sector test _ = true
 
 -- the request has landed on all its sectors
@@ -72,7 +73,8 @@ has_landed events m id = each_sector (λ sector. is_among (m.landed sector) id) 
 
 -- each of its sectors was destaged after it had landed there
 abbrev pub has_settled : List CoreEvent → Machine → ℕ → Bool
-has_settled events m id = each_sector (λ sector. is_among (m.settled sector) id) (slice_get events id)
+has_settled events m id =
+    each_sector (λ sector. is_among (m.settled sector) id) (slice_get events id)
 
 -- the steps, newest first, that came before the request's submission
 abbrev pub before_submit : ℕ → List Step → List Step

@@ -2,7 +2,7 @@
 -- Any crate above may cite it.
 use Rattle.std.specs.Prelude.{◌≡◌, ℕ, zero, suc, Bool, true, ◌&&◌, Option, Some, None, List, []}
 use Rattle.std.specs.Prelude.{◌∷◌, ◌++◌, length, slice_get}
-use Rattle.sectors.specs.Content.{Content, Patch, nothing, put}
+use Rattle.bio.specs.Content.{Content, Patch, nothing, put}
 use Rattle.bio.specs.declared.event.CoreEvent.{CoreEvent}
 use Rattle.bio.specs.declared.event.CoreEvent.TheVariants as core_events
 use Rattle.bio.specs.Possible.{values_at}

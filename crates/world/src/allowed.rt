@@ -3,12 +3,12 @@
 //! Each test is the machine's, over the cells and over the
 //! calls so far, which are kept oldest first.
 //! Its clauses are written in specs/; its theorems in proofs/allowed/.
-ghost use Rattle.std.specs.Prelude.{◌≡◌, ℕ, ◌+◌, ◌^◌, ◌<◌, Some, length, reverse, slice_get};
+ghost use Rattle.std.specs.Prelude.{◌≡◌, ◌+◌, ◌^◌, ◌<◌, Some, reverse, slice_get};
 ghost use Rattle.std.specs.List.{list_all, list_any};
 ghost use Rattle.bio.specs.declared.event.CoreEvent.TheVariants as core_events;
-ghost use Rattle.bio.specs.Events.{is_flush_submit, is_request, submits};
+ghost use Rattle.bio.specs.Events.{is_request};
 ghost use Rattle.bio.specs.Possible.{covers_at};
-ghost use Rattle.bio.specs.Requests.{covers, first_sector, has_fua, sector_count};
+ghost use Rattle.bio.specs.Requests.{covers, first_sector, sector_count};
 ghost use Rattle.world.specs.Cells.{landed_of, settled_of};
 ghost use Rattle.world.specs.Machine.{before_submit, is_among, is_end, is_submit, newest};
 ghost use Rattle.world.specs.inside.Allowed.{end_settled, is_allowed, is_in, is_landed, is_settled};

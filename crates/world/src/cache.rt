@@ -3,17 +3,16 @@
 //! A world keeps a cell for each sector, the calls so far,
 //! oldest first, and the image of what is durable.
 //! Its clauses are written in specs/; its theorems in proofs/cache/.
-ghost use Rattle.std.specs.Prelude.{◌≡◌, ◌∷◌, [], ◌*◌, ◌/◌, ◌%◌, ◌<◌, ℕ, Err, IfOk, OnErr, OnOk};
+ghost use Rattle.std.specs.Prelude.{◌≡◌, ◌∷◌, ◌*◌, ◌/◌, ◌%◌, ◌<◌, Err, IfOk, OnErr, OnOk};
 ghost use Rattle.std.specs.Prelude.{false, true, length, replicate, get_or, reverse, slice_get};
 ghost use Rattle.std.specs.Prelude.{slice_set};
 ghost use Rattle.bio.specs.Lawful.{is_lawful};
-ghost use Rattle.world.specs.Cells.{CellState, IsFresh, IsPut, Steps, WorldState, empty_cell};
+ghost use Rattle.world.specs.Cells.{IsFresh, IsPut, Steps, WorldState, empty_cell};
 ghost use Rattle.world.specs.Cells.{landed_of, landing, machine_of, settling};
 ghost use Rattle.world.specs.Machine.{has_step, newest};
 ghost use Rattle.world.specs.Runs.{values_of_id};
 ghost use Rattle.world.specs.declared.step_error.StepError.TheVariants as errors;
 ghost use Rattle.world.specs.inside.Allowed.{is_allowed};
-ghost use Rattle.world.specs.inside.Plan.{AllEnd};
 
 use crate::allowed::{is_allowed, newest_at};
 use crate::cell::{Cell, land_in, settle_in};

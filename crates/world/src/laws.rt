@@ -5,7 +5,7 @@ ghost use Rattle.std.specs.Prelude.{◌≡◌, List, take, true, ℕ};
 ghost use Rattle.bio.specs.declared.event.CoreEvent.{CoreEvent};
 ghost use Rattle.bio.specs.Lawful.{is_well_formed};
 ghost use Rattle.bio.specs.Possible.{Possible};
-ghost use Rattle.sectors.specs.Content.{Content};
+ghost use Rattle.bio.specs.Content.{Content};
 ghost use Rattle.world.specs.declared.step.Step.{Step};
 ghost use Rattle.world.specs.Cells.{AllSteps, IsFresh, IsRun, WorldState};
 ghost use Rattle.world.specs.Runs.{IsReachable};

@@ -2,7 +2,7 @@
 //! Its clauses are written in specs/Cells and specs/Runs; its theorems in proofs/putting/.
 ghost use Rattle.std.specs.Prelude.{◌≡◌, ◌/◌, ◌<◌, Some, length, slice_get};
 ghost use Rattle.bio.specs.Possible.{values_at, values_of};
-ghost use Rattle.sectors.specs.Content.{Patch, discards, writes};
+ghost use Rattle.bio.specs.Content.{Patch, discards, writes};
 ghost use Rattle.world.specs.Cells.{IsPut};
 ghost use Rattle.world.specs.Runs.{values_of_id};
 

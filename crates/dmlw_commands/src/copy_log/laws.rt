@@ -2,7 +2,7 @@
 // function whose contract it is, and which runs to nothing.
 // Its clauses are written in specs/CopiesLog; its theorems in proofs/copy_log/laws/.
 ghost use Rattle.std.specs.Prelude.{◌≡◌, List, None, Option, length, take, ℕ};
-ghost use Rattle.sectors.specs.Content.{Content};
+ghost use Rattle.bio.specs.Content.{Content};
 ghost use Rattle.log_format.specs.declared.decode.Super.{Super};
 ghost use Rattle.log_format.specs.declared.entry.Entry.{Entry};
 ghost use Rattle.log_format.specs.Replay.{replay};

@@ -3,7 +3,7 @@
 ghost use Rattle.std.specs.Prelude.{◌≡◌, ◌/◌, IfErr, IfOk, length};
 ghost use Rattle.sector_disk.specs.Shown.{shown_of};
 ghost use Rattle.sector_disk.specs.Sizes.{Begins};
-ghost use Rattle.sectors.specs.Content.{sector_of};
+ghost use Rattle.bio.specs.Content.{sector_of};
 ghost use Rattle.run_error.specs.Errors.{memory_error};
 ghost use Rattle.dmlw_files.specs.Images.{IsImage, image_of};
 ghost use Rattle.dmlw_commands.specs.ReplayOpened.{stop_by};

@@ -3,7 +3,7 @@
 use Rattle.std.specs.Prelude.{◌≡◌, ◌⊎◌, ℕ, ◌<◌, ◌≤◌, Bool, false, not, ◌&&◌, ◌||◌, Option, Some}
 use Rattle.std.specs.Prelude.{List, length, is_none, is_some, true, if◌then◌else◌}
 use Rattle.std.specs.Str.{bytes_eq}
-use Rattle.sectors.specs.Content.{Content}
+use Rattle.bio.specs.Content.{Content}
 use Rattle.bio.specs.declared.event.CoreEvent.{CoreEvent}
 use Rattle.bio.specs.Possible.{values_at}
 use Rattle.judge.specs.Accounts.{is_held_from, is_value, last_below, place_at}

@@ -2,7 +2,7 @@
 -- Its own crate alone cites it.
 use Rattle.std.specs.Prelude.{◌≡◌, ℕ, ◌<◌, ◌≤◌, ◌⊎◌, Bool, false, ◌&&◌, Option, Some, None, List}
 use Rattle.std.specs.Prelude.{length, slice_get, nat_lt, nat_le}
-use Rattle.sectors.specs.Places.{first_below}
+use Rattle.bio.specs.Places.{first_below}
 use Rattle.bio.specs.declared.event.CoreEvent.{CoreEvent}
 use Rattle.bio.specs.Events.{is_below, is_end_of, is_flush_submit}
 use Rattle.bio.specs.Possible.{covers_at, ended_ok, is_kept}

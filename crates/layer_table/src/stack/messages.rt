@@ -9,8 +9,6 @@ use blockdev::{Message, MessageError};
 /// A message goes to the layer of its number, which counts from 1, the lowest. A number at which no
 /// layer stands, or one without bad blocks, is refused by BadMessage.
 impl Message for Stack {
-    ghost use Rattle.blockdev.specs.Messages.{unchanged_none};
-
     ghost answers = { λ old layer text result new. StackAnswers old layer text result new };
 
     fn message(&mut self, layer: u64, text: &str) -> Result<(), MessageError> {

@@ -4,7 +4,7 @@ use Rattle.std.specs.Prelude.{◌≡◌, ℕ, Bool, true, List, [], Option}
 use Rattle.std.specs.List.{list_all}
 use Rattle.std.specs.Io.KnownBytes.{Appends, Keeps}
 use Rattle.blockdev.specs.declared.device.BlockDev.{Ghosts}
-use Rattle.dmlw_script.specs.Plans.{Disk, ScriptValue}
+use Rattle.script_reader.specs.Plans.{Disk, ScriptValue}
 use Rattle.layer_table.specs.declared.stack.Stack.{Stack}
 use Rattle.recorder.specs.declared.recorder.Recorder.{Recorder}
 use Rattle.run_error.specs.declared.run_error.RunError.{RunError}

@@ -2,7 +2,7 @@
 -- Its own crate alone cites it.
 use Rattle.std.specs.Prelude.{ℕ, suc, zero, ◌*◌, ◌&&◌, ◌==◌, Bool, false, List, Option, None, Some}
 use Rattle.std.specs.Prelude.{length}
-use Rattle.sectors.specs.Content.{Content, sector_of}
+use Rattle.bio.specs.Content.{Content, sector_of}
 use Rattle.sector_disk.specs.declared.call.Call.{Call}
 use Rattle.sector_disk.specs.declared.call.Change.{Change}
 use Rattle.sector_disk.specs.declared.call.Change.TheVariants.{Write, Discard}

@@ -4,7 +4,7 @@
 use Rattle.std.specs.Prelude.{◌≡◌, ℕ, suc, zero, ◌+◌, ◌-◌, ◌<◌, ◌≤◌, ◌==◌, ◌&&◌, not, nat_le}
 use Rattle.std.specs.Prelude.{nat_lt, Bool, true, false, Option, None, Some, unwrap_or, List, []}
 use Rattle.std.specs.Prelude.{◌∷◌, ◌++◌, length, replicate, slice_get}
-use Rattle.sectors.specs.Content.{Content, Patch, discards, writes}
+use Rattle.bio.specs.Content.{Content, Patch, discards, writes}
 use Rattle.sector_disk.specs.declared.call.Call.{Call}
 use Rattle.sector_disk.specs.declared.call.Change.{Change}
 use Rattle.sector_disk.specs.declared.call.Change.TheVariants.{Write, Discard}

@@ -5,7 +5,7 @@ ghost use Rattle.sector_disk.specs.Shown.{shown_of};
 ghost use Rattle.sector_disk.specs.Sizes.{Begins, IsDiskSize, IsImageSize};
 ghost use Rattle.sector_disk.specs.inside.Added.{count_of};
 ghost use Rattle.sector_disk.specs.inside.Storage.{change_values, content_at};
-ghost use Rattle.sectors.specs.Content.{AgreeBelow, gather, put, sector_of};
+ghost use Rattle.bio.specs.Content.{AgreeBelow, gather, put, sector_of};
 
 use crate::call::{Call, Change, SECTOR, begins_with_image, read_places, take_image};
 use crate::disk::SectorDisk;

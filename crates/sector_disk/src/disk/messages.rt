@@ -7,8 +7,6 @@ use crate::disk::SectorDisk;
 use blockdev::{Message, MessageError};
 
 impl Message for SectorDisk {
-    ghost use Rattle.blockdev.specs.Messages.{unchanged_none};
-
     // A disk takes no message.
     ghost answers = { λ old layer text result new. (result ≡ Err BadMessage) × (new ≡ old) };
 

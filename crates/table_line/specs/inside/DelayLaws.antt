@@ -225,7 +225,8 @@ delay_errors words (inr (inr (a, b, c, d, e, f, g, h, i, j, k, l, is))) =
 -- bytes are a block's where the test says so
 pub size_read : (bytes : ℕ) → is_block_size bytes ≡ true → IsBlockSize bytes
 size_read bytes is =
-    let parts = and_parts (is_power_of_two bytes) (nat_le 512 bytes && nat_le bytes 1073741824) is in
+    let parts = and_parts (is_power_of_two bytes)
+    (nat_le 512 bytes && nat_le bytes 1073741824) is in
     let range = and_parts (nat_le 512 bytes) (nat_le bytes 1073741824) parts.1 in
     record { power = parts.0; some = leb-true _ _ range.0; few = leb-true _ _ range.1 }
 
@@ -414,12 +415,14 @@ pub delay_said : (start_word length_word device : List ℕ) (rest : List (List �
     → AreSets rest device offset delays → AreFor delays read write flush
     → read_words (start_word ∷ length_word ∷ codes "delay" ∷ rest)
     ≡ Ok (record { length = sectors; offset = offset; target = targets.Delay read write flush })
-delay_said start_word length_word device rest sectors offset read write flush start long range delay [] sets kinds = absurd kinds
+delay_said start_word length_word device rest sectors offset read write flush start long range delay
+    [] sets kinds = absurd kinds
 delay_said start_word length_word device rest sectors offset read write flush start long range delay
     (all ∷ []) sets kinds =
     let set = sets.1 in
     let spelled : rest ≡ device ∷ set.offset_word ∷ set.delay_word ∷ [] =
-    set.spelled ∙ ap (λ (xs : List (List ℕ)). device ∷ set.offset_word ∷ set.delay_word ∷ xs) sets.2 in
+    set.spelled ∙ ap (λ (xs : List (List ℕ)). device ∷ set.offset_word ∷ set.delay_word ∷ xs)
+    sets.2 in
     ap (λ (xs : List (List ℕ)). read_words (start_word ∷ length_word ∷ codes "delay" ∷ xs)) spelled
     ∙ target_found true _ _ _ _ sectors offset (targets.Delay read write flush)
     (number_found start_word 0 start) (number_found length_word sectors long)
@@ -435,9 +438,11 @@ delay_said start_word length_word device rest sectors offset read write flush st
     (reads ∷ others ∷ []) sets kinds =
     let set = sets.1 in
     let later = sets.2.1 in
-    let spelled : rest ≡ device ∷ set.offset_word ∷ set.delay_word ∷ device ∷ later.offset_word ∷ later.delay_word ∷ [] =
+    let spelled : rest ≡ device ∷ set.offset_word ∷ set.delay_word ∷ device ∷ later.offset_word
+    ∷ later.delay_word ∷ [] =
     set.spelled ∙ ap (λ (xs : List (List ℕ)). device ∷ set.offset_word ∷ set.delay_word ∷ xs)
-    (later.spelled ∙ ap (λ (xs : List (List ℕ)). device ∷ later.offset_word ∷ later.delay_word ∷ xs) sets.2.2) in
+    (later.spelled ∙ ap (λ (xs : List (List ℕ)). device ∷ later.offset_word ∷ later.delay_word ∷ xs)
+    sets.2.2) in
     ap (λ (xs : List (List ℕ)). read_words (start_word ∷ length_word ∷ codes "delay" ∷ xs)) spelled
     ∙ target_found _ _ _ _ _ sectors offset (targets.Delay read write flush)
     (number_found start_word 0 start) (number_found length_word sectors long)
@@ -459,10 +464,12 @@ delay_said start_word length_word device rest sectors offset read write flush st
     let set = sets.1 in
     let later = sets.2.1 in
     let last = sets.2.2.1 in
-    let spelled : rest ≡ device ∷ set.offset_word ∷ set.delay_word ∷ device ∷ later.offset_word ∷ later.delay_word ∷ device ∷ last.offset_word ∷ last.delay_word ∷ [] =
+    let spelled : rest ≡ device ∷ set.offset_word ∷ set.delay_word ∷ device ∷ later.offset_word
+    ∷ later.delay_word ∷ device ∷ last.offset_word ∷ last.delay_word ∷ [] =
     set.spelled ∙ ap (λ (xs : List (List ℕ)). device ∷ set.offset_word ∷ set.delay_word ∷ xs)
     (later.spelled ∙ ap (λ (xs : List (List ℕ)). device ∷ later.offset_word ∷ later.delay_word ∷ xs)
-    (last.spelled ∙ ap (λ (xs : List (List ℕ)). device ∷ last.offset_word ∷ last.delay_word ∷ xs) sets.2.2.2)) in
+    (last.spelled ∙ ap (λ (xs : List (List ℕ)). device ∷ last.offset_word ∷ last.delay_word ∷ xs)
+    sets.2.2.2)) in
     ap (λ (xs : List (List ℕ)). read_words (start_word ∷ length_word ∷ codes "delay" ∷ xs)) spelled
     ∙ target_found _ _ _ _ _ sectors offset (targets.Delay read write flush)
     (number_found start_word 0 start) (number_found length_word sectors long)

@@ -417,7 +417,8 @@ named_read name words spec named_so count is =
     let c = bind_ok (number_in words 1) _ b.0 b.1 in
     let d = bind_ok (offset_in name words) _ b.0 c.2 in
     let e = bind_ok (target_in name words) _ b.0 d.2 in
-    let made_of : record { length = c.0; offset = d.0; target = e.0 } ≡ b.0 = (let last = e.2 in cc) in
+    let made_of : record { length = c.0; offset = d.0; target = e.0 }
+    ≡ b.0 = (let last = e.2 in cc) in
     let made : record { length = c.0; offset = d.0; target = e.0 } ≡ spec = made_of ∙ range.1 in
     let tests = and_parts (nat_eq a.0 0) (is_in_range b.0 && one) range.0 in
     let fine = and_parts (is_in_range b.0) one tests.1 in
@@ -524,8 +525,10 @@ said_of : (words : List (List ℕ)) (sectors offset : ℕ) (target : Target)
     → read_words words ≡ Ok (record { length = sectors; offset = offset; target = target })
 said_of words sectors offset targets.Linear is =
     let place = is.asks in
-    let spelled : words ≡ is.start_word ∷ is.length_word ∷ codes "linear" ∷ place.device_word ∷ place.offset_word ∷ [] =
-    is.spelled ∙ ap (λ (xs : List (List ℕ)). is.start_word ∷ is.length_word ∷ codes "linear" ∷ xs) place.spelled in
+    let spelled : words ≡ is.start_word ∷ is.length_word ∷ codes "linear" ∷ place.device_word
+    ∷ place.offset_word ∷ [] =
+    is.spelled ∙ ap (λ (xs : List (List ℕ)). is.start_word ∷ is.length_word ∷ codes "linear" ∷ xs)
+    place.spelled in
     ap read_words spelled
     ∙ linear_found _ _ _ sectors offset (number_found is.start_word 0 is.start)
     (number_found is.length_word sectors is.sectors)
@@ -538,7 +541,8 @@ said_of words sectors offset targets.Linear is =
 said_of words sectors offset targets.Error is =
     let end = is.asks in
     let spelled : words ≡ is.start_word ∷ is.length_word ∷ codes "error" ∷ [] =
-    is.spelled ∙ ap (λ (xs : List (List ℕ)). is.start_word ∷ is.length_word ∷ codes "error" ∷ xs) end.0 in
+    is.spelled ∙ ap (λ (xs : List (List ℕ)). is.start_word ∷ is.length_word ∷ codes "error" ∷ xs)
+    end.0 in
     subst (λ (o : ℕ). read_words words
     ≡ Ok (record { length = sectors; offset = o; target = targets.Error })) (sym end.1)
     (ap read_words spelled
@@ -554,11 +558,14 @@ said_of words sectors offset (targets.Flakey up down feature) is =
     let place = has.place in
     let found = feature_found has.feature_words feature has.named in
     let few : length has.feature_words ≤ 2 = found.1 in
-    let all = is.start_word ∷ is.length_word ∷ codes "flakey" ∷ place.device_word ∷ place.offset_word ∷ has.up_word ∷ has.down_word ∷ has.feature_words in
+    let all = is.start_word ∷ is.length_word ∷ codes "flakey" ∷ place.device_word
+    ∷ place.offset_word ∷ has.up_word ∷ has.down_word ∷ has.feature_words in
     let low : nat_le 7 (length all) ≡ true = le-leb _ _ (omega arith) in
     let high : nat_le (length all) 9 ≡ true = le-leb _ _ (omega arith) in
-    let spelled : words ≡ is.start_word ∷ is.length_word ∷ codes "flakey" ∷ place.device_word ∷ place.offset_word ∷ has.up_word ∷ has.down_word ∷ has.feature_words =
-    is.spelled ∙ ap (λ (xs : List (List ℕ)). is.start_word ∷ is.length_word ∷ codes "flakey" ∷ xs) place.spelled in
+    let spelled : words ≡ is.start_word ∷ is.length_word ∷ codes "flakey" ∷ place.device_word
+    ∷ place.offset_word ∷ has.up_word ∷ has.down_word ∷ has.feature_words =
+    is.spelled ∙ ap (λ (xs : List (List ℕ)). is.start_word ∷ is.length_word ∷ codes "flakey" ∷ xs)
+    place.spelled in
     ap read_words spelled
     ∙ flakey_found (nat_le 7 (length all)
     && nat_le (length all) 9) _ _ _ _ _ _ sectors offset up down feature (and_from _ _ low high)
@@ -574,8 +581,10 @@ said_of words sectors offset (targets.Flakey up down feature) is =
 said_of words sectors offset (targets.Fuse calls) is =
     let has = is.asks in
     let place = has.place in
-    let spelled : words ≡ is.start_word ∷ is.length_word ∷ codes "fuse" ∷ place.device_word ∷ place.offset_word ∷ has.calls_word ∷ [] =
-    is.spelled ∙ ap (λ (xs : List (List ℕ)). is.start_word ∷ is.length_word ∷ codes "fuse" ∷ xs) place.spelled in
+    let spelled : words ≡ is.start_word ∷ is.length_word ∷ codes "fuse" ∷ place.device_word
+    ∷ place.offset_word ∷ has.calls_word ∷ [] =
+    is.spelled ∙ ap (λ (xs : List (List ℕ)). is.start_word ∷ is.length_word ∷ codes "fuse" ∷ xs)
+    place.spelled in
     ap read_words spelled
     ∙ fuse_found _ _ _ _ sectors offset calls (number_found is.start_word 0 is.start)
     (number_found is.length_word sectors is.sectors)
@@ -589,8 +598,10 @@ said_of words sectors offset (targets.Fuse calls) is =
 said_of words sectors offset (targets.Dust bytes) is =
     let has = is.asks in
     let place = has.place in
-    let spelled : words ≡ is.start_word ∷ is.length_word ∷ codes "dust" ∷ place.device_word ∷ place.offset_word ∷ has.bytes_word ∷ [] =
-    is.spelled ∙ ap (λ (xs : List (List ℕ)). is.start_word ∷ is.length_word ∷ codes "dust" ∷ xs) place.spelled in
+    let spelled : words ≡ is.start_word ∷ is.length_word ∷ codes "dust" ∷ place.device_word
+    ∷ place.offset_word ∷ has.bytes_word ∷ [] =
+    is.spelled ∙ ap (λ (xs : List (List ℕ)). is.start_word ∷ is.length_word ∷ codes "dust" ∷ xs)
+    place.spelled in
     ap read_words spelled
     ∙ target_found true _ _ _ _ sectors offset (targets.Dust bytes)
     (number_found is.start_word 0 is.start) (number_found is.length_word sectors is.sectors)

@@ -3,7 +3,7 @@
 use Rattle.std.specs.Prelude.{◌≡◌, ℕ, ◌+◌, ◌^◌, ◌==◌, ◌<◌, ◌≤◌, Bool, true, false, not, ◌&&◌}
 use Rattle.std.specs.Prelude.{Option, Some, None, List, [], ◌∷◌, ◌++◌, length, nat_le, slice_get}
 use Rattle.std.specs.Prelude.{if◌then◌else◌}
-use Rattle.sectors.specs.Places.{collect}
+use Rattle.bio.specs.Places.{collect}
 use Rattle.bio.specs.declared.event.CoreEvent.{CoreEvent}
 use Rattle.bio.specs.declared.request.Bio.{Bio}
 use Rattle.bio.specs.declared.event.CoreEvent.TheVariants as core_events

@@ -12,7 +12,8 @@ next-first-requires c =
     (c.requires.same ∙ sym c.last.ensures ∙ c.in-Some.is)
 
 pub write-requires : goal.write-requires
-write-requires c = is-row c.requires.holds c.args.chain c.args.row (let one = times-same c.args.row c.args.row c.requires.loose refl in omega arith)
+write-requires c = is-row c.requires.holds c.args.chain c.args.row
+    (let one = times-same c.args.row c.args.row c.requires.loose refl in omega arith)
 
 pub write-requires-in-Some : goal.write-requires-in-Some
 write-requires-in-Some c =
@@ -23,7 +24,8 @@ write-requires-in-Some c =
     omega (arith, length-set c.args.links.now.next.items c.args.row c.next-first.result)
 
 pub write-requires-in-None : goal.write-requires-in-None
-write-requires-in-None c = is-row c.requires.holds c.args.chain c.args.row (let one = times-same c.args.row c.args.row c.requires.loose refl in omega arith)
+write-requires-in-None c = is-row c.requires.holds c.args.chain c.args.row
+    (let one = times-same c.args.row c.args.row c.requires.loose refl in omega arith)
 
 pub returns-in-Some-clause-holds : goal.returns-in-Some-clause-holds
 returns-in-Some-clause-holds c = λ lasts loose chains h within same.

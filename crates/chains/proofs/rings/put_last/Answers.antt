@@ -15,4 +15,5 @@ returns-clause-holds c = λ loose chains h.
     (c.put_first.ensures.holds noted loose chains h c.requires.there refl) in
     holds-same c.put_first.new.links.next.items c.write.new.self.next.items
     c.write.new.self.lasts.items c.write.ensures.next c.write.ensures.lasts
-    (holds-lengthened c.put_first.new.links.next.items between loose chains chain row (let e = h.size in let there = c.requires.there in omega arith) preceding)
+    (holds-lengthened c.put_first.new.links.next.items between loose chains chain row
+    (let e = h.size in let there = c.requires.there in omega arith) preceding)

@@ -12,7 +12,8 @@ next-first-requires c =
 
 pub next-second-requires : goal.next-second-requires
 next-second-requires c = is-row c.requires.holds c.args.chain c.args.moved (
-    let some = last-counts c.args.links.now.next.items c.args.moved c.requires.rows c.requires.ring in
+    let some = last-counts c.args.links.now.next.items c.args.moved c.requires.rows
+    c.requires.ring in
     omega (arith, times-append c.args.moved c.requires.rows c.requires.loose))
 
 pub write-requires : goal.write-requires
@@ -22,7 +23,8 @@ write-requires c =
 pub write-requires-in-Some : goal.write-requires-in-Some
 write-requires-in-Some c =
     let small = is-row c.requires.holds c.args.chain c.args.moved (
-    let some = last-counts c.args.links.now.next.items c.args.moved c.requires.rows c.requires.ring in
+    let some = last-counts c.args.links.now.next.items c.args.moved c.requires.rows
+    c.requires.ring in
     omega (arith, times-append c.args.moved c.requires.rows c.requires.loose)) in
     let e = ap length c.write.ensures.next in
     omega (arith, length-set c.args.links.now.next.items c.in-Some.kept c.next-second.result)

@@ -1,6 +1,6 @@
 -- Answers to the goals of `used_upto` (src/pieces.rt) that the search leaves.
 use Rattle.std.proofs.Common.{◌∙◌, ◌-◌, ◌/◌, List, ap, arith, length, sym, ℕ}
-use Rattle.sectors.specs.Content.{sector_of}
+use Rattle.bio.specs.Content.{sector_of}
 use Rattle.dmlw_files.proofs.Ranges.{piece_sector}
 use Rattle.dmlw_files.proofs.pieces.used_upto.Goals as goal
 

@@ -11,7 +11,8 @@ loop-number-preserved g c =
     let before = c.loop-number.invariant in
     let long = length-take (c.min-count.result * 512) c.loop-number.buffer in
     let held = c.loop-number.auto.buffer in
-    let all : length (take (c.min-count.result * 512) c.loop-number.buffer) / 512 ≡ c.min-count.result = omega (arith, long, held) in (
+    let all : length (take (c.min-count.result * 512) c.loop-number.buffer) / 512
+    ≡ c.min-count.result = omega (arith, long, held) in (
       c.read_piece.ensures.size ∙ before.0,
       c.read_piece.ensures.content ∙ before.1,
       written_more (shown_of c.args.disk.now).content

@@ -58,4 +58,5 @@ returns-clause-lands g c =
     changes_land g.D.BlockDev.does g.D.BlockDev.shown c.args.block c.args.first c.args.count
     c.args.change (listed c.args.bad.now) (listed c.loop-done.bad)
     c.loop-done.done c.loop-done.from c.args.lower.now c.args.now c.loop-done.lower c.loop-done.end
-    c.requires.some c.requires.range.some c.requires.count (let low = c.loop-done.auto.done-end in let past = c.loop-done-test.false in omega (arith)) c.loop-done.invariant
+    c.requires.some c.requires.range.some c.requires.count (let low = c.loop-done.auto.done-end in
+    let past = c.loop-done-test.false in omega (arith)) c.loop-done.invariant

@@ -1,7 +1,7 @@
 -- Answers to the goals of `read_blocks` (src/blocks.rt) that the search leaves.
 use Rattle.std.proofs.Common.{refl, sym, ◌∙◌, arith}
 use Rattle.blockdev.specs.JoinLaws.{goes_both}
-use Rattle.sectors.specs.Content.{nothing}
+use Rattle.bio.specs.Content.{nothing}
 use Rattle.dust_layer.specs.Bad.{listed}
 use Rattle.dust_layer.proofs.ReadParts.{reading_bytes, reading_failed, reading_step}
 use Rattle.dust_layer.proofs.blocks.read_blocks.Goals as goal
@@ -19,7 +19,8 @@ returns-in-Err-clause-blocks g c =
     (listed c.args.bad.now) c.loop-done.done c.loop-done.from c.reach-to.result c.args.lower.now
     c.args.now c.loop-done.lower c.loop-done.end
     c.read_part.new.lower c.in-Err.error c.requires.some
-    (let some = c.requires.range.some in let whole = c.requires.range.whole in omega (arith, some, whole))
+    (let some = c.requires.range.some in let whole = c.requires.range.whole in
+    omega (arith, some, whole))
     c.loop-done-test.true c.reach-to.ensures c.loop-done.invariant.0
     (sym c.has.ensures ∙ c.if-has.false) c.read_part.ensures.before c.read_part.ensures.behind
     c.in-Err.ensures.does
@@ -31,7 +32,8 @@ loop-done-preserved g c = (
       (listed c.args.bad.now) c.loop-done.done c.loop-done.from c.reach-to.result c.args.lower.now
       c.args.now c.loop-done.lower c.loop-done.end
       c.read_part.new.lower c.in-Ok.end c.requires.some
-      (let some = c.requires.range.some in let whole = c.requires.range.whole in omega (arith, some, whole))
+      (let some = c.requires.range.some in let whole = c.requires.range.whole in
+      omega (arith, some, whole))
       c.loop-done-test.true c.reach-to.ensures c.loop-done.invariant.0
       (sym c.has.ensures ∙ c.if-has.false) c.read_part.ensures.before c.read_part.ensures.behind
       c.in-Ok.ensures.bytes
@@ -46,6 +48,8 @@ returns-clause-bytes g c =
     c.loop-done.buffer
     (listed c.args.bad.now) c.loop-done.done c.loop-done.from c.args.lower.now c.args.now
     c.loop-done.lower c.loop-done.end c.requires.some
-    (let some = c.requires.range.some in let whole = c.requires.range.whole in omega (arith, some, whole))
+    (let some = c.requires.range.some in let whole = c.requires.range.whole in
+    omega (arith, some, whole))
     c.loop-done.invariant.1 (let whole = c.requires.range.whole in omega (arith, whole))
-    (let low = c.loop-done.auto.done-end in let past = c.loop-done-test.false in omega arith) c.loop-done.invariant.0
+    (let low = c.loop-done.auto.done-end in let past = c.loop-done-test.false in omega arith)
+    c.loop-done.invariant.0

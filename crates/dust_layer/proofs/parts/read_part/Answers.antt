@@ -10,5 +10,6 @@ returns-clause-behind g c =
     (c.args.from - c.args.first))
     c.args.buffer.now c.read.new.buffer (512 * (c.args.to - c.args.first))
     (let a = c.requires.from in let b = c.requires.order in omega arith)
-    (let a = c.requires.from in let b = c.requires.order in let d = c.requires.within in let e = c.requires.range.whole in omega arith)
+    (let a = c.requires.from in let b = c.requires.order in let d = c.requires.within in
+    let e = c.requires.range.whole in omega arith)
     (let h = c.type_inv.buffer in omega arith)

@@ -1,7 +1,7 @@
 -- Answers to the goals of `lowest_failing` (src/accounts.rt) that the search leaves.
 use Rattle.std.proofs.Common.{length, ap, sym, ◌∙◌, inl, inr, arith}
-use Rattle.sectors.specs.Content.{sector_of}
-use Rattle.sectors.specs.PlaceLaws.{last_or_below}
+use Rattle.bio.specs.Content.{sector_of}
+use Rattle.bio.specs.PlaceLaws.{last_or_below}
 use Rattle.judge.specs.Firsts.{first_on}
 use Rattle.judge.specs.inside.Accounts.{is_fine}
 use Rattle.judge.proofs.accounts.lowest_failing.Goals as goal

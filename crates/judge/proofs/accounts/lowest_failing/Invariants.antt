@@ -1,6 +1,6 @@
 -- What holds at the calls and the turns of the loops of `lowest_failing` (src/accounts.rt).
 use Rattle.std.proofs.Common.{◌≡◌, ℕ, ◌<◌, length, true}
-use Rattle.sectors.specs.Content.{sector_of}
+use Rattle.bio.specs.Content.{sector_of}
 use Rattle.judge.specs.Firsts.{first_on}
 use Rattle.judge.specs.inside.Accounts.{is_fine}
 use Rattle.judge.proofs.accounts.lowest_failing.Given as goal

@@ -1,7 +1,7 @@
 -- Answers to the goals of `held_values` (src/held.rt) that the search leaves.
 use Rattle.std.proofs.Common.{◌≡◌, ℕ, suc, ◌+◌, ◌/◌, length, ◌∙◌, subst, arith}
-use Rattle.sectors.specs.Content.{sector_of}
-use Rattle.sectors.specs.PlaceLaws.{stands_there}
+use Rattle.bio.specs.Content.{sector_of}
+use Rattle.bio.specs.PlaceLaws.{stands_there}
 use Rattle.judge.specs.inside.Accounts.{AreHeld}
 use Rattle.judge.proofs.Holding.{held_next}
 use Rattle.judge.proofs.held.held_values.Goals as goal

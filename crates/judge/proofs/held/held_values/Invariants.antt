@@ -1,6 +1,6 @@
 -- What holds at the calls and the turns of the loops of `held_values` (src/held.rt).
 use Rattle.std.proofs.Common.{◌/◌, length}
-use Rattle.sectors.specs.Content.{sector_of}
+use Rattle.bio.specs.Content.{sector_of}
 use Rattle.judge.specs.inside.Accounts.{AreHeld}
 use Rattle.judge.proofs.held.held_values.Given as goal
 

@@ -1,6 +1,6 @@
 -- Answers to the goals of `hold_range` (src/held.rt) that the search leaves.
 use Rattle.std.proofs.Common.{◌≡◌, ℕ, suc, ◌+◌, Some, sym, ◌∙◌, subst, arith}
-use Rattle.sectors.specs.Content.{sector_of}
+use Rattle.bio.specs.Content.{sector_of}
 use Rattle.judge.specs.inside.Accounts.{AreFit}
 use Rattle.judge.proofs.Holding.{fit_here, fit_not}
 use Rattle.judge.proofs.held.hold_range.Goals as goal

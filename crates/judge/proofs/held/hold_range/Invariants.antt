@@ -1,6 +1,6 @@
 -- What holds at the calls and the turns of the loops of `hold_range` (src/held.rt).
 use Rattle.std.proofs.Common.{Some}
-use Rattle.sectors.specs.Content.{sector_of}
+use Rattle.bio.specs.Content.{sector_of}
 use Rattle.judge.specs.inside.Accounts.{AreFit}
 use Rattle.judge.proofs.held.hold_range.Given as goal
 

@@ -1,6 +1,6 @@
 -- Answers to the goals of `hold_values` (src/held.rt) that the search leaves.
 use Rattle.std.proofs.Common.{◌≡◌, ℕ, Some, length, subst, arith}
-use Rattle.sectors.specs.Content.{sector_of}
+use Rattle.bio.specs.Content.{sector_of}
 use Rattle.judge.specs.inside.Last.{AreCovered}
 use Rattle.judge.proofs.Holding.{fit_all}
 use Rattle.judge.proofs.held.hold_values.Goals as goal

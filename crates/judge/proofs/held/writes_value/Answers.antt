@@ -1,6 +1,6 @@
 -- Answers to the goals of `writes_value` (src/held.rt) that the search leaves.
 use Rattle.std.proofs.Common.{◌/◌, length, ◌∙◌}
-use Rattle.sectors.specs.Content.{sector_of}
+use Rattle.bio.specs.Content.{sector_of}
 use Rattle.judge.proofs.Values.{some_value}
 use Rattle.judge.proofs.held.writes_value.Goals as goal
 

@@ -1,6 +1,6 @@
 -- Answers to the goals of `could_hold` (src/images.rt) that the search leaves.
 use Rattle.std.proofs.Common.{List, length, ◌/◌, take, subst}
-use Rattle.sectors.specs.Content.{sector_of}
+use Rattle.bio.specs.Content.{sector_of}
 use Rattle.bio.specs.declared.event.CoreEvent.{CoreEvent}
 use Rattle.bio.specs.EventLaws.{lawful-take}
 use Rattle.judge.specs.Accounts.{IsAccount}

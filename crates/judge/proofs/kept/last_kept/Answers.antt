@@ -1,7 +1,7 @@
 -- Answers to the goals of `last_kept` (src/kept.rt) that the search leaves.
 use Rattle.std.proofs.Common.{◌≡◌, ℕ, suc, ◌+◌, sym, ◌∙◌, subst, arith}
 use Rattle.judge.specs.inside.Last.{AreLastKept}
-use Rattle.sectors.specs.PlaceLaws.{stands_there}
+use Rattle.bio.specs.PlaceLaws.{stands_there}
 use Rattle.judge.proofs.Last.{last_kept_durable, last_kept_other}
 use Rattle.judge.proofs.kept.last_kept.Goals as goal
 use Rattle.judge.proofs.kept.last_kept.Goals.{then-is_durable, else-is_durable}

@@ -2,7 +2,7 @@
 use Rattle.std.proofs.Common.{ℕ, ◌+◌, length, ap, sym, ◌∙◌, arith}
 use Rattle.std.specs.Prelude.{slice_get}
 use Rattle.bio.specs.Lawful.{is_within}
-use Rattle.sectors.specs.PlaceLaws.{all_next, not_all, stands_there}
+use Rattle.bio.specs.PlaceLaws.{all_next, not_all, stands_there}
 use Rattle.judge.proofs.lawful.are_within.Goals as goal
 
 pub returns-then-not-is_within : goal.returns-then-not-is_within

@@ -1,7 +1,7 @@
 -- What holds at the calls and the turns of the loops of `are_within` (src/lawful.rt).
 use Rattle.std.proofs.Common.{◌≡◌, true}
 use Rattle.std.specs.Prelude.{slice_get}
-use Rattle.sectors.specs.Places.{all_below}
+use Rattle.bio.specs.Places.{all_below}
 use Rattle.bio.specs.Lawful.{is_within}
 use Rattle.judge.proofs.lawful.are_within.Given as goal
 

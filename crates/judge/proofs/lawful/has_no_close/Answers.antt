@@ -2,7 +2,7 @@
 use Rattle.std.proofs.Common.{ℕ, ◌+◌, length, ap, sym, ◌∙◌, arith}
 use Rattle.std.specs.Prelude.{slice_get}
 use Rattle.bio.specs.Events.{is_close}
-use Rattle.sectors.specs.PlaceLaws.{none_next, not_none, stands_there}
+use Rattle.bio.specs.PlaceLaws.{none_next, not_none, stands_there}
 use Rattle.judge.proofs.lawful.has_no_close.Goals as goal
 
 pub returns-then-is_close : goal.returns-then-is_close

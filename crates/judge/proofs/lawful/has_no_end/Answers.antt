@@ -2,9 +2,9 @@
 use Rattle.std.proofs.Common.{ℕ, ◌+◌, ◌&&◌, length, ap, sym, ◌∙◌, arith}
 use Rattle.std.proofs.lemmas.Bool.{lt-ltb, le-ltb}
 use Rattle.std.specs.Prelude.{nat_lt, slice_get}
-use Rattle.sectors.specs.PlaceLaws.{none_first_below, none_next, not_none}
+use Rattle.bio.specs.PlaceLaws.{none_first_below, none_next, not_none}
 use Rattle.bio.specs.Events.{is_end_of}
-use Rattle.sectors.specs.PlaceLaws.{stands_there}
+use Rattle.bio.specs.PlaceLaws.{stands_there}
 use Rattle.judge.proofs.lawful.has_no_end.Goals as goal
 
 pub loop-place-init : goal.loop-place-init

@@ -2,7 +2,7 @@
 use Rattle.std.proofs.Common.{ℕ, ◌+◌, length, ap, sym, ◌∙◌, arith}
 use Rattle.std.specs.Prelude.{slice_get}
 use Rattle.bio.specs.Events.{is_stop}
-use Rattle.sectors.specs.PlaceLaws.{none_next, not_none, stands_there}
+use Rattle.bio.specs.PlaceLaws.{none_next, not_none, stands_there}
 use Rattle.judge.proofs.lawful.has_no_stop.Goals as goal
 
 pub returns-then-is_stop : goal.returns-then-is_stop

@@ -1,7 +1,7 @@
 -- What holds at the calls and the turns of the loops of `has_no_stop` (src/lawful.rt).
 use Rattle.std.proofs.Common.{◌≡◌, None}
 use Rattle.std.specs.Prelude.{slice_get}
-use Rattle.sectors.specs.Places.{first_below}
+use Rattle.bio.specs.Places.{first_below}
 use Rattle.bio.specs.Events.{is_stop}
 use Rattle.judge.proofs.lawful.has_no_stop.Given as goal
 

@@ -2,7 +2,7 @@
 use Rattle.std.proofs.Common.{ℕ, ◌+◌, length, take, ap, sym, ◌∙◌, arith}
 use Rattle.std.specs.Prelude.{slice_get}
 use Rattle.bio.specs.Lawful.{can_follow}
-use Rattle.sectors.specs.PlaceLaws.{all_next, not_all, stands_there}
+use Rattle.bio.specs.PlaceLaws.{all_next, not_all, stands_there}
 use Rattle.judge.proofs.lawful.is_well_formed.Goals as goal
 
 pub returns-then-not-can_follow : goal.returns-then-not-can_follow

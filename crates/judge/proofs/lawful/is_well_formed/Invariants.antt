@@ -1,7 +1,7 @@
 -- What holds at the calls and the turns of the loops of `is_well_formed` (src/lawful.rt).
 use Rattle.std.proofs.Common.{◌≡◌, true, take}
 use Rattle.std.specs.Prelude.{slice_get}
-use Rattle.sectors.specs.Places.{all_below}
+use Rattle.bio.specs.Places.{all_below}
 use Rattle.bio.specs.Lawful.{can_follow}
 use Rattle.judge.proofs.lawful.is_well_formed.Given as goal
 

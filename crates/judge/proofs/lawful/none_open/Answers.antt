@@ -1,7 +1,7 @@
 -- Answers to the goals of `none_open` (src/lawful.rt) that the search leaves.
 use Rattle.std.proofs.Common.{ℕ, not, length, ap, sym, ◌∙◌}
 use Rattle.bio.specs.Events.{is_open_at}
-use Rattle.sectors.specs.PlaceLaws.{not_all}
+use Rattle.bio.specs.PlaceLaws.{not_all}
 use Rattle.judge.proofs.lawful.none_open.Goals as goal
 
 pub returns-then-is_open_at : goal.returns-then-is_open_at

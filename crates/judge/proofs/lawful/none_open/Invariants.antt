@@ -1,6 +1,6 @@
 -- What holds at the calls and the turns of the loops of `none_open` (src/lawful.rt).
 use Rattle.std.proofs.Common.{◌≡◌, true, not}
-use Rattle.sectors.specs.Places.{all_below}
+use Rattle.bio.specs.Places.{all_below}
 use Rattle.bio.specs.Events.{is_open_at}
 use Rattle.judge.proofs.lawful.none_open.Given as goal
 

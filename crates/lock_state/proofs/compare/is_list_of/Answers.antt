@@ -1,7 +1,7 @@
 -- Answers to the goals of `is_list_of` (src/compare.rt) that the search leaves.
 use Rattle.std.proofs.Common.{◌≡◌, ◌+◌, ◌<◌, length, suc, sym, subst, arith, None}
 use Rattle.std.proofs.lemmas.Option.{slice_get-get_or}
-use Rattle.sectors.specs.PlaceLaws.{stands_there}
+use Rattle.bio.specs.PlaceLaws.{stands_there}
 use Rattle.bio.specs.declared.event.CoreEvent.TheVariants.{Close}
 use Rattle.lock_state.proofs.Matching.{Matched, matched-other, matched-own, unmatched}
 use Rattle.lock_state.proofs.compare.is_list_of.Goals as goal

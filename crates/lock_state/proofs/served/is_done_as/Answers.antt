@@ -1,7 +1,7 @@
 -- Answers to the goals of `is_done_as` (src/served.rt) that the search leaves.
 use Rattle.std.proofs.Common.{get_or, subst}
 use Rattle.std.proofs.lemmas.Option.{slice_get-get_or}
-use Rattle.sectors.specs.PlaceLaws.{slice_get-within}
+use Rattle.bio.specs.PlaceLaws.{slice_get-within}
 use Rattle.lock_state.specs.Comparing.{Tells}
 use Rattle.lock_state.proofs.Serving.{done_as}
 use Rattle.lock_state.proofs.served.is_done_as.Goals as goal

@@ -1,6 +1,6 @@
 -- Answers to the goals of `note_all` (src/served.rt) that the search leaves.
 use Rattle.std.proofs.Common.{◌≡◌, ◌+◌, ◌<◌, suc, List, length, take, sym, ◌∙◌, subst, arith}
-use Rattle.sectors.specs.PlaceLaws.{stands_there}
+use Rattle.bio.specs.PlaceLaws.{stands_there}
 use Rattle.lock_state.specs.declared.note.Done.{Done}
 use Rattle.lock_state.specs.Comparing.{AllTell}
 use Rattle.lock_state.proofs.Lists.{take_next}

@@ -1,6 +1,6 @@
 -- Answers to the goals of `play_on_disks` (src/playing.rt) that the search leaves.
 use Rattle.std.proofs.Common.{◌≡◌, arith, inr, subst, sym}
-use Rattle.dmlw_script.specs.Plans.{top_of, Disk}
+use Rattle.script_reader.specs.Plans.{top_of, Disk}
 use Rattle.script_runner.specs.CallLaws.{on_error}
 use Rattle.layer_table.specs.Layers.{on_stack, stack_shown}
 use Rattle.script_runner.specs.OnDisks.{stack_answering, FailsOnDisks, IsStackOf, file}
@@ -21,7 +21,9 @@ pub play_beside-requires : goal.play_beside-requires
 play_beside-requires g c =
     let plan = c.args.script.now in
     let size : (stack_shown c.in_ok-log.log).size ≡ top_of plan.log_disk =
-    stack_size plan.log_disk c.in_ok-log.log (subst (λ (disk : Disk). IsStackOf disk c.in_ok-log.log) c.log.ensures.disk c.in_ok-log.ensures.stack) in
+    stack_size plan.log_disk c.in_ok-log.log
+    (subst (λ (disk : Disk). IsStackOf disk c.in_ok-log.log) c.log.ensures.disk
+    c.in_ok-log.ensures.stack) in
     let room = c.log.ensures.script.room in
     omega (arith, size, room)
 

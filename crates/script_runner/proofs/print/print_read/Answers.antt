@@ -17,12 +17,14 @@ pub returns-in_err-write-in-Some-clause-output : goal.returns-in_err-write-in-So
 returns-in_err-write-in-Some-clause-output g c =
     on_failed _ c.from_residual.result c.from_residual.ensures.0
 
-pub returns-in_err-print_first_bytes-in-Some-clause-output : goal.returns-in_err-print_first_bytes-in-Some-clause-output
+pub returns-in_err-print_first_bytes-in-Some-clause-output :
+    goal.returns-in_err-print_first_bytes-in-Some-clause-output
 returns-in_err-print_first_bytes-in-Some-clause-output g c =
     on_failed _ c.from_residual-in_err-print_first_bytes-in-Some.result
     c.from_residual-in_err-print_first_bytes-in-Some.ensures.0
 
-pub returns-in_err-print_first_bytes-in-Some-clause-faults : goal.returns-in_err-print_first_bytes-in-Some-clause-faults
+pub returns-in_err-print_first_bytes-in-Some-clause-faults :
+    goal.returns-in_err-print_first_bytes-in-Some-clause-faults
 returns-in_err-print_first_bytes-in-Some-clause-faults g c =
     on_error c.from_residual-in_err-print_first_bytes-in-Some.result
     c.from_residual-in_err-print_first_bytes-in-Some.ensures.1

@@ -9,7 +9,7 @@ use Rattle.pending.specs.CoreState.{IsSound}
 use Rattle.recorder.specs.Replayed.{ReplaysToWhatCouldBe}
 use Rattle.recorder.specs.Shown.{core_of, recorder_view}
 use Rattle.layer_table.specs.Layers.{stack_shown}
-use Rattle.sectors.specs.Content.{Content}
+use Rattle.bio.specs.Content.{Content}
 use Rattle.script_runner.proofs.OnDisks.{image_agrees, image_long, image_of, is_recorded, same_lies}
 use Rattle.script_runner.proofs.Stepping.{if_failed}
 use Rattle.script_runner.proofs.recording.record.Goals as goal
@@ -28,13 +28,20 @@ returns-clause-recorded g c =
     let played = c.in_ok-played.ensures.played in
     let script = c.args.script.now in
     let last = played.last in
-    let told : (stack_shown last.recorder.store.device).lies ≡ 0 → c.status-status.result ≡ status_of (core_of last.recorder).sector_bytes (entries_of (store_of last.recorder.store)) last.recorder.end =
-    subst (λ (r : DiskRecorder). (stack_shown r.store.device).lies ≡ 0 → c.status-status.result ≡ status_of (core_of r).sector_bytes (entries_of (store_of r.store)) r.end) played.left c.status-status.ensures.status in
+    let told : (stack_shown last.recorder.store.device).lies ≡ 0 → c.status-status.result
+    ≡ status_of (core_of last.recorder).sector_bytes (entries_of (store_of last.recorder.store))
+    last.recorder.end =
+    subst (λ (r : DiskRecorder). (stack_shown r.store.device).lies ≡ 0 → c.status-status.result
+    ≡ status_of (core_of r).sector_bytes (entries_of (store_of r.store)) r.end) played.left
+    c.status-status.ensures.status in
     let says = c.status-status.ensures in
     let counted = subst (λ (r : DiskRecorder). IsCounted c.status-status.result r) played.left
     (record { entries = says.counts; end = says.end; none = says.none; last = says.last }) in
-    let replays : (stack_shown last.recorder.store.device).lies ≡ 0 → (left : Content) → (stack_shown last.recorder.store.device).crash left → ReplaysToWhatCouldBe (recorder_view last.recorder) (recorder_view last.recorder) left =
-    λ honest left may. c.crashed_logs_replay_to_what_could_be.ensures.between last.recorder left honest may in
+    let replays : (stack_shown last.recorder.store.device).lies ≡ 0 → (left : Content) →
+    (stack_shown last.recorder.store.device).crash left →
+    ReplaysToWhatCouldBe (recorder_view last.recorder) (recorder_view last.recorder) left =
+    λ honest left may. c.crashed_logs_replay_to_what_could_be.ensures.between last.recorder
+    left honest may in
     let sound =
     subst (λ (r : DiskRecorder). IsSound
     (core_of r)) played.left c.events-events.ensures.core in

@@ -6,7 +6,7 @@ use Rattle.std.specs.List.{list_any}
 use Rattle.bio.specs.Lawful.{all_aligned, is_lawful, is_well_formed}
 use Rattle.bio.specs.SizeLaws.{lawful_parts}
 use Rattle.bio.specs.Sizes.{bytes_of}
-use Rattle.dmlw_script.specs.Plans.{top_of}
+use Rattle.script_reader.specs.Plans.{top_of}
 use Rattle.pending.specs.CoreState.{CoreState}
 use Rattle.script_runner.specs.CallLaws.{on_error}
 use Rattle.script_runner.specs.OnDisks.{DiskRecorder, file}
@@ -92,7 +92,8 @@ returns-clause-aligned c =
     played.last played.ran in
     let kept = ap (λ (r : DiskRecorder). (core_of r).sector_bytes) played.left in
     let bytes : (core_of recorded).sector_bytes ≡ bytes_of script.log_size =
-    kept ∙ goes.sector_bytes ∙ ap (λ (core : CoreState). core.sector_bytes) played.starts.log_disk.begun.core in
+    kept ∙ goes.sector_bytes ∙ ap (λ (core : CoreState). core.sector_bytes)
+    played.starts.log_disk.begun.core in
     of_kept c.kept_if.result _ _ _ c.kept_if.ensures.kept (λ found.
     subst (λ (size : ℕ). all_aligned size (core_of recorded).events ≡ true) bytes
     (lawful_parts (core_of recorded).sector_bytes 1048576

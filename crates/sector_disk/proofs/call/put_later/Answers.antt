@@ -24,7 +24,8 @@ loop-sector-preserved c =
           let later_is = w.if-place-gt0.true in
           let value = w.read_place.new.buffer in
           let read = w.read_place.ensures ∙ ap (λ p. value_at later (p - 1) sector) place
-          ∙ sym (left_later later first (place_of places sector) sector (omega arith)) ∙ ap content from in
+          ∙ sym (left_later later first (place_of places sector) sector (omega arith))
+          ∙ ap content from in
           let size = ap length w.read_place.ensures ∙ length-value_at later _ sector in (
             gather-next content 0 sector c.loop-sector.image _ value
                 (omega arith) size w.image-is read earlier.0,

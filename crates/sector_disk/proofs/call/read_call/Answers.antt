@@ -1,7 +1,7 @@
 -- Answers to the goals of `read_call` (src/call.rt) that the search leaves.
 use Rattle.std.proofs.Common.{ap, replicate, sym, ◌∙◌}
 use Rattle.std.specs.Prelude.{unwrap_or}
-use Rattle.sectors.specs.ContentLaws.{writes-whole}
+use Rattle.bio.specs.ContentLaws.{writes-whole}
 use Rattle.sector_disk.specs.inside.Storage.{change_values}
 use Rattle.sector_disk.proofs.Reading.{discarded}
 use Rattle.sector_disk.proofs.call.read_call.Goals as goal

@@ -9,7 +9,8 @@ loop-index-preserved c =
     let calls = c.args.calls.now in
     let places = c.args.places.now in
     let sector = c.args.first + c.loop-index.index in
-    let read = c.read_place.ensures ∙ ap (λ place. value_at calls place sector) c.place_of.ensures in
+    let read = c.read_place.ensures ∙ ap (λ place. value_at calls place sector)
+    c.place_of.ensures in
     let size = ap length read ∙ length-value_at calls (place_of places sector) sector in
     let kept = c.loop-index.auto.buffer in
     let here = c.loop-index-test.true in

@@ -1,6 +1,6 @@
 -- What holds at the calls and the turns of the loops of `read_places` (src/call.rt).
 use Rattle.std.proofs.Common.{◌≡◌, ◌*◌, take}
-use Rattle.sectors.specs.Content.{gather}
+use Rattle.bio.specs.Content.{gather}
 use Rattle.sector_disk.specs.inside.Storage.{content_at}
 use Rattle.sector_disk.proofs.call.read_places.Given as goal
 

@@ -2,7 +2,8 @@
 use Rattle.std.proofs.Common.{inl, inr}
 use Rattle.sector_disk.proofs.Reading.{written-none, written-some}
 use Rattle.sector_disk.proofs.call.written.Goals as goal
-use Rattle.sector_disk.proofs.call.written.Goals.{then-sector-first-via-then-sector-first, then-sector-first-via-else-sector-first+then-sector-first-2}
+use Rattle.sector_disk.proofs.call.written.Goals.{then-sector-first-via-then-sector-first}
+use Rattle.sector_disk.proofs.call.written.Goals.{then-sector-first-via-else-sector-first+then-sector-first-2}
 
 pub returns-then-sector-first : goal.returns-then-sector-first
 returns-then-sector-first c =

@@ -31,15 +31,25 @@ loop-sector-preserved c =
     record {
       length_kept =
           length-set c.loop-sector.chosen.items sector c.walk_back.result ∙ before.length_kept;
-      few = elim c.if-count-gt1.branch [ then-count-gt1 w ↦ omega arith | else-count-gt1 w ↦ omega arith ];
+      few = elim c.if-count-gt1.branch [
+        | then-count-gt1 w ↦ omega arith
+        | else-count-gt1 w ↦
+            omega arith
+      ];
       chosen = λ cache placed.
           let old = before.chosen cache placed in (
             unsynced-next c.args.calls.now c.args.synced c.args.newest.now sector
                 c.count_candidates-count.result c.loop-sector.unsynced c.if-count-gt1.unsynced cache
                 placed
                 c.loop-sector-test.true counts old.0
-                (λ many. elim c.if-count-gt1.branch [ then-count-gt1 w ↦ w.unsynced-is | else-count-gt1 w ↦ absurd (omega arith) ])
-                (λ one. elim c.if-count-gt1.branch [ then-count-gt1 w ↦ absurd (omega arith) | else-count-gt1 w ↦ w.unsynced-is ]),
+                (λ many. elim c.if-count-gt1.branch [
+                  | then-count-gt1 w ↦ w.unsynced-is
+                  | else-count-gt1 w ↦ absurd (omega arith)
+                ])
+                (λ one. elim c.if-count-gt1.branch [
+                  | then-count-gt1 w ↦ absurd (omega arith)
+                  | else-count-gt1 w ↦ w.unsynced-is
+                ]),
             chosen-next c.args.calls.now c.args.synced c.args.newest.now c.args.picks.now
                 c.loop-sector.chosen.items sector c.count_candidates-count.result
                 c.loop-sector.unsynced

@@ -1,6 +1,6 @@
 -- Answers to the goals of `calls_make_candidates` (src/laws.rt) that the search leaves.
 use Rattle.std.proofs.Common.{◌-◌, ◌/◌, false, length, replicate, true}
-use Rattle.sectors.specs.Content.{discards, sector_of, writes}
+use Rattle.bio.specs.Content.{discards, sector_of, writes}
 use Rattle.sector_disk.proofs.Lawful.{may-flushed, may-put, over-there}
 use Rattle.sector_disk.proofs.laws.calls_make_candidates.Goals as goal
 

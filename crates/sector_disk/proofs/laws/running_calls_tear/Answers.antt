@@ -1,6 +1,6 @@
 -- Answers to the goals of `running_calls_tear` (src/laws.rt) that the search leaves.
 use Rattle.std.proofs.Common.{false}
-use Rattle.sectors.specs.Content.{discards, writes}
+use Rattle.bio.specs.Content.{discards, writes}
 use Rattle.sector_disk.proofs.Lawful.{torn-left}
 use Rattle.sector_disk.proofs.laws.running_calls_tear.Goals as goal
 

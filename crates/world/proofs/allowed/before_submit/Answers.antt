@@ -1,6 +1,6 @@
 -- Answers to the goals of `before_submit` (src/allowed.rt) that the search leaves.
 use Rattle.std.proofs.Common.{◌+◌, sym, ◌∙◌, arith}
-use Rattle.sectors.specs.PlaceLaws.{stands_there}
+use Rattle.bio.specs.PlaceLaws.{stands_there}
 use Rattle.world.proofs.Lists.{before_here, before_other}
 use Rattle.world.proofs.allowed.before_submit.Goals as goal
 use Rattle.world.proofs.allowed.before_submit.Goals.{then-is_submit, else-is_submit}

@@ -2,7 +2,7 @@
 use Rattle.std.proofs.Common.{◌≡◌, ◌+◌, List, take, ap, sym, ◌∙◌, arith}
 use Rattle.std.proofs.lemmas.List.{take_all}
 use Rattle.std.specs.List.{list_all}
-use Rattle.sectors.specs.PlaceLaws.{stands_there}
+use Rattle.bio.specs.PlaceLaws.{stands_there}
 use Rattle.world.specs.declared.step.Step.{Step}
 use Rattle.world.specs.inside.Allowed.{end_settled}
 use Rattle.world.proofs.Lists.{all_more, all_reverse, some_fails}

@@ -1,7 +1,7 @@
 -- What holds at the calls and the turns of the loops of `has_landed` (src/allowed.rt).
 use Rattle.std.proofs.Common.{◌≡◌, ◌+◌, true}
 use Rattle.std.specs.Prelude.{slice_get}
-use Rattle.sectors.specs.Places.{all_below}
+use Rattle.bio.specs.Places.{all_below}
 use Rattle.bio.specs.Requests.{first_sector}
 use Rattle.world.specs.Cells.{landed_of}
 use Rattle.world.specs.Machine.{is_among}

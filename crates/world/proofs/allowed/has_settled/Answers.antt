@@ -1,7 +1,7 @@
 -- Answers to the goals of `has_settled` (src/allowed.rt) that the search leaves.
 use Rattle.std.proofs.Common.{ℕ, ◌+◌, Bool, ap, sym, ◌∙◌, arith}
 use Rattle.std.specs.Prelude.{slice_get}
-use Rattle.sectors.specs.PlaceLaws.{all_next, not_all}
+use Rattle.bio.specs.PlaceLaws.{all_next, not_all}
 use Rattle.bio.specs.Requests.{first_sector, sector_count}
 use Rattle.world.specs.Cells.{settled_of}
 use Rattle.world.specs.Machine.{is_among}

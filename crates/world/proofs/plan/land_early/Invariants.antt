@@ -1,6 +1,6 @@
 -- What holds at the calls and the turns of the loops of `land_early` (src/plan.rt).
 use Rattle.std.proofs.Common.{◌≡◌, ◌++◌, ◌+◌}
-use Rattle.sectors.specs.Places.{collect}
+use Rattle.bio.specs.Places.{collect}
 use Rattle.bio.specs.Requests.{first_sector}
 use Rattle.judge.specs.Accounts.{place_at}
 use Rattle.world.specs.inside.Plan.{lands_if, sure_by}

@@ -1,7 +1,7 @@
 -- Answers to the goals of `put_written` (src/putting.rt) that the search leaves.
 use Rattle.std.proofs.Common.{◌/◌, ◌*◌, length, drop, ap, ◌∙◌, arith, length-drop}
 use Rattle.std.proofs.lemmas.List.{length-take-le}
-use Rattle.sectors.specs.Content.{sector_of, writes}
+use Rattle.bio.specs.Content.{sector_of, writes}
 use Rattle.world.proofs.Replacing.{put_outside, range_value}
 use Rattle.world.proofs.putting.put_written.Goals as goal
 

@@ -1,6 +1,6 @@
 -- Answers to the goals of `put_zeroes` (src/putting.rt) that the search leaves.
 use Rattle.std.proofs.Common.{replicate}
-use Rattle.sectors.specs.Content.{discards}
+use Rattle.bio.specs.Content.{discards}
 use Rattle.world.proofs.Replacing.{put_outside, range_value}
 use Rattle.world.proofs.putting.put_zeroes.Goals as goal
 

@@ -1,6 +1,6 @@
 -- Answers to the goals of `find` (src/reaching.rt) that the search leaves.
 use Rattle.std.proofs.Common.{◌/◌, List, length, take, ap, sym, ◌∙◌, subst, arith}
-use Rattle.sectors.specs.Content.{sector_of}
+use Rattle.bio.specs.Content.{sector_of}
 use Rattle.bio.specs.declared.event.CoreEvent.{CoreEvent}
 use Rattle.bio.specs.EventLaws.{lawful-take}
 use Rattle.judge.specs.declared.verdict.Verdict.{Verdict}
@@ -28,7 +28,8 @@ returns-in-Yes c =
     let sectors = length c.args.image.now / 512 in
     let account = c.in_ok-account.account in
     let Told = λ (es : List CoreEvent). IsAccount es image sectors account in
-    let Judged = λ (verdict : Verdict). IsVerdict sectors (take c.args.moment events) first image verdict in
+    let Judged =
+    λ (verdict : Verdict). IsVerdict sectors (take c.args.moment events) first image verdict in
     let told = subst Told c.beginning-events.ensures c.in_ok-account.ensures in
     let lawful = lawful-take sectors events c.args.moment c.requires.lawful in
     account_leaves sectors (take c.args.moment events) first image account
@@ -45,7 +46,8 @@ returns c =
     let first = first_on c.args.first (length c.args.image.now) in
     let sectors = length c.args.image.now / 512 in
     let Told = λ (es : List CoreEvent). IsAccount es image sectors c.in_ok-account.account in
-    let Judged = λ (verdict : Verdict). IsVerdict sectors (take c.args.moment events) first image verdict in
+    let Judged =
+    λ (verdict : Verdict). IsVerdict sectors (take c.args.moment events) first image verdict in
     let told = subst Told c.beginning-events.ensures c.in_ok-account.ensures in
     let lawful = lawful-take sectors events c.args.moment c.requires.lawful in
     subst Judged c.in-No.is (c.verdict.ensures (take c.args.moment events) lawful told)

@@ -1,6 +1,6 @@
 -- What holds at the calls and the turns of the loops of `finish` (src/reaching.rt).
 use Rattle.std.proofs.Common.{◌≡◌, ◌++◌}
-use Rattle.sectors.specs.Places.{collect}
+use Rattle.bio.specs.Places.{collect}
 use Rattle.judge.specs.Accounts.{place_at}
 use Rattle.world.specs.inside.Plan.{steps_left}
 use Rattle.world.proofs.reaching.finish.Given as goal

@@ -1,7 +1,7 @@
 -- Answers to the goals of `follow` (src/reaching.rt) that the search leaves.
 use Rattle.std.proofs.Common.{ℕ, ◌+◌, ◌++◌, Option, List, ap, sym, ◌∙◌, arith}
 use Rattle.std.specs.Prelude.{slice_get}
-use Rattle.sectors.specs.PlaceLaws.{stands_there}
+use Rattle.bio.specs.PlaceLaws.{stands_there}
 use Rattle.bio.specs.declared.event.CoreEvent.{CoreEvent}
 use Rattle.judge.specs.Accounts.{place_at}
 use Rattle.world.specs.declared.step.Step.{Step}

@@ -1,7 +1,7 @@
 -- What holds at the calls and the turns of the loops of `follow` (src/reaching.rt).
 use Rattle.std.proofs.Common.{◌≡◌, ◌++◌}
 use Rattle.std.specs.Prelude.{slice_get}
-use Rattle.sectors.specs.Places.{collect}
+use Rattle.bio.specs.Places.{collect}
 use Rattle.judge.specs.Accounts.{place_at}
 use Rattle.world.specs.inside.Plan.{steps_of, sure_by}
 use Rattle.world.proofs.reaching.follow.Given as goal

@@ -1,6 +1,6 @@
 -- Answers to the goals of `reach` (src/reaching.rt) that the search leaves.
 use Rattle.std.proofs.Common.{◌/◌, length, subst, take}
-use Rattle.sectors.specs.Content.{sector_of}
+use Rattle.bio.specs.Content.{sector_of}
 use Rattle.judge.specs.Firsts.{first_on}
 use Rattle.world.specs.declared.finding.Finding.{Finding}
 use Rattle.world.specs.Findings.{IsFinding}

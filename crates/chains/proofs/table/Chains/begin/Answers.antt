@@ -16,7 +16,8 @@ table g c =
     let chains = seen_chains c.self.inside.links c.self.inside.walk ++ [] ∷ [] in
     let rows = c.self.inside.rows.items in
     let lasts = c.self.inside.links.lasts.items in
-    let P : List ℕ → Type 0 = λ n. IsTable n (seen_lasts c.begin.new.self.lasts.items c.self.inside.walk) rows chains in
+    let P : List ℕ → Type 0 =
+    λ n. IsTable n (seen_lasts c.begin.new.self.lasts.items c.self.inside.walk) rows chains in
     subst P (sym (ap (λ v. v.items) c.begin.ensures.next))
     (table-at (seen_lasts lasts c.self.inside.walk ++ None ∷ [])
     (seen_lasts c.begin.new.self.lasts.items c.self.inside.walk) chains chains

@@ -18,7 +18,8 @@ value_mut-requires g c =
     let t = (c.self.invariant).table in
     let first = c.first_row-row.ensures in
     let rest = first-row t.holds c.args.chain first.0 c.first_row-row.result first.1 first.2 in
-    let value = first-value t c.args.chain c.first_row-row.result rest.0 c.requires.chain.0 rest.1 in
+    let value = first-value t c.args.chain c.first_row-row.result rest.0
+    c.requires.chain.0 rest.1 in
     let small = row-within t c.args.chain c.first_row-row.result rest.0 rest.1 in
     let rows = c.self.inside.rows.items in
     let read =
@@ -31,7 +32,8 @@ returns g c =
     let t = (c.self.invariant).table in
     let first = c.first_row-row.ensures in
     let rest = first-row t.holds c.args.chain first.0 c.first_row-row.result first.1 first.2 in
-    let value = first-value t c.args.chain c.first_row-row.result rest.0 c.requires.chain.0 rest.1 in
+    let value = first-value t c.args.chain c.first_row-row.result rest.0
+    c.requires.chain.0 rest.1 in
     let small = row-within t c.args.chain c.first_row-row.result rest.0 rest.1 in
     let rows = c.self.inside.rows.items in
     let read =

@@ -43,7 +43,9 @@ put_first-requires g c =
     let o =
     taken-open c.self.invariant rests c.args.chain first.0 c.in_ok-row.row
     c.requires.chain.0 first.1 first.2 c.take_first.new.links
-    c.take_first.ensures.changes (λ h. c.in_ok-row.ensures.holds [] (seen_chains c.self.inside.links c.self.inside.walk) h) in
+    c.take_first.ensures.changes
+    (λ h. c.in_ok-row.ensures.holds []
+    (seen_chains c.self.inside.links c.self.inside.walk) h) in
     loose-open o 0 o.free
 
 -- nothing is walked

@@ -13,7 +13,8 @@ use Rattle.chains.proofs.table.Chains.turn.Goals as goal
 pub returns-in_default-at-clause-chains : goal.returns-in_default-at-clause-chains
 returns-in_default-at-clause-chains g c = λ chain walked.
     let seen = rw (← c.self.view_is) at walked in
-    let last = walked-last c.self.inside.walk c.in-Some.walk chain c.self.invariant c.in-Some.is seen in
+    let last = walked-last c.self.inside.walk c.in-Some.walk chain c.self.invariant
+    c.in-Some.is seen in
     let rows = c.self.inside.rows.items in
     let chains = seen_chains c.self.inside.links c.self.inside.walk in
     rw (← c.self.view_is)
@@ -49,7 +50,8 @@ pub returns-clause-chains : goal.returns-clause-chains
 returns-clause-chains g c = λ chain walked.
     let seen = rw (← c.self.view_is) at walked in
     let same = walked-is c.self.inside.walk c.in-Some.walk chain c.in-Some.is seen in
-    let last = walked-last c.self.inside.walk c.in-Some.walk chain c.self.invariant c.in-Some.is seen in
+    let last = walked-last c.self.inside.walk c.in-Some.walk chain c.self.invariant
+    c.in-Some.is seen in
     let rows = c.self.inside.rows.items in
     let chains = seen_chains c.self.inside.links c.self.inside.walk in
     rw (← c.self.view_is)

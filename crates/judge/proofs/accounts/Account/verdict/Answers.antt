@@ -1,6 +1,6 @@
 -- Answers to the goals of `Account::verdict` (src/accounts.rt) that the search leaves.
 use Rattle.std.proofs.Common.{ℕ, List, Option, length, ◌/◌, subst}
-use Rattle.sectors.specs.Content.{sector_of}
+use Rattle.bio.specs.Content.{sector_of}
 use Rattle.judge.specs.Firsts.{first_bytes, first_on}
 use Rattle.judge.specs.inside.Accounts.{IsFound}
 use Rattle.judge.proofs.Judging.{judged}
@@ -12,9 +12,11 @@ returns c events lawful told =
     let first = first_on c.args.first (length image) in
     let account = c.args.self.now in
     let Last = λ (last : List (Option ℕ)).
-    IsFound c.deref.result.now last first (sector_of image) (length image / 512) c.lowest_failing.result in
+    IsFound c.deref.result.now last first (sector_of image) (length image / 512)
+    c.lowest_failing.result in
     let Found = λ (held : List (Option ℕ)).
-    IsFound held account.last.items first (sector_of image) (length image / 512) c.lowest_failing.result in
+    IsFound held account.last.items first (sector_of image) (length image / 512)
+    c.lowest_failing.result in
     judged events (first_bytes c.args.first (length image)) image account c.lowest_failing.result
     c.requires.whole c.requires.same lawful told
     (subst Found c.deref.ensures.value

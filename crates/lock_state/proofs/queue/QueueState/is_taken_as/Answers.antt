@@ -4,7 +4,7 @@ use Rattle.std.proofs.Common.{subst, arith}
 use Rattle.std.specs.Prelude.{MatchBool}
 use Rattle.pending.specs.CoreState.{items_of}
 use Rattle.bio.specs.declared.event.CoreEvent.{CoreEvent}
-use Rattle.sectors.specs.PlaceLaws.{stands_there, slice_get-within}
+use Rattle.bio.specs.PlaceLaws.{stands_there, slice_get-within}
 use Rattle.lock_state.specs.Comparing.{listed}
 use Rattle.lock_state.specs.History.{Queue}
 use Rattle.lock_state.proofs.Taking.{taken_as, taken_match}

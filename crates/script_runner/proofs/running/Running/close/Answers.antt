@@ -5,8 +5,12 @@ use Rattle.script_runner.proofs.running.Running.close.Goals as goal
 
 pub returns : goal.returns
 returns g c = record {
-  moment = refl;
-  log_moment = c.drain-ended.ensures.moment ∙ c.event.ensures.moment;
+  keeps = record {
+    moment = refl;
+    log_moment = c.drain-ended.ensures.moment ∙ c.event.ensures.moment;
+    size = refl;
+    count = refl;
+  };
   ends = record {
     keeps = record { device = refl; kept = refl; prints = refl };
     closed = c.event.new.self;
@@ -20,6 +24,8 @@ returns g c = record {
       c.several_calls_go_as_one.ensures.two c.args.self.now.recorder c.event.new.self
       c.drain-ended.new.self c.event.ensures.goes c.drain-ended.ensures.goes;
   refused = tt;
-  size = refl;
-  count = refl;
 }
+
+pub returns-in-Refused-clause-keeps : goal.returns-in-Refused-clause-keeps
+returns-in-Refused-clause-keeps g c =
+    record { moment = refl; log_moment = c.event.ensures.moment; size = refl; count = refl }

@@ -8,7 +8,8 @@ use Rattle.script_runner.proofs.running.Running.complete.Goals as goal
 pub returns-in-NotAsked-clause-runs : goal.returns-in-NotAsked-clause-runs
 returns-in-NotAsked-clause-runs g c =
     let here : slice_get c.args.self.now.requests.items c.args.request ≡ Some requests.NotAsked =
-    stands_at c.args.self.now.requests.items c.args.request c.index.result.now requests.NotAsked c.requires.submitted c.index.ensures c.in-NotAsked.is in (
+    stands_at c.args.self.now.requests.items c.args.request c.index.result.now requests.NotAsked
+    c.requires.submitted c.index.ensures c.in-NotAsked.is in (
       [],
       record {
         does = rw here (record { device = refl; kept = refl; prints = refl }, refl);

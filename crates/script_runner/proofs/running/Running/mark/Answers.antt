@@ -5,6 +5,14 @@ use Rattle.script_runner.specs.inside.Replies.{mark_outcome}
 use Rattle.script_runner.proofs.Stepping.{mark_prints, on_ok}
 use Rattle.script_runner.proofs.running.Running.mark.Goals as goal
 
+pub returns-in_err-clone-clause-keeps : goal.returns-in_err-clone-clause-keeps
+returns-in_err-clone-clause-keeps g c =
+    record { moment = refl; log_moment = refl; size = refl; count = refl }
+
+pub returns-clause-keeps : goal.returns-clause-keeps
+returns-clause-keeps g c =
+    record { moment = refl; log_moment = c.event-reply.ensures.moment; size = refl; count = refl }
+
 pub returns-clause-runs : goal.returns-clause-runs
 returns-clause-runs g c = on_ok c.print_mark.result c.print_mark.ensures.output (λ printed.
     let reply = c.event-reply.result in

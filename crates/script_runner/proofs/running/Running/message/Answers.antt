@@ -1,9 +1,9 @@
 -- Answers to the goals of `Running::message` (src/running.rt) that the search leaves.
 use Rattle.std.proofs.Common.{◌≡◌, ◌∙◌, List, [], Result, Ok, Err, ap, refl, subst, sym, ℕ}
-use Rattle.std.specs.Prelude.{IsTrue, length}
+use Rattle.std.specs.Prelude.{IsTrue}
 use Rattle.std.specs.List.{list_all}
 use Rattle.blockdev.specs.declared.message.MessageError.{MessageError}
-use Rattle.dmlw_script.specs.declared.disk_name.DiskName.{DiskName}
+use Rattle.script_reader.specs.declared.disk_name.DiskName.{DiskName}
 use Rattle.pending.specs.CoreState.{CoreShown}
 use Rattle.recorder.specs.Growth.{RecorderFrame}
 use Rattle.recorder.specs.Shown.{recorder_view}
@@ -11,6 +11,7 @@ use Rattle.script_runner.specs.declared.running.Running.{Running}
 use Rattle.script_runner.specs.declared.step_error.StepError.TheVariants.{AtLine}
 use Rattle.script_runner.specs.Submitted.{fits_device}
 use Rattle.script_runner.specs.Lines.{RefusesMessage, TellsData, TellsLog, TellsLayer, answering}
+use Rattle.script_runner.specs.inside.Steps.{StepKeeps}
 use Rattle.script_runner.proofs.running.Running.message.Goals.{in-Data, in-Log}
 use Rattle.script_runner.proofs.running.Running.message.Goals as goal
 
@@ -72,16 +73,6 @@ returns-in-Ok-clause-tells g c =
           }))
     ]
 
-pub returns-in-Ok-clause-moment : goal.returns-in-Ok-clause-moment
-returns-in-Ok-clause-moment g c = elim c.match-over.branch [
-  | in-Data w ↦
-      ap (λ (run : Running g.row.D.Denot g.row.L.Denot g.D.BlockDev g.L.BlockDev). run.moment)
-      w.self-is
-  | in-Log w ↦
-      ap (λ (run : Running g.row.D.Denot g.row.L.Denot g.D.BlockDev g.L.BlockDev). run.moment)
-      w.self-is
-]
-
 pub returns-in-Ok-clause-goes : goal.returns-in-Ok-clause-goes
 returns-in-Ok-clause-goes g c = elim c.match-over.branch [
   | in-Data w ↦
@@ -113,7 +104,8 @@ returns-in-Err-clause-refused g c =
     let error = c.in-Err.error in
     let text : c.ascii_text-text.result.now ≡ c.args.text.now =
     c.ascii_text-text.ensures ∙ c.as_slice.ensures in
-    let refused : RefusesMessage m c.args.over c.args.layer c.args.text.now error run = elim c.match-over.branch [
+    let refused : RefusesMessage m c.args.over c.args.layer c.args.text.now error run =
+    elim c.match-over.branch [
       | in-Data w ↦
           let last = w.message-answer.new.self in
           let taken =
@@ -140,72 +132,42 @@ returns-in-Err-clause-refused g c =
           )
     ] in (error, ap AtLine c.from.ensures, refused)
 
-pub returns-in-Ok-clause-count : goal.returns-in-Ok-clause-count
-returns-in-Ok-clause-count g c = elim c.match-over.branch [
+pub returns-in-Ok-clause-keeps : goal.returns-in-Ok-clause-keeps
+returns-in-Ok-clause-keeps g c = elim c.match-over.branch [
   | in-Data w ↦
-      ap (λ (run : Running g.row.D.Denot g.row.L.Denot g.D.BlockDev g.L.BlockDev). length
-      run.requests.items) w.self-is
+      subst (λ (run : Running g.row.D.Denot g.row.L.Denot g.D.BlockDev g.L.BlockDev). StepKeeps
+      c.args.self.now run) (sym w.self-is) (record {
+        moment = refl;
+        log_moment = refl;
+        size = w.message-answer.ensures.same.size;
+        count = refl;
+      })
   | in-Log w ↦
-      ap (λ (run : Running g.row.D.Denot g.row.L.Denot g.D.BlockDev g.L.BlockDev). length
-      run.requests.items) w.self-is
+      subst (λ (run : Running g.row.D.Denot g.row.L.Denot g.D.BlockDev g.L.BlockDev). StepKeeps
+      c.args.self.now run) (sym w.self-is) (record {
+        moment = refl;
+        log_moment = w.message-answer-in-Log.ensures.moment;
+        size = refl;
+        count = refl;
+      })
 ]
 
-pub returns-in-Ok-clause-size : goal.returns-in-Ok-clause-size
-returns-in-Ok-clause-size g c = elim c.match-over.branch [
+pub returns-in-Err-clause-keeps : goal.returns-in-Err-clause-keeps
+returns-in-Err-clause-keeps g c = elim c.match-over.branch [
   | in-Data w ↦
-      ap (λ (run : Running g.row.D.Denot g.row.L.Denot g.D.BlockDev g.L.BlockDev).
-      (g.D.BlockDev.shown run.disk).size) w.self-is ∙ w.message-answer.ensures.same.size
+      subst (λ (run : Running g.row.D.Denot g.row.L.Denot g.D.BlockDev g.L.BlockDev). StepKeeps
+      c.args.self.now run) (sym w.self-is) (record {
+        moment = refl;
+        log_moment = refl;
+        size = w.message-answer.ensures.same.size;
+        count = refl;
+      })
   | in-Log w ↦
-      ap (λ (run : Running g.row.D.Denot g.row.L.Denot g.D.BlockDev g.L.BlockDev).
-      (g.D.BlockDev.shown run.disk).size) w.self-is
-]
-
-pub returns-in-Err-clause-moment : goal.returns-in-Err-clause-moment
-returns-in-Err-clause-moment g c = elim c.match-over.branch [
-  | in-Data w ↦
-      ap (λ (run : Running g.row.D.Denot g.row.L.Denot g.D.BlockDev g.L.BlockDev). run.moment)
-      w.self-is
-  | in-Log w ↦
-      ap (λ (run : Running g.row.D.Denot g.row.L.Denot g.D.BlockDev g.L.BlockDev). run.moment)
-      w.self-is
-]
-
-pub returns-in-Err-clause-count : goal.returns-in-Err-clause-count
-returns-in-Err-clause-count g c = elim c.match-over.branch [
-  | in-Data w ↦
-      ap (λ (run : Running g.row.D.Denot g.row.L.Denot g.D.BlockDev g.L.BlockDev). length
-      run.requests.items) w.self-is
-  | in-Log w ↦
-      ap (λ (run : Running g.row.D.Denot g.row.L.Denot g.D.BlockDev g.L.BlockDev). length
-      run.requests.items) w.self-is
-]
-
-pub returns-in-Err-clause-size : goal.returns-in-Err-clause-size
-returns-in-Err-clause-size g c = elim c.match-over.branch [
-  | in-Data w ↦
-      ap (λ (run : Running g.row.D.Denot g.row.L.Denot g.D.BlockDev g.L.BlockDev).
-      (g.D.BlockDev.shown run.disk).size) w.self-is ∙ w.message-answer.ensures.same.size
-  | in-Log w ↦
-      ap (λ (run : Running g.row.D.Denot g.row.L.Denot g.D.BlockDev g.L.BlockDev).
-      (g.D.BlockDev.shown run.disk).size) w.self-is
-]
-
-pub returns-in-Ok-clause-log_moment : goal.returns-in-Ok-clause-log_moment
-returns-in-Ok-clause-log_moment g c = elim c.match-over.branch [
-  | in-Data w ↦
-      ap (λ (run : Running g.row.D.Denot g.row.L.Denot g.D.BlockDev g.L.BlockDev).
-      run.recorder.store.moment) w.self-is
-  | in-Log w ↦
-      ap (λ (run : Running g.row.D.Denot g.row.L.Denot g.D.BlockDev g.L.BlockDev).
-      run.recorder.store.moment) w.self-is ∙ w.message-answer-in-Log.ensures.moment
-]
-
-pub returns-in-Err-clause-log_moment : goal.returns-in-Err-clause-log_moment
-returns-in-Err-clause-log_moment g c = elim c.match-over.branch [
-  | in-Data w ↦
-      ap (λ (run : Running g.row.D.Denot g.row.L.Denot g.D.BlockDev g.L.BlockDev).
-      run.recorder.store.moment) w.self-is
-  | in-Log w ↦
-      ap (λ (run : Running g.row.D.Denot g.row.L.Denot g.D.BlockDev g.L.BlockDev).
-      run.recorder.store.moment) w.self-is ∙ w.message-answer-in-Log.ensures.moment
+      subst (λ (run : Running g.row.D.Denot g.row.L.Denot g.D.BlockDev g.L.BlockDev). StepKeeps
+      c.args.self.now run) (sym w.self-is) (record {
+        moment = refl;
+        log_moment = w.message-answer-in-Log.ensures.moment;
+        size = refl;
+        count = refl;
+      })
 ]

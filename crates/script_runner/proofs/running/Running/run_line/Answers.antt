@@ -1,8 +1,8 @@
 -- Answers to the goals of `Running::run_line` (src/running.rt) that the search leaves.
 use Rattle.std.proofs.Common.{[], inl, inr, subst, sym}
 use Rattle.std.specs.Prelude.{OnOk}
-use Rattle.dmlw_script.specs.declared.command.Command.{Command}
-use Rattle.dmlw_script.specs.declared.command.Step.TheVariants as steps
+use Rattle.script_reader.specs.declared.command.Command.{Command}
+use Rattle.script_reader.specs.declared.command.Step.TheVariants as steps
 use Rattle.script_runner.specs.CallLaws.{keeps_same}
 use Rattle.script_runner.specs.Lines.{PrintsLine, TellsLayer, answering}
 use Rattle.script_runner.proofs.Stepping.{appends_none, both_ok, if_err, is_close_step, is_step}
@@ -55,14 +55,14 @@ returns-in-Close-clause-runs g c =
     step_runs (answering g.D.Message.answers g.L.Message.answers) c.args.names.now
     c.args.command.now steps.Close _ _ [] c.args.self.now c.close.new.self
     (is_step c.args.command.now c.in-Step.step _ c.in-Step.is c.in-Close.is) ends
-    c.close.ensures.moment c.close.ensures.log_moment goes (appends_none _))
+    c.close.ensures.keeps.moment c.close.ensures.keeps.log_moment goes (appends_none _))
 
 pub returns-in-Read-clause-runs : goal.returns-in-Read-clause-runs
 returns-in-Read-clause-runs g c = on_ok c.read.result c.read.ensures.runs (λ ran.
     step_runs (answering g.D.Message.answers g.L.Message.answers) c.args.names.now
     c.args.command.now (steps.Read c.in-Read.first c.in-Read.count) _ _ ran.0 c.args.self.now
     c.read.new.self (is_step c.args.command.now c.in-Step.step _ c.in-Step.is c.in-Read.is)
-    ran.1 c.read.ensures.moment c.read.ensures.log_moment c.read.ensures.goes ran.2)
+    ran.1 c.read.ensures.keeps.moment c.read.ensures.keeps.log_moment c.read.ensures.goes ran.2)
 
 pub returns-in-Mark-clause-runs : goal.returns-in-Mark-clause-runs
 returns-in-Mark-clause-runs g c =
@@ -70,7 +70,7 @@ returns-in-Mark-clause-runs g c =
     step_runs (answering g.D.Message.answers g.L.Message.answers) c.args.names.now
     c.args.command.now (steps.Mark c.in-Mark.text) _ _ ran.0 c.args.self.now c.mark.new.self
     (is_step c.args.command.now c.in-Step.step _ c.in-Step.is c.in-Mark.is) ran.1
-    c.mark.ensures.moment c.mark.ensures.log_moment goes ran.2)
+    c.mark.ensures.keeps.moment c.mark.ensures.keeps.log_moment goes ran.2)
 
 pub returns-in-Message-clause-runs : goal.returns-in-Message-clause-runs
 returns-in-Message-clause-runs g c =
@@ -81,7 +81,7 @@ returns-in-Message-clause-runs g c =
     c.args.command.now (steps.Message c.in-Message.over c.in-Message.layer c.in-Message.text) _
     _ [] c.args.self.now c.message.new.self
     (is_step c.args.command.now c.in-Step.step _ c.in-Step.is c.in-Message.is) tells
-    c.message.ensures.moment c.message.ensures.log_moment c.message.ensures.goes
+    c.message.ensures.keeps.moment c.message.ensures.keeps.log_moment c.message.ensures.goes
     (appends_none _))
 
 pub returns-in-Turn-clause-runs : goal.returns-in-Turn-clause-runs
@@ -89,7 +89,7 @@ returns-in-Turn-clause-runs g c =
     step_runs (answering g.D.Message.answers g.L.Message.answers) c.args.names.now
     c.args.command.now steps.Turn _ _ [] c.args.self.now c.turn.new.self
     (is_step c.args.command.now c.in-Step.step _ c.in-Step.is c.in-Turn.is) c.turn.ensures.turns
-    c.turn.ensures.moment c.turn.ensures.log_moment c.turn.ensures.goes (appends_none _)
+    c.turn.ensures.keeps.moment c.turn.ensures.keeps.log_moment c.turn.ensures.goes (appends_none _)
 
 pub returns-in-At-clause-runs : goal.returns-in-At-clause-runs
 returns-in-At-clause-runs g c =

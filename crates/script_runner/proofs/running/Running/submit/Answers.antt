@@ -2,8 +2,8 @@
 use Rattle.std.proofs.Common.{◌≡◌, ◌∙◌, ap, arith, inr, length, refl, subst, sym}
 use Rattle.std.specs.Io.KnownBytes.{Appends}
 use Rattle.std.specs.Prelude.{is_ok}
-use Rattle.dmlw_script.specs.declared.script_id.ScriptId.{ScriptId}
-use Rattle.dmlw_script.specs.Plans.{name_at}
+use Rattle.script_reader.specs.declared.script_id.ScriptId.{ScriptId}
+use Rattle.script_reader.specs.Plans.{name_at}
 use Rattle.script_runner.specs.CallLaws.{on_error}
 use Rattle.script_runner.specs.Lines.{StopsForFile, submission_text}
 use Rattle.script_runner.proofs.Stepping.{on_failed}
@@ -34,7 +34,8 @@ pub returns-in_err-print_submission-clause-runs : goal.returns-in_err-print_subm
 returns-in_err-print_submission-clause-runs g c =
     on_failed _ c.from_residual.result c.from_residual.ensures.0
 
-pub returns-in_err-print_submission-clause-faults : goal.returns-in_err-print_submission-clause-faults
+pub returns-in_err-print_submission-clause-faults :
+    goal.returns-in_err-print_submission-clause-faults
 returns-in_err-print_submission-clause-faults g c =
     on_error c.from_residual.result c.from_residual.ensures.1
     (λ stop is. subst StopsForFile (sym is) c.in_err-print_submission.ensures.faults)

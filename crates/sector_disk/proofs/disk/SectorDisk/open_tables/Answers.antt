@@ -11,7 +11,9 @@ invariant_of-self c =
       kept =
           kept_opened old.sectors old.calls.items old.newest.items old.base.items
           c.in_ok-newest.newest.items c.in_ok-self.field-0.items
-          old.begun old.synced old.flushed old.kept (let none = eqb-true old.newest.len 0 (sym c.is_empty.ensures ∙ c.if-not-is_empty.false) in omega arith)
+          old.begun old.synced old.flushed old.kept
+          (let none = eqb-true old.newest.len 0
+          (sym c.is_empty.ensures ∙ c.if-not-is_empty.false) in omega arith)
           (c.in_ok-newest.ensures.items_if_clones_equal (λ y same. same))
           (c.in_ok-self.ensures.items_if_clones_equal (λ y same. same));
     }
@@ -21,7 +23,11 @@ returns-clause-same c =
     let old = c.args.self.now in
     record {
       sectors = refl;
-      start = sym (start_opened old.sectors old.calls.items old.base.items c.in_ok-self.field-0.items (old.kept.base_length ∙ (let none = eqb-true old.newest.len 0 (sym c.is_empty.ensures ∙ c.if-not-is_empty.false) in omega arith))
+      start = sym (start_opened old.sectors old.calls.items old.base.items
+          c.in_ok-self.field-0.items
+          (old.kept.base_length
+          ∙ (let none = eqb-true old.newest.len 0
+          (sym c.is_empty.ensures ∙ c.if-not-is_empty.false) in omega arith))
           (c.in_ok-self.ensures.items_if_clones_equal (λ y same. same)));
       past = refl;
     }

@@ -1,7 +1,7 @@
 -- Answers to goals of `SectorDiskBlockDev::discard`.
 -- Its own crate alone cites it, for the theorems of src/disk/device.rt.
 use Rattle.std.proofs.Common.{false}
-use Rattle.sectors.specs.Content.{discards}
+use Rattle.bio.specs.Content.{discards}
 use Rattle.sector_disk.proofs.Moved.{goes_past, goes_unchanged}
 use Rattle.sector_disk.proofs.disk.device.SectorDiskBlockDev.discard.Goals as goal
 

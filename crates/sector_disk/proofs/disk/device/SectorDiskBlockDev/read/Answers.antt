@@ -1,6 +1,6 @@
 -- Answers to the goals of `SectorDiskBlockDev::read` (src/disk/device.rt) that the search leaves.
 use Rattle.std.proofs.Common.{◌/◌, length, refl}
-use Rattle.sectors.specs.Content.{nothing}
+use Rattle.bio.specs.Content.{nothing}
 use Rattle.blockdev.specs.JoinLaws.{goes_none}
 use Rattle.sector_disk.specs.Shown.{shown_of}
 use Rattle.sector_disk.proofs.Moved.{read_of}

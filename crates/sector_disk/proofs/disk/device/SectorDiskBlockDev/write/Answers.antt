@@ -1,5 +1,5 @@
 -- Answers to the goals of `SectorDiskBlockDev::write` (src/disk/device.rt) that the search leaves.
-use Rattle.sectors.specs.Content.{writes}
+use Rattle.bio.specs.Content.{writes}
 use Rattle.blockdev.specs.JoinLaws.{goes_none}
 use Rattle.sector_disk.specs.Shown.{shown_of}
 use Rattle.sector_disk.proofs.Moved.{goes_past, goes_unchanged, lands_past, written_past}

@@ -1,0 +1,9 @@
+-- Answers to the goals of `values_are_put` (src/content.rt) that the search leaves.
+use Rattle.bio.specs.ContentLaws.{put-none, put-some}
+use Rattle.bio.proofs.content.values_are_put.Goals as goal
+
+pub returns-clause-value : goal.returns-clause-value
+returns-clause-value c = put-some
+
+pub returns-clause-none : goal.returns-clause-none
+returns-clause-none c = put-none

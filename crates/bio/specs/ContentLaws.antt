@@ -1,0 +1,228 @@
+-- What a patch over a range gives, which is the interface of `over`, and what a patch leaves.
+-- Any crate above may cite it.
+use Rattle.std.proofs.Common.{◌≡◌, ℕ, ◌+◌, ◌-◌, ◌*◌, ◌/◌, ◌<◌, ◌≤◌, false, ◌&&◌, Option, Some, None}
+use Rattle.std.proofs.Common.{List, length, drop, replicate, refl, ap, sym, ◌∙◌, inl, inr, arith}
+use Rattle.std.proofs.lemmas.Bool.{cases_lt, lt-ltb, le-ltb, le-leb, leb-true}
+use Rattle.std.proofs.Math.Bool.{and-false}
+use Rattle.std.proofs.lemmas.List.{length-drop, length-replicate, length-take-le}
+use Rattle.std.specs.Prelude.{◌⊎◌, nat_lt, nat_le, unwrap_or, if◌then◌else◌}
+use Rattle.bio.specs.PlaceLaws.{bool_cases, option_cases}
+use Rattle.bio.specs.Content.{AgreeBelow, Content, HasBytes, HasNoneBelow, HasWholeSectors}
+use Rattle.bio.specs.Content.{HasWholeValues, Patch, Patched, discards, nothing, over, put}
+use Rattle.bio.specs.Content.{sector_of, writes}
+
+-- a sector of the range has its value
+pub over-in : (first count : ℕ) (value : ℕ → List ℕ) (k : ℕ) → k < count
+    → over first count value (first + k) ≡ Some (value k)
+unfolding over
+over-in first count value k h =
+    ap (λ b. if b && nat_lt (first + k) (first + count) then Some
+    (value (first + k - first)) else None) (le-leb first (first + k) (omega arith))
+    ∙ ap (λ b. if b then Some (value (first + k - first)) else None)
+    (lt-ltb (first + k) (first + count) (omega arith))
+    ∙ ap (λ n. Some (value n)) (omega arith)
+
+-- a sector before the range has none
+pub over-before : (first count : ℕ) (value : ℕ → List ℕ) (sector : ℕ) → sector < first
+    → over first count value sector ≡ None
+unfolding over
+over-before first count value sector h =
+    ap (λ b. if b && nat_lt sector (first + count) then Some (value (sector - first)) else None)
+    (lt-leb first sector h)
+  where
+    lt-leb : (a b : ℕ) → b < a → nat_le a b ≡ false
+    lt-leb a b less = elim (bool_cases (nat_le a b)) [
+      | inl below ↦ absurd (let within = leb-true a b below in omega arith)
+      | inr other ↦ other
+    ]
+
+-- a sector after the range has none
+pub over-after : (first count : ℕ) (value : ℕ → List ℕ) (sector : ℕ) → first + count ≤ sector
+    → over first count value sector ≡ None
+unfolding over
+over-after first count value sector h =
+    ap (λ b. if nat_le first sector && b then Some (value (sector - first)) else None)
+    (le-ltb sector (first + count) h)
+    ∙ ap (λ b. if b then Some (value (sector - first)) else None) (and-false (nat_le first sector))
+
+-- a sector is one of the range, or the patch has none for it
+pub over_cases : (first count : ℕ) (value : ℕ → List ℕ) (sector : ℕ)
+    → ((k : ℕ) × (k < count) × (sector ≡ first + k)) ⊎ (over first count value sector ≡ None)
+over_cases first count value sector = elim (cases_lt sector first) [
+  | inl before ↦ inr (over-before first count value sector before)
+  | inr from ↦ elim (cases_lt sector (first + count)) [
+    | inl within ↦ inl (sector - first, omega arith, omega arith)
+    | inr after ↦ inr (over-after first count value sector after)
+  ]
+]
+
+-- the value of a sector, by one test
+pub over-at : (first count : ℕ) (value : ℕ → List ℕ) (sector : ℕ)
+    → over first count value sector
+    ≡ (if nat_le first sector
+    && nat_lt sector (first + count) then Some (value (sector - first)) else None)
+unfolding over
+over-at first count value sector = refl
+
+-- a sector is before a range, within it or after it
+pub range_cases : (first count sector : ℕ)
+    → (sector < first) ⊎ (((k : ℕ) × (k < count) × (sector ≡ first + k)) ⊎ (first + count ≤ sector))
+range_cases first count sector = elim (cases_lt sector first) [
+  | inl before ↦ inl before
+  | inr from ↦ elim (cases_lt sector (first + count)) [
+    | inl within ↦ inr (inl (sector - first, omega arith, omega arith))
+    | inr after ↦ inr (inr after)
+  ]
+]
+
+-- a range that is moved has the same values at its moved sectors
+pub over-shift : (offset first count : ℕ) (value : ℕ → List ℕ) (sector : ℕ)
+    → over (offset + first) count value (offset + sector) ≡ over first count value sector
+over-shift offset first count value sector = elim (range_cases first count sector) [
+  | inl before ↦
+      over-before (offset + first) count value (offset + sector) (omega arith)
+      ∙ sym (over-before first count value sector before)
+  | inr from ↦ elim from [
+    | inl within ↦
+        let place = within.2 in
+        ap (over (offset + first) count value) (omega arith)
+        ∙ over-in (offset + first) count value within.0 within.1
+        ∙ sym (over-in first count value within.0 within.1)
+        ∙ ap (over first count value) (sym place)
+    | inr after ↦
+        over-after (offset + first) count value (offset + sector) (omega arith)
+        ∙ sym (over-after first count value sector after)
+  ]
+]
+
+-- a sector for which the call has a value has it
+pub put-some : (patch : Patch) (content : Content) (sector : ℕ) (value : List ℕ)
+    → patch sector ≡ Some value → put patch content sector ≡ value
+put-some patch content sector value is =
+    ap (λ (o : Option (List ℕ)). unwrap_or o (content sector)) is
+
+-- a sector for which the call has none stays as it was
+pub put-none : (patch : Patch) (content : Content) (sector : ℕ) → patch sector ≡ None
+    → put patch content sector ≡ content sector
+put-none patch content sector is = ap (λ (o : Option (List ℕ)). unwrap_or o (content sector)) is
+
+-- a sector of a range has the range's value
+pub put-in : (first count : ℕ) (value : ℕ → List ℕ) (content : Content) (k : ℕ) → k < count
+    → put (over first count value) content (first + k) ≡ value k
+put-in first count value content k h =
+    put-some (over first count value) content (first + k) (value k) (over-in first count value k h)
+
+-- after a write its bytes stand in the content
+pub HasBytes-put : (first : ℕ) (bytes : List ℕ) (content : Content)
+    → HasBytes (put (writes first bytes) content) first bytes
+HasBytes-put first bytes content = put-in first (length bytes / 512) (sector_of bytes) content
+
+-- after a discard its sectors are zeroes
+pub discards-zeroes : (first count : ℕ) (content : Content) (k : ℕ) → k < count
+    → put (discards first count) content (first + k) ≡ replicate 512 0
+discards-zeroes first count content k h = put-in first count (λ _. replicate 512 0) content k h
+
+-- a range has no values below its first sector
+pub over-below : (end first count : ℕ) (value : ℕ → List ℕ) → end ≤ first
+    → HasNoneBelow end (over first count value)
+over-below end first count value h =
+    λ sector below. over-before first count value sector (omega arith)
+
+-- contents agree below a patch
+pub below-patched : (end : ℕ) (patch : Patch) (old new : Content) → HasNoneBelow end patch
+    → Patched patch old new → AgreeBelow end old new
+below-patched end patch old new none patched = λ sector below. elim (patched sector) [
+  | inl same ↦ same
+  | inr is ↦ is ∙ put-none patch old sector (none sector below)
+]
+
+-- bytes that stand below a sector stand in each content that agrees below it
+pub HasBytes-below : (end first : ℕ) (bytes : List ℕ) (old new : Content)
+    → first + length bytes / 512 ≤ end → AgreeBelow end old new
+    → HasBytes old first bytes → HasBytes new first bytes
+HasBytes-below end first bytes old new within agree has =
+    λ sector h. agree (first + sector) (omega arith) ∙ has sector h
+
+-- bytes that stand below a patch stay
+pub HasBytes-patched : (end first : ℕ) (bytes : List ℕ) (patch : Patch) (old new : Content)
+    → first + length bytes / 512 ≤ end
+    → HasNoneBelow end patch → Patched patch old new → HasBytes old first bytes
+    → HasBytes new first bytes
+HasBytes-patched end first bytes patch old new within none patched =
+    HasBytes-below end first bytes old new within (below-patched end patch old new none patched)
+
+-- a patch of whole values leaves whole sectors
+pub whole-patched : (disk : ℕ) (patch : Patch) (old new : Content) → HasWholeValues patch
+    → Patched patch old new
+    → HasWholeSectors disk old → HasWholeSectors disk new
+whole-patched disk patch old new values patched whole = λ sector below. elim (patched sector) [
+  | inl same ↦ ap length same ∙ whole sector below
+  | inr is ↦ elim (option_cases (patch sector)) [
+    | inl none ↦ ap length (is ∙ put-none patch old sector none) ∙ whole sector below
+    | inr some ↦
+        ap length (is ∙ put-some patch old sector some.0 some.1) ∙ values sector some.0 some.1
+  ]
+]
+
+-- a range of whole values has whole values
+pub over-whole : (first count : ℕ) (value : ℕ → List ℕ)
+    → ((k : ℕ) → k < count → length (value k) ≡ 512) → HasWholeValues (over first count value)
+over-whole first count value whole sector found is = elim (over_cases first count value sector) [
+  | inl within ↦
+      let there = over-in first count value within.0 within.1 in
+      let place = ap (over first count value) within.2 in
+      let same : value within.0 ≡ found = cc in
+      ap length (sym same) ∙ whole within.0 within.1
+  | inr none ↦ cc
+]
+
+-- a write has whole values
+pub writes-whole : (first : ℕ) (bytes : List ℕ) → HasWholeValues (writes first bytes)
+writes-whole first bytes =
+    let whole : (k : ℕ) → k < length bytes / 512 → length (sector_of bytes k) ≡ 512 =
+    λ k h. let rest =
+    length-drop (512 * k) bytes in length-take-le 512 (drop (512 * k) bytes) (omega arith) in
+    over-whole first (length bytes / 512) (sector_of bytes) whole
+
+-- so has a discard
+pub discards-whole : (first count : ℕ) → HasWholeValues (discards first count)
+discards-whole first count =
+    over-whole first count (λ _. replicate 512 0) (λ k h. length-replicate {A = ℕ} 512 0)
+
+-- and a call that changes nothing
+pub nothing-whole : HasWholeValues nothing
+nothing-whole sector value is = cc
+
+-- what a write leaves in its range: its bytes
+pub put-writes : (first : ℕ) (bytes : List ℕ) (content : Content) (sector : ℕ) → first ≤ sector
+    → sector < first + length bytes / 512
+    → put (writes first bytes) content sector ≡ sector_of bytes (sector - first)
+put-writes first bytes content sector low high =
+    ap (put (writes first bytes) content) (omega arith)
+    ∙ put-in first (length bytes / 512) (sector_of bytes) content (sector - first) (omega arith)
+
+-- what a discard leaves in its range: zeroes
+pub put-discards : (first count : ℕ) (content : Content) (sector : ℕ) → first ≤ sector
+    → sector < first + count
+    → put (discards first count) content sector ≡ replicate 512 0
+put-discards first count content sector low high =
+    ap (put (discards first count) content) (omega arith)
+    ∙ discards-zeroes first count content (sector - first) (omega arith)
+
+-- what a call over a range leaves outside it: what was there
+pub put-outside : (first count : ℕ) (value : ℕ → List ℕ) (content : Content) (sector : ℕ)
+    → (sector < first) ⊎ (first + count ≤ sector)
+    → put (over first count value) content sector ≡ content sector
+put-outside first count value content sector outside =
+    put-none (over first count value) content sector (elim outside [
+      | inl before ↦ over-before first count value sector before
+      | inr after ↦ over-after first count value sector after
+    ])
+
+-- a content with none of a call's values is patched by it
+pub patched-same : (patch : Patch) (content : Content) → Patched patch content content
+patched-same patch content = λ sector. inl refl
+
+-- and so is a content with all of them
+pub patched-whole : (patch : Patch) (content : Content) → Patched patch content (put patch content)
+patched-whole patch content = λ sector. inr refl

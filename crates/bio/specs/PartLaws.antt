@@ -1,0 +1,247 @@
+-- Parts of a call's values: what they leave, one after another.
+-- Any crate above may cite it.
+use Rattle.std.proofs.Common.{◌≡◌, ℕ, ◌+◌, ◌-◌, ◌*◌, ◌/◌, ◌<◌, ◌≤◌, true, false, ◌&&◌, Option, Some}
+use Rattle.std.proofs.Common.{None, List, length, take, drop, replicate, refl, ap, sym, ◌∙◌, inl}
+use Rattle.std.proofs.Common.{inr, arith}
+use Rattle.std.proofs.lemmas.Bool.{cases_lt, lt-ltb, le-ltb, le-leb, leb-true}
+use Rattle.std.proofs.Math.Bool.{and-false}
+use Rattle.std.proofs.lemmas.List.{drop-drop, drop-take, length-drop, length-take-le, take-take}
+use Rattle.std.specs.Prelude.{◌⊎◌, nat_lt, nat_le, unwrap_or, if◌then◌else◌}
+use Rattle.bio.specs.PlaceLaws.{option_cases}
+use Rattle.bio.specs.Content.{Content, HasNoneBelow, Patch, Patched, discards, over, put}
+use Rattle.bio.specs.Content.{sector_of, writes}
+use Rattle.bio.specs.ContentLaws.{over-after, over-before, over-in, put-none, put-some}
+use Rattle.bio.specs.ContentLaws.{range_cases}
+use Rattle.bio.specs.Parts.{HasNoneFrom, IsPart, Joins, SameValues, below, between}
+
+-- a part keeps a sector's value, or has none for it
+pub below-in : (end : ℕ) (patch : Patch) (sector : ℕ) → sector < end
+    → below end patch sector ≡ patch sector
+below-in end patch sector h = ap (λ b. if b then patch sector else None) (lt-ltb sector end h)
+
+pub below-out : (end : ℕ) (patch : Patch) (sector : ℕ) → end ≤ sector
+    → below end patch sector ≡ None
+below-out end patch sector h = ap (λ b. if b then patch sector else None) (le-ltb sector end h)
+
+pub between-in : (from to : ℕ) (patch : Patch) (sector : ℕ) → from ≤ sector → sector < to
+    → between from to patch sector ≡ patch sector
+between-in from to patch sector low high =
+    ap (λ b. if b && nat_lt sector to then patch sector else None) (le-leb from sector low)
+    ∙ ap (λ b. if b then patch sector else None) (lt-ltb sector to high)
+
+pub between-before : (from to : ℕ) (patch : Patch) (sector : ℕ) → sector < from
+    → between from to patch sector ≡ None
+between-before from to patch sector h =
+    ap (λ b. if b && nat_lt sector to then patch sector else None) (above (nat_le from sector) refl)
+  where
+    above : (b : _) → nat_le from sector ≡ b → b ≡ false
+    above true e = absurd (let within = leb-true from sector e in omega arith)
+    above false e = refl
+
+pub between-after : (from to : ℕ) (patch : Patch) (sector : ℕ) → to ≤ sector
+    → between from to patch sector ≡ None
+between-after from to patch sector h =
+    ap (λ b. if nat_le from sector && b then patch sector else None) (le-ltb sector to h)
+    ∙ ap (λ b. if b then patch sector else None) (and-false (nat_le from sector))
+
+-- all of a call is below its end
+pub below_all : (end : ℕ) (patch : Patch) → HasNoneFrom end patch
+    → SameValues (below end patch) patch
+below_all end patch none = λ sector. elim (cases_lt sector end) [
+  | inl within ↦ below-in end patch sector within
+  | inr past ↦ below-out end patch sector past ∙ sym (none sector past)
+]
+
+-- none of it is below its first sector
+pub below_none : (end : ℕ) (patch : Patch) → HasNoneBelow end patch → (sector : ℕ)
+    → below end patch sector ≡ None
+below_none end patch none sector = elim (cases_lt sector end) [
+  | inl within ↦ below-in end patch sector within ∙ none sector within
+  | inr past ↦ below-out end patch sector past
+]
+
+-- a call with the same values is a part
+pub same-part : (patch other : Patch) → SameValues patch other → IsPart patch other
+same-part patch other same = λ sector. inr (same sector)
+
+-- a call cut at a sector is a part of the whole one
+pub below-part : (end : ℕ) (patch : Patch) → IsPart (below end patch) patch
+below-part end patch = λ sector. elim (cases_lt sector end) [
+  | inl within ↦ inr (below-in end patch sector within)
+  | inr past ↦ inl (below-out end patch sector past)
+]
+
+-- and of the one cut at a later sector
+pub below_more : (end more : ℕ) (patch : Patch) → end ≤ more
+    → IsPart (below end patch) (below more patch)
+below_more end more patch h = λ sector. elim (cases_lt sector end) [
+  | inl within ↦
+      inr (below-in end patch sector within ∙ sym (below-in more patch sector (omega arith)))
+  | inr past ↦ inl (below-out end patch sector past)
+]
+
+-- what a call has between two sectors is a part of what it has below the second
+pub between-part : (from to : ℕ) (patch : Patch) → IsPart (between from to patch) (below to patch)
+between-part from to patch = λ sector. elim (cases_lt sector from) [
+  | inl before ↦ inl (between-before from to patch sector before)
+  | inr low ↦ elim (cases_lt sector to) [
+    | inl high ↦
+        inr (between-in from to patch sector low high ∙ sym (below-in to patch sector high))
+    | inr past ↦ inl (between-after from to patch sector past)
+  ]
+]
+
+-- what a call has below a sector, and then what it has from
+-- there to another one, is what it has below that one
+pub below-joins : (from to : ℕ) (patch : Patch) → from ≤ to
+    → Joins (below from patch) (between from to patch) (below to patch)
+below-joins from to patch h = λ sector. elim (cases_lt sector from) [
+  | inl before ↦ inl (
+    between-before from to patch sector before,
+    below-in from patch sector before ∙ sym (below-in to patch sector (omega arith)),
+  )
+  | inr low ↦ elim (cases_lt sector to) [
+    | inl high ↦ elim (option_cases (patch sector)) [
+      | inl none ↦ inl (
+        between-in from to patch sector low high ∙ none,
+        below-out from patch sector low ∙ sym none ∙ sym (below-in to patch sector high),
+      )
+      | inr some ↦ inr (
+        some.0,
+        between-in from to patch sector low high ∙ some.1,
+        below-in to patch sector high ∙ some.1,
+      )
+    ]
+    | inr past ↦ inl (
+      between-after from to patch sector past,
+      below-out from patch sector low ∙ sym (below-out to patch sector past),
+    )
+  ]
+]
+
+-- a content patched by a part is patched by the whole
+pub patched-part : (part whole : Patch) (old new : Content) → IsPart part whole
+    → Patched part old new → Patched whole old new
+patched-part part whole old new is patched = λ sector. elim (patched sector) [
+  | inl same ↦ inl same
+  | inr put_there ↦ elim (is sector) [
+    | inl none ↦ inl (put_there ∙ put-none part old sector none)
+    | inr value ↦ inr (put_there ∙ ap (λ (o : Option (List ℕ)). unwrap_or o (old sector)) value)
+  ]
+]
+
+-- a content patched twice by a call is patched by it
+pub patched_twice : (patch : Patch) (old mid new : Content) → Patched patch old mid
+    → Patched patch mid new → Patched patch old new
+patched_twice patch old mid new before after = λ sector. elim (after sector) [
+  | inl same ↦
+      elim (before sector) [ inl first ↦ inl (same ∙ first) | inr first ↦ inr (same ∙ first) ]
+  | inr there ↦ elim (option_cases (patch sector)) [
+    | inl none ↦ elim (before sector) [
+      | inl first ↦ inl (there ∙ put-none patch mid sector none ∙ first)
+      | inr first ↦ inr (there ∙ put-none patch mid sector none ∙ first)
+    ]
+    | inr some ↦
+        inr (there ∙ put-some patch mid sector some.0 some.1
+        ∙ sym (put-some patch old sector some.0 some.1))
+  ]
+]
+
+-- a sector is as it was, or has the call's value
+pub patched_cases : (patch : Patch) (old new : Content) → Patched patch old new
+    → (sector : ℕ) → (new sector ≡ old sector) ⊎ (patch sector ≡ Some (new sector))
+patched_cases patch old new patched sector = elim (patched sector) [
+  | inl same ↦ inl same
+  | inr there ↦ elim (option_cases (patch sector)) [
+    | inl none ↦ inl (there ∙ put-none patch old sector none)
+    | inr some ↦
+        inr (some.1 ∙ ap (λ (x : List ℕ). Some x)
+        (sym (there ∙ put-some patch old sector some.0 some.1)))
+  ]
+]
+
+-- a patched content has what it had where the call has no value
+pub patched-none : (patch : Patch) (old new : Content) → Patched patch old new → (sector : ℕ)
+    → patch sector ≡ None → new sector ≡ old sector
+patched-none patch old new patched sector none = elim (patched sector) [
+  | inl same ↦ same
+  | inr there ↦ there ∙ put-none patch old sector none
+]
+
+-- calls with the same values put the same
+pub put-same : (patch other : Patch) (content : Content) → SameValues patch other → (sector : ℕ)
+    → put patch content sector ≡ put other content sector
+put-same patch other content same sector =
+    ap (λ (o : Option (List ℕ)). unwrap_or o (content sector)) (same sector)
+
+-- two calls, one after the other, put what the whole one puts
+pub put-joined : (first second whole : Patch) (old mid : Content) (sector : ℕ)
+    → Joins first second whole → mid sector ≡ put first old sector
+    → put second mid sector ≡ put whole old sector
+put-joined first second whole old mid sector joins before = elim (joins sector) [
+  | inl early ↦
+      put-none second mid sector early.0 ∙ before
+      ∙ ap (λ (o : Option (List ℕ)). unwrap_or o (old sector)) early.1
+  | inr late ↦
+      put-some second mid sector late.0 late.1 ∙ sym (put-some whole old sector late.0 late.2)
+]
+
+-- a range within a range has the values of the part
+pub over-between : (first count k n : ℕ) (value piece : ℕ → List ℕ) → k + n ≤ count
+    → ((i : ℕ) → i < n → piece i ≡ value (k + i))
+    → SameValues (over (first + k) n piece)
+    (between (first + k) (first + k + n) (over first count value))
+over-between first count k n value piece within same =
+    λ sector. elim (range_cases (first + k) n sector) [
+      | inl before ↦
+          over-before (first + k) n piece sector before
+          ∙ sym (between-before (first + k) (first + k + n) (over first count value) sector before)
+      | inr from ↦ elim from [
+        | inl inside ↦
+            let place = inside.2 in
+            ap (over (first + k) n piece) place
+            ∙ over-in (first + k) n piece inside.0 inside.1
+            ∙ ap (λ (x : List ℕ). Some x) (same inside.0 inside.1)
+            ∙ sym (over-in first count value (k + inside.0) (let h = inside.1 in omega arith))
+            ∙ ap (over first count value) (omega arith)
+            ∙ sym (between-in (first + k) (first + k + n) (over first count value) sector
+            (omega arith) (let h = inside.1 in omega arith))
+        | inr after ↦
+            over-after (first + k) n piece sector after
+            ∙ sym (between-after (first + k) (first + k + n) (over first count value) sector after)
+      ]
+    ]
+
+-- a sector of a part of an image
+pub sector_of-part : (bytes : List ℕ) (k n i : ℕ) → i < n → 512 * (k + n) ≤ length bytes
+    → sector_of (take (512 * n) (drop (512 * k) bytes)) i ≡ sector_of bytes (k + i)
+sector_of-part bytes k n i h within =
+    let rest = 512 * n - 512 * i in
+    let split : 512 * n ≡ 512 * i + rest = omega arith in
+    ap (λ (m : ℕ). take 512 (drop (512 * i) (take m (drop (512 * k) bytes)))) split
+    ∙ ap (take 512) (drop-take (512 * i) rest (drop (512 * k) bytes))
+    ∙ take-take 512 rest (drop (512 * i) (drop (512 * k) bytes)) (omega arith)
+    ∙ ap (take 512) (drop-drop (512 * i) (512 * k) bytes
+    ∙ ap (λ (m : ℕ). drop m bytes) (omega arith))
+
+-- a write of a part of the bytes has the values of that part
+pub writes-between : (first k n : ℕ) (bytes : List ℕ) → 512 * (k + n) ≤ length bytes
+    → SameValues (writes (first + k) (take (512 * n) (drop (512 * k) bytes)))
+    (between (first + k) (first + k + n) (writes first bytes))
+writes-between first k n bytes within =
+    let cut : length (take (512 * n) (drop (512 * k) bytes)) ≡ 512 * n =
+    let rest = length-drop (512 * k) bytes in
+    length-take-le (512 * n) (drop (512 * k) bytes) (omega arith) in
+    let count : length (take (512 * n) (drop (512 * k) bytes)) / 512 ≡ n = omega arith in
+    λ sector. ap (λ (m : ℕ). over (first + k) m
+    (sector_of (take (512 * n) (drop (512 * k) bytes))) sector) count
+    ∙ over-between first (length bytes / 512) k n (sector_of bytes)
+    (sector_of (take (512 * n) (drop (512 * k) bytes))) (omega arith)
+    (λ i h. sector_of-part bytes k n i h within) sector
+
+-- so has a discard of a part of the sectors
+pub discards-between : (first count k n : ℕ) → k + n ≤ count
+    → SameValues (discards (first + k) n)
+    (between (first + k) (first + k + n) (discards first count))
+discards-between first count k n within =
+    over-between first count k n (λ _. replicate 512 0) (λ _. replicate 512 0) within (λ i h. refl)

@@ -1,0 +1,59 @@
+//! Sectors of 512 bytes, and laws of what a device has in each of them. A law's function does
+//! nothing, and its clause is the law: it says what a write and a discard leave in each sector.
+//! Its clauses are written in specs/Content; its theorems in proofs/content/.
+ghost use Rattle.std.specs.Prelude.{◌≡◌, ◌⊎◌, ◌+◌, ◌-◌, ◌/◌, ◌<◌, ◌≤◌, List, None, Some, length};
+ghost use Rattle.std.specs.Prelude.{replicate, ℕ};
+ghost use Rattle.bio.specs.Content.{Content, HasBytes, HasWholeSectors, HasWholeValues, Patch};
+ghost use Rattle.bio.specs.Content.{Patched, discards, put, sector_of, writes};
+
+/// A sector's size in bytes.
+pub const SECTOR_BYTES: u64 = 512;
+
+/// The most sectors that a device has.
+pub const MAX_DEVICE_SECTORS: u64 = 1_048_576;
+
+/// The sizes of a sector and of a device: 512 bytes, and at most 1,048,576 sectors.
+pub fn sizes()
+    ensures sector { SECTOR_BYTES ≡ 512 }
+    ensures device { MAX_DEVICE_SECTORS ≡ 1048576 }
+{}
+
+/// After a write its bytes stand from its first sector on, as many as are whole sectors: each
+/// sector of the write has its 512 bytes of them. Each other sector has what it had.
+pub fn writes_put_their_bytes()
+    ensures bytes { (first : ℕ) (bytes : List ℕ) (content : Content) →
+        HasBytes (put (writes first bytes) content) first bytes }
+    ensures within { (first : ℕ) (bytes : List ℕ) (content : Content) (sector : ℕ) →
+        first ≤ sector → sector < first + length bytes / 512 →
+        put (writes first bytes) content sector ≡ sector_of bytes (sector - first) }
+    ensures outside { (first : ℕ) (bytes : List ℕ) (content : Content) (sector : ℕ) →
+        (sector < first) ⊎ (first + length bytes / 512 ≤ sector) →
+        put (writes first bytes) content sector ≡ content sector }
+{}
+
+/// After a discard its sectors are zeroes. Each other sector has what it had.
+pub fn discards_put_zeroes()
+    ensures within { (first count : ℕ) (content : Content) (sector : ℕ) →
+        first ≤ sector → sector < first + count →
+        put (discards first count) content sector ≡ replicate 512 0 }
+    ensures outside { (first count : ℕ) (content : Content) (sector : ℕ) →
+        (sector < first) ⊎ (first + count ≤ sector) →
+        put (discards first count) content sector ≡ content sector }
+{}
+
+/// A call's values are put: a sector for which it has one has it then, and each other what it had.
+pub fn values_are_put()
+    ensures value { (patch : Patch) (content : Content) (sector : ℕ) (value : List ℕ) →
+        patch sector ≡ Some value → put patch content sector ≡ value }
+    ensures none { (patch : Patch) (content : Content) (sector : ℕ) →
+        patch sector ≡ None → put patch content sector ≡ content sector }
+{}
+
+/// A disk of whole sectors has whole sectors after any part of a write or a discard.
+pub fn sectors_stay_whole()
+    ensures writes { (first : ℕ) (bytes : List ℕ) → HasWholeValues (writes first bytes) }
+    ensures discards { (first count : ℕ) → HasWholeValues (discards first count) }
+    ensures patched { (disk : ℕ) (patch : Patch) (old new : Content) →
+        HasWholeValues patch → Patched patch old new →
+        HasWholeSectors disk old → HasWholeSectors disk new }
+{}

@@ -1,0 +1,13 @@
+-- Answers to goals of `replayed_beginnings_are_judged_possible`.
+-- Its own crate alone cites it, for the theorems of src/judge_image/laws.rt.
+use Rattle.dmlw_commands.proofs.Replaying.{asked_yes, begun_yes, judged_yes}
+use Rattle.dmlw_commands.proofs.judge_image.laws.replayed_beginnings_are_judged_possible.Goals as goal
+
+pub returns-clause-content : goal.returns-clause-content
+returns-clause-content c = begun_yes c.beginnings_are_possible.ensures
+
+pub returns-clause-judged : goal.returns-clause-judged
+returns-clause-judged c = judged_yes c.beginnings_are_possible.ensures
+
+pub returns-clause-asked : goal.returns-clause-asked
+returns-clause-asked c = asked_yes c.beginnings_are_possible.ensures

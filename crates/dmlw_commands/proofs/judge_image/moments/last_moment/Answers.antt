@@ -1,0 +1,22 @@
+-- Answers to the goals of `last_moment` (src/judge_image/moments.rt) that the search leaves.
+use Rattle.std.proofs.Common.{◌∙◌, ◌+◌, arith, sym}
+use Rattle.dmlw_commands.proofs.Stopping.{none_next, stands_there, stop_is_last}
+use Rattle.dmlw_commands.proofs.judge_image.moments.last_moment.Goals as goal
+
+pub returns-then-is_stop-clause-last : goal.returns-then-is_stop-clause-last
+returns-then-is_stop-clause-last c =
+    let there =
+    stands_there c.args.events.now c.loop-place.place c.index-events-place.result
+    c.loop-place-test.true c.index-events-place.is in
+    stop_is_last c.args.events.now c.loop-place.place c.index-events-place.result
+    c.loop-place.invariant there (sym c.is_stop.ensures ∙ c.if-is_stop.true)
+
+pub loop-place-preserved : goal.loop-place-preserved
+loop-place-preserved c =
+    let there =
+    stands_there c.args.events.now c.loop-place.place c.index-events-place.result
+    c.loop-place-test.true c.index-events-place.is in
+    none_next c.args.events.now c.loop-place.place
+    (c.loop-place.place + 1) c.index-events-place.result
+    (omega arith) c.loop-place.invariant there
+    (sym c.is_stop.ensures ∙ c.if-is_stop.false)

@@ -1,0 +1,57 @@
+-- What `path` answers: a run of the cache machine that
+-- leaves an image, or what rules the image out.
+-- Any crate above may cite it.
+use Rattle.std.specs.Prelude.{ℕ, List, ◌++◌, Option, codes}
+use Rattle.std.specs.List.{flat_map}
+use Rattle.judge.specs.declared.verdict.Verdict.{Verdict}
+use Rattle.judge.specs.declared.verdict.Verdict.TheVariants as verdicts
+use Rattle.world.specs.declared.step.Step.{Step}
+use Rattle.world.specs.Texts.{step_text}
+use Rattle.script_reader.specs.Plans.{ScriptValue}
+use Rattle.dmlw_commands.specs.declared.ending.Ended.{Ended}
+use Rattle.dmlw_commands.specs.declared.exit.Exit.{Exit}
+use Rattle.dmlw_commands.specs.declared.exit.Exit.TheVariants as exits
+use Rattle.dmlw_commands.specs.Endings.{ErrStream}
+use Rattle.dmlw_files.specs.Files.{Write}
+use Rattle.world.specs.Findings.{IsFinding}
+use Rattle.world.specs.declared.finding.Finding.{Finding}
+use Rattle.world.specs.declared.finding.Finding.TheVariants.{Run, RuledOut}
+use Rattle.dmlw_commands.specs.Judgements.{EndsAnswering, HasAnswer, IsAnswered, Meaning, Question}
+use Rattle.dmlw_commands.specs.Judgements.{verdict_line}
+
+-- the verdict that a finding has: yes where there is a run, and else its no
+abbrev pub verdict_of : Finding → Verdict
+verdict_of (Run run) = verdicts.Yes
+verdict_of (RuledOut sector by) = verdicts.No sector by
+
+-- the line of a step
+abbrev pub step_line : Step → List ℕ
+step_line step = step_text step ++ codes "\n"
+
+-- the lines of a finding: one for each step of the run, in order; or the line of the verdict of no
+abbrev pub finding_text : Finding → List ℕ
+finding_text (Run run) = flat_map step_line run.items
+finding_text (RuledOut sector by) = verdict_line (verdicts.No sector by)
+
+-- how a finding ends the command: done by a run, ruled out where there is none
+abbrev pub exit_by_finding : Finding → Exit
+exit_by_finding (Run run) = exits.Done
+exit_by_finding (RuledOut sector by) = exits.RuledOut
+
+-- what a finding comes to
+abbrev pub finding_meaning : Meaning Finding
+finding_meaning = record { says = IsFinding; printed = finding_text; ends = exit_by_finding }
+
+-- the finding on an image, after so many events of a script's run, over zeroes
+abbrev pub IsFound : ScriptValue → ℕ → List ℕ → Finding → Type 0
+IsFound plan moment image finding = IsAnswered finding_meaning plan moment image finding
+
+-- there is a finding: the script's file spells a script, and this is the finding on the image by it
+abbrev pub HasFinding : Question → Finding → Type 0
+HasFinding asked finding = HasAnswer finding_meaning asked finding
+
+-- how `path` ends: as what it did has it
+abbrev pub EndsFinding : Question → Option (List Write) → Option (List Write) → Option (List ℕ)
+    → Option (List ℕ) → ErrStream → Ended → Type 0
+EndsFinding asked writes_old writes_new old new t ended =
+    EndsAnswering finding_meaning asked writes_old writes_new old new t ended

@@ -1,0 +1,59 @@
+//! A kind of answer to a question on an image: how it is found, printed, and ends the command.
+//! Its clauses are written in specs/Judgements; the search alone proves it.
+ghost use Rattle.std.specs.Prelude.{◌≡◌, ◌/◌, ◌%◌, IfOk, OnOk, [], false, length, take, true};
+ghost use Rattle.std.specs.String.{string_bytes};
+ghost use Rattle.dmlw_files.specs.Files.{KeepsFiles};
+ghost use Rattle.std.specs.Io.KnownBytes.{Appends};
+ghost use Rattle.bio.specs.Lawful.{is_lawful};
+ghost use Rattle.bio.specs.Content.{sector_of};
+ghost use Rattle.dmlw_commands.specs.Judgements.{Meaning, blank};
+
+use crate::Exit;
+use bio::CoreEvent;
+use dmlw_files::Files;
+use std::alloc::{AllocError, Global};
+use std::io;
+use std::io::Write;
+
+// What a command answers on an image. `judge` and `path` are one command, but for it.
+pub(crate) trait Answer: Drop {
+    // What an answer says, what is printed of it, and how it ends the command.
+    ghost meaning: { Meaning Self };
+
+    // The answer after the first `moment` of the events, where zeroes were on the device before the
+    // first event. `events` is a list that a recorder of the device may have recorded; the image
+    // has the device's length in bytes, whole sectors of 512. Want of memory is the only error.
+    fn on_image(
+        alloc: Global,
+        events: &[CoreEvent],
+        moment: u64,
+        image: &[u8],
+    ) -> Result<Self, AllocError>
+        requires whole { length image.now % 512 ≡ 0 }
+        requires lawful { is_lawful (length image.now / 512) events.now ≡ true }
+        ensures { IfOk result
+            (meaning.says (length image.now / 512) (take moment events.now)
+            (blank (length image.now)) (sector_of image.now)) };
+
+    // Prints the answer.
+    fn print<O: Write>(&self, out: &mut O) -> io::Result<()>
+        ensures { OnOk result (Appends (O.contents out.old) (O.contents out.new)
+            (meaning.printed self.now)) };
+
+    // What `--explain` adds behind the answer, by the script in a file: lines that each begin with
+    // two spaces. Empty where it isn't asked for.
+    fn explain<F: Files>(
+        &self,
+        alloc: Global,
+        explains: bool,
+        script: &str,
+        files: &mut F,
+    ) -> String
+        ensures silent { explains ≡ false → string_bytes result ≡ [] }
+        ensures kept { KeepsFiles (F.contents files.old) (F.contents files.new) }
+        ensures unwritten { F.writes files.new ≡ F.writes files.old };
+
+    // How the answer ends the command.
+    fn exit(&self) -> Exit
+        ensures { result ≡ meaning.ends self.now };
+}

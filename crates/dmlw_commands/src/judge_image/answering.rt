@@ -1,0 +1,237 @@
+//! The form that `judge` and `path` share: a question on an
+//! image is answered by the script in a file.
+//! Its clauses are written in specs/; its theorems in proofs/judge_image/answering/.
+ghost use Rattle.std.specs.Prelude.{◌≡◌, ◌⊎◌, ◌++◌, IfErr, IfOk, [], false, length, take, true};
+ghost use Rattle.std.specs.String.{string_bytes};
+ghost use Rattle.std.specs.Io.KnownBytes.{Appends, Keeps};
+ghost use Rattle.bio.specs.Lawful.{is_lawful};
+ghost use Rattle.bio.specs.Content.{sector_of};
+ghost use Rattle.refusals.specs.declared.refusal.Refusal.TheVariants.{BadMoment};
+ghost use Rattle.script_reader.specs.Grammar.{IsTextOf};
+ghost use Rattle.run_error.specs.Errors.{IsFileError, memory_error, refused_by};
+ghost use Rattle.dmlw_commands.specs.Endings.{err_stream};
+ghost use Rattle.dmlw_commands.specs.Exits.{told_line};
+ghost use Rattle.dmlw_files.specs.Files.{KeepsFiles};
+ghost use Rattle.dmlw_files.specs.Images.{IsImage};
+ghost use Rattle.dmlw_commands.specs.Judgements.{Answers, CanJudge, CannotJudge, EndsAnswering};
+ghost use Rattle.dmlw_commands.specs.Judgements.{HasAnswer, HasNoVerdict, blank, exit_answered};
+ghost use Rattle.dmlw_commands.specs.Judgements.{question};
+
+use crate::judge_image::answer::Answer;
+use crate::judge_image::moments::{explain_moment, last_moment};
+use crate::{Ended, end, end_well};
+use bio::{CoreEvent, SECTOR_BYTES};
+use dmlw_explain::explain_judging;
+use dmlw_files::{Files, Session, read_image, read_text};
+use refusals::Refusal;
+use run_error::RunError;
+use script_reader::{Script, read_script};
+use script_runner::events_of_run;
+use std::alloc::Global;
+use std::io::Write;
+
+/// What is asked: of the image in one file, had power failed after the first `moment` of the
+/// recorder's events by the script in another one. Both are named.
+#[derive(Clone, Copy, Debug)]
+pub(crate) struct Asked<'a> {
+    pub(crate) script: &'a str,
+    pub(crate) moment: u64,
+    pub(crate) image: &'a str,
+}
+
+// Runs the script in a file as `record` does, and prints the answer on the image in another one,
+// after the first `moment` of the recorder's events, where zeroes were on the data disk at first. A
+// fault is reported to `err`, with what helps where it `explains`.
+pub(crate) fn ask<A: Answer, F: Files, O: Write, E: Write>(
+    asked: Asked<'_>,
+    session: &mut Session<F, O, E>,
+) -> Ended
+    ensures ends { EndsAnswering A.meaning
+        (record {
+          script = F.contents session.old.files asked.entry.script.now;
+          image = F.contents session.old.files asked.entry.image.now;
+          moment = asked.entry.moment;
+        })
+        (F.writes session.old.files) (F.writes session.new.files) (O.contents session.old.out)
+        (O.contents session.new.out)
+        (err_stream session.old.explains (E.contents session.old.err)
+        (E.contents session.new.err)) result }
+    ensures kept { KeepsFiles (F.contents session.old.files) (F.contents session.new.files) }
+{
+    let alloc = session.alloc;
+    let answered: Result<A, RunError> = answer_files(
+        alloc,
+        asked,
+        &mut session.files,
+        &mut session.out,
+    );
+    let more = explain_answered(
+        alloc,
+        session.explains,
+        &answered,
+        asked,
+        &mut session.files,
+    );
+    end_answering(
+        alloc,
+        &answered,
+        more.as_str(),
+        &mut session.out,
+        &mut session.err,
+    )
+}
+
+// What `--explain` adds to what a question came to: lines
+// of the answer's own, or what helps against the fault.
+fn explain_answered<A: Answer, F: Files>(
+    alloc: Global,
+    explains: bool,
+    answered: &Result<A, RunError>,
+    asked: Asked<'_>,
+    files: &mut F,
+) -> String
+    ensures silent { explains ≡ false → string_bytes result ≡ [] }
+    ensures kept { KeepsFiles (F.contents files.old) (F.contents files.new) }
+    ensures unwritten { F.writes files.new ≡ F.writes files.old }
+{
+    match answered {
+        Ok(answer) => answer.explain(alloc, explains, asked.script, files),
+        Err(fault) if *fault == RunError::from(Refusal::BadMoment) => {
+            explain_moment(alloc, explains, asked, files)
+        }
+        Err(fault) => explain_judging(
+            alloc,
+            explains,
+            Err(*fault),
+            asked.script,
+            asked.image,
+            files,
+        ),
+    }
+}
+
+// How a command ends whose question came to this.
+fn end_answering<A: Answer, O: Write, E: Write>(
+    alloc: Global,
+    answered: &Result<A, RunError>,
+    more: &str,
+    out: &mut O,
+    err: &mut E,
+) -> Ended
+    ensures exit { result.exit ≡ exit_answered A.meaning answered.now }
+    ensures kept { Keeps (O.contents out.old) (O.contents out.new) }
+    ensures quiet { told_line answered.now ≡ [] → more.now ≡ []
+        → E.contents err.new ≡ E.contents err.old }
+    ensures told { result.err_taken ≡ true
+        → Appends (E.contents err.old) (E.contents err.new) (told_line answered.now ++ more.now) }
+{
+    match answered {
+        Ok(answer) => end_well(answer.exit(), more, err),
+        Err(fault) => end::<(), O, E>(alloc, Err(*fault), more, out, err),
+    }
+}
+
+// Reads both files, and prints the answer on the image.
+fn answer_files<A: Answer, F: Files, O: Write>(
+    alloc: Global,
+    asked: Asked<'_>,
+    files: &mut F,
+    out: &mut O,
+) -> Result<A, RunError>
+    ensures judged { Answers A.meaning
+        (record {
+          script = F.contents files.old asked.entry.script.now;
+          image = F.contents files.old asked.entry.image.now;
+          moment = asked.entry.moment;
+        })
+        (O.contents out.old) (O.contents out.new) result }
+    ensures kept { KeepsFiles (F.contents files.old) (F.contents files.new) }
+    ensures unwritten { F.writes files.new ≡ F.writes files.old }
+{
+    let text = read_text(alloc, asked.script, files)?;
+    let image = read_image(alloc, asked.image, files)?;
+    print_answer(answer_text(alloc, &text, asked.moment, &image), out)
+}
+
+// Prints an answer, where there is one.
+fn print_answer<A: Answer, O: Write>(
+    answered: Result<A, RunError>,
+    out: &mut O,
+) -> Result<A, RunError>
+    ensures printed { IfOk result
+        (λ answer. (answered ≡ Ok answer)
+        × Appends (O.contents out.old) (O.contents out.new) (A.meaning.printed answer)) }
+    ensures faults { IfErr result
+        (λ fault. IsFileError fault
+        ⊎ ((answered ≡ Err fault) × Keeps (O.contents out.old) (O.contents out.new))) }
+{
+    let answer = answered?;
+    answer.print(out)?;
+    out.flush()?;
+    Ok(answer)
+}
+
+// The answer on an image, by the script that a text spells.
+fn answer_text<A: Answer>(
+    alloc: Global,
+    text: &[u8],
+    moment: u64,
+    image: &[u8],
+) -> Result<A, RunError>
+    requires { IsImage image.now }
+    ensures verdict { IfOk result (HasAnswer A.meaning (question text.now image.now moment)) }
+    ensures faults { IfErr result (HasNoVerdict (question text.now image.now moment)) }
+{
+    let script = read_script(alloc, text)?;
+    answer_script(alloc, text, &script, moment, image)
+}
+
+// The answer on an image, by a script that was read from `text`.
+fn answer_script<A: Answer>(
+    alloc: Global,
+    text: &[u8],
+    script: &Script,
+    moment: u64,
+    image: &[u8],
+) -> Result<A, RunError>
+    requires whole { IsImage image.now }
+    requires spelled { IsTextOf text.now script.now }
+    ensures verdict { IfOk result (HasAnswer A.meaning (question text.now image.now moment)) }
+    ensures faults { IfErr result (HasNoVerdict (question text.now image.now moment)) }
+{
+    let sectors = script.data().top_sectors();
+    let rehearsed = events_of_run(alloc, text, script)?;
+    let answered = answer_events(alloc, rehearsed.events(), sectors, moment, image);
+    answered_by((rehearsed, answered))
+}
+
+// What a question came to, by a rehearsal, which goes.
+fn answered_by<D: Drop, A: Answer>(answered: (D, Result<A, RunError>)) -> Result<A, RunError>
+    ensures { result ≡ answered.1 }
+{
+    answered.1
+}
+
+// The answer on an image, after so many of these events of
+// a device of so many sectors, over zeroes.
+fn answer_events<A: Answer>(
+    alloc: Global,
+    events: &[CoreEvent],
+    sectors: u64,
+    moment: u64,
+    image: &[u8],
+) -> Result<A, RunError>
+    requires lawful { is_lawful sectors events.now ≡ true }
+    requires whole { IsImage image.now }
+    ensures verdict { IfOk result (λ answer. CanJudge sectors events.now moment image.now
+        × A.meaning.says sectors (take moment events.now) (blank (length image.now))
+        (sector_of image.now) answer) }
+    ensures faults { IfErr result (λ fault. (fault ≡ memory_error)
+        ⊎ ((fault ≡ refused_by BadMoment) × CannotJudge sectors events.now moment image.now)) }
+{
+    if moment > last_moment(events) as u64 || image.len() as u64 / SECTOR_BYTES != sectors {
+        return Err(RunError::from(Refusal::BadMoment));
+    }
+    let answer = A::on_image(alloc, events, moment, image)?;
+    Ok(answer)
+}

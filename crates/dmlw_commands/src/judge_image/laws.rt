@@ -1,0 +1,60 @@
+//! Laws of verdicts: each is a function whose contract it is, and which runs to nothing.
+//! Its clauses are written in specs/; its theorems in proofs/judge_image/laws/.
+ghost use Rattle.std.specs.Prelude.{◌≡◌, ◌/◌, IsTrue, List, take, true, ℕ};
+ghost use Rattle.bio.specs.declared.event.CoreEvent.{CoreEvent};
+ghost use Rattle.bio.specs.Lawful.{all_aligned, is_well_formed};
+ghost use Rattle.bio.specs.Sizes.{bytes_of};
+ghost use Rattle.log_format.specs.Entries.{is_sector_size};
+ghost use Rattle.script_reader.specs.Plans.{ScriptValue};
+ghost use Rattle.judge.specs.declared.verdict.Verdict.{Verdict};
+ghost use Rattle.judge.specs.declared.verdict.Verdict.TheVariants.{Yes};
+ghost use Rattle.judge.specs.Verdicts.{IsVerdict};
+ghost use Rattle.bio.specs.Content.{Content};
+ghost use Rattle.world.specs.Findings.{IsFinding};
+ghost use Rattle.world.specs.declared.finding.Finding.{Finding};
+ghost use Rattle.dmlw_commands.specs.Beginnings.{BeginsLog, IsReplayedTo, replayed_first};
+ghost use Rattle.dmlw_commands.specs.Judgements.{HasVerdict, IsJudged, Question, blank};
+ghost use Rattle.dmlw_commands.specs.Paths.{IsFound, verdict_of};
+
+use judge::laws::verdicts_differ;
+use pending::laws::beginnings_are_possible;
+use world::laws::possible_is_exact;
+
+/// What replaying a beginning of a script's log over zeroes leaves is judged possible: each number
+/// of entries that belongs to a moment up to which logging goes on leaves a content on which the
+/// verdict at that moment is yes; and whoever judges an image of that content, by those events and
+/// at that moment, gets yes and never no. The log has sectors of any size that a log may have.
+pub fn replayed_beginnings_are_judged_possible()
+    ensures content { (size : ℕ) (events : List CoreEvent) (moment count bytes : ℕ)
+        → IsTrue (is_sector_size size) →
+        IsTrue (all_aligned size events) → is_well_formed events ≡ true
+        → BeginsLog size events moment count →
+        IsVerdict (bytes / 512) (take moment events) (blank bytes)
+        (replayed_first size events count bytes) Yes }
+    ensures judged { (plan : ScriptValue) (moment count : ℕ) (image : List ℕ) (verdict : Verdict) →
+        (judged : IsJudged plan moment image verdict)
+        → IsReplayedTo (bytes_of plan.log_size) judged.events moment count image → verdict ≡ Yes }
+    ensures asked { (asked : Question) (count : ℕ) (verdict : Verdict)
+        → (has : HasVerdict asked verdict) →
+        IsReplayedTo (bytes_of has.plan.log_size) has.judged.events asked.moment count has.image
+        → verdict ≡ Yes }
+{
+    beginnings_are_possible();
+}
+
+/// `path` and `judge` say the same of an image: after the same events there is a run just where the
+/// verdict is yes, and where there is none, the verdict is the no that is printed.
+pub fn findings_are_verdicts()
+    ensures content { (sectors : ℕ) (events : List CoreEvent) (first now : Content)
+        (verdict : Verdict) (finding : Finding) →
+        IsVerdict sectors events first now verdict → IsFinding sectors events first now finding
+        → verdict ≡ verdict_of finding }
+    ensures judged { (plan : ScriptValue) (moment : ℕ) (image : List ℕ) (verdict : Verdict)
+        (finding : Finding) →
+        (judged : IsJudged plan moment image verdict) → (found : IsFound plan moment image finding)
+        → judged.events ≡ found.events →
+        verdict ≡ verdict_of finding }
+{
+    verdicts_differ();
+    possible_is_exact();
+}

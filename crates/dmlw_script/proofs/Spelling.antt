@@ -1,0 +1,53 @@
+-- The text of a script is that of its parts, one after another: `print_script` writes it in three.
+-- Its own crate alone cites it, for the theorems of src/printing.rt.
+use Rattle.std.proofs.Common.{◌≡◌, ℕ, List, [], ◌∷◌, ◌++◌, Option, Some, None, ap, ◌∙◌, sym}
+use Rattle.std.proofs.Common.{append_assoc}
+use Rattle.std.specs.Prelude.{decimal, flat_map, map}
+use Rattle.std.proofs.lemmas.List.{append-nil}
+use Rattle.std.proofs.lemmas.List.Concat.{flat_map-append}
+use Rattle.bio.specs.declared.sector_size.SectorSize.{SectorSize}
+use Rattle.script_reader.specs.CanonicalText.{ended_line, ending_text, canonical_text}
+use Rattle.script_reader.specs.Grammar.{spaced}
+use Rattle.script_reader.specs.Plans.{head_of, lines_behind_head, lines_of_body, with_ending, Disk}
+use Rattle.script_reader.specs.Plans.{ScriptValue}
+use Rattle.script_reader.specs.LineMeaning.{LineMeaning}
+use Rattle.script_reader.specs.LineMeaning as parsed_lines
+
+-- the text of lines and of the crash behind them
+ending_spelled : (ending : Option (List ℕ)) (ss : List LineMeaning)
+    → flat_map ended_line (with_ending ending ss) ≡ flat_map ended_line ss ++ ending_text ending
+ending_spelled None ss = sym (append-nil (flat_map ended_line ss))
+ending_spelled (Some picks) ss =
+    flat_map-append ended_line ss (parsed_lines.Crash picks ∷ [])
+    ∙ ap (λ (x : List ℕ). flat_map ended_line ss ++ x)
+    (append-nil (ended_line (parsed_lines.Crash picks)))
+
+-- a first word and picks behind it, each behind a space
+pub picks_spelled : (word : List ℕ) (picks : List ℕ)
+    → spaced (word ∷ map decimal picks) ≡ word ++ flat_map (λ n. 32 ∷ decimal n) picks
+picks_spelled word [] = sym (append-nil word)
+picks_spelled word (pick ∷ picks) =
+    ap (λ (x : List ℕ). word ++ 32 ∷ x) (picks_spelled (decimal pick) picks)
+
+-- a text that is written in three parts, from nothing, is the script's
+pub text_in_parts : (plan : ScriptValue) (d l : Disk) (size : SectorSize)
+    (start head body whole : List ℕ) → d ≡ plan.data_disk → l ≡ plan.log_disk → size ≡ plan.log_size
+    → start ≡ [] → head ≡ start ++ flat_map ended_line (head_of d l size)
+    → body ≡ head ++ flat_map ended_line (lines_of_body plan.names 0 plan.commands)
+    → whole ≡ body ++ ending_text plan.ending → whole ≡ canonical_text plan
+text_in_parts plan d l size start head body whole is_data is_log is_size none is_head is_body
+    is_whole =
+    let lines = lines_of_body plan.names 0 plan.commands in
+    let front = flat_map ended_line (head_of plan.data_disk plan.log_disk plan.log_size) in
+    let first : head ≡ front =
+    is_head ∙ ap (λ (x : List ℕ). x ++ flat_map ended_line (head_of d l size)) none
+    ∙ ap (λ (x : Disk). flat_map ended_line (head_of x l size)) is_data
+    ∙ ap (λ (x : Disk). flat_map ended_line (head_of plan.data_disk x size)) is_log
+    ∙ ap (λ (x : SectorSize). flat_map ended_line (head_of plan.data_disk plan.log_disk x))
+    is_size in
+    is_whole ∙ ap (λ (x : List ℕ). x ++ ending_text plan.ending)
+    (is_body ∙ ap (λ (x : List ℕ). x ++ flat_map ended_line lines) first)
+    ∙ append_assoc front (flat_map ended_line lines) (ending_text plan.ending)
+    ∙ ap (λ (x : List ℕ). front ++ x) (sym (ending_spelled plan.ending lines))
+    ∙ sym (flat_map-append ended_line (head_of plan.data_disk plan.log_disk plan.log_size)
+    (lines_behind_head plan))

@@ -1,6 +1,0 @@
--- Answers to the goals of `one_script` (src/laws.rt) that the search leaves.
-use Rattle.dmlw_script.proofs.TextLaws.{one_script_of}
-use Rattle.dmlw_script.proofs.laws.one_script.Goals as goal
-
-pub returns : goal.returns
-returns c = one_script_of

@@ -1,9 +1,0 @@
--- The definitions of `dmlw_script` that its proofs alone use: no other crate cites them.
--- Any crate above may cite it.
-pub mod Parsing
-pub mod Stages
-pub mod Heads
-pub mod Drafts
-pub mod Readers
-pub mod RunParsing
-pub mod RunReaders

@@ -1,0 +1,40 @@
+//! The parts that lines are made of: a first word, numbers and ids.
+//! Its clauses are in words of `script_reader`; the search alone proves it.
+ghost use Rattle.std.specs.Prelude.{◌≡◌, ◌++◌, ◌∷◌, decimal, OnOk};
+ghost use Rattle.script_reader.specs.Ids.{letters_of};
+
+use script_reader::ScriptId;
+use std::alloc::AllocError;
+use text_words::push_number;
+
+// A line's first word and space, and a number.
+pub(crate) fn push_value(out: &mut Vec<u8>, verb: &[u8], number: u64) -> Result<(), AllocError>
+    ensures { OnOk result (out.new.items ≡ out.old.items ++ (verb.now ++ decimal number)) }
+{
+    out.extend_from_slice(verb)?;
+    push_number(out, number)
+}
+
+// A line's first word and space, or a space alone, and
+// behind it a first sector and a number of sectors.
+pub(crate) fn push_sectors(
+    out: &mut Vec<u8>,
+    verb: &[u8],
+    first: u64,
+    count: u64,
+) -> Result<(), AllocError>
+    ensures { OnOk result (out.new.items
+        ≡ out.old.items ++ (verb.now ++ (decimal first ++ 32 ∷ decimal count))) }
+{
+    push_value(out, verb, first)?;
+    out.push(b' ')?;
+    push_number(out, count)
+}
+
+// A line's first word and space, and an id.
+pub(crate) fn push_name(out: &mut Vec<u8>, verb: &[u8], name: ScriptId) -> Result<(), AllocError>
+    ensures { OnOk result (out.new.items ≡ out.old.items ++ (verb.now ++ letters_of name)) }
+{
+    out.extend_from_slice(verb)?;
+    out.extend_from_slice(name.letters())
+}

@@ -1,0 +1,110 @@
+//! Prints a recorder's script: `print_script` gives its one text.
+//! Its clauses are in words of `script_reader`; its theorems in proofs/printing/.
+ghost use Rattle.std.specs.Prelude.{◌≡◌, ◌<◌, ◌+◌, ◌^◌, ◌++◌, flat_map, length, IfOk, OnOk};
+ghost use Rattle.script_reader.specs.Grammar.{IsTextOf};
+ghost use Rattle.script_reader.specs.LineMeaning as parsed_lines;
+ghost use Rattle.script_reader.specs.Plans.{count_after_command, lines_of_body, line_at, HasName};
+ghost use Rattle.script_reader.specs.CanonicalText.{ended_line, ending_text, line_text};
+ghost use Rattle.script_reader.specs.CanonicalText.{canonical_text};
+
+use crate::head::push_head;
+use crate::parts::push_name;
+use crate::steps::push_step;
+use crate::submissions::push_submission;
+use script_reader::{Command, Script, ScriptId};
+use std::alloc::{AllocError, Global};
+use text_words::push_number;
+
+/// The one text of a script: no comments, no empty lines, no leading zeroes, and a line feed
+/// after each line. Reading it gives the same script.
+pub fn print_script(alloc: Global, script: &Script) -> Result<Vec<u8>, AllocError>
+    ensures spelled { IfOk result (λ text. text.items ≡ canonical_text script.now) }
+    // What is printed is a text of this script, and so read as it.
+    ensures again { IfOk result (λ text. IsTextOf text.items script.now) }
+{
+    script_reader::laws::each_script_has_a_text();
+    let mut out = Vec::new(alloc);
+    push_head(&mut out, script.data(), script.log(), script.log_size())?;
+    push_body(&mut out, script)?;
+    push_ending(&mut out, script)?;
+    Ok(out)
+}
+
+// The line of the crash that ends a script, if one does.
+fn push_ending(out: &mut Vec<u8>, script: &Script) -> Result<(), AllocError>
+    ensures { OnOk result (out.new.items ≡ out.old.items ++ ending_text script.now.ending) }
+{
+    match script.crash() {
+        Some(picks) => push_crash(out, picks),
+        None => Ok(()),
+    }
+}
+
+// The line of a crash.
+fn push_crash(out: &mut Vec<u8>, picks: &[u64]) -> Result<(), AllocError>
+    ensures { OnOk result (out.new.items
+        ≡ out.old.items ++ ended_line (parsed_lines.Crash picks.now)) }
+{
+    push_picks(out, picks)?;
+    out.push(b'\n')?;
+    Ok(())
+}
+
+// The same, but for its line feed.
+fn push_picks(out: &mut Vec<u8>, picks: &[u64]) -> Result<(), AllocError>
+    ensures { OnOk result (out.new.items
+        ≡ out.old.items ++ line_text (parsed_lines.Crash picks.now)) }
+{
+    out.extend_from_slice(b"crash")?;
+    for pick in picks {
+        out.push(b' ')?;
+        push_number(out, *pick)?;
+    }
+    Ok(())
+}
+
+// The lines of a script's body.
+fn push_body(out: &mut Vec<u8>, script: &Script) -> Result<(), AllocError>
+    ensures { OnOk result (out.new.items
+        ≡ out.old.items ++ flat_map ended_line
+        (lines_of_body script.now.names 0 script.now.commands)) }
+{
+    let names = script.names();
+    let mut before = 0;
+    for command in script.commands() {
+        push_command(out, names, before, command)?;
+        before = submitted_after(before, command);
+    }
+    Ok(())
+}
+
+// The line of a command, before which so many requests were submitted.
+fn push_command(
+    out: &mut Vec<u8>,
+    names: &[ScriptId],
+    before: usize,
+    command: &Command,
+) -> Result<(), AllocError>
+    requires { HasName (length names.now) before command.now }
+    ensures { OnOk result (out.new.items
+        ≡ out.old.items ++ ended_line (parsed_lines.Body (line_at names.now before command.now))) }
+{
+    match command {
+        Command::Submit(submission) => push_submission(out, names[before], *submission)?,
+        Command::Complete { request } => push_name(out, b"c ", names[*request])?,
+        Command::Step(step) => push_step(out, step)?,
+    }
+    out.push(b'\n')?;
+    Ok(())
+}
+
+// How many requests were submitted after a command, before which there were so many.
+fn submitted_after(before: usize, command: &Command) -> usize
+    requires { before + 1 < 2 ^ 64 }
+    ensures { result ≡ count_after_command before command.now }
+{
+    match command {
+        Command::Submit(_) => before + 1,
+        Command::Complete { .. } | Command::Step(_) => before,
+    }
+}

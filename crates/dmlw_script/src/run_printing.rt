@@ -1,0 +1,105 @@
+//! Prints a run's script as one text.
+//! Its clauses are in words of `script_reader`; its theorems in proofs/run_printing/.
+ghost use Rattle.std.specs.Prelude.{◌≡◌, ◌++◌, flat_map, map, IfOk, OnOk};
+ghost use Rattle.script_reader.specs.RunGrammar.{IsRunText};
+ghost use Rattle.script_reader.specs.RunPlans.{run_head};
+ghost use Rattle.script_reader.specs.RunText.{call_line, call_text, ended_run_line, run_text};
+ghost use Rattle.script_reader.specs.RunText.{seats_line};
+
+use crate::head::{push_disk_layers, push_disks};
+use crate::parts::{push_sectors, push_value};
+use crate::steps::push_mark;
+use crate::submissions::push_filling;
+use script_reader::{Call, RunScript, SeatCall, Submission};
+use std::alloc::{AllocError, Global};
+
+/// The one text of a run's script: no comments, no empty lines, no leading zeroes, and a line feed
+/// after each line. Reading it gives the same script.
+pub fn print_run_script(alloc: Global, script: &RunScript) -> Result<Vec<u8>, AllocError>
+    ensures spelled { IfOk result (λ text. text.items ≡ run_text script.now) }
+    // What is printed is a text of this script, and so read as it.
+    ensures again { IfOk result (λ text. IsRunText text.items script.now) }
+{
+    script_reader::laws::each_run_script_has_a_text();
+    let mut out = Vec::new(alloc);
+    push_run_head(&mut out, script)?;
+    push_calls(&mut out, script.calls())?;
+    Ok(out)
+}
+
+// The lines of a run's head.
+fn push_run_head(out: &mut Vec<u8>, script: &RunScript) -> Result<(), AllocError>
+    ensures { OnOk result (out.new.items
+        ≡ out.old.items ++ flat_map ended_run_line (run_head script.now)) }
+{
+    let data_disk = script.data();
+    let log_disk = script.log();
+    push_disks(
+        out,
+        data_disk.sectors(),
+        log_disk.sectors(),
+        script.log_size(),
+    )?;
+    push_seats(out, script.seats())?;
+    push_disk_layers(out, data_disk, log_disk)
+}
+
+// The line of the number of seats.
+fn push_seats(out: &mut Vec<u8>, seats: u64) -> Result<(), AllocError>
+    ensures { OnOk result (out.new.items ≡ out.old.items ++ ended_run_line (seats_line seats)) }
+{
+    push_value(out, b"seats ", seats)?;
+    out.push(b'\n')?;
+    Ok(())
+}
+
+// The lines of what the seats do.
+fn push_calls(out: &mut Vec<u8>, calls: &[SeatCall]) -> Result<(), AllocError>
+    ensures { OnOk result (out.new.items
+        ≡ out.old.items ++ flat_map ended_run_line (map call_line calls.now)) }
+{
+    for call in calls {
+        push_seat_call(out, call)?;
+    }
+    Ok(())
+}
+
+// The line of a seat's call.
+fn push_seat_call(out: &mut Vec<u8>, line: &SeatCall) -> Result<(), AllocError>
+    ensures { OnOk result (out.new.items ≡ out.old.items ++ ended_run_line (call_line line.now)) }
+{
+    push_value(out, b"s", line.seat)?;
+    out.push(b' ')?;
+    push_call(out, &line.call)?;
+    out.push(b'\n')?;
+    Ok(())
+}
+
+// What a seat does.
+fn push_call(out: &mut Vec<u8>, call: &Call) -> Result<(), AllocError>
+    ensures { OnOk result (out.new.items ≡ out.old.items ++ call_text call.now) }
+{
+    match call {
+        Call::Submit(submission) => push_submitted(out, *submission),
+        Call::Mark { text } => push_mark(out, text.as_slice()),
+    }
+}
+
+// The request that a seat submits.
+fn push_submitted(out: &mut Vec<u8>, submission: Submission) -> Result<(), AllocError>
+    ensures { OnOk result (out.new.items ≡ out.old.items ++ call_text (Call.Submit submission)) }
+{
+    match submission {
+        Submission::Write {
+            first,
+            count,
+            byte,
+            options,
+        } => {
+            push_sectors(out, b"w ", first, count)?;
+            push_filling(out, byte, options)
+        }
+        Submission::Flush => out.extend_from_slice(b"f"),
+        Submission::Discard { first, count } => push_sectors(out, b"d ", first, count),
+    }
+}

@@ -1,0 +1,57 @@
+//! The lines that are no submissions: ends, marks, turns, moments and messages.
+//! Its clauses are in words of `script_reader`; the search alone proves it.
+ghost use Rattle.std.specs.Prelude.{◌≡◌, ◌++◌, ◌∷◌, codes, decimal, OnOk};
+ghost use Rattle.script_reader.specs.Grammar.{message_verb};
+ghost use Rattle.script_reader.specs.CanonicalText.{step_text};
+
+use crate::parts::{push_sectors, push_value};
+use script_reader::{DiskName, Step};
+use std::alloc::AllocError;
+
+// A line that names no request, but for its line feed.
+pub(crate) fn push_step(out: &mut Vec<u8>, step: &Step) -> Result<(), AllocError>
+    ensures { OnOk result (out.new.items ≡ out.old.items ++ step_text step.now) }
+{
+    match step {
+        Step::Close => out.extend_from_slice(b"close"),
+        Step::Read { first, count } => push_sectors(out, b"r ", *first, *count),
+        Step::Turn => out.extend_from_slice(b"turn"),
+        Step::Mark { text } => push_mark(out, text.as_slice()),
+        Step::At { moment } => push_value(out, b"at ", moment.milliseconds()),
+        Step::Message { over, layer, text } => push_message(out, *over, *layer, text.as_slice()),
+    }
+}
+
+// The line of a mark, but for its line feed; behind a seat, what the seat does.
+pub(crate) fn push_mark(out: &mut Vec<u8>, text: &[u8]) -> Result<(), AllocError>
+    ensures { OnOk result (out.new.items ≡ out.old.items ++ (codes "mark " ++ text.now)) }
+{
+    out.extend_from_slice(b"mark ")?;
+    out.extend_from_slice(text)
+}
+
+// The line of a message, but for its line feed.
+fn push_message(
+    out: &mut Vec<u8>,
+    over: DiskName,
+    layer: u64,
+    text: &[u8],
+) -> Result<(), AllocError>
+    ensures { OnOk result (out.new.items
+        ≡ out.old.items ++ (message_verb over ++ 32 ∷ (decimal layer ++ 32 ∷ text.now))) }
+{
+    match over {
+        DiskName::Data => push_valued(out, b"message data ", layer, text),
+        DiskName::Log => push_valued(out, b"message log ", layer, text),
+    }
+}
+
+// A line's first words and space, a number, and a text behind a space.
+fn push_valued(out: &mut Vec<u8>, verb: &[u8], number: u64, text: &[u8]) -> Result<(), AllocError>
+    ensures { OnOk result (out.new.items
+        ≡ out.old.items ++ (verb.now ++ (decimal number ++ 32 ∷ text.now))) }
+{
+    push_value(out, verb, number)?;
+    out.push(b' ')?;
+    out.extend_from_slice(text)
+}

@@ -1,3 +1,0 @@
--- The lemmas of `script_printer`; the proof of a function stands in the folder of its source file.
-mod Spelling
-mod RunSpelling

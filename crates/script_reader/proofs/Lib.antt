@@ -1,0 +1,23 @@
+-- The lemmas of `script_reader`; the proof of a function stands in the folder of its source file.
+pub mod DiskLaws
+pub mod DraftLemmas
+pub mod PickLaws
+pub mod LineLemmas
+pub mod LayerLaws
+pub mod ParsingLaws
+pub mod BodyLaws
+pub mod ReadingLaws
+pub mod FaultLaws
+pub mod TextLaws
+pub mod CanonicalTextLaws
+pub mod ScriptLaws
+pub mod OneFault
+pub mod Examples
+pub mod FoldLaws
+pub mod RunLines
+pub mod RunTextLaws
+pub mod RunReading
+pub mod RunFaults
+pub mod OneRunFault
+pub mod RunExamples
+pub mod RunReadingExamples

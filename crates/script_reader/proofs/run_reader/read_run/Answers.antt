@@ -1,0 +1,14 @@
+-- Answers to the goals of `read_run` (src/run_reader.rt) that the search leaves.
+use Rattle.std.proofs.Common.{◌≡◌, ap, sym, ◌∙◌, []}
+use Rattle.script_reader.specs.Lines.{lines_of}
+use Rattle.script_reader.specs.inside.RunReaders.{read_run_lines, read_run_text, run_progress}
+use Rattle.script_reader.proofs.RunReading.{end_is_run}
+use Rattle.script_reader.proofs.run_reader.read_run.Goals as goal
+
+pub finish-requires : goal.finish-requires
+finish-requires c =
+    let p = run_progress c.loop-line.reader in
+    let whole : read_run_lines p c.loop-line.number [] ≡ read_run_text c.args.text.now =
+    ap (λ t. read_run_lines p c.loop-line.number (lines_of t)) (sym c.in_default.ensures)
+    ∙ c.loop-line.invariant.read in
+    end_is_run p c.args.text.now c.loop-line.number whole

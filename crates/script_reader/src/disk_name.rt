@@ -1,0 +1,11 @@
+// The two disks of a script.
+// The search alone proves it.
+
+/// A disk of a script.
+#[derive(Clone, Copy, Debug, PartialEq, Eq)]
+pub enum DiskName {
+    /// The disk that is recorded.
+    Data,
+    /// The disk that the log is written to.
+    Log,
+}

@@ -1,0 +1,151 @@
+//! The head of a script: its disks, the size of its log's sectors, and its layers, in their order.
+//! Its clauses are written in specs/; the search alone proves it.
+ghost use Rattle.std.specs.Prelude.{◌≡◌, List, false, ℕ};
+ghost use Rattle.bio.specs.Sizes.{bytes_of};
+ghost use Rattle.script_reader.specs.Plans.{is_disk_size as is_a_disk_size};
+ghost use Rattle.script_reader.specs.Plans.{is_log_disk_size as is_a_log_disk_size};
+ghost use Rattle.script_reader.specs.Plans.{is_within as is_within_them};
+ghost use Rattle.script_reader.specs.inside.Drafts.{Follows};
+ghost use Rattle.script_reader.specs.inside.Heads.{head_step, layer_in, layer_step, stage_of};
+ghost use Rattle.script_reader.specs.inside.Stages as heads;
+
+use crate::disk::DiskSpec;
+use crate::disk_name::DiskName;
+use crate::line::HeadLine;
+use crate::line_error::LineError;
+use bio::{MAX_DEVICE_SECTORS, SectorSize};
+use refusals::Refusal;
+use std::alloc::Global;
+use table_line::{LayerSpec, TableError};
+
+// The most layers over one disk.
+const MAX_LAYERS: usize = 4;
+
+/// How much of a script was read.
+#[derive(Clone, Copy)]
+pub(crate) enum Part {
+    /// Nothing: the line of the data disk comes next.
+    Nothing,
+    /// The line of the data disk: that of the log disk comes next.
+    Data,
+    /// The lines of both disks: layers come next, or the body.
+    Whole,
+    /// All: a crash has ended the script.
+    Ended,
+}
+
+/// The head of a script, as far as it was read.
+#[derive(Drop)]
+pub(crate) struct Head {
+    pub(crate) part: Part,
+    /// The data disk, of no sectors where its line wasn't read.
+    pub(crate) data_disk: DiskSpec,
+    /// The log disk, the same.
+    pub(crate) log_disk: DiskSpec,
+    /// The size of the log's sectors, 512 bytes where the log disk's line wasn't read.
+    pub(crate) log_size: SectorSize,
+}
+
+impl Head {
+    pub(crate) fn new(alloc: Global) -> Head
+        ensures { (picks : List ℕ) → stage_of picks result ≡ heads.Empty }
+    {
+        Head {
+            part: Part::Nothing,
+            data_disk: DiskSpec::new(alloc, 0),
+            log_disk: DiskSpec::new(alloc, 0),
+            log_size: SectorSize::B512,
+        }
+    }
+
+    /// Reads the next line of the head, before which the body has begun or not.
+    pub(crate) fn read(
+        &mut self,
+        alloc: Global,
+        line: HeadLine,
+        began: bool,
+    ) -> Result<(), LineError>
+        ensures { (picks : List ℕ)
+            → Follows result (stage_of picks self.new)
+            (head_step (stage_of picks self.old) began line) }
+    {
+        match (self.part, line) {
+            (Part::Nothing, HeadLine::Data { sectors }) if is_disk_size(sectors) => {
+                self.data_disk = DiskSpec::new(alloc, sectors);
+                self.part = Part::Data;
+                Ok(())
+            }
+            (Part::Data, HeadLine::Log { sectors, size }) if is_log_disk_size(sectors, size) => {
+                self.log_disk = DiskSpec::new(alloc, sectors);
+                self.log_size = size;
+                self.part = Part::Whole;
+                Ok(())
+            }
+            (Part::Whole, HeadLine::Layer { over, asked }) if !began => self.layer(over, asked),
+            _ => Err(LineError::Refused(Refusal::BadLine)),
+        }
+    }
+
+    // Reads a layer's line in a head that has both disks.
+    fn layer(
+        &mut self,
+        over: DiskName,
+        asked: Result<LayerSpec, TableError>,
+    ) -> Result<(), LineError>
+        requires { self.old.part ≡ Part.Whole }
+        ensures { (picks : List ℕ)
+            → Follows result (stage_of picks self.new)
+            (layer_in false self.old.data_disk self.old.log_disk self.old.log_size over asked) }
+    {
+        match over {
+            DiskName::Data if self.log_disk.layers().is_empty() => {
+                push_layer(&mut self.data_disk, asked, 1)
+            }
+            DiskName::Data => Err(LineError::Refused(Refusal::BadLine)),
+            DiskName::Log => push_layer(&mut self.log_disk, asked, self.log_size.sectors()),
+        }
+    }
+}
+
+// Puts the layer that a line asks for over a disk, whose layers have at least so many sectors.
+fn push_layer(
+    disk: &mut DiskSpec,
+    asked: Result<LayerSpec, TableError>,
+    least: u64,
+) -> Result<(), LineError>
+    ensures { Follows result disk.new (layer_step least disk.old asked) }
+{
+    if disk.layers().len() >= MAX_LAYERS {
+        return Err(LineError::Refused(Refusal::BadLine));
+    }
+    let layer = asked?;
+    if !is_within(layer, disk.top_sectors()) {
+        return Err(LineError::Refused(Refusal::OutOfRange));
+    }
+    if layer.length < least {
+        return Err(LineError::Refused(Refusal::BadLine));
+    }
+    disk.push(layer)?;
+    Ok(())
+}
+
+// A layer is within what stands beneath it, which has so many sectors.
+fn is_within(layer: LayerSpec, sectors: u64) -> bool
+    ensures { result ≡ is_within_them layer sectors }
+{
+    layer.offset <= sectors && layer.length <= sectors - layer.offset
+}
+
+// A disk may have so many sectors.
+fn is_disk_size(sectors: u64) -> bool
+    ensures { result ≡ is_a_disk_size sectors }
+{
+    0 < sectors && sectors <= MAX_DEVICE_SECTORS
+}
+
+// A log disk may have so many sectors: one of the log's sectors fits on it.
+fn is_log_disk_size(sectors: u64, size: SectorSize) -> bool
+    ensures { result ≡ is_a_log_disk_size (bytes_of size) sectors }
+{
+    is_disk_size(sectors) && size.sectors() <= sectors
+}

@@ -1,0 +1,42 @@
+//! The scripts of `dmlw record`: texts that say the sizes of the disks and of the log's sectors,
+//! which layers stand over them, which requests are made, and when they end. And those of
+//! `dmlw run`, whose requests are made by seats.
+//!
+//! `read_script` and `read_run_script` read a text, or answer the first line that is wrong. In a
+//! recorder's script a request's number is the place of its submission among the script's
+//! submissions, counted from 0, so whoever goes over the commands needs no map of ids.
+//!
+//! `specs/Grammar` is the grammar, a relation between texts and scripts, and `specs/Plans` says
+//! what a script is, `specs/CanonicalText` its one spelling, which `dmlw_script` prints,
+//! `specs/Texts` what is shown of an id and of a fault. `specs/RunGrammar` and `specs/RunPlans` are
+//! the same of a run's. A new kind of line is a case of `Submission` or of `Step`, and of
+//! `ParsesAs`; an option of a write a word of `option_words`.
+#![tactic(auto)]
+
+pub use command::{Command, Step, Submission, WriteOptions};
+pub use disk::DiskSpec;
+pub use disk_name::DiskName;
+pub use reader::{line_of, read_script};
+pub use run_reader::read_run_script;
+pub use run_script::RunScript;
+pub use script::Script;
+pub use script_id::ScriptId;
+pub use seat_call::{Call, SeatCall};
+
+mod command;
+mod disk;
+mod disk_name;
+mod draft;
+mod head;
+pub mod laws;
+mod line;
+mod line_error;
+mod options;
+mod reader;
+mod run_line;
+mod run_reader;
+mod run_script;
+mod script;
+mod script_id;
+mod seat_call;
+mod values;

@@ -1,0 +1,11 @@
+-- Answers to the goals of `Running::read` (src/running.rt) that the search leaves.
+use Rattle.std.proofs.Common.{refl}
+use Rattle.script_runner.proofs.running.Running.read.Goals as goal
+
+pub returns-clause-keeps : goal.returns-clause-keeps
+returns-clause-keeps g c = record {
+  moment = refl;
+  log_moment = refl;
+  size = c.read_sectors-bytes.ensures.size;
+  count = refl;
+}

@@ -1,0 +1,14 @@
+-- What a step of a script leaves as it was, whether it ends well or not.
+-- Its own crate alone cites it.
+use Rattle.std.specs.Prelude.{◌≡◌, length}
+use Rattle.blockdev.specs.declared.device.BlockDev.{Ghosts}
+use Rattle.blockdev.specs.View.{View}
+use Rattle.script_runner.specs.declared.running.Running.{Running}
+
+-- Both moments, the size of the data device and how many requests there are stay.
+pub record StepKeeps {D L : Type 0} {d : Ghosts D} {l : Ghosts L}
+    (old new : Running D L d l) : Type 0 where
+  pub moment : new.moment ≡ old.moment
+  pub log_moment : new.recorder.store.moment ≡ old.recorder.store.moment
+  pub size : (d.shown new.disk).size ≡ (d.shown old.disk).size
+  pub count : length new.requests.items ≡ length old.requests.items

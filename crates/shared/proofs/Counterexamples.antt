@@ -1,21 +1,22 @@
 -- For each clause of what a call is answered, and of what a close compares and hands back, what
 -- breaks it, and is refused by it.
 -- Nothing cites it: it is checked with its crate.
-use Rattle.std.proofs.Common.{◌≡◌, ◌==◌, ◌<◌, ℕ, Bool, true, false, true≢false, List, [], ◌∷◌}
+use Rattle.std.proofs.Common.{◌≡◌, ◌==◌, ◌<◌, ◌≤◌, ℕ, Bool, true, false, true≢false, List, [], ◌∷◌}
 use Rattle.std.proofs.Common.{Global, Option, Some, None, Vec, ap, arith, inl, inr, length, refl}
-use Rattle.std.proofs.Common.{sym, take}
+use Rattle.std.proofs.Common.{sym, take, subst, ◌∙◌}
 use Rattle.std.specs.Prelude.{slice_get}
 use Rattle.bio.specs.declared.event.CoreEvent.{CoreEvent}
 use Rattle.bio.specs.declared.event.CoreEvent.TheVariants as events
 use Rattle.bio.specs.declared.outcome.DevError.TheVariants.{Io}
 use Rattle.bio.specs.declared.outcome.End.{End}
+use Rattle.bio.specs.declared.outcome.Status.{Status}
 use Rattle.bio.specs.declared.outcome.End.TheVariants.{Full}
 use Rattle.bio.specs.declared.request.BadBio.{BadBio}
 use Rattle.bio.specs.declared.request.Bio.{Bio}
 use Rattle.bio.specs.declared.request.Bio.TheVariants as bios
 use Rattle.board.specs.Posts.{opening}
 use Rattle.log_format.specs.Entries.{end_mark}
-use Rattle.log_format.specs.LogOf.{IsLogOf}
+use Rattle.log_format.specs.LogOf.{IsLogOf, status_of}
 use Rattle.pending.specs.Beginnings.{entries_of}
 use Rattle.pending.specs.CoreState.{CoreState, items_of, sized_state}
 use Rattle.bio.specs.Content.{Content}
@@ -25,10 +26,11 @@ use Rattle.lock_state.specs.declared.note.Own.{Own}
 use Rattle.lock_state.specs.declared.note.Receipt.{Receipt}
 use Rattle.lock_state.specs.Closing.{IsOwn, IsShort}
 use Rattle.lock_state.specs.Comparing.{BeginsTaken, Fails, IsServed, Names}
-use Rattle.lock_state.specs.History.{Part, Queue, begun, ended, new_part, noted}
+use Rattle.lock_state.specs.History.{Part, Queue, begun, ended, first_cause, new_part, noted}
+use Rattle.lock_state.specs.Placed.{Stay, entries_in}
 use Rattle.shared.specs.Answers.{Answered, Marked}
 use Rattle.shared.specs.Closing.{Agrees, Differs, IfBusy, IfForeign, IsReceipt, LeavesLog}
-use Rattle.shared.specs.Posting.{ArePosted}
+use Rattle.shared.specs.Posting.{ArePosted, IsCurrent}
 use Rattle.shared.specs.Seats.{AreNewReaders, AreNewSeats}
 use Rattle.shared.specs.declared.answer.Answer.TheVariants.{Done as done, Failed, Logged, NotLogged}
 use Rattle.shared.specs.declared.answer.Answer.TheVariants.{Read, Refused}
@@ -225,6 +227,40 @@ posted_back posted =
     let goes = posted.rising.rises 0 1 _ _ (omega arith) refl refl in
     let entries = goes.entries in
     absurd (omega arith)
+
+-- what is up to date where a receipt's entry isn't placed, and where it wasn't posted
+current_missing : IsCurrent 512 [] (record { id = 0; number = 0 } ∷ []) (opening ∷ []) → ⊥
+current_missing current =
+    none_stays current.written.placed current.stays (current.told 0 _ refl)
+  where
+    none_stays : (placed : List Item) → Stay placed [] → 0 < length placed → ⊥
+    none_stays [] stays some = absurd (omega arith)
+    none_stays (x ∷ xs) stays some = absurd (let there = stays 0 x refl in cc)
+
+current_unposted : IsCurrent 512 (ending ∷ []) (record { id = 0; number = 0 } ∷ [])
+    (opening ∷ []) → ⊥
+current_unposted current =
+    let log = current.written in
+    let cause = first_cause log.end log.released in
+    let same = one_stays log.placed current.stays (current.told 0 _ refl) in
+    let is : opening ≡ status_of 512 (entries_in log.placed) cause =
+    current.latest (record {
+      fit = record {
+        entries = subst (λ (placed : List Item). (status_of 512 (entries_in placed) cause).entries
+            ≤ 1048576) (sym same) (omega arith);
+        sector = subst (λ (placed : List Item). (status_of 512 (entries_in placed) cause).sector
+            ≤ 1048576) (sym same) (omega arith);
+      };
+      follows = record { entries = omega arith; end = λ other none. absurd (cc none) };
+    }) in
+    true≢false (ap (λ (status : Status). status.entries == 0)
+    (is ∙ ap (λ (placed : List Item). status_of 512 (entries_in placed) cause) same))
+  where
+    one_stays : (placed : List Item) → Stay placed (ending ∷ []) → 0 < length placed
+        → placed ≡ ending ∷ []
+    one_stays [] stays some = absurd (omega arith)
+    one_stays (x ∷ []) stays some = let there = stays 0 x refl in cc
+    one_stays (x ∷ y ∷ ys) stays some = absurd (let there = stays 1 y refl in cc)
 
 -- a recorder that lacks a seat, and one of which a seat has had a call
 seat_missing : AreNewSeats 1 [] → ⊥

@@ -1,16 +1,19 @@
 -- Worked answers: some that hold, and some that don't.
 -- Nothing cites it: it is checked with its crate.
-use Rattle.std.proofs.Common.{◌==◌, ℕ, Bool, true, false, List, [], ◌∷◌, length, None, inl, inr}
-use Rattle.std.proofs.Common.{refl, ap, true≢false, arith}
+use Rattle.std.proofs.Common.{◌≡◌, ◌==◌, ◌<◌, ℕ, zero, suc, Bool, true, false, List, [], ◌∷◌, length}
+use Rattle.std.proofs.Common.{None, inl, inr, refl, ap, subst, true≢false, arith}
 use Rattle.bio.specs.declared.event.CoreEvent.TheVariants as events
 use Rattle.bio.specs.declared.request.Bio.{Bio}
 use Rattle.bio.specs.declared.request.Bio.TheVariants as bios
 use Rattle.board.specs.Posts.{opening}
 use Rattle.log_format.specs.Entries.{entry_of}
 use Rattle.lock_state.specs.declared.note.Item.{Item}
+use Rattle.lock_state.specs.declared.note.Receipt.{Receipt}
+use Rattle.lock_state.specs.Comparing.{Each}
 use Rattle.lock_state.specs.History.{Part, begun, ended, new_part, noted}
+use Rattle.lock_state.specs.Placed.{Log}
 use Rattle.shared.specs.Answers.{Answered, Marked}
-use Rattle.shared.specs.Posting.{IsOfPrefix}
+use Rattle.shared.specs.Posting.{IsCurrent, IsOfPrefix}
 use Rattle.shared.specs.declared.answer.Answer.TheVariants.{Done, Logged}
 use Rattle.shared.specs.declared.answer.MarkAnswer.TheVariants as marks
 
@@ -71,3 +74,29 @@ three_posted is = let within = is.within in absurd (omega arith)
 -- nor is one with the sector of another prefix
 other_posted : IsOfPrefix 512 two (record { entries = 1; sector = 2; end = None }) → ⊥
 other_posted is = true≢false (ap (λ (n : ℕ). n == 2) is.sector)
+
+-- a log of two items, of which both are settled, and a receipt for each
+abbrev both_placed : Log
+both_placed = record { placed = two; settled = 2; end = None; released = None }
+
+abbrev told_of : ℕ → Receipt
+told_of n = record { id = n; number = n }
+
+-- What was posted of it is up to date, where both receipts were told.
+two_current : IsCurrent 512 two (told_of 0 ∷ told_of 1 ∷ [])
+    (opening ∷ record { entries = 2; sector = 2; end = None } ∷ [])
+two_current = record {
+  written = both_placed;
+  stays = λ number item there. there;
+  told = told;
+  latest = λ may. refl;
+}
+  where
+    told : Each (λ (receipt : Receipt). receipt.number < 2) (told_of 0 ∷ told_of 1 ∷ [])
+    told zero receipt there =
+        let is : told_of 0 ≡ receipt = cc in
+        subst (λ (r : Receipt). r.number < 2) is (omega arith)
+    told (suc zero) receipt there =
+        let is : told_of 1 ≡ receipt = cc in
+        subst (λ (r : Receipt). r.number < 2) is (omega arith)
+    told (suc (suc k)) receipt there = absurd (cc there)

@@ -13,7 +13,7 @@ ghost use Rattle.lock_state.specs.History.{Part, first_cause, named, owned};
 ghost use Rattle.lock_state.specs.Legal.{LegalHistory};
 ghost use Rattle.lock_state.specs.Placed.{LeavesBeginning, StandsOn, Stay, entries_in};
 ghost use Rattle.shared.specs.Closing.{Agrees, Differs, IfBusy, IfForeign, IsReceipt, LeavesLog};
-ghost use Rattle.shared.specs.Posting.{ArePosted};
+ghost use Rattle.shared.specs.Posting.{ArePosted, IsCurrent, IsLatest};
 
 use crate::desk::Desk;
 use crate::log_desk::LogDesk;
@@ -148,6 +148,8 @@ impl<D: BlockDev + Drop, L: BlockDev + Drop, R: Run + Names> Shared<D, L, R> {
         ensures hazard { IfOk result (λ c. c.closed.hazard ≡ None) }
         ensures taken { IfOk result (λ c. c.closed.taken ≡ c.closed.core.state.taken) }
         ensures posted { IfOk result (λ c. ArePosted R.sector_bytes c.closed.placed.items c.posts) }
+        ensures current { IfOk result (λ c. IsCurrent R.sector_bytes
+            c.closed.placed.items receipts.items c.posts) }
         ensures foreign { IfErr result
             (λ e. IfForeign e (λ f. Differs
             (record { core = f.closed.core.state; by = f.closed.by.items; stop = f.closed.stop })
@@ -218,6 +220,7 @@ impl<D: BlockDev + Drop, L: BlockDev + Drop, R: Run + Names> Shared<D, L, R> {
     // What the locks guard, where recording was closed; else the recorder again.
     fn leave_locks(self) -> Result<Held<D, L, R>, Shared<D, L, R>>
         ensures posted { IfOk result (λ held. ArePosted R.sector_bytes held.log.placed held.posts) }
+        ensures latest { IfOk result (λ held. IsLatest R.sector_bytes held.log held.posts) }
         ensures closed { IfOk result (λ held. (has_no_close held.desk.queue.core.events ≡ false)
             × (length held.desk.queue.core.events ≤ length held.desk.notes.items)) }
     {

@@ -2,7 +2,7 @@
 use Rattle.std.proofs.Common.{List, ◌∙◌, subst, sym}
 use Rattle.lock_state.specs.declared.note.Item.{Item}
 use Rattle.shared.proofs.Finishing.{agrees_of, differs_apart, differs_of, receipts_there}
-use Rattle.shared.proofs.Posting.{posted_stays}
+use Rattle.shared.proofs.Posting.{posted_stays, told_within}
 use Rattle.shared.specs.Posting.{ArePosted}
 use Rattle.shared.proofs.shared.Shared.close.Goals as goal
 
@@ -25,6 +25,19 @@ returns-then-agrees-clause-log g c lies =
 pub returns-then-agrees-clause-posted : goal.returns-then-agrees-clause-posted
 returns-then-agrees-clause-posted g c =
     posted_stays _ _ _ _ c.finish-closed.ensures.stay c.in-Ok.ensures.posted
+
+pub returns-then-agrees-clause-current : goal.returns-then-agrees-clause-current
+returns-then-agrees-clause-current g c =
+    let before =
+    agrees_of _ _ _ _ _ _ _ _ _
+    (c.as_slice.ensures.value
+    ∙ c.audit.ensures.same.1) c.as_slice-2.ensures.value c.if-agrees.ensures.agrees in
+    record {
+      written = c.in-Ok.held.log;
+      stays = c.finish-closed.ensures.stay;
+      told = told_within _ _ _ before.named;
+      latest = c.in-Ok.ensures.latest;
+    }
 
 pub returns-clause-foreign_posted : goal.returns-clause-foreign_posted
 returns-clause-foreign_posted g c =

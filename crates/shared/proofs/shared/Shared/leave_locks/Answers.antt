@@ -1,7 +1,7 @@
 -- Answers to the goals of `Shared::leave_locks` (src/closing.rt) that the search leaves.
 use Rattle.std.proofs.Common.{List, subst, sym}
 use Rattle.bio.specs.declared.outcome.Status.{Status}
-use Rattle.shared.specs.Posting.{ArePosted}
+use Rattle.shared.specs.Posting.{ArePosted, IsLatest}
 use Rattle.shared.proofs.shared.Shared.leave_locks.Goals as goal
 
 pub returns-then-is_ready-clause-posted : goal.returns-then-is_ready-clause-posted
@@ -9,3 +9,9 @@ returns-then-is_ready-clause-posted g c =
     let desk = c.into_inner-log.result in
     subst (λ (posts : List Status). ArePosted g.R.Run.sector_bytes desk.log.placed posts)
     (sym c.new-posts.ensures) (record { each = desk.prefixes; rising = desk.rising })
+
+pub returns-then-is_ready-clause-latest : goal.returns-then-is_ready-clause-latest
+returns-then-is_ready-clause-latest g c =
+    let desk = c.into_inner-log.result in
+    subst (λ (posts : List Status). IsLatest g.R.Run.sector_bytes desk.log posts)
+    (sym c.new-posts.ensures) desk.latest

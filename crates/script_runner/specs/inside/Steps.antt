@@ -2,7 +2,6 @@
 -- Its own crate alone cites it.
 use Rattle.std.specs.Prelude.{◌≡◌, length}
 use Rattle.blockdev.specs.declared.device.BlockDev.{Ghosts}
-use Rattle.blockdev.specs.View.{View}
 use Rattle.script_runner.specs.declared.running.Running.{Running}
 
 -- Both moments, the size of the data device and how many requests there are stay.

@@ -14,7 +14,7 @@ PAGE = f"{root}/docs/HEADLINE.md"
 MARKER = "<!-- What follows is written by bench/headline.py. -->"
 # (what a crash may leave is a field of what contracts see of a device: these say what it is)
 # (the types of fields that no `use` line of a definition names, and what the levels of a stack show)
-ALSO = [("Rattle.blockdev.specs.View", "IsLawful"), ("Rattle.sector_disk.specs.Shown", "shown_of"),
+ALSO = [("Rattle.blockdev.specs.View", "IsLawful"), ("Rattle.sector_disk.specs.DiskView", "shown_of"),
         *((f"Rattle.layer_table.specs.{it}Level", f"{it.lower()}_shown") for it in ("One", "Two", "Three")),
         *((f"Rattle.layer_table.specs.declared.levels.{it.lower()}.{it}", it) for it in ("One", "Two", "Three")),
         ("Rattle.fault_layers.specs.declared.linear.Linear", "Linear"), ("Rattle.fault_layers.specs.declared.gated.Gated", "Gated"),

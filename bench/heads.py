@@ -34,7 +34,8 @@ def fitting(mark, before, places, after, otherwise):
 class Crate:
     def __init__(self, folder):
         self.folder, self.name = folder, os.path.basename(folder)
-        self.files = {os.path.relpath(it, folder): text_of(it) for it in sorted(glob.glob(f"{folder}/**/*.antt", recursive=True) + glob.glob(f"{folder}/src/**/*.rt", recursive=True))}
+        places = (f"{folder}/specs/**/*.antt", f"{folder}/proofs/**/*.antt", f"{folder}/src/**/*.rt")
+        self.files = {os.path.relpath(it, folder): text_of(it) for place in places for it in sorted(glob.glob(place, recursive=True))}
         self.cites = {file: self.cited_by(text) for file, text in self.files.items()}
 
     def cited_by(self, text):

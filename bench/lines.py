@@ -1,5 +1,5 @@
 #!/usr/bin/env python3
-"""lines: prints the table of docs/GATE.md that counts each crate's lines: code, tests, definitions and their laws, proofs, and its must-fail edits.
+"""lines: prints the table of docs/lab/GATE.md that counts each crate's lines: code, tests, definitions and their laws, proofs, and its must-fail edits.
 
   bench/lines.py
         Tests are the files that only a test build reads: tests.rt, what lies in tests/, and all of a crate whose name ends in _tests or begins with test_.

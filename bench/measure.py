@@ -30,9 +30,10 @@ class Measured:
 
 
 def build():
-    """The program, built where needed, by ./dmlw."""
+    """The program that ./dmlw runs: the one that was built here, or that of release/, else it is built."""
     subprocess.run([f"{ROOT}/dmlw", "--version"], check=True, stdout=subprocess.DEVNULL)
-    return f"{ROOT}/crates/dmlw/out/dmlw"
+    programs = [it for it in (f"{ROOT}/crates/dmlw/out/dmlw", f"{ROOT}/.cache/dmlw") if os.path.isfile(it)]
+    return max(programs, key=os.path.getmtime)
 
 
 def build_peer(folder):

@@ -136,21 +136,6 @@ below-patched end patch old new none patched = λ sector below. elim (patched se
   | inr is ↦ is ∙ put-none patch old sector (none sector below)
 ]
 
--- bytes that stand below a sector stand in each content that agrees below it
-pub HasBytes-below : (end first : ℕ) (bytes : List ℕ) (old new : Content)
-    → first + length bytes / 512 ≤ end → AgreeBelow end old new
-    → HasBytes old first bytes → HasBytes new first bytes
-HasBytes-below end first bytes old new within agree has =
-    λ sector h. agree (first + sector) (omega arith) ∙ has sector h
-
--- bytes that stand below a patch stay
-pub HasBytes-patched : (end first : ℕ) (bytes : List ℕ) (patch : Patch) (old new : Content)
-    → first + length bytes / 512 ≤ end
-    → HasNoneBelow end patch → Patched patch old new → HasBytes old first bytes
-    → HasBytes new first bytes
-HasBytes-patched end first bytes patch old new within none patched =
-    HasBytes-below end first bytes old new within (below-patched end patch old new none patched)
-
 -- a patch of whole values leaves whole sectors
 pub whole-patched : (disk : ℕ) (patch : Patch) (old new : Content) → HasWholeValues patch
     → Patched patch old new

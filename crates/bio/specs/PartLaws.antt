@@ -60,10 +60,6 @@ below_none end patch none sector = elim (cases_lt sector end) [
   | inr past ↦ below-out end patch sector past
 ]
 
--- a call with the same values is a part
-pub same-part : (patch other : Patch) → SameValues patch other → IsPart patch other
-same-part patch other same = λ sector. inr (same sector)
-
 -- a call cut at a sector is a part of the whole one
 pub below-part : (end : ℕ) (patch : Patch) → IsPart (below end patch) patch
 below-part end patch = λ sector. elim (cases_lt sector end) [

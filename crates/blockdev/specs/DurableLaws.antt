@@ -1,6 +1,6 @@
 -- What the law comes to in the subject's words.
 -- Any crate above may cite it.
-use Rattle.std.proofs.Common.{◌≡◌, ℕ, ◌+◌, true, List, None, refl, ◌∙◌, inl, inr, arith}
+use Rattle.std.proofs.Common.{ℕ, ◌+◌, true, List, refl, ◌∙◌, inl, inr, arith}
 use Rattle.std.specs.Prelude.{Bool}
 use Rattle.bio.specs.Content.{Content, HasBytes, Patch, nothing, writes}
 use Rattle.bio.specs.ContentLaws.{HasBytes-put}
@@ -30,15 +30,6 @@ pub landed-durable : (v w : View) (first : ℕ) (bytes : List ℕ) (left : Conte
 landed-durable v w first bytes left lands may = λ sector h.
     let old = lands.durable refl left may in
     old.2 (first + sector) ∙ HasBytes-put first bytes old.0 sector h
-
--- a sector that each crash leaves so stays so under other sectors' calls
-pub durable-stays : (v w : View) (patch : Patch) (sector : ℕ) (value : List ℕ)
-    → DeviceFrame patch v w → patch sector ≡ None
-    → ((left : Content) → v.crash left → left sector ≡ value) → (left : Content) → w.crash left
-    → left sector ≡ value
-durable-stays v w patch sector value goes none durable left may =
-    let old = goes.crash left may in
-    patched-none patch old.0 left old.2 sector none ∙ durable old.0 old.1
 
 -- what a crash during a call may have left is torn
 pub gained-torn : (v w : View) (patch : Patch) (left : Content) → IsLawful v → DeviceFrame patch v w

@@ -1,14 +1,13 @@
 -- What several calls come to, of which each does a part of one whole call.
 -- Any crate above may cite it.
-use Rattle.std.proofs.Common.{◌≡◌, ℕ, ◌≤◌, Bool, false, Err, None, refl, sym, ◌∙◌, inl, inr, arith}
-use Rattle.bio.specs.declared.outcome.DevError.{DevError}
+use Rattle.std.proofs.Common.{◌≡◌, ℕ, ◌≤◌, Bool, None, refl, sym, ◌∙◌, inl, inr, arith}
 use Rattle.bio.specs.Content.{Content, HasNoneBelow, HasWholeSectors, Patch, nothing}
 use Rattle.bio.specs.ContentLaws.{patched-same, put-none}
 use Rattle.bio.specs.Parts.{HasNoneFrom, IsPart, Joins, SameValues, below, between}
 use Rattle.bio.specs.PartLaws.{below-joins, below-part, below_all, below_more, below_none}
 use Rattle.bio.specs.PartLaws.{between-part, patched-part, patched_twice, put-joined, put-same}
 use Rattle.blockdev.specs.View.{IsLawful, View}
-use Rattle.blockdev.specs.Law.{AfterPatch, DeviceFrame, HasCause, WriteDone, NoLie, CrashSetKept}
+use Rattle.blockdev.specs.Law.{AfterPatch, DeviceFrame, WriteDone, NoLie, CrashSetKept}
 
 -- contents of a set, patched twice by a call
 after_twice : (patch : Patch) (set mid : Content → Type 0) (left : Content)
@@ -170,19 +169,6 @@ pub lands_all : (end : ℕ) (patch : Patch) (fua : Bool) (v w : View) → HasNon
 lands_all end patch fua v w none =
     lands_same (below end patch) patch fua v w (below_all end patch none)
 
--- what landed with FUA has landed without
-pub lands_plain : (patch : Patch) (v w : View) (fua : Bool) → WriteDone patch fua v w
-    → WriteDone patch false v w
-lands_plain patch v w fua lands = record {
-  content = lands.content;
-  durable = λ is left may. let never : ⊥ = cc in absurd never;
-}
-
--- two calls that told no lie told none together
-pub no_lie_joined : (u v w : View) → NoLie u v → NoLie v w → NoLie u w
-no_lie_joined u v w first second =
-    record { same = second.same ∙ first.same; counted = second.counted }
-
 -- where two calls told no lie together, neither did
 pub no_lie_parts : (first second : Patch) (u v w : View) → DeviceFrame first u v
     → DeviceFrame second v w → NoLie u w → NoLie u v × NoLie v w
@@ -193,18 +179,6 @@ no_lie_parts first second u v w before after told =
     let counted = told.counted in
     let mid : v.lies ≡ u.lies = omega arith in
     (record { same = mid; counted = omega arith }, record { same = omega arith; counted = counted })
-
--- an error's cause in a part is its cause in the whole call
-pub cause_joined : (patch : Patch) (now later : ℕ) (u v w : View) (error : DevError)
-    → DeviceFrame patch u v
-    → HasCause later v w (Err error) → HasCause now u w (Err error)
-cause_joined patch now later u v w error before cause = record {
-  failed = λ is. elim (cause.failed is) [
-    | inl grew ↦ inl (let h = before.faults in omega arith)
-    | inr full ↦ inr full
-  ];
-  ends = λ end is. cc;
-}
 
 -- what a crash may leave stays over two calls that keep it
 pub stays_both : (u v w : View) → CrashSetKept u v → CrashSetKept v w → CrashSetKept u w

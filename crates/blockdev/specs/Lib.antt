@@ -6,5 +6,5 @@ pub mod InTurnLaws
 pub mod Law
 pub mod JoinLaws
 pub mod DurableLaws
-pub mod Counted
+pub mod OwnCounts
 pub mod Messages

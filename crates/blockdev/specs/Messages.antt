@@ -1,15 +1,11 @@
 -- What a message may change, and what it is refused by.
 -- Any crate above may cite it.
-use Rattle.std.proofs.Common.{◌≡◌, ℕ, Bool, refl, ap, ◌∙◌, inl, arith}
-use Rattle.std.specs.Prelude.{◌||◌}
+use Rattle.std.proofs.Common.{◌≡◌, ℕ, refl, ◌∙◌}
 use Rattle.refusals.specs.declared.refusal.Refusal.{Refusal}
 use Rattle.refusals.specs.declared.refusal.Refusal.TheVariants as refusals
-use Rattle.bio.specs.Content.{Content, nothing}
-use Rattle.bio.specs.ContentLaws.{patched-same}
+use Rattle.bio.specs.Content.{Content}
 use Rattle.blockdev.specs.declared.message.MessageError.{MessageError}
 use Rattle.blockdev.specs.declared.message.MessageError.TheVariants as errors
-use Rattle.blockdev.specs.Counted.{counted, sum_of}
-use Rattle.blockdev.specs.Law.{DeviceFrame, CrashSetKept}
 use Rattle.blockdev.specs.View.{View}
 
 -- the refusal that a message's error is shown by
@@ -65,41 +61,4 @@ unchanged_both u v w first second = record {
   faults = second.faults ∙ first.faults;
   lies = second.lies ∙ first.lies;
   can_lie = second.can_lie ∙ first.can_lie;
-}
-
--- so a device goes through a message as through a call that changes nothing
-pub unchanged_goes : (v w : View) → Unchanged v w → DeviceFrame nothing v w
-unchanged_goes v w same = record {
-  size = same.size;
-  place = same.place;
-  content = λ sector. inl (ap (λ (c : Content). c sector) same.content);
-  crash = λ left may. (left, same.crash_before left may, patched-same nothing left);
-  moment = let at = same.moment in omega arith;
-  gains = λ moment left h may. inl (same.since_before moment left may);
-  keeps = λ moment left h may. same.since moment left may;
-  faults = let count = same.faults in omega arith;
-  lies = let count = same.lies in omega arith;
-  can_lie = same.can_lie;
-  honest = λ none. same.lies;
-}
-
--- and what a crash may leave stays
-pub unchanged_stays : (v w : View) → Unchanged v w → CrashSetKept v w
-unchanged_stays v w same = record { crash = same.crash }
-
--- where nothing is changed beneath a layer, nothing is in it
-pub unchanged_counted : (v w : View) (faults lies : ℕ) (drops : Bool) → Unchanged v w
-    → Unchanged (counted v faults lies drops) (counted w faults lies drops)
-unchanged_counted v w faults lies drops same = record {
-  size = same.size;
-  place = same.place;
-  content = same.content;
-  crash = same.crash;
-  crash_before = same.crash_before;
-  moment = same.moment;
-  since = same.since;
-  since_before = same.since_before;
-  faults = ap (λ (count : ℕ). sum_of count faults) same.faults;
-  lies = ap (λ (count : ℕ). sum_of count lies) same.lies;
-  can_lie = ap (λ (below : Bool). below || drops) same.can_lie;
 }

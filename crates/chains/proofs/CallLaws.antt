@@ -11,7 +11,7 @@ use Rattle.std.proofs.lemmas.Bool.{ne_eqb}
 use Rattle.chains.specs.declared.links.Links.{Links}
 use Rattle.chains.specs.declared.walk.Walk.{Walk}
 use Rattle.chains.specs.Edits.{chain_in, lengthened, preceded, shortened}
-use Rattle.chains.specs.Shown.{count_in}
+use Rattle.chains.specs.ChainsView.{count_in}
 use Rattle.chains.specs.inside.Rings.{after, last_in, times, Holds}
 use Rattle.chains.specs.inside.Steps.{Changes, IsLoose}
 use Rattle.chains.specs.inside.Tables.{chains_of, seen_chains, seen_lasts, value_at, values_of}

@@ -4,7 +4,7 @@ use Rattle.std.proofs.Common.{◌≡◌, ◌≢◌, ℕ, List, [], ◌∷◌, Op
 use Rattle.chains.specs.Edits.{chain_in, fronted, joined, lengthened, lifted, shortened, turned}
 use Rattle.chains.specs.Edits.{with_first}
 use Rattle.chains.specs.Lends.{with_value}
-use Rattle.chains.specs.Shown.{count_in, ChangesFew, KeepsRoom, Shown}
+use Rattle.chains.specs.ChainsView.{count_in, ChangesFew, KeepsRoom, Shown}
 use Rattle.chains.specs.inside.Rings.{times_in}
 use Rattle.chains.specs.inside.Tables.{chains_of, seen_lasts, values_of}
 

@@ -6,7 +6,7 @@ use Rattle.std.proofs.lemmas.List.{set-append_left}
 use Rattle.chains.specs.declared.links.Links.{Links}
 use Rattle.chains.specs.declared.walk.Walk.{Walk}
 use Rattle.chains.specs.Edits.{chain_in}
-use Rattle.chains.specs.Shown.{KeepsRoom}
+use Rattle.chains.specs.ChainsView.{KeepsRoom}
 use Rattle.chains.specs.inside.Rings.{times, Holds}
 use Rattle.chains.specs.inside.Steps.{Changes}
 use Rattle.chains.specs.inside.Tables.{seen_chains, seen_lasts, shown_of, walked_in, IsSound}

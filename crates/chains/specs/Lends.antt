@@ -3,7 +3,7 @@
 use Rattle.std.specs.Prelude.{ℕ}
 use Rattle.std.specs.Borrow.{Fml, Lends, MutBor, RattleType}
 use Rattle.chains.specs.Edits.{with_first}
-use Rattle.chains.specs.Shown.{Shown}
+use Rattle.chains.specs.ChainsView.{Shown}
 use Rattle.chains.specs.contracts.table.Chains.{the_row}
 
 -- what is seen with another first value of a chain

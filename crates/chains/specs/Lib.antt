@@ -1,5 +1,5 @@
 -- The definitions that the contracts of `chains` are written in.
 pub mod Edits
-pub mod Shown
+pub mod ChainsView
 pub mod Lends
 pub mod inside

@@ -6,7 +6,7 @@ ghost use Rattle.std.specs.Prelude.{OnSome, slice_get};
 ghost use Rattle.std.specs.Option.{option_copied};
 ghost use Rattle.chains.specs.Edits.{chain_in, fronted, joined, lengthened, shortened};
 ghost use Rattle.chains.specs.Edits.{with_first};
-ghost use Rattle.chains.specs.Shown.{ChangesFew, KeepsRoom, count_in};
+ghost use Rattle.chains.specs.ChainsView.{ChangesFew, KeepsRoom, count_in};
 
 use crate::links::Links;
 use crate::rings;
@@ -26,7 +26,7 @@ pub struct Chains<T> {
 
 impl<T> Model for Chains<T> {
     ghost use Rattle.std.specs.Prelude.{vec_capacity};
-    ghost use Rattle.chains.specs.Shown.{Shown, shown_code};
+    ghost use Rattle.chains.specs.ChainsView.{Shown, shown_code};
 
     ghost Value = { Shown T };
 

@@ -3,10 +3,10 @@
 //! A ring is the same ring seen from any of its rows, so going past a
 //! value writes no link: only where the walk is changes, and that row is
 //! seen as the chain's last. The links are told of it when the walk ends.
-//! Its clauses are written in specs/Edits and specs/Shown; the search alone proves it.
+//! Its clauses are written in specs/ChainsView and specs/Edits; the search alone proves it.
 ghost use Rattle.std.specs.Prelude.{◌≡◌, ◌≢◌, ℕ, ◌<◌, None, Some, length};
 ghost use Rattle.chains.specs.Edits.{lifted, turned};
-ghost use Rattle.chains.specs.Shown.{ChangesFew, KeepsRoom};
+ghost use Rattle.chains.specs.ChainsView.{ChangesFew, KeepsRoom};
 
 use crate::links::Change;
 use crate::rings;

@@ -36,8 +36,8 @@ use Rattle.dmlw_cli.specs.declared.task.Flaw.{Flaw}
 use Rattle.dmlw_cli.specs.declared.task.Flaw.TheVariants as flaws
 use Rattle.dmlw_cli.specs.declared.task.Task.{Task}
 use Rattle.dmlw_cli.specs.declared.task.Task.TheVariants as tasks
-use Rattle.dmlw_cli.proofs.Entering.{asks_for, read_asks}
-use Rattle.dmlw_cli.proofs.Naming.{named_again, one_name, same_some}
+use Rattle.dmlw_cli.proofs.TaskOfWords.{asks_for, read_asks}
+use Rattle.dmlw_cli.proofs.CommandNames.{named_again, one_name, same_some}
 use Rattle.dmlw_cli.proofs.PlainWords.{list_enters, plain_rows}
 
 pub same_number : (a b : ℕ) → a ≡ b → a ≡ b

@@ -24,7 +24,7 @@ use Rattle.run_error.specs.Errors.{IsFileError, memory_error}
 use Rattle.dmlw_commands.specs.declared.ending.Ended.{Ended}
 use Rattle.dmlw_commands.specs.declared.exit.Exit.{Exit}
 use Rattle.dmlw_commands.specs.declared.exit.Exit.TheVariants as exits
-use Rattle.dmlw_commands.specs.Endings.{ErrStream, Tells, err_stream}
+use Rattle.dmlw_commands.specs.Ends.{ErrStream, Tells, err_stream}
 use Rattle.dmlw_commands.specs.Exits.{exit_by, exit_of, fault_line}
 use Rattle.dmlw_commands.specs.Records.{HoldsLog}
 use Rattle.dmlw_files.specs.Files.{Write}

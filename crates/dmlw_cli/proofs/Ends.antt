@@ -15,11 +15,11 @@ use Rattle.dmlw_commands.specs.declared.exit.Exit.TheVariants.{RuledOut, Usage}
 use Rattle.dmlw_commands.specs.Exits.{exit_after, exit_at, exit_by, exit_of, fault_line, status_of}
 use Rattle.dmlw_commands.specs.Exits.{told_line}
 use Rattle.dmlw_commands.specs.declared.ending.Ended.{Ended}
-use Rattle.dmlw_commands.specs.Endings.{ErrStream, Tells, TellsLine}
+use Rattle.dmlw_commands.specs.Ends.{ErrStream, Tells, TellsLine}
 use Rattle.dmlw_files.specs.Files.{AsksFor, KeepsFiles, Write}
 use Rattle.dmlw_commands.specs.Records.{PrintsLog, Records}
-use Rattle.dmlw_run.specs.RunsLog.{PrintsRun, Runs}
-use Rattle.dmlw_commands.specs.CopiesLog.{Copies, PrintsCopy}
+use Rattle.dmlw_run.specs.LogRuns.{PrintsRun, Runs}
+use Rattle.dmlw_commands.specs.LogCopies.{Copies, PrintsCopy}
 use Rattle.world.specs.declared.finding.Finding.{Finding}
 use Rattle.world.specs.declared.finding.Finding.TheVariants as findings
 use Rattle.dmlw_commands.specs.Judgements.{exit_answered, exit_judged}

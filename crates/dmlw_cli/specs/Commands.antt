@@ -19,15 +19,15 @@ use Rattle.dmlw_commands.specs.declared.exit.Exit.{Exit}
 use Rattle.dmlw_commands.specs.declared.exit.Exit.TheVariants.{Done, LoggingEnded, Refused}
 use Rattle.dmlw_commands.specs.declared.exit.Exit.TheVariants.{RuledOut, Usage}
 use Rattle.dmlw_commands.specs.declared.ending.Ended.{Ended}
-use Rattle.dmlw_commands.specs.Endings.{EndsRecording, EndsShowing, ErrStream, Tells, err_stream}
+use Rattle.dmlw_commands.specs.Ends.{EndsRecording, EndsShowing, ErrStream, Tells, err_stream}
 use Rattle.dmlw_commands.specs.Exits.{exit_of, fault_line}
 use Rattle.dmlw_files.specs.Files.{AsksFor, KeepsFiles, Write}
 use Rattle.dmlw_commands.specs.Lists.{ListsImage, ShowsStatus}
 use Rattle.dmlw_commands.specs.Records.{HoldsLog}
 use Rattle.dmlw_commands.specs.Judgements.{EndsJudging}
 use Rattle.dmlw_commands.specs.Paths.{EndsFinding}
-use Rattle.dmlw_commands.specs.CopiesLog.{EndsCopying, HoldsCopied}
-use Rattle.dmlw_run.specs.RunsLog.{EndsRunning, HoldsRun}
+use Rattle.dmlw_commands.specs.LogCopies.{EndsCopying, HoldsCopied}
+use Rattle.dmlw_run.specs.LogRuns.{EndsRunning, HoldsRun}
 use Rattle.dmlw_commands.specs.Replays.{EndsReplaying, HoldsReplayed}
 use Rattle.dmlw_commands.specs.Whats.{IsWhat}
 use Rattle.replay.specs.declared.upto.Upto.{Upto}

@@ -8,7 +8,7 @@ ghost use Rattle.dmlw_cli.specs.CommandLine.{has_explain};
 ghost use Rattle.dmlw_cli.specs.Commands.{AsksForOne, DoesWords, EndsCommand, EndsTask};
 ghost use Rattle.dmlw_cli.specs.Commands.{EndsUntasked, TaskLeaves, TellsBy, TellsPage};
 ghost use Rattle.dmlw_cli.specs.Commands.{TellsUntasked, flaw_text, is_asked_for, unread_exit};
-ghost use Rattle.dmlw_commands.specs.Endings.{err_stream};
+ghost use Rattle.dmlw_commands.specs.Ends.{err_stream};
 ghost use Rattle.run_error.specs.Errors.{IsFileError};
 ghost use Rattle.dmlw_files.specs.Files.{KeepsFiles};
 ghost use Rattle.dmlw_commands.specs.declared.exit.Exit.TheVariants.{LoggingEnded, Usage};

@@ -9,12 +9,12 @@ ghost use Rattle.dmlw_cli.specs.declared.name.Name.{Name};
 ghost use Rattle.dmlw_cli.specs.declared.name.Name.TheVariants as names;
 ghost use Rattle.dmlw_commands.specs.declared.ending.Ended.{Ended};
 ghost use Rattle.dmlw_commands.specs.declared.exit.Exit.TheVariants.{Done};
-ghost use Rattle.dmlw_commands.specs.Endings.{EndsRecording, EndsShowing, err_stream};
+ghost use Rattle.dmlw_commands.specs.Ends.{EndsRecording, EndsShowing, err_stream};
 ghost use Rattle.dmlw_files.specs.Files.{Write};
 ghost use Rattle.dmlw_commands.specs.Lists.{ListsImage, ShowsStatus};
-ghost use Rattle.dmlw_commands.specs.CopiesLog.{EndsCopying, HoldsCopied};
+ghost use Rattle.dmlw_commands.specs.LogCopies.{EndsCopying, HoldsCopied};
 ghost use Rattle.dmlw_cli.specs.Counts.{IsSectorCount};
-ghost use Rattle.dmlw_run.specs.RunsLog.{EndsRunning};
+ghost use Rattle.dmlw_run.specs.LogRuns.{EndsRunning};
 ghost use Rattle.dmlw_commands.specs.Judgements.{EndsJudging};
 ghost use Rattle.dmlw_commands.specs.Paths.{EndsFinding};
 ghost use Rattle.dmlw_commands.specs.Whats.{IsWhat};
@@ -22,7 +22,7 @@ ghost use Rattle.replay.specs.declared.upto.Upto.{Upto};
 ghost use Rattle.text_words.specs.Words.{IsNumber};
 
 /// A word names a command exactly where it is the command's name.
-#[tactic(auto, using(crate::proofs::Naming::named, crate::proofs::Naming::named_again))]
+#[tactic(auto, using(crate::proofs::CommandNames::named, crate::proofs::CommandNames::named_again))]
 pub fn names_are_told_apart()
     ensures named { (word : List ℕ) (name : Name) → name_of word ≡ Some name
         → word ≡ name_text name }

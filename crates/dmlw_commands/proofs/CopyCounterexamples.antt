@@ -15,11 +15,11 @@ use Rattle.log_reader.specs.declared.fault.LogFault.{LogFault}
 use Rattle.log_reader.specs.declared.fault.LogFault.TheVariants.{CutShort}
 use Rattle.log_reader.specs.declared.fault.OpenError.TheVariants as opens
 use Rattle.log_reader.specs.declared.fault.ReadDeviceError.TheVariants as reads
-use Rattle.log_reader.specs.ReadLaws.{same_reading}
-use Rattle.log_reader.specs.Readings.{IsReading}
+use Rattle.log_reader.specs.DiskLogLaws.{same_reading}
+use Rattle.log_reader.specs.ImageLog.{IsReading}
 use Rattle.log_copy.specs.declared.fault.CopyError.TheVariants as copies
 use Rattle.log_copy.specs.declared.fault.CopyFault.{CopyFault}
-use Rattle.log_copy.specs.Resized.{is_aligned_to, resized}
+use Rattle.log_copy.specs.Resize.{is_aligned_to, resized}
 use Rattle.refusals.specs.declared.refusal.Refusal.{Refusal}
 use Rattle.refusals.specs.declared.refusal.Refusal.TheVariants as refusals
 use Rattle.refusals.specs.Texts.{refusal_text}
@@ -28,14 +28,14 @@ use Rattle.run_error.specs.declared.run_error.RunError.TheVariants as faults
 use Rattle.run_error.specs.Errors.{IsFileError, refused_by}
 use Rattle.dmlw_commands.specs.declared.ending.Ended.{Ended}
 use Rattle.dmlw_commands.specs.declared.exit.Exit.TheVariants as exits
-use Rattle.dmlw_commands.specs.Endings.{ErrStream}
+use Rattle.dmlw_commands.specs.Ends.{ErrStream}
 use Rattle.dmlw_commands.specs.Exits.{exit_by, exit_of, fault_line}
 use Rattle.dmlw_files.specs.Files.{Write}
-use Rattle.dmlw_commands.specs.CopiesLog.{Copies, EndsCopying, FailsCopy, HasStopCause, HoldsCopied}
-use Rattle.dmlw_commands.specs.CopiesLog.{IsCopied, IsCopiedFrom, PrintsCopy, StopsCopy}
-use Rattle.dmlw_commands.specs.CopiesLog.{copied_line, copy_stopped, file, of_image}
-use Rattle.dmlw_commands.specs.CopiesLog.{unopened}
-use Rattle.dmlw_commands.proofs.Alike.{copy_whole}
+use Rattle.dmlw_commands.specs.LogCopies.{Copies, EndsCopying, FailsCopy, HasStopCause, HoldsCopied}
+use Rattle.dmlw_commands.specs.LogCopies.{IsCopied, IsCopiedFrom, PrintsCopy, StopsCopy}
+use Rattle.dmlw_commands.specs.LogCopies.{copied_line, copy_stopped, file, of_image}
+use Rattle.dmlw_commands.specs.LogCopies.{unopened}
+use Rattle.dmlw_commands.proofs.CopyReplay.{copy_whole}
 
 -- how many entries were copied, in a line
 line_twelve : copied_line 12 ≡ codes "copied " ++ (decimal 12 ++ codes "\n")

@@ -3,21 +3,20 @@
 use Rattle.std.proofs.Common.{◌≡◌, ◌∙◌, ◌⊎◌, ℕ, List, Option, Result, Ok, Err, OnErr, OnOk, ap, inl}
 use Rattle.std.proofs.Common.{inr, refl, subst, sym}
 use Rattle.std.specs.Io.KnownBytes.{Appends, Keeps}
-use Rattle.std.specs.Result.{IsErrAnd}
-use Rattle.script_runner.specs.CallLaws.{appends_kept, keeps_same, keeps_twice}
+use Rattle.script_runner.specs.CallLaws.{appends_kept, keeps_twice}
 use Rattle.run_error.specs.declared.run_error.RunError.{RunError}
 use Rattle.run_error.specs.declared.run_error.RunError.TheVariants as faults
 use Rattle.run_error.specs.Errors.{IsFileError}
 use Rattle.dmlw_commands.specs.declared.ending.Ended.{Ended}
 use Rattle.dmlw_commands.specs.declared.exit.Exit.{Exit}
 use Rattle.dmlw_commands.specs.declared.exit.Exit.TheVariants.{Done, Refused}
-use Rattle.dmlw_commands.specs.Endings.{ErrStream, Tells}
+use Rattle.dmlw_commands.specs.Ends.{ErrStream, Tells}
 use Rattle.dmlw_commands.specs.Exits.{IsRefusal, exit_by, exit_of}
-use Rattle.dmlw_files.specs.Files.{KeepsFiles, MatchesContents, Write, one_more}
-use Rattle.dmlw_commands.specs.CopiesLog.{EndsCopying, FailsOnImage, FailsCopy, HoldsCopied}
-use Rattle.dmlw_commands.specs.CopiesLog.{IsCopiedFrom, PrintsCopy, Copies, file}
-use Rattle.dmlw_commands.specs.CopiesLog.{memory, of_image, copied_line}
-use Rattle.dmlw_commands.specs.CopiesLog.{stopped, unopened}
+use Rattle.dmlw_files.specs.Files.{KeepsFiles, Write, one_more}
+use Rattle.dmlw_commands.specs.LogCopies.{EndsCopying, FailsOnImage, FailsCopy, HoldsCopied}
+use Rattle.dmlw_commands.specs.LogCopies.{IsCopiedFrom, PrintsCopy, Copies, file}
+use Rattle.dmlw_commands.specs.LogCopies.{memory, of_image, copied_line}
+use Rattle.dmlw_commands.specs.LogCopies.{stopped, unopened}
 
 -- a file's error is a refusal
 file_refused : (fault : RunError) → IsFileError fault → exit_of fault ≡ Refused
@@ -160,24 +159,6 @@ pub fails_by_file : (log_file : Option (List ℕ)) (sectors : ℕ) (fault : RunE
     → FailsCopy log_file sectors stop
 fails_by_file log_file sectors fault stop is same =
     subst (FailsCopy log_file sectors) (sym same) (file fault is)
-
--- nothing was printed, and no file asked for, where copying fails before that
-pub not_copied : (log_file : Option (List ℕ)) (name : List ℕ) (sectors : ℕ)
-    (writes_old writes_new : Option (List Write)) (old : Option (List ℕ))
-    (stop : RunError) (r : Result ℕ RunError) → FailsCopy log_file sectors stop →
-    writes_new ≡ writes_old
-    → IsErrAnd r (λ e. e ≡ stop)
-    → Copies log_file name sectors writes_old writes_new old old r
-not_copied log_file name sectors writes_old writes_new old stop (Ok count) fails same is = absurd is
-not_copied log_file name sectors writes_old writes_new old stop (Err e) fails same is =
-    inl (subst (FailsCopy log_file sectors) (sym is) fails, keeps_same old, same)
-
--- what came of a copy is held where it is written
-pub holds_copied : (log_file written : Option (List ℕ)) (sectors : ℕ) (count : ℕ) (image : List ℕ)
-    → IsCopiedFrom log_file count sectors image
-    → MatchesContents written image → HoldsCopied log_file sectors written
-holds_copied log_file written sectors count image copied held =
-    record { count = count; image = image; copied = copied; held = held }
 
 -- and after a copy that is done it is held still, where each file was kept since
 pub done_holds : (log_file : Option (List ℕ)) (sectors : ℕ) (middle new : List ℕ → Option (List ℕ))

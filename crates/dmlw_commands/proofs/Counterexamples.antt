@@ -17,20 +17,20 @@ use Rattle.log_format.specs.Decode.{super_of}
 use Rattle.log_format.specs.Entries.{mark_entry}
 use Rattle.log_reader.specs.declared.fault.LogFault.{LogFault}
 use Rattle.log_reader.specs.declared.fault.OpenError.TheVariants as opens
-use Rattle.log_reader.specs.Readings.{CountsTooMany, HasStatus, IsReading}
+use Rattle.log_reader.specs.ImageLog.{CountsTooMany, HasStatus, IsReading}
 use Rattle.script_reader.specs.Grammar.{IsTextOf}
 use Rattle.script_reader.specs.Plans.{ScriptValue}
 use Rattle.run_error.specs.declared.run_error.RunError.{RunError}
 use Rattle.run_error.specs.declared.run_error.RunError.TheVariants as faults
 use Rattle.run_error.specs.Errors.{IsFileError, refused_by}
-use Rattle.script_runner.specs.OnDisks.{FailsOnDisks, IsRecorded}
+use Rattle.script_runner.specs.DiskRun.{FailsOnDisks, IsRecorded}
 use Rattle.dmlw_files.specs.Files.{Write}
 use Rattle.dmlw_files.specs.Images.{IsImage}
 use Rattle.dmlw_commands.specs.declared.ending.Ended.{Ended}
 use Rattle.dmlw_commands.specs.declared.exit.Exit.{Exit}
 use Rattle.dmlw_commands.specs.declared.exit.Exit.TheVariants as exits
-use Rattle.dmlw_commands.specs.Endings.{EndsRecording, EndsShowing, ErrStream, TellsLine}
-use Rattle.dmlw_commands.specs.Endings.{err_stream}
+use Rattle.dmlw_commands.specs.Ends.{EndsRecording, EndsShowing, ErrStream, TellsLine}
+use Rattle.dmlw_commands.specs.Ends.{err_stream}
 use Rattle.dmlw_commands.specs.Exits.{IsRefusal, exit_after, exit_at, exit_by, fault_line}
 use Rattle.dmlw_commands.specs.Exits.{status_of}
 use Rattle.dmlw_commands.specs.Lists.{IsUnopened, ListsImage, Shows, ShowsContents, ShowsFile}

@@ -27,16 +27,16 @@ use Rattle.judge.specs.declared.verdict.Verdict.TheVariants as verdicts
 use Rattle.run_error.specs.declared.run_error.RunError.{RunError}
 use Rattle.run_error.specs.declared.run_error.RunError.TheVariants as faults
 use Rattle.run_error.specs.Errors.{IsFileError, refused_by}
-use Rattle.script_runner.specs.OnDisks.{DiskRun, FailsOnDisks, file as disk_file, run as disk_run}
-use Rattle.script_runner.specs.OnDisks.{stack_answering, unmade}
+use Rattle.script_runner.specs.DiskRun.{DiskRun, FailsOnDisks, file as disk_file, run as disk_run}
+use Rattle.script_runner.specs.DiskRun.{stack_answering, unmade}
 use Rattle.script_runner.specs.Rehearsals.{IsRehearsed}
 use Rattle.script_runner.specs.Runs.{RunsLines, close, file as run_file, message}
 use Rattle.dmlw_commands.specs.declared.ending.Ended.{Ended}
 use Rattle.dmlw_commands.specs.declared.exit.Exit.TheVariants as exits
-use Rattle.dmlw_commands.specs.Endings.{ErrStream, TellsLine, err_stream}
+use Rattle.dmlw_commands.specs.Ends.{ErrStream, TellsLine, err_stream}
 use Rattle.dmlw_commands.specs.Exits.{told_line}
 use Rattle.dmlw_files.specs.Files.{Write}
-use Rattle.dmlw_commands.specs.Beginnings.{BeginsLog, IsReplayedTo}
+use Rattle.dmlw_commands.specs.PrefixImages.{BeginsLog, IsReplayedTo}
 use Rattle.world.specs.Findings.{IsFinding}
 use Rattle.world.specs.declared.finding.Finding.{Finding}
 use Rattle.world.specs.declared.finding.Finding.TheVariants as findings
@@ -46,7 +46,7 @@ use Rattle.dmlw_commands.specs.Judgements.{EndsJudging, HasAnswer, HasNoVerdict,
 use Rattle.dmlw_commands.specs.Judgements.{Meaning, Question, exit_judged, file}
 use Rattle.dmlw_commands.specs.Judgements.{moment as no_moment}
 use Rattle.dmlw_commands.specs.Judgements.{question, run, text, verdict_line, verdict_meaning}
-use Rattle.recorder.specs.Shown.{core_of}
+use Rattle.recorder.specs.Fields.{core_of}
 
 -- a finding is a run of these steps
 abbrev IsRunOf : List Step → Finding → Type 0

@@ -1,18 +1,18 @@
 -- The lemmas of `dmlw_commands`; the proof of a function stands in the folder of its source file.
-pub mod Opening
-pub mod Listing
-pub mod Failing
-pub mod Endings
+pub mod ImageLog
+pub mod ListLines
+pub mod RecordEnds
+pub mod CommandEnds
 mod Counterexamples
-mod Replayed
+mod ReplayOnDisk
 mod ReplayEnds
 mod ReplayCounterexamples
 mod CopyEnds
-mod Copied
-mod Alike
+mod CopyOnDisks
+mod CopyReplay
 mod CopyCounterexamples
-mod Stopping
-mod Answered
-mod Agreeing
-mod Replaying
+mod LastMoment
+mod QuestionEnds
+mod Agreement
+mod PrefixIsPossible
 mod JudgeCounterexamples

@@ -16,8 +16,8 @@ use Rattle.log_reader.specs.declared.fault.LogFault.{LogFault}
 use Rattle.log_reader.specs.declared.fault.LogFault.TheVariants.{CutShort}
 use Rattle.log_reader.specs.declared.fault.OpenError.TheVariants as opens
 use Rattle.log_reader.specs.declared.fault.ReadDeviceError.TheVariants as reads
-use Rattle.log_reader.specs.ReadLaws.{same_reading}
-use Rattle.log_reader.specs.Readings.{IsReading}
+use Rattle.log_reader.specs.DiskLogLaws.{same_reading}
+use Rattle.log_reader.specs.ImageLog.{IsReading}
 use Rattle.refusals.specs.declared.refusal.Refusal.{Refusal}
 use Rattle.refusals.specs.declared.refusal.Refusal.TheVariants as refusals
 use Rattle.refusals.specs.Texts.{refusal_text}
@@ -30,7 +30,7 @@ use Rattle.run_error.specs.declared.run_error.RunError.TheVariants as faults
 use Rattle.run_error.specs.Errors.{IsFileError, refused_by}
 use Rattle.dmlw_commands.specs.declared.ending.Ended.{Ended}
 use Rattle.dmlw_commands.specs.declared.exit.Exit.TheVariants as exits
-use Rattle.dmlw_commands.specs.Endings.{ErrStream}
+use Rattle.dmlw_commands.specs.Ends.{ErrStream}
 use Rattle.dmlw_commands.specs.Exits.{exit_by, exit_of, fault_line}
 use Rattle.dmlw_files.specs.Files.{Write}
 use Rattle.dmlw_commands.specs.Replays.{AreImages, EndsReplaying, FailsReplay, HasStopCause}

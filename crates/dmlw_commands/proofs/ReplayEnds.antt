@@ -3,8 +3,7 @@
 use Rattle.std.proofs.Common.{◌≡◌, ◌∙◌, ◌⊎◌, ℕ, List, Option, Result, Ok, Err, OnErr, OnOk, ap, inl}
 use Rattle.std.proofs.Common.{inr, refl, subst, sym}
 use Rattle.std.specs.Io.KnownBytes.{Appends, Keeps}
-use Rattle.std.specs.Result.{IsErrAnd}
-use Rattle.script_runner.specs.CallLaws.{appends_kept, keeps_same, keeps_twice}
+use Rattle.script_runner.specs.CallLaws.{appends_kept, keeps_twice}
 use Rattle.run_error.specs.declared.run_error.RunError.{RunError}
 use Rattle.run_error.specs.declared.run_error.RunError.TheVariants as faults
 use Rattle.run_error.specs.Errors.{IsFileError}
@@ -12,9 +11,9 @@ use Rattle.replay.specs.declared.upto.Upto.{Upto}
 use Rattle.dmlw_commands.specs.declared.ending.Ended.{Ended}
 use Rattle.dmlw_commands.specs.declared.exit.Exit.{Exit}
 use Rattle.dmlw_commands.specs.declared.exit.Exit.TheVariants.{Done, Refused}
-use Rattle.dmlw_commands.specs.Endings.{ErrStream, Tells}
+use Rattle.dmlw_commands.specs.Ends.{ErrStream, Tells}
 use Rattle.dmlw_commands.specs.Exits.{IsRefusal, exit_by, exit_of}
-use Rattle.dmlw_files.specs.Files.{KeepsFiles, MatchesContents, Write, one_more}
+use Rattle.dmlw_files.specs.Files.{KeepsFiles, Write, one_more}
 use Rattle.dmlw_commands.specs.Replays.{EndsReplaying, FailsOnImages, FailsReplay, HoldsReplayed}
 use Rattle.dmlw_commands.specs.Replays.{IsReplayedFrom, PrintsReplay, Replays, file}
 use Rattle.dmlw_commands.specs.Replays.{images, memory, replayed_line}
@@ -167,24 +166,6 @@ pub fails_by_file : (log_file first_file : Option (List ℕ)) (upto : Upto) (fau
     → FailsReplay log_file first_file upto stop
 fails_by_file log_file first_file upto fault stop is same =
     subst (FailsReplay log_file first_file upto) (sym same) (file fault is)
-
--- nothing was printed, and no file asked for, where replaying fails before that
-pub not_replayed : (log_file first_file : Option (List ℕ)) (name : List ℕ) (upto : Upto)
-    (writes_old writes_new : Option (List Write)) (old : Option (List ℕ))
-    (stop : RunError) (r : Result ℕ RunError) → FailsReplay log_file first_file upto stop
-    → writes_new ≡ writes_old → IsErrAnd r (λ e. e ≡ stop)
-    → Replays log_file first_file name upto writes_old writes_new old old r
-not_replayed log_file first_file name upto writes_old writes_new old stop (Ok count) fails same is =
-    absurd is
-not_replayed log_file first_file name upto writes_old writes_new old stop (Err e) fails same is =
-    inl (subst (FailsReplay log_file first_file upto) (sym is) fails, keeps_same old, same)
-
--- what came of a replay is held where it is written
-pub holds_replayed : (log_file first_file written : Option (List ℕ)) (upto : Upto) (count : ℕ)
-    (image : List ℕ) → IsReplayedFrom log_file first_file upto count image
-    → MatchesContents written image → HoldsReplayed log_file first_file upto written
-holds_replayed log_file first_file written upto count image replayed held =
-    record { count = count; image = image; replayed = replayed; held = held }
 
 -- and after a replay that is done it is held still, where each file was kept since
 pub done_holds : (log_file first_file : Option (List ℕ)) (upto : Upto)

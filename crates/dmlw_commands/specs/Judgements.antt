@@ -13,7 +13,7 @@ use Rattle.pending.specs.Moments.{last_moment}
 use Rattle.script_reader.specs.Grammar.{IsTextOf}
 use Rattle.script_reader.specs.Lines.{lines_of}
 use Rattle.script_reader.specs.Plans.{ScriptValue, top_of}
-use Rattle.script_reader.specs.Reading.{IsFirstFault}
+use Rattle.script_reader.specs.FirstFault.{IsFirstFault}
 use Rattle.judge.specs.declared.verdict.Verdict.{Verdict}
 use Rattle.judge.specs.declared.verdict.Verdict.TheVariants as verdicts
 use Rattle.judge.specs.Texts.{verdict_text}
@@ -25,7 +25,7 @@ use Rattle.script_runner.specs.Rehearsals.{FailsRehearsal, IsRehearsed}
 use Rattle.dmlw_commands.specs.declared.ending.Ended.{Ended}
 use Rattle.dmlw_commands.specs.declared.exit.Exit.{Exit}
 use Rattle.dmlw_commands.specs.declared.exit.Exit.TheVariants as exits
-use Rattle.dmlw_commands.specs.Endings.{ErrStream, TellsLine}
+use Rattle.dmlw_commands.specs.Ends.{ErrStream, TellsLine}
 use Rattle.dmlw_commands.specs.Exits.{exit_of, told_line}
 use Rattle.dmlw_files.specs.Files.{MatchesContents, Write}
 use Rattle.dmlw_files.specs.Images.{IsImage}

@@ -2,19 +2,19 @@
 pub use Rattle.dmlw_files.specs.Files
 pub mod Exits
 pub mod Lists
-pub mod Opened
+pub mod ImageLog
 pub mod Records
-pub mod Endings
-pub mod EndingLaws
-pub use Rattle.replay.specs.Replays as Replaying
-pub use Rattle.log_copy.specs.Copies as Copying
-pub use Rattle.log_copy.specs.Resized
+pub mod Ends
+pub mod EndLaws
+pub use Rattle.replay.specs.Replays as LogReplays
+pub use Rattle.log_copy.specs.Copies
+pub use Rattle.log_copy.specs.Resize
 pub use Rattle.text_words.specs.Words
 pub mod Replays
-pub mod ReplayOpened
+pub mod DiskReplay
 pub mod Whats
-pub mod CopiesLog
-pub mod OnDisks
+pub mod LogCopies
+pub mod DiskCopy
 pub mod Judgements
 pub mod Paths
-pub mod Beginnings
+pub mod PrefixImages

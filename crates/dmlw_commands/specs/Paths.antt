@@ -11,12 +11,12 @@ use Rattle.script_reader.specs.Plans.{ScriptValue}
 use Rattle.dmlw_commands.specs.declared.ending.Ended.{Ended}
 use Rattle.dmlw_commands.specs.declared.exit.Exit.{Exit}
 use Rattle.dmlw_commands.specs.declared.exit.Exit.TheVariants as exits
-use Rattle.dmlw_commands.specs.Endings.{ErrStream}
+use Rattle.dmlw_commands.specs.Ends.{ErrStream}
 use Rattle.dmlw_files.specs.Files.{Write}
 use Rattle.world.specs.Findings.{IsFinding}
 use Rattle.world.specs.declared.finding.Finding.{Finding}
 use Rattle.world.specs.declared.finding.Finding.TheVariants.{Run, RuledOut}
-use Rattle.dmlw_commands.specs.Judgements.{EndsAnswering, HasAnswer, IsAnswered, Meaning, Question}
+use Rattle.dmlw_commands.specs.Judgements.{EndsAnswering, IsAnswered, Meaning, Question}
 use Rattle.dmlw_commands.specs.Judgements.{verdict_line}
 
 -- the verdict that a finding has: yes where there is a run, and else its no
@@ -45,10 +45,6 @@ finding_meaning = record { says = IsFinding; printed = finding_text; ends = exit
 -- the finding on an image, after so many events of a script's run, over zeroes
 abbrev pub IsFound : ScriptValue → ℕ → List ℕ → Finding → Type 0
 IsFound plan moment image finding = IsAnswered finding_meaning plan moment image finding
-
--- there is a finding: the script's file spells a script, and this is the finding on the image by it
-abbrev pub HasFinding : Question → Finding → Type 0
-HasFinding asked finding = HasAnswer finding_meaning asked finding
 
 -- how `path` ends: as what it did has it
 abbrev pub EndsFinding : Question → Option (List Write) → Option (List Write) → Option (List ℕ)

@@ -9,12 +9,12 @@ use Rattle.refusals.specs.declared.refusal.Refusal.{Refusal}
 use Rattle.script_reader.specs.Grammar.{IsTextOf}
 use Rattle.script_reader.specs.Lines.{lines_of}
 use Rattle.script_reader.specs.Plans.{ScriptValue}
-use Rattle.script_reader.specs.Reading.{IsFirstFault}
+use Rattle.script_reader.specs.FirstFault.{IsFirstFault}
 use Rattle.run_error.specs.declared.run_error.RunError.{RunError}
 use Rattle.script_runner.specs.declared.recording.Lies.{Lies}
 use Rattle.run_error.specs.declared.run_error.RunError.TheVariants.{Refused}
 use Rattle.run_error.specs.Errors.{IsFileError}
-use Rattle.script_runner.specs.OnDisks.{FailsOnDisks, IsRecorded}
+use Rattle.script_runner.specs.DiskRun.{FailsOnDisks, IsRecorded}
 use Rattle.dmlw_commands.specs.declared.exit.Exit.{Exit}
 use Rattle.dmlw_commands.specs.Exits.{exit_at}
 use Rattle.dmlw_files.specs.Files.{MatchesContents, Write, one_more}

@@ -11,7 +11,7 @@ use Rattle.log_format.specs.declared.decode.Super.{Super}
 use Rattle.log_format.specs.Replay.{replay}
 use Rattle.log_reader.specs.declared.fault.LogFault.{LogFault}
 use Rattle.log_reader.specs.declared.fault.ReadDeviceError.TheVariants as reads
-use Rattle.log_reader.specs.Readings.{IsReading}
+use Rattle.log_reader.specs.ImageLog.{IsReading}
 use Rattle.replay.specs.declared.fault.ReplayError.{ReplayError}
 use Rattle.replay.specs.declared.fault.ReplayError.TheVariants as replays
 use Rattle.replay.specs.declared.fault.ReplayFault.{ReplayFault}
@@ -23,7 +23,7 @@ use Rattle.run_error.specs.declared.run_error.RunError.{RunError}
 use Rattle.run_error.specs.declared.run_error.RunError.TheVariants.{StoppedAfter}
 use Rattle.run_error.specs.Errors.{IsFileError, memory_error}
 use Rattle.dmlw_commands.specs.declared.ending.Ended.{Ended}
-use Rattle.dmlw_commands.specs.Endings.{ErrStream, Tells}
+use Rattle.dmlw_commands.specs.Ends.{ErrStream, Tells}
 use Rattle.dmlw_files.specs.Files.{MatchesContents, Write, one_more}
 use Rattle.dmlw_files.specs.Images.{IsImage}
 use Rattle.dmlw_commands.specs.Lists.{RefusesImage}

@@ -2,9 +2,9 @@
 //!
 //! `record` runs a script by `script_runner`, and asks for its log to be written (`specs/Records`);
 //! `list` and `status` print what is read of an image (`specs/Lists`); `replay` and `copy` make an
-//! image of a log (`specs/Replays`, `specs/CopiesLog`); `judge` and `path` tell whether an image
+//! image of a log (`specs/Replays`, `specs/LogCopies`); `judge` and `path` tell whether an image
 //! could have been on a script's data disk (`specs/Judgements`, `specs/Paths`). Each reports its
-//! fault and answers how it ended (`specs/Endings`). What a command asks of a file system is `Files` of `dmlw_files`.
+//! fault and answers how it ended (`specs/Ends`). What a command asks of a file system is `Files` of `dmlw_files`.
 #![tactic(auto)]
 
 pub use ending::{Ended, end, end_recording, end_well, report};

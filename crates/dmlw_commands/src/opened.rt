@@ -1,16 +1,16 @@
 // The log of an image, opened on a disk that the image becomes without a copy.
 // Its entries are read one by one, without a write's data.
-// Its clauses are written in specs/Lists and specs/Opened; its theorems in proofs/opened/.
+// Its clauses are written in specs/ImageLog and specs/Lists; its theorems in proofs/opened/.
 ghost use Rattle.std.specs.Prelude.{◌≡◌, ◌⊎◌, IfErr, IfOk, List, Option, false};
 ghost use Rattle.log_format.specs.declared.entry.Entry.{Entry};
 ghost use Rattle.log_reader.specs.declared.fault.LogFault.{LogFault};
 ghost use Rattle.log_reader.specs.Reader.{GivesWithin, Keeps};
-ghost use Rattle.log_reader.specs.Reads.{Reads};
-ghost use Rattle.log_reader.specs.Shown.{reader_of};
+ghost use Rattle.log_reader.specs.DiskLog.{Reads};
+ghost use Rattle.log_reader.specs.ReaderView.{reader_of};
 ghost use Rattle.run_error.specs.Errors.{memory_error};
 ghost use Rattle.dmlw_files.specs.Images.{IsImage};
 ghost use Rattle.dmlw_commands.specs.Lists.{RefusesImage};
-ghost use Rattle.dmlw_commands.specs.Opened.{GivesNext, Opens};
+ghost use Rattle.dmlw_commands.specs.ImageLog.{GivesNext, Opens};
 
 use blockdev::laws::crashes_leave_whole_sectors;
 use log_format::{Entry, Placed};

@@ -4,7 +4,7 @@ ghost use Rattle.std.specs.Prelude.{◌≡◌, ◌⊎◌, IfErr, IfOk, OnErr, On
 ghost use Rattle.std.specs.Io.KnownBytes.{Appends};
 ghost use Rattle.run_error.specs.Errors.{IsFileError};
 ghost use Rattle.script_reader.specs.Grammar.{IsTextOf};
-ghost use Rattle.dmlw_commands.specs.Endings.{EndsRecording, err_stream};
+ghost use Rattle.dmlw_commands.specs.Ends.{EndsRecording, err_stream};
 ghost use Rattle.dmlw_commands.specs.declared.exit.Exit.{Exit};
 ghost use Rattle.dmlw_commands.specs.Exits.{IsRefusal, exit_after, exit_at, exit_of};
 ghost use Rattle.std.specs.Result.{IsErrAnd};

@@ -7,8 +7,8 @@ use Rattle.std.specs.Io.KnownBytes.{Appends}
 use Rattle.bio.specs.Content.{Content, HasWholeSectors, gather, moved, sector_of}
 use Rattle.bio.specs.SectorLaws.{gather-shift, sector_of-gather}
 use Rattle.sector_disk.specs.declared.disk.SectorDisk.{SectorDisk}
-use Rattle.sector_disk.specs.Shown.{shown_of}
-use Rattle.sector_disk.specs.ShownLaws.{content_whole}
+use Rattle.sector_disk.specs.DiskView.{shown_of}
+use Rattle.sector_disk.specs.DiskViewLaws.{content_whole}
 
 -- two ranges, of which one begins where the other ends, have the bytes of both
 gather_joined : (c : Content) (m n : ℕ) → gather c 0 (m + n) ≡ gather c 0 m ++ gather c m n

@@ -4,7 +4,7 @@ use Rattle.std.proofs.Common.{◌≡◌, ◌≤◌, ℕ, List, Option, Some, Non
 use Rattle.std.specs.Prelude.{◌%◌}
 use Rattle.bio.specs.Content.{gather}
 use Rattle.sector_disk.specs.declared.disk.SectorDisk.{SectorDisk}
-use Rattle.sector_disk.specs.Shown.{shown_of}
+use Rattle.sector_disk.specs.DiskView.{shown_of}
 use Rattle.dmlw_files.specs.Files.{IsWithin, MatchesContents}
 
 -- the bytes are those of an image: whole sectors, at least one, and 2 ^ 29 bytes at most

@@ -100,9 +100,11 @@ fn read_file<R: std::rt::Files>(
 {
     let file = fs::open(runtime, name)?;
     let length = file.metadata()?.len();
-    let mut bytes = Vec::with_capacity(alloc, length.min(limit) as usize)?;
     // One byte more than the limit says a file that is too long.
-    file.take(limit.saturating_add(1)).read_to_end(&mut bytes)?;
+    let most = limit.saturating_add(1);
+    let mut bytes = Vec::with_capacity(alloc, length.min(most) as usize)?;
+    // `read_to_end` would zero all of the room first, and grow it to see that the file has ended.
+    io::copy(&mut file.take(most), &mut bytes)?;
     if bytes.len() as u64 > limit {
         return Ok(Err(length));
     }

@@ -1,4 +1,4 @@
 -- The lemmas of `dmlw_run`; the proof of a function stands in the folder of its source file.
-mod Failing
-mod Endings
-mod Printing
+mod RunOutcome
+mod RunEnds
+mod SeatLines

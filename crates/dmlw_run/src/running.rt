@@ -1,17 +1,17 @@
 //! Running the seats of a script, from the names of its files to how it ended.
-//! Its clauses are written in specs/RunsLog; its theorems in proofs/running/.
+//! Its clauses are written in specs/LogRuns; its theorems in proofs/running/.
 ghost use Rattle.std.specs.Prelude.{◌≡◌, ◌⊎◌, IfErr, IfOk, OnErr, OnOk, Some};
 ghost use Rattle.std.specs.Io.KnownBytes.{Appends};
 ghost use Rattle.run_error.specs.Errors.{IsFileError};
 ghost use Rattle.script_reader.specs.RunGrammar.{IsRunText};
-ghost use Rattle.dmlw_commands.specs.Endings.{err_stream};
+ghost use Rattle.dmlw_commands.specs.Ends.{err_stream};
 ghost use Rattle.dmlw_commands.specs.declared.exit.Exit.{Exit};
 ghost use Rattle.dmlw_commands.specs.Exits.{IsRefusal, exit_after, exit_at, exit_of};
 ghost use Rattle.std.specs.Result.{IsErrAnd};
 ghost use Rattle.dmlw_files.specs.Files.{AsksFor, IsTooLong, KeepsFiles};
 ghost use Rattle.dmlw_files.specs.Images.{image_of};
-ghost use Rattle.dmlw_run.specs.RunsLog.{EndsRunning, FailsRunning, HoldsRun, IsPrintedRun};
-ghost use Rattle.dmlw_run.specs.RunsLog.{WritesRun, seat_line, seat_lines};
+ghost use Rattle.dmlw_run.specs.LogRuns.{EndsRunning, FailsRunning, HoldsRun, IsPrintedRun};
+ghost use Rattle.dmlw_run.specs.LogRuns.{WritesRun, seat_line, seat_lines};
 
 use bio::Status;
 use dmlw_commands::record::print_end;

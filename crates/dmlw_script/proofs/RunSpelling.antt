@@ -7,7 +7,7 @@ use Rattle.script_reader.specs.CanonicalText.{ended_line}
 use Rattle.bio.specs.declared.sector_size.SectorSize.{SectorSize}
 use Rattle.script_reader.specs.Plans.{data_line, layer_line, log_line, Disk}
 use Rattle.script_reader.specs.RunPlans.{data_layer, log_layer, run_head, RunPlan}
-use Rattle.script_reader.specs.RunText.{call_line, ended_run_line, run_text, seats_line}
+use Rattle.script_reader.specs.RunText.{ended_run_line, seats_line}
 use Rattle.script_reader.specs.declared.disk_name.DiskName.TheVariants as disks
 use Rattle.table_line.specs.declared.layer_spec.LayerSpec.{LayerSpec}
 
@@ -53,12 +53,6 @@ run_head_in_parts plan =
     let seats = ended_run_line (seats_line plan.seats) in
     ap (λ (x : List ℕ). first ++ (second ++ (seats ++ x))) (both_spelled plan)
     ∙ sym (append_assoc first second _)
-
--- a script is its head and its calls
-pub run_text_in_parts : (plan : RunPlan)
-    → run_text plan ≡ flat_map ended_run_line (run_head plan)
-    ++ flat_map ended_run_line (map call_line plan.calls)
-run_text_in_parts plan = flat_map-append ended_run_line (run_head plan) (map call_line plan.calls)
 
 -- what is written in these three parts is a run's head
 pub run_head_written : (plan : RunPlan) (data_disk log_disk : Disk)

@@ -4,7 +4,7 @@ use Rattle.std.proofs.Common.{◌≡◌, ℕ, ◌+◌, true, false, sym, ◌∙�
 use Rattle.std.specs.Prelude.{Result}
 use Rattle.bio.specs.declared.outcome.DevError.{DevError}
 use Rattle.blockdev.specs.Calls.{Call}
-use Rattle.dust_layer.specs.Bad.{Bad}
+use Rattle.dust_layer.specs.BadBlocks.{Bad}
 use Rattle.dust_layer.specs.Walk.{FailsBelow, IsStopped, begin_of, blocks_of, stops}
 
 -- a call isn't stopped behind its last block

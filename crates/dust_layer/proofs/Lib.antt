@@ -1,8 +1,8 @@
 -- The lemmas of `dust_layer`; the proof of a function stands in the folder of its source file.
-mod Passing
+mod BlockWalk
 mod ReadParts
 mod OrderLaws
-mod Dusting
+mod DustLaw
 mod OnlyGood
 mod ListLaws
 mod Examples

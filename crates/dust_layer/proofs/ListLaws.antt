@@ -13,12 +13,12 @@ use Rattle.dust_layer.specs.declared.mode.Mode.TheVariants.{Bypass}
 use Rattle.dust_layer.specs.declared.order.Order.{Order}
 use Rattle.dust_layer.specs.declared.order.Order.TheVariants as orders
 use Rattle.dust_layer.specs.declared.parts.Stop.TheVariants.{Below, Struck}
-use Rattle.dust_layer.specs.Bad.{Bad, IsList, left_at, listed, with_entry, without}
+use Rattle.dust_layer.specs.BadBlocks.{Bad, IsList, left_at, listed, with_entry, without}
 use Rattle.dust_layer.specs.DustRule.{IsDoneBy, IsDusted, IsPassed, held}
 use Rattle.dust_layer.specs.MessageRule.{IsMessageDone, IsNoOrder}
 use Rattle.dust_layer.specs.Orders.{AsksFor, IsAnswered}
 use Rattle.dust_layer.specs.Walk.{ByBlock, DoesParts, IsTouched}
-use Rattle.dust_layer.proofs.Passing.{without-in}
+use Rattle.dust_layer.proofs.BlockWalk.{without-in}
 
 -- ---- calls
 

@@ -11,7 +11,7 @@ use Rattle.dust_layer.specs.declared.mode.Mode.{Mode}
 use Rattle.dust_layer.specs.declared.mode.Mode.TheVariants.{FailReadOnBadBlock}
 use Rattle.dust_layer.specs.declared.parts.Stop.{Stop}
 use Rattle.dust_layer.specs.declared.parts.Stop.TheVariants.{Below, Struck}
-use Rattle.dust_layer.specs.Bad.{Bad, left_at, listed}
+use Rattle.dust_layer.specs.BadBlocks.{Bad, left_at, listed}
 use Rattle.dust_layer.specs.DustRule.{IsChecked, IsDoneBy, IsDusted, answer_of, held}
 use Rattle.dust_layer.specs.Walk.{ByBlock, IsTouched, count_of, first_of, stops}
 

@@ -12,20 +12,20 @@ use Rattle.std.proofs.Math.Nat.{div-mul-le_self}
 use Rattle.std.specs.Prelude.{Result, is_some}
 use Rattle.bio.specs.declared.outcome.DevError.{DevError}
 use Rattle.blockdev.specs.Calls.{Call, Reads}
-use Rattle.blockdev.specs.JoinLaws.{goes_both, goes_none}
-use Rattle.blockdev.specs.JoinLaws.{stays_both, stays_none}
+use Rattle.blockdev.specs.JoinLaws.{goes_both}
+use Rattle.blockdev.specs.JoinLaws.{stays_both}
 use Rattle.blockdev.specs.Law.{DeviceFrame, CrashSetKept}
 use Rattle.blockdev.specs.View.{View}
 use Rattle.bio.specs.Content.{Content, gather, nothing}
 use Rattle.bio.specs.SectorLaws.{gather-ext}
 use Rattle.bio.specs.PartLaws.{patched-none}
-use Rattle.dust_layer.specs.Bad.{Bad}
+use Rattle.dust_layer.specs.BadBlocks.{Bad}
 use Rattle.dust_layer.specs.Walk.{DoesParts, FailsBelow}
 use Rattle.dust_layer.specs.Walk.{block_behind, bytes_within}
 use Rattle.dust_layer.specs.Walk.{part_of, part_within}
 use Rattle.dust_layer.specs.Walk.{reach}
-use Rattle.dust_layer.proofs.Passing.{times-le, reach_last, HasPassed, passed_first, passed_next}
-use Rattle.dust_layer.proofs.Passing.{IsNextPart, next_part_from}
+use Rattle.dust_layer.proofs.BlockWalk.{times-le, reach_last, HasPassed, passed_next}
+use Rattle.dust_layer.proofs.BlockWalk.{IsNextPart, next_part_from}
 
 -- parts that are the same calls are done as they are
 parts_same : {D : Type 0} (does : D → Call → ℕ → Result ℕ DevError → D → Type 0)
@@ -122,20 +122,6 @@ gather-add c first k (suc n) =
     ∙ ap (λ (xs : List ℕ). xs ++ c (first + (k + n))) (gather-add c first k n)
     ∙ append_assoc (gather c first k) (gather c (first + k) n) (c (first + (k + n)))
     ∙ ap (λ (s : ℕ). gather c first k ++ (gather c (first + k) n ++ c s)) place
-
-pub reading_first : {D : Type 0} (does : D → Call → ℕ → Result ℕ DevError → D → Type 0)
-    (shown : D → View) (block first : ℕ) (bytes : List ℕ)
-    (bad : Bad) (old : D) (now : ℕ) → 0 < length bytes / 512
-    → Reading does shown block first bytes bytes bad 0 first old now old now
-reading_first does shown block first bytes bad old now some = record {
-  passed = passed_first does block (Reads first bytes bytes) bad old now some;
-  bytes =
-      let none : first - first ≡ 0 = omega arith in
-      ap (λ (k : ℕ). take (512 * k) bytes) none ∙ ap (gather (shown old).content first) (sym none);
-  rest = refl;
-  goes = goes_none nothing (shown old);
-  stays = stays_none (shown old);
-}
 
 -- bytes that are the same behind a place are the same further on
 rest-further : (a b : ℕ) (xs ys : List ℕ) → a ≤ b → drop a xs ≡ drop a ys → drop b xs ≡ drop b ys

@@ -9,7 +9,7 @@ use Rattle.dust_layer.specs.declared.mode.Mode.{Mode}
 use Rattle.dust_layer.specs.declared.mode.Mode.TheVariants.{Bypass, FailReadOnBadBlock}
 use Rattle.dust_layer.specs.declared.parts.Stop.{Stop}
 use Rattle.dust_layer.specs.declared.parts.Stop.TheVariants.{Below, Struck}
-use Rattle.dust_layer.specs.Bad.{Bad}
+use Rattle.dust_layer.specs.BadBlocks.{Bad}
 use Rattle.dust_layer.specs.DustRule.{Held, IsChecked, IsDoneBy, IsPassed}
 use Rattle.dust_layer.specs.Walk.{begin_of, blocks_of, part_of, ByBlock, DoesParts, Passes}
 

@@ -4,13 +4,13 @@ use Rattle.std.specs.Prelude.{◌≡◌, ℕ, Ok, Err, Result}
 use Rattle.bio.specs.declared.outcome.DevError.{DevError}
 use Rattle.bio.specs.declared.outcome.DevError.TheVariants.{Io}
 use Rattle.blockdev.specs.Calls.{Call, Discards, Flushes, Reads, Writes}
-use Rattle.blockdev.specs.Counted.{one_more}
+use Rattle.blockdev.specs.OwnCounts.{one_more}
 use Rattle.dust_layer.specs.declared.dust.Dust.{Dust}
 use Rattle.dust_layer.specs.declared.mode.Mode.{Mode}
 use Rattle.dust_layer.specs.declared.mode.Mode.TheVariants.{Bypass, FailReadOnBadBlock}
 use Rattle.dust_layer.specs.declared.parts.Stop.{Stop}
 use Rattle.dust_layer.specs.declared.parts.Stop.TheVariants.{Below, Struck}
-use Rattle.dust_layer.specs.Bad.{Bad, IsList, listed}
+use Rattle.dust_layer.specs.BadBlocks.{Bad, IsList, listed}
 use Rattle.dust_layer.specs.Walk.{ByBlock}
 
 -- What a device with bad blocks holds: the device beneath,

@@ -4,7 +4,7 @@ pub use Rattle.blockdev.specs.Law
 pub use Rattle.blockdev.specs.Messages
 pub use Rattle.blockdev.specs.View
 pub use Rattle.table_line.specs.Ranges
-pub mod Bad
+pub mod BadBlocks
 pub mod Change
 pub mod Walk
 pub mod Orders

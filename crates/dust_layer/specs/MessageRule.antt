@@ -7,7 +7,7 @@ use Rattle.dust_layer.specs.declared.dust.Dust.{Dust}
 use Rattle.dust_layer.specs.declared.mode.Mode.{Mode}
 use Rattle.dust_layer.specs.declared.mode.Mode.TheVariants.{Bypass, FailReadOnBadBlock}
 use Rattle.dust_layer.specs.declared.order.Order.{Order}
-use Rattle.dust_layer.specs.Bad.{IsList, listed}
+use Rattle.dust_layer.specs.BadBlocks.{IsList, listed}
 use Rattle.dust_layer.specs.Orders.{AsksFor, IsAnswered}
 
 -- whether bad blocks fail calls in this mode

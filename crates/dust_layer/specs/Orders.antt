@@ -9,7 +9,7 @@ use Rattle.blockdev.specs.declared.message.MessageError.{MessageError}
 use Rattle.blockdev.specs.declared.message.MessageError.TheVariants as errors
 use Rattle.dust_layer.specs.declared.order.Order.{Order}
 use Rattle.dust_layer.specs.declared.order.Order.TheVariants as orders
-use Rattle.dust_layer.specs.Bad.{Bad, IsList, with_entry}
+use Rattle.dust_layer.specs.BadBlocks.{Bad, IsList, with_entry}
 
 -- ---- words
 

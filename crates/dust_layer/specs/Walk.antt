@@ -10,7 +10,7 @@ use Rattle.blockdev.specs.View.{View}
 use Rattle.bio.specs.Content.{Patch, discards, nothing, writes}
 use Rattle.dust_layer.specs.declared.parts.Stop.{Stop}
 use Rattle.dust_layer.specs.declared.parts.Stop.TheVariants.{Below, Struck}
-use Rattle.dust_layer.specs.Bad.{Bad, IsList, left_at, with_entry, without}
+use Rattle.dust_layer.specs.BadBlocks.{Bad, IsList, left_at, with_entry, without}
 
 -- the first sector of a call, and how many it has
 abbrev pub first_of : Call → ℕ

@@ -5,13 +5,13 @@ ghost use Rattle.std.specs.Prelude.{◌≡◌, ◌<◌, ◌≤◌, ◌/◌, OnOk
 ghost use Rattle.blockdev.specs.Calls.{IsByteRange, IsRange, Reads};
 ghost use Rattle.blockdev.specs.Law.{DeviceFrame, WriteDone, NoLie, CrashSetKept};
 ghost use Rattle.bio.specs.Content.{gather, nothing};
-ghost use Rattle.dust_layer.specs.Bad.{listed};
+ghost use Rattle.dust_layer.specs.BadBlocks.{listed};
 ghost use Rattle.dust_layer.specs.Change.{call_of, fua_of};
 ghost use Rattle.dust_layer.specs.Walk.{ByBlock, HasCauseBelow, count_of, patch_of};
 
 use crate::bad_blocks::BadBlocks;
-use crate::parts::{Change, SECTOR, Stop, change_part, reach, read_part};
-use bio::Ms;
+use crate::parts::{Change, Stop, change_part, reach, read_part};
+use bio::{Ms, SECTOR_BYTES};
 use blockdev::BlockDev;
 
 /// Does a write or a discard block by block, each part from the moment on at which the one before
@@ -80,7 +80,7 @@ pub(crate) fn read_blocks<D: BlockDev>(
     ensures blocks { ByBlock D.does block (Reads first buffer.old buffer.new) (listed bad.now)
         (listed bad.now) lower.old now lower.new result }
 {
-    let count = buffer.len() as u64 / SECTOR;
+    let count = buffer.len() as u64 / SECTOR_BYTES;
     let begin = first / block;
     let blocks = (first + count - 1) / block + 1 - begin;
     let mut from = first;

@@ -10,8 +10,8 @@ use crate::bad_blocks::BadBlocks;
 use crate::blocks::{change_blocks, read_blocks};
 use crate::mode::Mode;
 use crate::order::order_of;
-use crate::parts::{Change, SECTOR, Stop};
-use bio::{DevError, Ms};
+use crate::parts::{Change, Stop};
+use bio::{DevError, Ms, SECTOR_BYTES};
 use blockdev::{BlockDev, Message, MessageError};
 use std::alloc::Global;
 
@@ -30,7 +30,7 @@ pub struct Dust<D: Drop> {
 
 impl<D: BlockDev + Drop> Dust<D> {
     ghost use Rattle.std.specs.Prelude.{◌≡◌, ◌/◌};
-    ghost use Rattle.dust_layer.specs.Bad.{IsNoList, listed};
+    ghost use Rattle.dust_layer.specs.BadBlocks.{IsNoList, listed};
     ghost use Rattle.dust_layer.specs.DustRule.{answer_of, faults_after};
     ghost use Rattle.dust_layer.specs.declared.mode.Mode.TheVariants.{Bypass};
 
@@ -46,7 +46,7 @@ impl<D: BlockDev + Drop> Dust<D> {
     {
         Dust {
             lower,
-            block: block_bytes / SECTOR,
+            block: block_bytes / SECTOR_BYTES,
             bad: BadBlocks::new(alloc),
             mode: Mode::Bypass,
             faults: 0,
@@ -89,7 +89,7 @@ impl<D: BlockDev + Drop> Dust<D> {
 
 impl<D: BlockDev + Drop> BlockDev for Dust<D> {
     ghost use Rattle.std.specs.Prelude.{◌≡◌, false};
-    ghost use Rattle.blockdev.specs.Counted.{counted, lawful_counted};
+    ghost use Rattle.blockdev.specs.OwnCounts.{counted, lawful_counted};
     ghost use Rattle.dust_layer.specs.DustRule.{IsDusted};
 
     ghost shown = { λ device. counted (D.shown device.lower) device.faults 0 false };
@@ -115,7 +115,7 @@ impl<D: BlockDev + Drop> BlockDev for Dust<D> {
         match self.mode {
             Mode::Bypass => self.lower.write(now, first, bytes, fua),
             Mode::FailReadOnBadBlock => {
-                let count = bytes.len() as u64 / SECTOR;
+                let count = bytes.len() as u64 / SECTOR_BYTES;
                 let change = Change::Write(bytes, fua);
                 let end = change_blocks(
                     &mut self.lower,

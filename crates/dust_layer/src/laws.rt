@@ -1,11 +1,11 @@
 //! The law of a device with bad blocks, apart from the code: the function does nothing.
 //! Where bad blocks fail calls, what ended Ok touched no block that fails it.
-//! Its clauses are written in specs/Bad, specs/DustRule and specs/Walk; the search alone proves it.
+//! Its clauses are written in specs/; the search alone proves it.
 ghost use Rattle.std.specs.Prelude.{◌≡◌, ◌/◌, Bool, List, None, Ok, length, ℕ};
 ghost use Rattle.blockdev.specs.Calls.{Discards, Reads, Writes};
 ghost use Rattle.dust_layer.specs.declared.dust.Dust.{Dust};
 ghost use Rattle.dust_layer.specs.declared.mode.Mode.TheVariants.{FailReadOnBadBlock};
-ghost use Rattle.dust_layer.specs.Bad.{left_at, listed};
+ghost use Rattle.dust_layer.specs.BadBlocks.{left_at, listed};
 ghost use Rattle.dust_layer.specs.DustRule.{IsDusted};
 ghost use Rattle.dust_layer.specs.Walk.{IsTouched};
 

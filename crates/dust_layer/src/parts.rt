@@ -9,11 +9,8 @@ ghost use Rattle.bio.specs.Content.{gather, nothing};
 ghost use Rattle.dust_layer.specs.Change.{call_of, fua_of};
 ghost use Rattle.dust_layer.specs.Walk.{bytes_within, count_of, part_within, patch_of, reach};
 
-use bio::{DevError, Ms};
+use bio::{DevError, Ms, SECTOR_BYTES};
 use blockdev::BlockDev;
-
-/// The bytes of a sector.
-pub(crate) const SECTOR: u64 = 512;
 
 /// Why a call goes no further.
 pub(crate) enum Stop {
@@ -48,8 +45,8 @@ fn bytes_within(bytes: &[u8], first: u64, from: u64, to: u64) -> &[u8]
     requires within { 512 * (to - first) ≤ length bytes.now }
     ensures { result.now ≡ bytes_within first from to bytes.now }
 {
-    let (_before, rest) = bytes.split_at((SECTOR * (from - first)) as usize);
-    let (part, _after) = rest.split_at((SECTOR * (to - from)) as usize);
+    let (_before, rest) = bytes.split_at((SECTOR_BYTES * (from - first)) as usize);
+    let (part, _after) = rest.split_at((SECTOR_BYTES * (to - from)) as usize);
     part
 }
 
@@ -112,7 +109,7 @@ pub(crate) fn read_part<D: BlockDev>(
         (Reads from (bytes_within first from to buffer.old)
         (bytes_within first from to buffer.new)) now result lower.new }
 {
-    let start = (SECTOR * (from - first)) as usize;
-    let size = (SECTOR * (to - from)) as usize;
+    let start = (SECTOR_BYTES * (from - first)) as usize;
+    let size = (SECTOR_BYTES * (to - from)) as usize;
     lower.read(now, from, &mut buffer[start..start + size])
 }

@@ -10,8 +10,8 @@ use Rattle.fault_layers.specs.declared.delay.DelayGate.{DelayGate}
 use Rattle.fault_layers.specs.declared.gate.Kind.TheVariants.{Discard, Flush, Read, Write}
 use Rattle.fault_layers.specs.declared.gate.Verdict.TheVariants.{Delay, Drop, Fail, Pass}
 use Rattle.fault_layers.specs.declared.gated.Gated.{Gated}
-use Rattle.fault_layers.specs.Cut.{SeenFrom}
-use Rattle.fault_layers.specs.Decided.{IsDecided}
+use Rattle.fault_layers.specs.Window.{SeenFrom}
+use Rattle.fault_layers.specs.Decision.{IsDecided}
 use Rattle.fault_layers.specs.DelayRule.{delay_of, delay_verdict}
 
 -- a device over one that is a number, with so many faults and lies

@@ -7,7 +7,7 @@ use Rattle.bio.specs.Content.{Content, moved}
 use Rattle.table_line.specs.declared.feature.Feature.TheVariants as features
 use Rattle.fault_layers.specs.declared.gate.Kind.TheVariants.{Discard, Flush, Read, Write}
 use Rattle.fault_layers.specs.declared.gate.Verdict.TheVariants.{Drop, Fail, Pass}
-use Rattle.fault_layers.specs.Cut.{call_from}
+use Rattle.fault_layers.specs.Window.{call_from}
 use Rattle.fault_layers.specs.FlakeyRule.{Cycle, flakey_verdict, is_up}
 use Rattle.fault_layers.specs.FuseRule.{fuse_after, fuse_verdict}
 

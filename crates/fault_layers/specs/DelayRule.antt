@@ -3,7 +3,7 @@
 use Rattle.std.proofs.Common.{◌≡◌, ℕ, Ok, refl}
 use Rattle.blockdev.specs.Calls.{Call, Discards, Flushes, Reads, Writes}
 use Rattle.bio.specs.Moments.{later_by}
-use Rattle.sector_disk.specs.Shown.{Does}
+use Rattle.sector_disk.specs.DiskView.{Does}
 use Rattle.sector_disk.specs.declared.disk.SectorDisk.{SectorDisk}
 use Rattle.fault_layers.specs.declared.delay.DelayGate.{DelayGate}
 use Rattle.fault_layers.specs.declared.gate.Kind.{Kind}
@@ -11,7 +11,7 @@ use Rattle.fault_layers.specs.declared.gate.Kind.TheVariants.{Discard, Flush, Re
 use Rattle.fault_layers.specs.declared.gate.Verdict.{Verdict}
 use Rattle.fault_layers.specs.declared.gate.Verdict.TheVariants.{Delay}
 use Rattle.fault_layers.specs.declared.gated.Gated.{Gated}
-use Rattle.fault_layers.specs.Decided.{kind_of, IsDecided}
+use Rattle.fault_layers.specs.Decision.{kind_of, IsDecided}
 
 -- how much later a call of this kind begins, in milliseconds; a discard is delayed as a write is
 abbrev pub delay_of : DelayGate → Kind → ℕ

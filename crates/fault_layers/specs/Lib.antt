@@ -1,15 +1,15 @@
 -- The definitions that the contracts of `fault_layers` are written in.
 pub use Rattle.bio.specs.Moments
 pub use Rattle.blockdev.specs.Calls
-pub use Rattle.blockdev.specs.Counted
+pub use Rattle.blockdev.specs.OwnCounts
 pub use Rattle.blockdev.specs.Law
 pub use Rattle.blockdev.specs.Messages
 pub use Rattle.blockdev.specs.View
 pub use Rattle.bio.specs.Content
 pub use Rattle.table_line.specs.Ranges
-pub mod Cut
-pub mod CutLaws
-pub mod Decided
+pub mod Window
+pub mod WindowLaws
+pub mod Decision
 pub mod DelayRule
 pub mod DropLaws
 pub mod ErrorRule

@@ -71,7 +71,7 @@ impl FlakeyGate {
 }
 
 impl Gate for FlakeyGate {
-    ghost use Rattle.table_line.specs.Standing.{is_drop_writes};
+    ghost use Rattle.table_line.specs.LayerOrder.{is_drop_writes};
     ghost use Rattle.fault_layers.specs.DropLaws.{flakey_honest, flakey_stays};
     ghost use Rattle.fault_layers.specs.FlakeyRule.{flakey_verdict};
     ghost use Rattle.fault_layers.specs.ReadLaws.{flakey_keeps_reads};

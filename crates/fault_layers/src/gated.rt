@@ -1,6 +1,6 @@
 //! The one device over all gates: it asks its gate about each call, and counts faults and lies.
 //! The delay, error, flakey and fuse layers are this device.
-//! Its clauses are written in specs/Decided; the search alone proves it.
+//! Its clauses are written in specs/Decision; the search alone proves it.
 use crate::gate::{Gate, Kind, Verdict};
 use bio::{DevError, Ms};
 use blockdev::{BlockDev, Message, MessageError};
@@ -18,7 +18,7 @@ pub struct Gated<D: BlockDev + Drop, G: Gate + Drop> {
 impl<D: BlockDev + Drop, G: Gate + Drop> Gated<D, G> {
     ghost use Rattle.std.specs.Prelude.{◌≡◌, Err, Ok};
     ghost use Rattle.bio.specs.declared.outcome.DevError.TheVariants.{Io};
-    ghost use Rattle.blockdev.specs.Counted.{one_more};
+    ghost use Rattle.blockdev.specs.OwnCounts.{one_more};
 
     /// The device under this gate, which has decided about no call yet.
     pub fn under(lower: D, gate: G) -> Gated<D, G>
@@ -68,9 +68,9 @@ impl<D: BlockDev + Drop, G: Gate + Drop> Gated<D, G> {
 }
 
 impl<D: BlockDev + Drop, G: Gate + Drop> BlockDev for Gated<D, G> {
-    ghost use Rattle.blockdev.specs.Counted.{counted, lawful_counted};
+    ghost use Rattle.blockdev.specs.OwnCounts.{counted, lawful_counted};
     ghost use Rattle.std.specs.Prelude.{◌≡◌};
-    ghost use Rattle.fault_layers.specs.Decided.{IsDecided, kind_of};
+    ghost use Rattle.fault_layers.specs.Decision.{IsDecided, kind_of};
 
     ghost shown = { λ device. counted (D.shown device.lower) device.faults device.lies
         (G.may_drop device.gate) };

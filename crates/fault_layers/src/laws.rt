@@ -1,11 +1,11 @@
 //! Laws of the layers, apart from the code: each function does nothing, and its clause is the law.
-//! Its clauses are written in specs/Decided and specs/DelayRule; the search alone proves it.
+//! Its clauses are written in specs/Decision and specs/DelayRule; the search alone proves it.
 ghost use Rattle.std.specs.Prelude.{◌≡◌, Ok, ℕ};
 ghost use Rattle.bio.specs.Moments.{later_by};
 ghost use Rattle.blockdev.specs.Calls.{Call};
-ghost use Rattle.fault_layers.specs.Decided.{IsDecided, kind_of};
+ghost use Rattle.fault_layers.specs.Decision.{IsDecided, kind_of};
 ghost use Rattle.fault_layers.specs.DelayRule.{delay_of, delay_verdict};
-ghost use Rattle.sector_disk.specs.Shown.{Does};
+ghost use Rattle.sector_disk.specs.DiskView.{Does};
 
 use crate::{DelayGate, Gated};
 use sector_disk::SectorDisk;

@@ -1,6 +1,6 @@
 //! The linear layer: a range of another device's sectors as a device of its own.
 //! `layer_table` puts one beneath each layer that it makes.
-//! Its clauses are written in specs/Cut and specs/CutLaws; its theorems in proofs/linear/.
+//! Its clauses are written in specs/Window and specs/WindowLaws; its theorems in proofs/linear/.
 ghost use Rattle.std.proofs.Props.{props};
 ghost use Rattle.blockdev.specs.Calls.{IsRange};
 
@@ -46,10 +46,10 @@ impl<D: BlockDev + Drop> Linear<D> {
 
 impl<D: BlockDev + Drop> BlockDev for Linear<D> {
     ghost use Rattle.std.specs.Prelude.{◌≡◌};
-    ghost use Rattle.fault_layers.specs.Cut.{call_from, cut};
-    ghost use Rattle.fault_layers.specs.CutLaws.{lawful_cut};
+    ghost use Rattle.fault_layers.specs.Window.{call_from, window};
+    ghost use Rattle.fault_layers.specs.WindowLaws.{lawful_window};
 
-    ghost shown = { λ device. cut (D.shown device.lower) device.offset device.length };
+    ghost shown = { λ device. window (D.shown device.lower) device.offset device.length };
 
     // What the lower device does at the shifted call, and the range stays.
     ghost does = { λ old call now result new.
@@ -64,12 +64,12 @@ impl<D: BlockDev + Drop> BlockDev for Linear<D> {
         self.lower.read(now, self.offset + first, buffer)
     }
 
-    #[tactic(auto, using(crate::specs::CutLaws::lands_cut_writes))]
+    #[tactic(auto, using(crate::specs::WindowLaws::lands_window_writes))]
     fn write(&mut self, now: Ms, first: u64, bytes: &[u8], fua: bool) -> Result<Ms, DevError> {
         self.lower.write(now, self.offset + first, bytes, fua)
     }
 
-    #[tactic(auto, using(crate::specs::CutLaws::lands_cut_discards))]
+    #[tactic(auto, using(crate::specs::WindowLaws::lands_window_discards))]
     fn discard(&mut self, now: Ms, first: u64, count: u64) -> Result<Ms, DevError> {
         self.lower.discard(now, self.offset + first, count)
     }
@@ -87,7 +87,7 @@ impl<D: BlockDev + Drop> BlockDev for Linear<D> {
     }
 
     ghost lawful = { λ device.
-        lawful_cut (D.shown device.lower) device.offset device.length device.fits
+        lawful_window (D.shown device.lower) device.offset device.length device.fits
         (D.lawful device.lower) };
 }
 
@@ -99,7 +99,7 @@ impl<D: Message + Drop> Message for Linear<D> {
         D.answers old.lower layer text result new.lower × (new.offset ≡ old.offset)
         × (new.length ≡ old.length) };
 
-    #[tactic(auto, using(crate::specs::CutLaws::unchanged_cut))]
+    #[tactic(auto, using(crate::specs::WindowLaws::unchanged_window))]
     fn message(&mut self, layer: u64, text: &str) -> Result<(), MessageError> {
         self.lower.message(layer, text)
     }

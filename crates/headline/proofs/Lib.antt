@@ -1,5 +1,5 @@
 -- The lemmas of `headline`; the proof of a function stands in the folder of its source file.
 mod Counts
-mod Promised
-mod Reopened
+mod HeadlineHolds
+mod OpenLog
 mod Examples

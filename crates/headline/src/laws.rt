@@ -3,7 +3,7 @@
 //! Its clauses are in words of `bio` and `pending`; its theorems in proofs/laws/.
 ghost use Rattle.std.specs.Prelude.{◌≤◌, ℕ, List};
 ghost use Rattle.bio.specs.declared.event.CoreEvent.{CoreEvent};
-ghost use Rattle.pending.specs.Beginnings.{BelongsTo, queued_by};
+ghost use Rattle.pending.specs.Prefixes.{BelongsTo, queued_by};
 ghost use Rattle.pending.specs.CompletionList.{dm_log_writes};
 ghost use Rattle.pending.specs.Moments.{last_moment};
 

@@ -1,7 +1,7 @@
 -- The lemmas of `judge`; the proof of a function stands in the folder of its source file.
 pub mod Last
 pub mod Values
-pub mod Holding
-pub mod Judging
+pub mod HeldValues
+pub mod AccountVerdict
 pub mod Verdicts
 pub mod Examples

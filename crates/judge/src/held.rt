@@ -100,7 +100,7 @@ fn fits(
 }
 
 // Gives the sectors from the one to before the other that fit the place of the event.
-#[tactic(auto, using(crate::proofs::Holding::fit_here, crate::proofs::Holding::fit_not))]
+#[tactic(auto, using(crate::proofs::HeldValues::fit_here, crate::proofs::HeldValues::fit_not))]
 fn hold_range(
     held: &mut Vec<Option<usize>>,
     place: usize,

@@ -9,7 +9,7 @@ use Rattle.table_line.specs.declared.feature.Feature.TheVariants as features
 use Rattle.table_line.specs.declared.layer_spec.Target.TheVariants as targets
 use Rattle.table_line.specs.declared.layer_spec.LayerSpec.{LayerSpec}
 use Rattle.table_line.specs.declared.layer_spec.Target.{Target}
-use Rattle.table_line.specs.Standing.{some_drops}
+use Rattle.table_line.specs.LayerOrder.{some_drops}
 use Rattle.layer_table.specs.declared.any_gate.AnyGate.{AnyGate}
 use Rattle.layer_table.specs.declared.any_gate.AnyGate.TheVariants.{Delay, Error, Flakey, Fuse}
 use Rattle.layer_table.specs.declared.any_gate.AnyGate.TheVariants.{Open}

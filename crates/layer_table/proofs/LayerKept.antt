@@ -7,7 +7,7 @@ use Rattle.blockdev.specs.Calls.{Call}
 use Rattle.blockdev.specs.View.{View}
 use Rattle.blockdev.specs.declared.device.BlockDev.{Ghosts}
 use Rattle.blockdev.specs.declared.message.MessageError.{MessageError}
-use Rattle.fault_layers.specs.Cut.{SeenFrom}
+use Rattle.fault_layers.specs.Window.{SeenFrom}
 use Rattle.sector_disk.specs.declared.disk.SectorDisk.{SectorDisk}
 use Rattle.bio.specs.Content.{Content}
 use Rattle.table_line.specs.declared.layer_spec.LayerSpec.{LayerSpec}

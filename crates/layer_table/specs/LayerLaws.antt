@@ -6,15 +6,15 @@ use Rattle.bio.specs.declared.outcome.DevError.{DevError}
 use Rattle.blockdev.specs.declared.device.BlockDev.{Ghosts}
 use Rattle.bio.specs.Moments.{later_by}
 use Rattle.blockdev.specs.Calls.{Call}
-use Rattle.blockdev.specs.Counted.{counted}
+use Rattle.blockdev.specs.OwnCounts.{counted}
 use Rattle.blockdev.specs.View.{View}
 use Rattle.dust_layer.specs.declared.dust.Dust.{Dust}
-use Rattle.dust_layer.specs.Bad.{listed}
+use Rattle.dust_layer.specs.BadBlocks.{listed}
 use Rattle.dust_layer.specs.CarryLaws.{done_carried}
 use Rattle.dust_layer.specs.DustRule.{held}
 use Rattle.fault_layers.specs.declared.linear.Linear.{Linear}
-use Rattle.fault_layers.specs.Cut.{call_from, cut}
-use Rattle.fault_layers.specs.Decided.{kind_of}
+use Rattle.fault_layers.specs.Window.{call_from, window}
+use Rattle.fault_layers.specs.Decision.{kind_of}
 use Rattle.sector_disk.specs.declared.disk.SectorDisk.{SectorDisk}
 use Rattle.layer_table.specs.declared.slot.Slot.{Slot}
 use Rattle.layer_table.specs.declared.slot.Slot.TheVariants as slots
@@ -33,10 +33,10 @@ pub shown_with : {D : Type 0} {g : Ghosts D} (layers : D → List Layer) (base :
     ≡ layers_over (layers_with layers slot) (base (device_of slot))
 shown_with {D} {g} layers base same (slots.Bare device) = same device
 shown_with {D} {g} layers base same (slots.Decided layer) =
-    ap (λ (v : View). counted (cut v layer.lower.offset layer.lower.length) layer.faults layer.lies
-    (any_may_drop layer.gate)) (same layer.lower.lower)
+    ap (λ (v : View). counted (window v layer.lower.offset layer.lower.length) layer.faults
+    layer.lies (any_may_drop layer.gate)) (same layer.lower.lower)
 shown_with {D} {g} layers base same (slots.Dusted layer) =
-    ap (λ (v : View). counted (cut v layer.lower.offset layer.lower.length) layer.faults 0 false)
+    ap (λ (v : View). counted (window v layer.lower.offset layer.lower.length) layer.faults 0 false)
     (same layer.lower.lower)
 
 -- ---- what calls do

@@ -7,21 +7,21 @@ use Rattle.bio.specs.declared.outcome.DevError.TheVariants.{Io}
 use Rattle.bio.specs.Moments.{later_by}
 use Rattle.blockdev.specs.declared.device.BlockDev.{Ghosts}
 use Rattle.blockdev.specs.Calls.{Call}
-use Rattle.blockdev.specs.Counted.{counted, one_more}
+use Rattle.blockdev.specs.OwnCounts.{counted, one_more}
 use Rattle.blockdev.specs.View.{View}
 use Rattle.dust_layer.specs.declared.mode.Mode.{Mode}
 use Rattle.dust_layer.specs.declared.mode.Mode.TheVariants.{Bypass}
-use Rattle.dust_layer.specs.Bad.{Bad, listed}
+use Rattle.dust_layer.specs.BadBlocks.{Bad, listed}
 use Rattle.dust_layer.specs.DustRule.{IsDoneBy}
 use Rattle.fault_layers.specs.declared.gate.Verdict.{Verdict}
 use Rattle.fault_layers.specs.declared.gate.Verdict.TheVariants.{Delay, Drop, Fail, Pass}
 use Rattle.bio.specs.Content.{Content}
-use Rattle.fault_layers.specs.Cut.{call_from, cut, SeenFrom}
-use Rattle.fault_layers.specs.Decided.{kind_of, KeepsBuffer}
+use Rattle.fault_layers.specs.Window.{call_from, window, SeenFrom}
+use Rattle.fault_layers.specs.Decision.{kind_of, KeepsBuffer}
 use Rattle.sector_disk.specs.declared.disk.SectorDisk.{SectorDisk}
-use Rattle.sector_disk.specs.Shown.{Does}
+use Rattle.sector_disk.specs.DiskView.{Does}
 use Rattle.table_line.specs.declared.layer_spec.LayerSpec.{LayerSpec}
-use Rattle.table_line.specs.Standing.{drops_writes, some_drops, top_origin, top_sectors}
+use Rattle.table_line.specs.LayerOrder.{drops_writes, some_drops, top_origin, top_sectors}
 use Rattle.table_line.specs.declared.layer_spec.Target.{Target}
 use Rattle.table_line.specs.declared.layer_spec.Target.TheVariants as targets
 use Rattle.layer_table.specs.declared.any_gate.AnyGate.{AnyGate}
@@ -131,9 +131,9 @@ stack_shown stack = slot_shown stack.top
 -- own faults and lies, or with bad blocks' own faults
 abbrev pub layer_over : Rule → Layer → View → View
 layer_over (Dusting block bad mode) layer v =
-    counted (cut v layer.offset layer.length) layer.faults 0 false
+    counted (window v layer.offset layer.length) layer.faults 0 false
 layer_over (Deciding gate) layer v =
-    counted (cut v layer.offset layer.length) layer.faults layer.lies (any_may_drop gate)
+    counted (window v layer.offset layer.length) layer.faults layer.lies (any_may_drop gate)
 
 -- layers over what shows this
 abbrev pub layers_over : List Layer → View → View

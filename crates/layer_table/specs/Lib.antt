@@ -1,18 +1,18 @@
 -- The definitions that the contracts of `layer_table` are written in.
 pub use Rattle.bio.specs.Moments
 pub use Rattle.blockdev.specs.Calls
-pub use Rattle.blockdev.specs.Counted
+pub use Rattle.blockdev.specs.OwnCounts
 pub use Rattle.blockdev.specs.Law
 pub use Rattle.blockdev.specs.Messages
 pub use Rattle.blockdev.specs.View
-pub use Rattle.fault_layers.specs.Cut
+pub use Rattle.fault_layers.specs.Window
 pub use Rattle.dust_layer.specs.DustRule
 pub use Rattle.dust_layer.specs.MessageRule
-pub use Rattle.fault_layers.specs.Decided
+pub use Rattle.fault_layers.specs.Decision
 pub use Rattle.fault_layers.specs.DelayRule
 pub use Rattle.bio.specs.Content
 pub use Rattle.table_line.specs.Ranges
-pub use Rattle.table_line.specs.Standing
+pub use Rattle.table_line.specs.LayerOrder
 pub mod AnyRule
 pub mod AnyLaws
 pub mod Slots

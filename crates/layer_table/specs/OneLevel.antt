@@ -7,7 +7,7 @@ use Rattle.blockdev.specs.declared.message.MessageError.TheVariants.{BadMessage}
 use Rattle.blockdev.specs.Calls.{Call}
 use Rattle.blockdev.specs.View.{IsLawful, View}
 use Rattle.sector_disk.specs.declared.disk.SectorDisk.{SectorDisk}
-use Rattle.sector_disk.specs.ShownLaws.{disk_lawful}
+use Rattle.sector_disk.specs.DiskViewLaws.{disk_lawful}
 use Rattle.layer_table.specs.declared.levels.one.One.{One}
 use Rattle.layer_table.specs.SlotLaws.{slot_lawful}
 use Rattle.layer_table.specs.SlotMessages.{SlotAnswers}

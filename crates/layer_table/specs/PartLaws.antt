@@ -4,9 +4,9 @@ use Rattle.std.proofs.Common.{ℕ, ◌+◌, ap, refl, ◌∙◌, arith}
 use Rattle.blockdev.specs.declared.device.BlockDev.{Ghosts}
 use Rattle.blockdev.specs.Calls.{IsRange}
 use Rattle.blockdev.specs.View.{View}
-use Rattle.fault_layers.specs.Cut.{cut}
+use Rattle.fault_layers.specs.Window.{window}
 use Rattle.sector_disk.specs.declared.disk.SectorDisk.{SectorDisk}
-use Rattle.sector_disk.specs.Shown.{shown_of}
+use Rattle.sector_disk.specs.DiskView.{shown_of}
 use Rattle.bio.specs.Content.{moved}
 use Rattle.layer_table.specs.declared.slot.Slot.{Slot}
 use Rattle.layer_table.specs.declared.slot.Slot.TheVariants as slots
@@ -23,9 +23,9 @@ disk_part disk = record {
 }
 
 -- a range of a part is a part
-cut_part : (v w : View) (offset length : ℕ) → IsRange w.size offset length → IsPartOf v w
-    → IsPartOf v (cut w offset length)
-cut_part v w offset length fits is = record {
+window_part : (v w : View) (offset length : ℕ) → IsRange w.size offset length → IsPartOf v w
+    → IsPartOf v (window w offset length)
+window_part v w offset length fits is = record {
   disk = is.disk;
   within = let a = fits.within in let b = is.within in omega arith;
   content = λ sector. is.content (offset + sector) ∙ ap v.content (omega arith);
@@ -44,13 +44,13 @@ pub part_with : {D : Type 0} {g : Ghosts D} (disk : D → View)
 part_with {D} {g} disk below (slots.Bare device) = below device
 part_with {D} {g} disk below (slots.Dusted layer) =
     let is =
-    cut_part (disk layer.lower.lower)
+    window_part (disk layer.lower.lower)
     (g.shown layer.lower.lower) layer.lower.offset layer.lower.length layer.lower.fits
     (below layer.lower.lower) in
     record { disk = is.disk; within = is.within; content = is.content; crash = is.crash }
 part_with {D} {g} disk below (slots.Decided layer) =
     let is =
-    cut_part (disk layer.lower.lower)
+    window_part (disk layer.lower.lower)
     (g.shown layer.lower.lower) layer.lower.offset layer.lower.length layer.lower.fits
     (below layer.lower.lower) in
     record { disk = is.disk; within = is.within; content = is.content; crash = is.crash }

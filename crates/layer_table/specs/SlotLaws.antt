@@ -5,15 +5,15 @@ use Rattle.bio.specs.declared.outcome.DevError.{DevError}
 use Rattle.bio.specs.Moments.{later_by}
 use Rattle.blockdev.specs.declared.device.BlockDev.{Ghosts}
 use Rattle.blockdev.specs.Calls.{Call}
-use Rattle.blockdev.specs.Counted.{lawful_counted}
+use Rattle.blockdev.specs.OwnCounts.{lawful_counted}
 use Rattle.blockdev.specs.View.{IsLawful}
 use Rattle.fault_layers.specs.declared.gate.Verdict.{Verdict}
 use Rattle.fault_layers.specs.declared.gate.Verdict.TheVariants.{Delay, Drop, Fail, Pass}
 use Rattle.fault_layers.specs.declared.gated.Gated.{Gated}
 use Rattle.fault_layers.specs.declared.linear.Linear.{Linear}
-use Rattle.fault_layers.specs.Cut.{cut}
-use Rattle.fault_layers.specs.CutLaws.{lawful_cut}
-use Rattle.fault_layers.specs.Decided.{kind_of, IsDecided}
+use Rattle.fault_layers.specs.Window.{window}
+use Rattle.fault_layers.specs.WindowLaws.{lawful_window}
+use Rattle.fault_layers.specs.Decision.{kind_of, IsDecided}
 use Rattle.dust_layer.specs.declared.dust.Dust.{Dust}
 use Rattle.dust_layer.specs.CarryLaws.{done_carried}
 use Rattle.dust_layer.specs.DustRule.{held, IsDusted}
@@ -28,15 +28,15 @@ pub slot_lawful : {D : Type 0} {g : Ghosts D} → ((device : D) → IsLawful (g.
     → (slot : Slot D g) → IsLawful (slot_shown slot)
 slot_lawful {D} {g} lawful (slots.Bare device) = lawful device
 slot_lawful {D} {g} lawful (slots.Decided layer) =
-    lawful_counted (cut (g.shown layer.lower.lower) layer.lower.offset layer.lower.length)
+    lawful_counted (window (g.shown layer.lower.lower) layer.lower.offset layer.lower.length)
     layer.faults layer.lies (any_may_drop layer.gate)
-    (lawful_cut (g.shown layer.lower.lower) layer.lower.offset layer.lower.length layer.lower.fits
-    (lawful layer.lower.lower))
+    (lawful_window (g.shown layer.lower.lower) layer.lower.offset layer.lower.length
+    layer.lower.fits (lawful layer.lower.lower))
 slot_lawful {D} {g} lawful (slots.Dusted layer) =
-    lawful_counted (cut (g.shown layer.lower.lower) layer.lower.offset layer.lower.length)
+    lawful_counted (window (g.shown layer.lower.lower) layer.lower.offset layer.lower.length)
     layer.faults 0 false
-    (lawful_cut (g.shown layer.lower.lower) layer.lower.offset layer.lower.length layer.lower.fits
-    (lawful layer.lower.lower))
+    (lawful_window (g.shown layer.lower.lower) layer.lower.offset layer.lower.length
+    layer.lower.fits (lawful layer.lower.lower))
 
 -- each call of a device keeps what f says of it
 abbrev pub IsKept : {D A : Type 0} → Ghosts D → (D → A) → Type 0

@@ -5,11 +5,11 @@ use Rattle.std.specs.List.{list_all}
 use Rattle.bio.specs.declared.outcome.DevError.{DevError}
 use Rattle.blockdev.specs.declared.device.BlockDev.{Ghosts}
 use Rattle.blockdev.specs.Calls.{Call}
-use Rattle.blockdev.specs.Counted.{counted}
+use Rattle.blockdev.specs.OwnCounts.{counted}
 use Rattle.blockdev.specs.View.{View}
 use Rattle.fault_layers.specs.declared.linear.Linear.{Linear}
-use Rattle.fault_layers.specs.Cut.{call_from, cut}
-use Rattle.fault_layers.specs.Decided.{IsDecided, kind_of}
+use Rattle.fault_layers.specs.Window.{call_from, window}
+use Rattle.fault_layers.specs.Decision.{IsDecided, kind_of}
 use Rattle.dust_layer.specs.DustRule.{IsDusted}
 use Rattle.layer_table.specs.declared.slot.Slot.{Slot}
 use Rattle.layer_table.specs.declared.slot.Slot.TheVariants as slots
@@ -20,11 +20,11 @@ use Rattle.layer_table.specs.AnyRule.{any_after, any_may_drop, any_verdict}
 abbrev pub slot_shown : {D : Type 0} {g : Ghosts D} → Slot D g → View
 slot_shown {D} {g} (slots.Bare device) = g.shown device
 slot_shown {D} {g} (slots.Dusted layer) =
-    counted (cut (g.shown layer.lower.lower) layer.lower.offset layer.lower.length) layer.faults 0
-    false
+    counted (window (g.shown layer.lower.lower) layer.lower.offset layer.lower.length)
+    layer.faults 0 false
 slot_shown {D} {g} (slots.Decided layer) =
-    counted (cut (g.shown layer.lower.lower) layer.lower.offset layer.lower.length) layer.faults
-    layer.lies (any_may_drop layer.gate)
+    counted (window (g.shown layer.lower.lower) layer.lower.offset layer.lower.length)
+    layer.faults layer.lies (any_may_drop layer.gate)
 
 -- a range does what the device beneath does at the shifted call, and stays
 abbrev pub IsShifted : {D : Type 0} {g : Ghosts D} → Linear D g → Call → ℕ → Result ℕ DevError

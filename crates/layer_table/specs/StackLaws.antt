@@ -7,7 +7,7 @@ use Rattle.bio.specs.declared.outcome.DevError.{DevError}
 use Rattle.blockdev.specs.Calls.{Call}
 use Rattle.blockdev.specs.View.{IsLawful, View}
 use Rattle.sector_disk.specs.declared.disk.SectorDisk.{SectorDisk}
-use Rattle.sector_disk.specs.Shown.{shown_of, Does}
+use Rattle.sector_disk.specs.DiskView.{shown_of, Does}
 use Rattle.layer_table.specs.declared.levels.one.One.{One}
 use Rattle.layer_table.specs.declared.levels.three.Three.{Three}
 use Rattle.layer_table.specs.declared.levels.two.Two.{Two}

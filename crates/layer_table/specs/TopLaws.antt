@@ -3,12 +3,12 @@
 use Rattle.std.proofs.Common.{◌≡◌, ℕ, List, [], ◌∷◌, length, Result, refl, ap, subst, sym, ◌∙◌}
 use Rattle.bio.specs.Moments.{later_by}
 use Rattle.dust_layer.specs.declared.mode.Mode.{Mode}
-use Rattle.dust_layer.specs.Bad.{Bad}
+use Rattle.dust_layer.specs.BadBlocks.{Bad}
 use Rattle.bio.specs.declared.outcome.DevError.{DevError}
 use Rattle.blockdev.specs.Calls.{Call}
 use Rattle.fault_layers.specs.declared.gate.Verdict.TheVariants.{Pass}
 use Rattle.fault_layers.specs.declared.delay.DelayGate.{DelayGate}
-use Rattle.fault_layers.specs.Decided.{kind_of}
+use Rattle.fault_layers.specs.Decision.{kind_of}
 use Rattle.fault_layers.specs.DelayRule.{delay_of}
 use Rattle.sector_disk.specs.declared.disk.SectorDisk.{SectorDisk}
 use Rattle.layer_table.specs.declared.any_gate.AnyGate.{AnyGate}

@@ -1,7 +1,7 @@
 -- The definitions that the contracts of `lock_state` are written in.
 pub mod Calls
-pub mod Closing
-pub mod Comparing
+pub mod Close
+pub mod Comparison
 pub mod History
-pub mod Legal
-pub mod Placed
+pub mod LegalHistory
+pub mod PlacedItems

@@ -1,11 +1,11 @@
 // What the queue compares with its history when a recorder closes.
-// Its clauses are written in specs/Comparing and specs/History; the search alone proves it.
+// Its clauses are written in specs/Comparison and specs/History; the search alone proves it.
 ghost use Rattle.std.specs.Prelude.{◌≡◌, ◌≢◌, ◌<◌, ◌≤◌, IfOk, MatchBool, Option, Some, length};
 ghost use Rattle.std.specs.Prelude.{slice_get, true};
 ghost use Rattle.log_format.specs.Entries.{is_sector_size};
 ghost use Rattle.pending.specs.CoreState.{items_of};
-ghost use Rattle.lock_state.specs.Comparing.{AreCauses, BeginsTaken, Each, Fails, IsItem, IsList};
-ghost use Rattle.lock_state.specs.Comparing.{IsServed, listed, stop_cause_at};
+ghost use Rattle.lock_state.specs.Comparison.{AreCauses, BeginsTaken, Each, Fails, IsItem, IsList};
+ghost use Rattle.lock_state.specs.Comparison.{IsServed, listed, stop_cause_at};
 ghost use Rattle.lock_state.specs.History.{end_place, stop_of};
 
 use crate::compare::{are_causes, are_passed, is_list_of};
@@ -50,11 +50,11 @@ impl<R: Run> QueueState<R> {
     }
 
     // How many bytes a sector of the log has.
-    fn sector_bytes(&self) -> u64
+    fn sector_bytes(&self) -> u32
         ensures bytes { result ≡ self.now.core.sector_bytes }
         ensures may_be { is_sector_size result ≡ true }
     {
-        u64::from(self.size.bytes())
+        self.size.bytes()
     }
 
     // Whether this item was taken as number k.
@@ -145,7 +145,7 @@ fn stop_at(events: &[CoreEvent], place: Id) -> Option<End>
 
 // Whether the item is of this id, with the entry of this
 // event, in a log with sectors of so many bytes.
-fn is_item(item: &Item, id: Id, event: &CoreEvent, bytes: u64) -> bool
+fn is_item(item: &Item, id: Id, event: &CoreEvent, bytes: u32) -> bool
     requires { is_sector_size bytes ≡ true }
     ensures { MatchBool result (IsItem bytes item.now id event.now)
         (IsItem bytes item.now id event.now → ⊥) }

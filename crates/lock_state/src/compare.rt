@@ -1,9 +1,9 @@
 // What is compared when a recorder closes, as functions of lists.
-// Its clauses are written in specs/Comparing and specs/History; its theorems in proofs/compare/.
+// Its clauses are written in specs/Comparison and specs/History; its theorems in proofs/compare/.
 ghost use Rattle.std.specs.Prelude.{◌≡◌, ◌≢◌, ◌⊎◌, ◌&&◌, MatchBool, Option, Some, slice_get};
 ghost use Rattle.std.specs.Prelude.{length};
 ghost use Rattle.bio.specs.declared.request.Bio.TheVariants.{Discard, Flush, Read, Write};
-ghost use Rattle.lock_state.specs.Comparing.{AreCauses, Each, Fails, MayBeTold, Names, is_of, of};
+ghost use Rattle.lock_state.specs.Comparison.{AreCauses, Each, Fails, MayBeTold, Names, is_of, of};
 ghost use Rattle.lock_state.specs.History.{own_at};
 
 use crate::note::{Item, Own, Receipt, Told};

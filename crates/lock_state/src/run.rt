@@ -1,5 +1,5 @@
 // What names one shared recorder.
-// Its clauses are written in specs/Placed; the search alone proves it.
+// Its clauses are written in specs/PlacedItems; the search alone proves it.
 use holders::Whose;
 use std::marker::Brand;
 use std::sync::ledger::Ledger;
@@ -10,7 +10,7 @@ use std::sync::ledger::Ledger;
 /// refused by its type.
 pub trait Run: Ledger + Whose {
     ghost use Rattle.std.specs.Prelude.{ℕ};
-    ghost use Rattle.lock_state.specs.Placed.{Ground};
+    ghost use Rattle.lock_state.specs.PlacedItems.{Ground};
 
     ghost sectors: { ℕ };
 

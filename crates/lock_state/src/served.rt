@@ -1,10 +1,10 @@
 // Whether each request that ended Ok was done just once. One walk over the calls and one over the
 // events, with a note for each event.
-// Its clauses are written in specs/Comparing; its theorems in proofs/served/.
+// Its clauses are written in specs/Comparison; its theorems in proofs/served/.
 ghost use Rattle.std.specs.Prelude.{◌≡◌, ◌≤◌, ℕ, [], MatchBool, Some, length, slice_get};
 ghost use Rattle.lock_state.specs.declared.served.Seen.{Seen as Noted};
-ghost use Rattle.lock_state.specs.Comparing.{AllTell, Each, Fails, IsDoneOnce, IsNoted, IsServed};
-ghost use Rattle.lock_state.specs.Comparing.{Tells, seen_more};
+ghost use Rattle.lock_state.specs.Comparison.{AllTell, Each, Fails, IsDoneOnce, IsNoted, IsServed};
+ghost use Rattle.lock_state.specs.Comparison.{Tells, seen_more};
 
 use crate::compare::same_bio;
 use crate::note::Done;

@@ -7,7 +7,7 @@ use Rattle.bio.specs.declared.event.CoreEvent.{CoreEvent}
 use Rattle.bio.specs.declared.event.CoreEvent.TheVariants.{Submit, Complete, Mark, Stop, Close}
 use Rattle.bio.specs.declared.outcome.End.TheVariants.{Full}
 use Rattle.bio.specs.declared.request.Bio.TheVariants.{Write, Flush}
-use Rattle.pending.specs.Beginnings.{BelongsTo, queued_by}
+use Rattle.pending.specs.Prefixes.{BelongsTo, queued_by}
 use Rattle.pending.specs.CompletionList.{dm_log_writes}
 use Rattle.pending.specs.CoreState.{CoreState, IsSound, LinksBound, items_of, new_state}
 use Rattle.pending.specs.CoreState.{queued_between}

@@ -23,8 +23,8 @@ use Rattle.pending.specs.CompletionList.{IsListedAt, Item, completion_list, dm_l
 use Rattle.pending.specs.CompletionList.{own_end}
 use Rattle.pending.proofs.Ends.{ends-there, flush_submit-some, open-queue_event, own-queue_event}
 use Rattle.pending.proofs.Ends.{plain-queue_event, queued-within}
-use Rattle.pending.proofs.Linked.{linked-here, needed-flush, needed-linked, needing-recorded}
-use Rattle.pending.proofs.Linked.{recorded-earlier}
+use Rattle.pending.proofs.LinkChains.{linked-here, needed-flush, needed-linked, needing-recorded}
+use Rattle.pending.proofs.LinkChains.{recorded-earlier}
 use Rattle.pending.proofs.OneStep.{is_at-some}
 use Rattle.pending.proofs.Order.{listed-queued, listed-sorted, queued-listed, unstopped}
 use Rattle.pending.proofs.Prefix.{queue_event_same, recorded_stable}

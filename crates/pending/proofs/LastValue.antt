@@ -12,10 +12,10 @@ use Rattle.bio.specs.Lawful.{all_aligned, submits_aligned}
 use Rattle.bio.specs.Possible.{values_at}
 use Rattle.log_format.specs.declared.entry.Entry.{Entry}
 use Rattle.log_format.specs.Entries.{is_sector_size, kind_of, sectors_per}
-use Rattle.log_format.specs.AlignedLaws.{entries_keep_values}
+use Rattle.log_format.specs.AlignmentLaws.{entries_keep_values}
 use Rattle.log_format.specs.Replay.{kind_values, replay}
 use Rattle.pending.specs.CompletionList.{Item, entry_at}
-use Rattle.pending.specs.Beginnings.{entries_of}
+use Rattle.pending.specs.Prefixes.{entries_of}
 
 -- the values of an entry in a log with sectors of so many bytes
 abbrev pub entry_values : ℕ → Entry → Patch

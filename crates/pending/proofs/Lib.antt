@@ -1,13 +1,13 @@
 -- The lemmas of `pending`; the proof of a function stands in the folder of its source file.
-pub mod Passing
-pub mod Linked
+pub mod PlaceTests
+pub mod LinkChains
 pub mod Rows
 pub mod Prefix
 pub mod Counts
 pub mod OneStep
-pub mod Waiting
-pub mod Releasing
-pub mod Between
+pub mod WaitingSteps
+pub mod EndRelease
+pub mod WaitingSpan
 pub mod LaneLaws
 pub mod RequestLaws
 pub mod Walk
@@ -21,7 +21,7 @@ pub mod Readable
 pub mod Order
 pub mod Lengths
 pub mod Ends
-pub mod Standing
+pub mod MarkPlaces
 pub mod Results
 pub mod LastValue
 pub mod Durable

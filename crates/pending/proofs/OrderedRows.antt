@@ -12,8 +12,8 @@ use Rattle.pending.specs.Chains.{AtFua, Chain, Direct, EndsPlain, IsFirstNeed, I
 use Rattle.pending.specs.Moments.{last_moment}
 use Rattle.pending.specs.QueueEvent.{ends_plain, is_linked, log_writes_order}
 use Rattle.pending.specs.declared.row.PendingEntry.{PendingEntry}
-use Rattle.pending.specs.inside.Releasing.{is_beyond, is_taken, kept_from, lies_in, queues_itself}
-use Rattle.pending.specs.inside.Releasing.{ranges_meet, taken_from}
+use Rattle.pending.specs.inside.Release.{is_beyond, is_taken, kept_from, lies_in, queues_itself}
+use Rattle.pending.specs.inside.Release.{ranges_meet, taken_from}
 use Rattle.log_format.specs.Entries.{entry_of}
 use Rattle.pending.proofs.Words.{chain-linked, need-recorded}
 

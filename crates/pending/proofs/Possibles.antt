@@ -28,7 +28,7 @@ use Rattle.log_format.specs.Replay.{replay}
 use Rattle.pending.specs.QueueEvent.{queue_event, log_writes_order}
 use Rattle.pending.specs.CompletionList.{Item, completion_list, dm_log_writes, entry_at}
 use Rattle.pending.specs.Moments.{last_moment}
-use Rattle.pending.specs.Beginnings.{BelongsTo, entries_of}
+use Rattle.pending.specs.Prefixes.{BelongsTo, entries_of}
 use Rattle.pending.proofs.Durable.{IsDurableBefore, IsFound, IsMoment, durable-queued, found-first}
 use Rattle.pending.proofs.Durable.{queued-longer, queued-shorter}
 use Rattle.pending.proofs.Ends.{ends-there, flush_submit-some, open-queue_event, queued-after}
@@ -36,9 +36,9 @@ use Rattle.pending.proofs.Ends.{queued-within}
 use Rattle.pending.proofs.LastValue.{LastAt, NoneAt, aligned-at, entry-item, entry-values}
 use Rattle.pending.proofs.LastValue.{entry_values, item-entry, last-value}
 use Rattle.pending.proofs.Order.{listed-queued, queued-listed}
-use Rattle.pending.proofs.Passing.{any_below-found, or_cases}
+use Rattle.pending.proofs.PlaceTests.{any_below-found, or_cases}
 use Rattle.pending.proofs.Prefix.{recorded_list_grows}
-use Rattle.pending.proofs.Standing.{found-longer, well_formed-beginning}
+use Rattle.pending.proofs.MarkPlaces.{found-longer, well_formed-beginning}
 
 -- a moment that is no later than the last one
 pub moment-from : (events : List CoreEvent) (moment : ℕ) → is_well_formed events ≡ true

@@ -19,9 +19,9 @@ use Rattle.pending.specs.CompletionList.{IsListedAt, completion_list, dm_log_wri
 use Rattle.pending.specs.QueueEvent.{is_linked, queue_event, log_writes_order, unless_stopped}
 use Rattle.pending.proofs.Durable.{found-stands}
 use Rattle.pending.proofs.Ends.{ends-there, flush_submit-some, plain-queue_event}
-use Rattle.pending.proofs.Linked.{linked-cases, linked-here, linked-step, needed-flush}
-use Rattle.pending.proofs.Linked.{needed-linked, needing-recorded, recorded-cases}
-use Rattle.pending.proofs.Passing.{or_cases}
+use Rattle.pending.proofs.LinkChains.{linked-cases, linked-here, linked-step, needed-flush}
+use Rattle.pending.proofs.LinkChains.{needed-linked, needing-recorded, recorded-cases}
+use Rattle.pending.proofs.PlaceTests.{or_cases}
 use Rattle.pending.proofs.Prefix.{unless_stopped-none}
 
 -- what a chain leads from is linked

@@ -11,7 +11,7 @@ pub mod QueueEvent
 pub mod Moments
 pub mod Chains
 pub mod CompletionList
-pub mod Beginnings
+pub mod Prefixes
 pub mod Results
 pub mod CoreState
 pub mod GrowthLaws

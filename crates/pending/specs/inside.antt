@@ -1,8 +1,8 @@
 -- The definitions of `pending` that its proofs alone use: no other crate cites them.
 -- Any crate above may cite it.
-pub mod Releasing
+pub mod Release
 pub mod Requests
-pub mod Waiting
+pub mod WaitingList
 pub mod Steps
-pub mod Represents
+pub mod Representation
 pub mod CoreInvariant

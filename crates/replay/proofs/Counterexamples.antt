@@ -17,7 +17,7 @@ use Rattle.log_format.specs.Entries.{kind_of, no_flags}
 use Rattle.log_format.specs.Replay.{kind_values, replay}
 use Rattle.log_reader.specs.declared.fault.LogFault.TheVariants.{CutShort}
 use Rattle.log_reader.specs.declared.fault.ReadDeviceError.TheVariants as reads
-use Rattle.log_reader.specs.Finding.{IsFlush}
+use Rattle.log_reader.specs.Search.{IsFlush}
 use Rattle.log_reader.specs.Reader.{Reader}
 use Rattle.replay.specs.declared.fault.ReplayError.TheVariants as replays
 use Rattle.replay.specs.declared.upto.Upto.{Upto}

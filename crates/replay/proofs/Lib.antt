@@ -1,9 +1,9 @@
 -- The lemmas of `replay`; the proof of a function stands in the folder of its source file.
-pub mod UpToFound
-pub mod Applied
+pub mod UpToCount
+pub mod TargetContent
 pub mod Loops
-pub mod Calling
-pub mod Whole
-pub mod LogReading
+pub mod TargetCalls
+pub mod WholeReplay
+pub mod ReadCalls
 mod Counterexamples
 mod RefusedReads

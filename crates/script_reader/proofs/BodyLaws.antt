@@ -1,7 +1,7 @@
 -- Laws of a script's body: names of requests, and one more command after others.
--- `ReadingLaws`, `FaultLaws` and `CanonicalTextLaws` cite it.
+-- `CanonicalTextLaws`, `RecorderFaults`, `RecorderLaws` and `RunLaws` cite it.
 -- Its own crate alone cites it, for theorems of many of its files.
-use Rattle.std.proofs.Common.{◌≡◌, ℕ, ◌+◌, ◌<◌, Bool, true, false, cond, List, [], ◌∷◌, ◌++◌}
+use Rattle.std.proofs.Common.{◌≡◌, ℕ, ◌+◌, ◌<◌, true, false, cond, List, [], ◌∷◌, ◌++◌}
 use Rattle.std.proofs.Common.{length, get_or, Option, Some, None, Ok, Err, ⊎_elim, refl, ap, ◌∙◌}
 use Rattle.std.proofs.Common.{sym, subst, arith, append_assoc}
 use Rattle.std.specs.Prelude.{Result, nat_lt}
@@ -41,7 +41,7 @@ use Rattle.script_reader.specs.Plans.{submission_answer, submissions, top_of, Di
 use Rattle.script_reader.specs.Plans.{IsInTime, IsName, IsWellFormed, CanFollow, WritesByte}
 use Rattle.script_reader.specs.inside.Readers.{parsed_step, with_body, Progress}
 use Rattle.script_reader.proofs.DraftLemmas.{listed, with_new_name}
-use Rattle.script_reader.proofs.FoldLaws.{bind_at, bind_ok, fold}
+use Rattle.script_reader.proofs.FoldLaws.{all_append, barred_ok, bind_at, bind_ok, fold}
 
 -- ---- names
 
@@ -107,19 +107,19 @@ name_of_request name names request d e =
     (omega (arith, p.1), sym (same_name_is name (get_or names request d) here))
 
 -- a name after others is none of them, where no two names are one
-pub new_name : (before_byte rest : List ScriptId) (name : ScriptId)
-    → IsDistinct same_name (before_byte ++ name ∷ rest)
-    → list_any (same_name name) before_byte ≡ false
-new_name before_byte rest name distinct =
-    list_any_none (same_name name) before_byte (λ k d inside.
-    let apart : same_name (get_or (before_byte ++ name ∷ rest) k d)
-    (get_or (before_byte ++ name ∷ rest) (length before_byte) d) ≡ false =
-    apart_from_distinct same_name (before_byte ++ name ∷ rest) k (length before_byte) d distinct
-    inside (omega (arith, length-append before_byte (name ∷ rest))) in
-    same_name_swap name (get_or before_byte k d)
-    ∙ ap (λ x. same_name x name) (sym (get_or_append_left before_byte (name ∷ rest) d k inside))
-    ∙ ap (λ x. same_name (get_or (before_byte ++ name ∷ rest) k d) x)
-    (sym (get_or-append_seam before_byte name rest d))
+pub new_name : (front rest : List ScriptId) (name : ScriptId)
+    → IsDistinct same_name (front ++ name ∷ rest)
+    → list_any (same_name name) front ≡ false
+new_name front rest name distinct =
+    list_any_none (same_name name) front (λ k d inside.
+    let apart : same_name (get_or (front ++ name ∷ rest) k d)
+    (get_or (front ++ name ∷ rest) (length front) d) ≡ false =
+    apart_from_distinct same_name (front ++ name ∷ rest) k (length front) d distinct
+    inside (omega (arith, length-append front (name ∷ rest))) in
+    same_name_swap name (get_or front k d)
+    ∙ ap (λ x. same_name x name) (sym (get_or_append_left front (name ∷ rest) d k inside))
+    ∙ ap (λ x. same_name (get_or (front ++ name ∷ rest) k d) x)
+    (sym (get_or-append_seam front name rest d))
     ∙ apart)
 
 -- ---- bodies
@@ -173,12 +173,6 @@ well_formed_push bytes sectors before (c ∷ body) command well_formed may = (
       (sym (append_assoc before (c ∷ []) body)) may),
 )
 
--- one more id
-ids_push : (names : List ScriptId) (name : ScriptId) → AllByRecursion IsName names → IsName name
-    → AllByRecursion IsName (names ++ name ∷ [])
-ids_push [] name all is = (is, tt)
-ids_push (n ∷ names) name all is = (all.0, ids_push names name all.1 is)
-
 -- a body grows by one line that says this
 pub record Grows (b c : Body) (s : BodyLine) : Type 0 where
   pub names : List ScriptId
@@ -218,7 +212,7 @@ submit_grows bytes sectors b name submission new is may sound c same =
     subst (λ (x : Body). IsSound bytes sectors x
     × Grows b x (body_lines.Submit name submission)) same (
       record {
-        ids = ids_push b.names name sound.ids is;
+        ids = all_append IsName b.names (name ∷ []) sound.ids (is, tt);
         distinct =
             IsDistinct-push same_name_equiv b.names name sound.distinct (unlisted name b.names new);
         numbered =
@@ -262,14 +256,9 @@ other_grows bytes sectors b command s may none says sound c same =
     )
 
 -- sectors that are answered well passed the test
-told_ok : (r : Result (Unit {0}) BadBio) (x : Unit {0}) → as_refusal r ≡ Ok x → r ≡ Ok tt
+pub told_ok : (r : Result (Unit {0}) BadBio) (x : Unit {0}) → as_refusal r ≡ Ok x → r ≡ Ok tt
 told_ok (Ok u) x e = refl
 told_ok (Err bad) x e = absurd (cc)
-
--- a moment that is taken doesn't go back
-later_ok : (t : Bool) (x : Unit {0}) → cond t (Err BadLine) (Ok tt) ≡ Ok x → t ≡ false
-later_ok true x e = absurd (cc)
-later_ok false x e = refl
 
 -- a line that names no request and is taken passes its tests
 step_ok : (bytes sectors moment : ℕ) (step : Step) (x : Unit {0})
@@ -282,25 +271,15 @@ step_ok bytes sectors moment steps.Turn x e = (refl, tt)
 step_ok bytes sectors moment (steps.Mark text) x e = (refl, tt)
 step_ok bytes sectors moment (steps.Message over layer text) x e = (refl, tt)
 step_ok bytes sectors moment (steps.At later) x e =
-    (refl, ltb-false _ _ (later_ok (nat_lt later moment) x e))
+    (refl, ltb-false _ _ (barred_ok (nat_lt later moment) BadLine (Ok tt) x e).0)
 
 -- so is one that may come
 step_again : (bytes sectors moment : ℕ) (step : Step) → step_answer bytes sectors step ≡ Ok tt
     → IsInTime moment step → step_test bytes sectors moment step ≡ Ok tt
-step_again bytes sectors moment steps.Close fine in_time = refl
 step_again bytes sectors moment (steps.Read first count) fine in_time = ap as_refusal fine
-step_again bytes sectors moment steps.Turn fine in_time = refl
-step_again bytes sectors moment (steps.Mark text) fine in_time = refl
-step_again bytes sectors moment (steps.Message over layer text) fine in_time = refl
 step_again bytes sectors moment (steps.At later) fine in_time =
     cond-false _ _ _ (le-ltb _ _ in_time)
-
--- an end that is taken was of an open request
-pub ended_ok : (t : Bool) (b c : Body) (command : Command)
-    → cond t (Err BadId) (Ok (with_command b command)) ≡ Ok c
-    → (t ≡ false) × (with_command b command ≡ c)
-ended_ok true b c command e = absurd (cc)
-ended_ok false b c command e = (refl, cc)
+step_again bytes sectors moment step fine in_time = refl
 
 -- an end
 end_grows : (bytes sectors : ℕ) (b c : Body) (name : ScriptId) (o : Option ℕ)
@@ -309,10 +288,12 @@ end_grows : (bytes sectors : ℕ) (b c : Body) (name : ScriptId) (o : Option ℕ
 end_grows bytes sectors b c name None is e sound = absurd (cc)
 end_grows bytes sectors b c name (Some request) is e sound =
     let p = name_of_request name b.names request (script_id []) is in
-    let q = ended_ok (is_ended request b.body) b c (commands.Complete request) e in
+    let q =
+    barred_ok (is_ended request b.body) BadId
+    (Ok (with_command b (commands.Complete request))) c e in
     other_grows bytes sectors b (commands.Complete request) (body_lines.Complete name)
     (omega (arith, p.0, sound.numbered), q.0) refl
-    (ap (λ (n : ScriptId). body_lines.Complete n) p.1) sound c q.1
+    (ap (λ (n : ScriptId). body_lines.Complete n) p.1) sound c (let last = q.1 in cc)
 
 -- one more line keeps a body sound, and adds a line that says this
 pub step_grows : (bytes sectors : ℕ) (b c : Body) (s : BodyLine)
@@ -425,148 +406,148 @@ first_of [] some = absurd (omega arith)
 first_of (name ∷ rest) some = (name, rest, refl)
 
 -- a submission, again
-with_name_again : (before_byte more names : List ScriptId) (name : ScriptId) (before : List Command)
-    → names ≡ before_byte ++ name ∷ more → IsDistinct same_name names →
-    with_name (record { names = before_byte; body = before }) name
-    ≡ Ok (record { names = before_byte ++ name ∷ []; body = before })
-with_name_again before_byte more names name before whole distinct =
-    with_new_name (record { names = before_byte; body = before }) name
-    (new_name before_byte more name
+with_name_again : (front more names : List ScriptId) (name : ScriptId) (before : List Command)
+    → names ≡ front ++ name ∷ more → IsDistinct same_name names →
+    with_name (record { names = front; body = before }) name
+    ≡ Ok (record { names = front ++ name ∷ []; body = before })
+with_name_again front more names name before whole distinct =
+    with_new_name (record { names = front; body = before }) name
+    (new_name front more name
     (subst (λ (x : List ScriptId). IsDistinct same_name x) whole distinct))
 
 -- one line of a body, and the lines after it
-again_step : (d l : Disk) (size : SectorSize) (names before_byte next : List ScriptId)
+again_step : (d l : Disk) (size : SectorSize) (names front next : List ScriptId)
     (before body : List Command) (command : Command) →
-    body_step (bytes_of size) (top_of d) (record { names = before_byte; body = before })
-    (line_at names (length before_byte) command)
+    body_step (bytes_of size) (top_of d) (record { names = front; body = before })
+    (line_at names (length front) command)
     ≡ Ok (record { names = next; body = before ++ command ∷ [] }) →
-    count_after_command (length before_byte) command ≡ length next →
+    count_after_command (length front) command ≡ length next →
     run (in_draft d l size (record { names = next; body = before ++ command ∷ [] }))
     (lines_of_body names (length next) body)
     ≡ Ok (in_draft d l size (record { names = names; body = (before ++ command ∷ []) ++ body })) →
-    run (in_draft d l size (record { names = before_byte; body = before }))
-    (lines_of_body names (length before_byte) (command ∷ body))
+    run (in_draft d l size (record { names = front; body = before }))
+    (lines_of_body names (length front) (command ∷ body))
     ≡ Ok (in_draft d l size (record { names = names; body = before ++ command ∷ body }))
-again_step d l size names before_byte next before body command one counts others =
+again_step d l size names front next before body command one counts others =
     let done = λ (x : List Command). let b : Body = record { names = names; body = x } in
     in_draft d l size b in
-    let old : Body = record { names = before_byte; body = before } in
+    let old : Body = record { names = front; body = before } in
     let start : Body = record { names = next; body = before ++ command ∷ [] } in
     bind_at _ _ _ _ (ap (with_body (in_draft d l size old)) one)
     (ap (λ n. run (in_draft d l size start) (lines_of_body names n body)) counts ∙ others
     ∙ ap (λ x. Ok (done x)) (append_assoc before (command ∷ []) body))
 
 -- what is known of the next submission of names = front ++ rest
-record NextName (names before_byte rest : List ScriptId) (before body : List Command)
+record NextName (names front rest : List ScriptId) (before body : List Command)
     (command : Command) : Type 0 where
   name : ScriptId
   more : List ScriptId
-  here : name_at names (length before_byte) ≡ name
-  split : names ≡ before_byte ++ name ∷ more
-  whole : names ≡ (before_byte ++ name ∷ []) ++ more
-  counts : length before_byte + 1 ≡ length (before_byte ++ name ∷ [])
-  numbered : length (before_byte ++ name ∷ []) ≡ submissions (before ++ command ∷ [])
+  here : name_at names (length front) ≡ name
+  split : names ≡ front ++ name ∷ more
+  whole : names ≡ (front ++ name ∷ []) ++ more
+  counts : length front + 1 ≡ length (front ++ name ∷ [])
+  numbered : length (front ++ name ∷ []) ≡ submissions (before ++ command ∷ [])
   left : length more ≡ submissions body
 
 -- the next submission's name is the first that is left
-next_name : (names before_byte rest : List ScriptId) (before body : List Command)
-    (command : Command) → submits command ≡ 1 → names ≡ before_byte ++ rest →
-    length before_byte ≡ submissions before → length rest ≡ submissions (command ∷ body)
-    → NextName names before_byte rest before body command
-next_name names before_byte rest before body command one whole numbered left =
+next_name : (names front rest : List ScriptId) (before body : List Command)
+    (command : Command) → submits command ≡ 1 → names ≡ front ++ rest →
+    length front ≡ submissions before → length rest ≡ submissions (command ∷ body)
+    → NextName names front rest before body command
+next_name names front rest before body command one whole numbered left =
     let sum = submissions-cons command body in
     let f = first_of rest (omega (arith, left, sum, one)) in
-    let split : names ≡ before_byte ++ f.0 ∷ f.1 = whole ∙ ap (λ x. before_byte ++ x) f.2 in
-    let more : length (before_byte ++ f.0 ∷ []) ≡ length before_byte + 1 =
-    length-append before_byte (f.0 ∷ []) in
+    let split : names ≡ front ++ f.0 ∷ f.1 = whole ∙ ap (λ x. front ++ x) f.2 in
+    let more : length (front ++ f.0 ∷ []) ≡ length front + 1 =
+    length-append front (f.0 ∷ []) in
     let long : length rest ≡ length (f.0 ∷ f.1) = ap length f.2 in
     record {
       name = f.0;
       more = f.1;
       here =
-          ap (λ x. name_at x (length before_byte)) split
-          ∙ get_or-append_seam before_byte f.0 f.1 (script_id []);
+          ap (λ x. name_at x (length front)) split
+          ∙ get_or-append_seam front f.0 f.1 (script_id []);
       split = split;
-      whole = split ∙ sym (append_assoc before_byte (f.0 ∷ []) f.1);
+      whole = split ∙ sym (append_assoc front (f.0 ∷ []) f.1);
       counts = sym more;
       numbered = more ∙ sym (submissions-push before command ∙ omega (arith, one, numbered));
       left = omega (arith, long, left, sum, one);
     }
 
 -- the front of names of which no two are one
-front_distinct : (before_byte rest : List ScriptId) → IsDistinct same_name (before_byte ++ rest)
-    → IsDistinct same_name before_byte
-front_distinct before_byte rest distinct =
-    IsDistinct-from_apart same_name before_byte
+front_distinct : (front rest : List ScriptId) → IsDistinct same_name (front ++ rest)
+    → IsDistinct same_name front
+front_distinct front rest distinct =
+    IsDistinct-from_apart same_name front
     (λ i j d below inside.
-    ap (λ x. same_name x (get_or before_byte j d))
-    (sym (get_or_append_left before_byte rest d i (omega arith)))
-    ∙ ap (λ x. same_name (get_or (before_byte ++ rest) i d) x)
-    (sym (get_or_append_left before_byte rest d j inside))
-    ∙ apart_from_distinct same_name (before_byte ++ rest) i j d distinct below
-    (omega (arith, length-append before_byte rest)))
+    ap (λ x. same_name x (get_or front j d))
+    (sym (get_or_append_left front rest d i (omega arith)))
+    ∙ ap (λ x. same_name (get_or (front ++ rest) i d) x)
+    (sym (get_or_append_left front rest d j inside))
+    ∙ apart_from_distinct same_name (front ++ rest) i j d distinct below
+    (omega (arith, length-append front rest)))
 
 -- an end, again
-end_again : (names before_byte rest : List ScriptId) (before : List Command) (request : ℕ)
-    → names ≡ before_byte ++ rest → IsDistinct same_name names →
-    request < length before_byte → is_ended request before ≡ false →
-    ended_next (request_of (name_at names request) before_byte)
-    (record { names = before_byte; body = before })
-    ≡ Ok (record { names = before_byte; body = before ++ commands.Complete request ∷ [] })
-end_again names before_byte rest before request whole distinct inside going =
-    let b : Body = record { names = before_byte; body = before } in
-    let here : name_at names request ≡ get_or before_byte request (script_id []) =
+end_again : (names front rest : List ScriptId) (before : List Command) (request : ℕ)
+    → names ≡ front ++ rest → IsDistinct same_name names →
+    request < length front → is_ended request before ≡ false →
+    ended_next (request_of (name_at names request) front)
+    (record { names = front; body = before })
+    ≡ Ok (record { names = front; body = before ++ commands.Complete request ∷ [] })
+end_again names front rest before request whole distinct inside going =
+    let b : Body = record { names = front; body = before } in
+    let here : name_at names request ≡ get_or front request (script_id []) =
     ap (λ x. name_at x request) whole
-    ∙ get_or_append_left before_byte rest (script_id []) request inside in
-    let place : request_of (name_at names request) before_byte ≡ Some request =
-    ap (λ x. request_of x before_byte) here ∙ request_of_name before_byte request (script_id [])
-    (front_distinct before_byte rest
+    ∙ get_or_append_left front rest (script_id []) request inside in
+    let place : request_of (name_at names request) front ≡ Some request =
+    ap (λ x. request_of x front) here ∙ request_of_name front request (script_id [])
+    (front_distinct front rest
     (subst (λ (x : List ScriptId). IsDistinct same_name x) whole distinct)) inside in
     ap (λ o. ended_next o b) place ∙ cond-false _ _ _ going
 
 -- the lines of a body give it again: those after its beginning lead from there to all of it
-pub run_again : (d l : Disk) (size : SectorSize) (names before_byte rest : List ScriptId)
-    (before body : List Command) → names ≡ before_byte ++ rest → IsDistinct same_name names →
-    length before_byte ≡ submissions before → length rest ≡ submissions body
+pub run_again : (d l : Disk) (size : SectorSize) (names front rest : List ScriptId)
+    (before body : List Command) → names ≡ front ++ rest → IsDistinct same_name names →
+    length front ≡ submissions before → length rest ≡ submissions body
     → IsWellFormed (bytes_of size) (top_of d) before body →
-    run (in_draft d l size (record { names = before_byte; body = before }))
-    (lines_of_body names (length before_byte) body)
+    run (in_draft d l size (record { names = front; body = before }))
+    (lines_of_body names (length front) body)
     ≡ Ok (in_draft d l size (record { names = names; body = before ++ body }))
-run_again d l size names before_byte rest before [] whole distinct numbered left well_formed =
-    let all : before_byte ≡ names =
-    sym (whole ∙ ap (λ x. before_byte ++ x) (no_names rest left) ∙ append-nil before_byte) in
+run_again d l size names front rest before [] whole distinct numbered left well_formed =
+    let all : front ≡ names =
+    sym (whole ∙ ap (λ x. front ++ x) (no_names rest left) ∙ append-nil front) in
     let b = λ (ns : List ScriptId) (cs : List Command). let x :
     Body = record { names = ns; body = cs } in in_draft d l size x in
     ap (λ ns. Ok (b ns before)) all ∙ ap (λ cs. Ok (b names cs)) (sym (append-nil before))
-run_again d l size names before_byte rest before
+run_again d l size names front rest before
     (commands.Submit submission ∷ body) whole distinct numbered left well_formed =
     let n =
-    next_name names before_byte rest before body
+    next_name names front rest before body
     (commands.Submit submission) refl whole numbered left in
-    again_step d l size names before_byte (before_byte ++ n.name ∷ []) before body
+    again_step d l size names front (front ++ n.name ∷ []) before body
     (commands.Submit submission)
-    (bind_at _ _ _ _ (ap (with_name (record { names = before_byte; body = before })) n.here
-    ∙ with_name_again before_byte n.more names n.name before n.split distinct)
+    (bind_at _ _ _ _ (ap (with_name (record { names = front; body = before })) n.here
+    ∙ with_name_again front n.more names n.name before n.split distinct)
     (bind_at _ _ _ _ (ap as_refusal well_formed.0.0) refl))
     n.counts
-    (run_again d l size names (before_byte ++ n.name ∷ []) n.more
+    (run_again d l size names (front ++ n.name ∷ []) n.more
     (before ++ commands.Submit submission ∷ []) body n.whole distinct n.numbered n.left
     well_formed.1)
-run_again d l size names before_byte rest before
+run_again d l size names front rest before
     (commands.Complete request ∷ body) whole distinct numbered left well_formed =
-    again_step d l size names before_byte before_byte before body (commands.Complete request)
-    (end_again names before_byte rest before request whole distinct
+    again_step d l size names front front before body (commands.Complete request)
+    (end_again names front rest before request whole distinct
     (omega (arith, well_formed.0.0, numbered)) well_formed.0.1) refl
-    (run_again d l size names before_byte rest
+    (run_again d l size names front rest
     (before ++ commands.Complete request ∷ []) body whole distinct
     (numbered ∙ sym (submissions-push before (commands.Complete request) ∙ omega arith))
     (left ∙ submissions-cons (commands.Complete request) body ∙ omega arith) well_formed.1)
-run_again d l size names before_byte rest before
+run_again d l size names front rest before
     (commands.Step step ∷ body) whole distinct numbered left well_formed =
-    again_step d l size names before_byte before_byte before body (commands.Step step)
+    again_step d l size names front front before body (commands.Step step)
     (bind_at _ _ _ _ (step_again (bytes_of size) (top_of d)
     (moment_after before) step well_formed.0.0 well_formed.0.2) refl) refl
-    (run_again d l size names before_byte rest
+    (run_again d l size names front rest
     (before ++ commands.Step step ∷ []) body whole distinct
     (numbered ∙ sym (submissions-push before (commands.Step step) ∙ omega arith))
     (left ∙ submissions-cons (commands.Step step) body ∙ omega arith) well_formed.1)

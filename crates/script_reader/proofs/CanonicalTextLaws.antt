@@ -3,21 +3,21 @@
 -- Its own crate alone cites it, for the theorems of src/laws.rt.
 use Rattle.std.proofs.Common.{◌≡◌, ◌≢◌, ℕ, zero, suc, ◌+◌, ◌-◌, ◌^◌, ◌<◌, ◌≤◌, Bool, true, false}
 use Rattle.std.proofs.Common.{not, ◌&&◌, cond, List, [], ◌∷◌, ◌++◌, length, Option, Some, None, Ok}
-use Rattle.std.proofs.Common.{Err, refl, ap, ◌∙◌, sym, subst, arith, append_assoc}
-use Rattle.std.specs.Prelude.{◌/◌, ◌%◌, ◌==◌, codes, decimal, flat_map, map, nat_eq, nat_le, nat_lt}
-use Rattle.std.specs.Prelude.{replicate, Result}
+use Rattle.std.proofs.Common.{refl, ap, ◌∙◌, sym, subst, arith, append_assoc}
+use Rattle.std.specs.Prelude.{◌/◌, ◌%◌, ◌==◌, codes, decimal, flat_map, map, nat_eq, nat_lt}
+use Rattle.std.specs.Prelude.{unwrap_or, replicate}
 use Rattle.std.specs.Char.{is_ascii_digit}
-use Rattle.std.specs.List.{onto_first, AllByRecursion, AllZip}
-use Rattle.std.proofs.lemmas.Bool.{and_from, and_parts, cond-true, leb-true, ltb-false}
+use Rattle.std.specs.List.{AllByRecursion, AllZip}
+use Rattle.std.proofs.lemmas.Bool.{and_from, and_parts, ltb-false}
 use Rattle.std.proofs.lemmas.Bool.Decides.{nat_tests}
 use Rattle.std.proofs.lemmas.Fmt.{digits_decimal}
 use Rattle.std.proofs.lemmas.List.Elements.{All-from_recursion}
+use Rattle.std.proofs.lemmas.List.Folds.{list_all-append}
 use Rattle.bio.specs.SizeLaws.{sized_passed}
 use Rattle.bio.specs.Sizes.{bytes_of}
 use Rattle.bio.specs.declared.sector_size.SectorSize.{SectorSize}
 use Rattle.bio.specs.declared.sector_size.SectorSize.TheVariants as sizes
 use Rattle.bio.specs.declared.request.Bio.TheVariants.{Read}
-use Rattle.bio.specs.declared.request.BadBio.{BadBio}
 use Rattle.script_reader.specs.declared.command.Command.{Command}
 use Rattle.script_reader.specs.declared.command.Command.TheVariants as commands
 use Rattle.script_reader.specs.declared.disk_name.DiskName.{DiskName}
@@ -31,18 +31,17 @@ use Rattle.script_reader.specs.declared.command.Submission.{Submission}
 use Rattle.script_reader.specs.declared.command.Submission.TheVariants as submits
 use Rattle.script_reader.specs.declared.command.Step.{Step}
 use Rattle.script_reader.specs.declared.command.Step.TheVariants as steps
-use Rattle.script_reader.specs.inside.Parsing.{step, submit}
+use Rattle.script_reader.specs.inside.LineParser.{step, submit}
 use Rattle.script_reader.specs.Grammar.{layer_verb, message_verb, spaced, IsId, ParsesAs, IsTextOf}
 use Rattle.text_words.specs.WordLaws.{decimal_number, number_model}
-use Rattle.script_reader.specs.Lines.{with_line_feeds, is_ascii_line, is_line_byte, is_line_text}
-use Rattle.script_reader.specs.Lines.{is_skipped, unskipped, lines_of, IsUnbroken}
+use Rattle.script_reader.specs.Lines.{with_line_feeds, is_line_byte, is_line_text, is_skipped}
+use Rattle.script_reader.specs.Lines.{lines_of, IsUnbroken}
 use Rattle.script_reader.specs.Ids.{is_id, is_name_byte, letters_of, script_id}
 use Rattle.script_reader.specs.Plans.{ArePicks, CanFollow, count_after_command, head_of, layer_line}
 use Rattle.script_reader.specs.Plans.{line_at, lines_behind_head, lines_of_body, name_at}
 use Rattle.script_reader.specs.Plans.{lines_of_script, range_test, step_answer, submission_answer}
 use Rattle.script_reader.specs.Plans.{submissions, top_of, with_ending, Disk, HasLineText, IsDisk}
 use Rattle.script_reader.specs.Plans.{IsName, IsWellFormed, IsPlan, ScriptValue, WritesByte}
-use Rattle.table_line.specs.Standing.{CanStand}
 use Rattle.script_reader.specs.CanonicalText.{line_text, canonical_text}
 use Rattle.script_reader.specs.Words.{byte_text, hex_digit}
 use Rattle.text_words.specs.Words.{before_byte, IsNumber}
@@ -55,29 +54,23 @@ use Rattle.table_line.specs.declared.feature.Feature.TheVariants as features
 use Rattle.table_line.specs.declared.layer_spec.LayerSpec.{LayerSpec}
 use Rattle.table_line.specs.declared.layer_spec.Target.{Target}
 use Rattle.table_line.specs.declared.layer_spec.Target.TheVariants as targets
-use Rattle.script_reader.proofs.DiskLaws.{top_small}
+use Rattle.script_reader.proofs.DiskLaws.{disk_small, layer_specs, top_small}
+use Rattle.script_reader.proofs.FoldLaws.{all_append, all_map, barred_ok, tells_said, Tells}
 use Rattle.script_reader.proofs.BodyLaws.{count_after_command-is, submissions-cons}
 use Rattle.script_reader.proofs.BodyLaws.{submissions-push}
 use Rattle.script_reader.specs.declared.command.WriteOptions.{WriteOptions}
 use Rattle.script_reader.specs.Options.{option_text, option_words, options_text}
-use Rattle.script_reader.proofs.ParsingLaws.{all_weaker, lacks, options_spelled, said_kept}
+use Rattle.script_reader.proofs.LineParserLaws.{all_weaker, cut_alone, cut_word, lacks}
+use Rattle.script_reader.proofs.LineParserLaws.{options_spelled, said_kept}
+use Rattle.script_reader.proofs.LineLemmas.{after_line, first_line}
 
 -- ---- words
-
--- one more byte before the zeroes
-zeros_step : (t : Bool) (b : ℕ) (word f : List ℕ) → not t ≡ true → f ≡ word
-    → cond t [] (b ∷ f) ≡ b ∷ word
-zeros_step true b word f apart same = absurd (cc)
-zeros_step false b word f apart same = ap (λ x. b ∷ x) same
 
 -- zeroes after a word without one leave it in front
 front_zeros : (word : List ℕ) (n : ℕ) → lacks 0 word ≡ true
     → before_byte 0 (word ++ replicate n 0) ≡ word
-front_zeros [] zero lack = refl
-front_zeros [] (suc n) lack = refl
-front_zeros (b ∷ word) n lack =
-    let parts : (not (b == 0) ≡ true) × (lacks 0 word ≡ true) = and_parts _ _ lack in
-    zeros_step (b == 0) b word _ parts.0 (front_zeros word n parts.1)
+front_zeros word zero lack = (cut_word 0 word None lack).0
+front_zeros word (suc n) lack = (cut_word 0 word (Some (replicate n 0)) lack).0
 
 -- a character of an id isn't zero
 name_byte_not_zero : (b : ℕ) → is_name_byte b ≡ true → not (b == 0) ≡ true
@@ -101,10 +94,8 @@ IsLineText word = is_line_text word ≡ true
 
 -- two such texts in a row
 pub line_text_append : (a b : List ℕ) → IsLineText a → IsLineText b → IsLineText (a ++ b)
-line_text_append [] b first second = second
-line_text_append (x ∷ a) b first second =
-    let parts : (is_line_byte x ≡ true) × IsLineText a = and_parts _ _ first in
-    and_from _ _ parts.0 (line_text_append a b parts.1 second)
+line_text_append a b first second =
+    list_all-append is_line_byte a b ∙ and_from _ _ first second
 
 -- a digit is one
 line_digit : (b : ℕ) → is_ascii_digit b ≡ true → is_line_byte b ≡ true
@@ -196,19 +187,14 @@ complete_written name is =
 
 -- options may stand in a line
 line_options : (options : WriteOptions) → IsLineText (options_text options)
-line_options options = by_each options.flush options.fua options.meta
+line_options options =
+    line_text_append (option_text options.flush (codes " flush")) _ (given options.flush _ refl)
+    (line_text_append (option_text options.fua (codes " fua")) _ (given options.fua _ refl)
+    (given options.meta _ refl))
   where
-    by_each : (flush fua meta : Bool)
-        → IsLineText (option_text flush (codes " flush")
-        ++ (option_text fua (codes " fua") ++ option_text meta (codes " meta")))
-    by_each false false false = refl
-    by_each false false true = refl
-    by_each false true false = refl
-    by_each false true true = refl
-    by_each true false false = refl
-    by_each true false true = refl
-    by_each true true false = refl
-    by_each true true true = refl
+    given : (t : Bool) (text : List ℕ) → IsLineText text → IsLineText (option_text t text)
+    given true text good = good
+    given false text good = refl
 
 -- a write's words may stand in a line
 pub line_write : (first count byte : ℕ) (options : WriteOptions) → first < 2 ^ 64 → count < 2 ^ 64
@@ -309,18 +295,12 @@ crash_written picks low = record {
   good = line_picks (codes "crash") picks refl low;
 }
 
--- lines that can be written, and one more
-written_push : (ss : List LineMeaning) (s : LineMeaning) → AllByRecursion IsWritten ss → IsWritten s
-    → AllByRecursion IsWritten (ss ++ s ∷ [])
-written_push [] s written last = (last, tt)
-written_push (first ∷ ss) s written last = (written.0, written_push ss s written.1 last)
-
 -- lines that can be written, and the crash behind them
 ending_written : (ending : Option (List ℕ)) (ss : List LineMeaning) → ArePicks ending
     → AllByRecursion IsWritten ss → AllByRecursion IsWritten (with_ending ending ss)
 ending_written None ss picks written = written
 ending_written (Some picks) ss low written =
-    written_push ss (parsed_lines.Crash picks) written (crash_written picks low)
+    all_append IsWritten ss (parsed_lines.Crash picks ∷ []) written (crash_written picks low, tt)
 
 -- an `at`'s line
 at_written : (moment : ℕ) → moment < 2 ^ 64 → IsWritten (step (steps.At moment))
@@ -450,68 +430,45 @@ layer_written over spec is =
     line_verb disks.Data = refl
     line_verb disks.Log = refl
 
--- each line of a disk's layers can be written
-layers_written : (over : DiskName) (sectors : ℕ) (layers : List LayerSpec) → CanStand sectors layers
-    → AllByRecursion IsWritten (map (layer_line over) layers)
-layers_written over sectors [] stand = tt
-layers_written over sectors (layer ∷ layers) stand =
-    (layer_written over layer stand.0, layers_written over layer.length layers stand.2)
-
--- lines that can be written, and others
-pub written_append : {A : Type 0} (is_written : A → Type 0) (ss ts : List A)
-    → AllByRecursion is_written ss → AllByRecursion is_written ts
-    → AllByRecursion is_written (ss ++ ts)
-written_append is_written [] ts written others = others
-written_append is_written (s ∷ ss) ts written others =
-    (written.0, written_append is_written ss ts written.1 others)
-
 -- a head's lines can be written
 head_written : (d l : Disk) (size : SectorSize) → IsDisk d → IsDisk l
     → AllByRecursion IsWritten (head_of d l size)
-head_written d l size is_data is_log =
-    let few : d.sectors ≤ 1048576 =
-    leb-true d.sectors 1048576
-    (and_parts (nat_le 1 d.sectors) (nat_le d.sectors 1048576) is_data.size).1 in
-    let small : l.sectors ≤ 1048576 =
-    leb-true l.sectors 1048576
-    (and_parts (nat_le 1 l.sectors) (nat_le l.sectors 1048576) is_log.size).1 in (
-      data_written d.sectors (omega (arith, few)),
-      (
-        log_written l.sectors size (omega (arith, small)),
-        written_append IsWritten (map (layer_line disks.Data) d.layers)
-            (map (layer_line disks.Log) l.layers)
-            (layers_written disks.Data d.sectors d.layers is_data.stand)
-            (layers_written disks.Log l.sectors l.layers is_log.stand),
-      ),
-    )
+head_written d l size is_data is_log = (
+  data_written d.sectors (omega (arith, disk_small d is_data)),
+  (
+    log_written l.sectors size (omega (arith, disk_small l is_log)),
+    all_append IsWritten (map (layer_line disks.Data) d.layers)
+        (map (layer_line disks.Log) l.layers)
+        (all_map IsLayerSpec IsWritten (layer_line disks.Data) (layer_written disks.Data) d.layers
+        (layer_specs d.sectors d.layers is_data.stand))
+        (all_map IsLayerSpec IsWritten (layer_line disks.Log) (layer_written disks.Log) l.layers
+        (layer_specs l.sectors l.layers is_log.stand)),
+  ),
+)
 
 -- ---- scripts
 
--- a test that was passed
-passed : (t : Bool) (bad : BadBio) (r : Result (Unit {0}) BadBio) → cond t (Err bad) r ≡ Ok tt
-    → (t ≡ false) × (r ≡ Ok tt)
-passed true bad r e = absurd (cc)
-passed false bad r e = (refl, e)
-
--- sectors that pass the test are few and within the disk
-pub range_ok : (bytes sectors first count : ℕ) → range_test bytes sectors first count ≡ Ok tt
-    → (count ≤ 2048) × (first + count ≤ sectors)
-range_ok bytes sectors first count e =
-    let some = passed (count == 0) _ _ (sized_passed bytes (Read first count) sectors e).0 in
-    let short = passed (nat_lt 2048 count) _ _ some.1 in
-    let within = passed (nat_lt sectors (first + count)) _ _ short.1 in
-    (ltb-false _ _ short.0, ltb-false _ _ within.0)
+-- the numbers of sectors that pass the test are below 2 ^ 64
+pub range_low : (bytes sectors first count : ℕ) → sectors ≤ 1048576
+    → range_test bytes sectors first count ≡ Ok tt → (first < 2 ^ 64) × (count < 2 ^ 64)
+range_low bytes sectors first count small e =
+    let some = barred_ok (count == 0) _ _ _ (sized_passed bytes (Read first count) sectors e).0 in
+    let short = barred_ok (nat_lt 2048 count) _ _ _ some.1 in
+    let within = barred_ok (nat_lt sectors (first + count)) _ _ _ short.1 in
+    let few : count ≤ 2048 = ltb-false _ _ short.0 in
+    let inside : first + count ≤ sectors = ltb-false _ _ within.0 in
+    (omega arith, omega arith)
 
 -- a submission's line
 submission_written : (bytes sectors : ℕ) (name : ScriptId) (submission : Submission)
     → sectors ≤ 1048576 → IsName name → submission_answer bytes sectors submission ≡ Ok tt
     → WritesByte submission → IsWritten (submit name submission)
 submission_written bytes sectors name (submits.Write first count byte options) small is passes low =
-    let r = range_ok bytes sectors first count passes in
-    write_written name first count byte options is (omega (arith, r.1)) (omega (arith, r.0)) low
+    let r = range_low bytes sectors first count small passes in
+    write_written name first count byte options is r.0 r.1 low
 submission_written bytes sectors name (submits.Discard first count) small is passes low =
-    let r = range_ok bytes sectors first count passes in
-    discard_written name first count is (omega (arith, r.1)) (omega (arith, r.0))
+    let r = range_low bytes sectors first count small passes in
+    discard_written name first count is r.0 r.1
 submission_written bytes sectors name submits.Flush small is passes low =
     record {
       says = record { word = letters_of name; id = letters_id name is; spelled = refl };
@@ -523,8 +480,8 @@ step_written : (bytes sectors : ℕ) (it : Step) → sectors ≤ 1048576
     → step_answer bytes sectors it ≡ Ok tt → HasLineText it → IsWritten (step it)
 step_written bytes sectors steps.Close small passes text = record { says = refl; good = refl }
 step_written bytes sectors (steps.Read first count) small passes text =
-    let r = range_ok bytes sectors first count passes in
-    read_written first count (omega (arith, r.1)) (omega (arith, r.0))
+    let r = range_low bytes sectors first count small passes in
+    read_written first count r.0 r.1
 step_written bytes sectors steps.Turn small passes text = record { says = refl; good = refl }
 step_written bytes sectors (steps.At moment) small passes low = at_written moment low
 step_written bytes sectors (steps.Message over layer text) small passes has =
@@ -584,110 +541,56 @@ plan_written plan is =
     let l = plan.log_disk in
     let is_data : IsDisk d = is.data_disk in
     let small : top_of d ≤ 1048576 =
-    top_small d.sectors d.layers is_data.stand
-    (leb-true d.sectors 1048576
-    (and_parts (nat_le 1 d.sectors) (nat_le d.sectors 1048576) is_data.size).1) in
-    written_append IsWritten (head_of d l plan.log_size) (lines_behind_head plan)
+    top_small d.sectors d.layers is_data.stand (disk_small d is_data) in
+    all_append IsWritten (head_of d l plan.log_size) (lines_behind_head plan)
     (head_written d l plan.log_size is_data is.log_disk)
     (ending_written plan.ending (lines_of_body plan.names 0 plan.commands) is.picks
     (body_written (bytes_of plan.log_size)
     (top_of d) plan.names 0 [] plan.commands small is.ids refl
     (is.numbered ∙ omega arith) is.well_formed))
 
--- one more byte of a line
-feed_step : (t : Bool) (b : ℕ) (line : List ℕ) (rest ls : List (List ℕ)) → not t ≡ true
-    → ls ≡ line ∷ rest → cond t ([] ∷ ls) (onto_first b ls) ≡ (b ∷ line) ∷ rest
-feed_step true b line rest ls apart same = absurd (cc)
-feed_step false b line rest ls apart same = ap (onto_first b) same
-
 -- a line, its line feed, and more lines
-pub fed_line : (line rest : List ℕ) → lacks 10 line ≡ true
+fed_line : (line rest : List ℕ) → lacks 10 line ≡ true
     → lines_of (line ++ 10 ∷ rest) ≡ line ∷ lines_of rest
 fed_line [] rest lack = refl
 fed_line (b ∷ line) rest lack =
-    let parts : (not (b == 10) ≡ true) × (lacks 10 line ≡ true) = and_parts _ _ lack in
-    feed_step (b == 10) b line (lines_of rest) _ parts.0 (fed_line line rest parts.1)
-
--- the lines of a spelling
-spelled_lines_are : {A : Type 0} (text : A → List ℕ) (is_said : List ℕ → A → Type 0) (ss : List A)
-    → AllByRecursion (IsWrittenAs text is_said) ss
-    → lines_of (flat_map (λ s. text s ++ 10 ∷ []) ss) ≡ map text ss
-spelled_lines_are text is_said [] written = refl
-spelled_lines_are text is_said (s ∷ ss) written =
-    ap lines_of (append_assoc (text s) (10 ∷ []) (flat_map (λ s. text s ++ 10 ∷ []) ss))
-    ∙ fed_line (text s) (flat_map (λ s. text s ++ 10 ∷ []) ss)
-    (all_weaker _ _ line_not_feed (text s) written.0.good)
-    ∙ ap (λ x. text s ∷ x) (spelled_lines_are text is_said ss written.1)
-
--- they are plain
-plain_lines : {A : Type 0} (text : A → List ℕ) (is_said : List ℕ → A → Type 0) (ss : List A)
-    → AllByRecursion (IsWrittenAs text is_said) ss
-    → AllByRecursion (λ line. is_ascii_line line ≡ true) (map text ss)
-plain_lines text is_said [] written = tt
-plain_lines text is_said (s ∷ ss) written =
-    (all_weaker _ _ line_plain (text s) written.0.good, plain_lines text is_said ss written.1)
-
--- none of them is skipped
-kept_lines : {A : Type 0} (text : A → List ℕ) (is_said : List ℕ → A → Type 0)
-    (kept : (line : List ℕ) (s : A) → is_said line s → is_skipped line ≡ false) (ss : List A)
-    → AllByRecursion (IsWrittenAs text is_said) ss → unskipped (map text ss) ≡ map text ss
-kept_lines text is_said kept [] written = refl
-kept_lines text is_said kept (s ∷ ss) written =
-    cond-true _ _ _ (ap not (kept (text s) s written.0.says))
-    ∙ ap (λ x. text s ∷ x) (kept_lines text is_said kept ss written.1)
-
--- they say the sentences
-says_lines : {A : Type 0} (text : A → List ℕ) (is_said : List ℕ → A → Type 0) (ss : List A)
-    → AllByRecursion (IsWrittenAs text is_said) ss
-    → AllZip is_said (map text ss) ss
-says_lines text is_said [] written = tt
-says_lines text is_said (s ∷ ss) written = (written.0.says, says_lines text is_said ss written.1)
-
--- the lines are these sentences' spelling
-pub record AreWritten {A : Type 0} (text : A → List ℕ) (is_said : List ℕ → A → Type 0)
-    (lines : List (List ℕ)) (ss : List A) : Type 0 where
-  pub plain : AllByRecursion (λ line. is_ascii_line line ≡ true) lines
-  pub said : AllZip is_said (unskipped lines) ss
+    let c = cut_word 10 (b ∷ line) (Some rest) lack in
+    first_line b (line ++ 10 ∷ rest)
+    ∙ ap (λ (l : List ℕ). l ∷ lines_of (after_line (b ∷ (line ++ 10 ∷ rest)))) c.0
+    ∙ ap (λ (o : Option (List ℕ)). (b ∷ line) ∷ lines_of (unwrap_or o [])) c.1
 
 -- the spelling of sentences that can be written is plain, and says them
 pub written_text : {A : Type 0} (text : A → List ℕ) (is_said : List ℕ → A → Type 0)
     (kept : (line : List ℕ) (s : A) → is_said line s → is_skipped line ≡ false) (ss : List A)
     → AllByRecursion (IsWrittenAs text is_said) ss
-    → AreWritten text is_said (lines_of (flat_map (λ s. text s ++ 10 ∷ []) ss)) ss
-written_text text is_said kept ss written =
-    subst (λ (x : List (List ℕ)). AreWritten text is_said x ss)
-    (sym (spelled_lines_are text is_said ss written))
-    (record {
-      plain = plain_lines text is_said ss written;
-      said =
-          subst (λ (x : List (List ℕ)). AllZip is_said x ss)
-          (sym (kept_lines text is_said kept ss written)) (says_lines text is_said ss written);
-    })
+    → Tells is_said (lines_of (flat_map (λ s. text s ++ 10 ∷ []) ss)) ss
+written_text text is_said kept [] written = record { plain = tt; says = tt }
+written_text text is_said kept (s ∷ ss) written =
+    let one : IsWrittenAs text is_said s = written.0 in
+    let rest = flat_map (λ s. text s ++ 10 ∷ []) ss in
+    let lines : lines_of ((text s ++ 10 ∷ []) ++ rest) ≡ text s ∷ lines_of rest =
+    ap lines_of (append_assoc (text s) (10 ∷ []) rest)
+    ∙ fed_line (text s) rest (all_weaker _ _ line_not_feed (text s) one.good) in
+    subst (λ (x : List (List ℕ)). Tells is_said x (s ∷ ss)) (sym lines)
+    (tells_said is_said (text s) (lines_of rest) s ss (all_weaker _ _ line_plain (text s) one.good)
+    (kept (text s) s one.says) one.says (written_text text is_said kept ss written.1))
 
 -- the spelling of a script is a text of it
 pub spelling_spells : (plan : ScriptValue) → IsPlan plan → IsTextOf (canonical_text plan) plan
 spelling_spells plan is =
     let written =
     written_text line_text ParsesAs said_kept (lines_of_script plan) (plan_written plan is) in
-    record { plain = written.plain; says = written.said; script = is }
+    record { plain = written.plain; says = written.says; script = is }
 
 -- ---- texts of lines
-
--- a line of one byte
-alone_step : (t : Bool) (b : ℕ) → not t ≡ true → cond t ([] ∷ []) (onto_first b []) ≡ (b ∷ []) ∷ []
-alone_step true b apart = absurd (cc)
-alone_step false b apart = refl
 
 -- a line with no line feed after it
 fed_last : (line : List ℕ) → IsUnbroken line → line ≢ [] → lines_of line ≡ line ∷ []
 fed_last [] whole some = absurd (some refl)
-fed_last (b ∷ []) whole some =
-    let parts : (not (b == 10) ≡ true) × IsUnbroken [] = and_parts _ _ whole in
-    alone_step (b == 10) b parts.0
-fed_last (b ∷ c ∷ line) whole some =
-    let parts : (not (b == 10) ≡ true) × IsUnbroken (c ∷ line) = and_parts _ _ whole in
-    feed_step (b == 10) b (c ∷ line) [] _ parts.0
-    (fed_last (c ∷ line) parts.1 (λ none. absurd (cc)))
+fed_last (b ∷ line) whole some =
+    let c = cut_alone 10 (b ∷ line) whole in
+    first_line b line ∙ ap (λ (l : List ℕ). l ∷ lines_of (after_line (b ∷ line))) c.0
+    ∙ ap (λ (o : Option (List ℕ)). (b ∷ line) ∷ lines_of (unwrap_or o [])) c.1
 
 -- lines with a line feed after each
 pub ended_lines : (lines : List (List ℕ)) → AllByRecursion IsUnbroken lines

@@ -2,15 +2,15 @@
 -- Its own crate alone cites it, for theorems of many of its files.
 use Rattle.std.proofs.Common.{◌≡◌, ℕ, suc, ◌+◌, ◌-◌, ◌≤◌, ◌<◌, true, List, [], ◌∷◌, ◌++◌, length}
 use Rattle.std.proofs.Common.{Some, refl, ap, ◌∙◌, sym, arith}
-use Rattle.std.specs.Prelude.{slice_get}
+use Rattle.std.specs.Prelude.{nat_le, slice_get}
 use Rattle.std.specs.List.{AllByRecursion}
-use Rattle.std.proofs.lemmas.Bool.{leb-true}
+use Rattle.std.proofs.lemmas.Bool.{and_parts, leb-true}
 use Rattle.std.proofs.lemmas.List.{length-append}
 use Rattle.table_line.specs.declared.layer_spec.LayerSpec.{LayerSpec}
 use Rattle.table_line.specs.Ranges.{IsLayerSpec}
 use Rattle.script_reader.specs.Plans.{is_disk_size, is_within, top_of, Disk, IsDisk}
-use Rattle.table_line.specs.Standing.{top_sectors, CanStand}
-use Rattle.script_reader.specs.Reading.{bare, with_layer}
+use Rattle.table_line.specs.LayerOrder.{top_sectors, CanStand}
+use Rattle.script_reader.specs.FirstFault.{bare, with_layer}
 
 -- the last layer is on top
 pub top_is_last : (sectors : ℕ) (layers : List LayerSpec) (layer : LayerSpec)
@@ -52,6 +52,19 @@ disk_push disk layer is few fine within = record {
       stand_push disk.sectors disk.layers layer is.stand fine
       (leb-true (layer.offset + layer.length) (top_of disk) within);
 }
+
+-- a disk has few sectors
+pub disk_small : (disk : Disk) → IsDisk disk → disk.sectors ≤ 1048576
+disk_small disk is =
+    leb-true disk.sectors 1048576
+    (and_parts (nat_le 1 disk.sectors) (nat_le disk.sectors 1048576) is.size).1
+
+-- layers that may stand are layers
+pub layer_specs : (sectors : ℕ) (layers : List LayerSpec) → CanStand sectors layers
+    → AllByRecursion IsLayerSpec layers
+layer_specs sectors [] stand = tt
+layer_specs sectors (layer ∷ layers) stand =
+    (stand.0, layer_specs layer.length layers stand.2)
 
 -- layers that stand over a device of at most 1,048,576 sectors have at most so many
 pub top_small : (sectors : ℕ) (layers : List LayerSpec) → CanStand sectors layers

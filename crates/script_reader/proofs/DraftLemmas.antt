@@ -34,10 +34,6 @@ push_default [] (suc i) = refl
 push_default (flag ∷ flags) zero = refl
 push_default (flag ∷ flags) (suc i) = push_default flags i
 
--- no requests have no flags
-pub flags_start : IsFlags 0 [] []
-flags_start = record { in_step = refl; each = λ request. refl }
-
 -- one more request
 pub flags_submit : (n : ℕ) (flags : List Bool) (body : List Command) → IsFlags n flags body
     → IsFlags (n + 1) (flags ++ false ∷ []) body

@@ -22,16 +22,15 @@ use Rattle.script_reader.specs.CanonicalText.{line_text, step_text}
 use Rattle.script_reader.specs.Plans.{head_count, is_log_disk_size, is_within, layer_line}
 use Rattle.script_reader.specs.Plans.{lines_of_script, moment_after, range_test, top_of, Disk}
 use Rattle.script_reader.specs.Plans.{IsInTime, IsPlan, ScriptValue}
-use Rattle.table_line.specs.Standing.{CanStand}
-use Rattle.script_reader.specs.Reading.{bare, data_due, head_refusal, in_body, in_head}
-use Rattle.script_reader.specs.Reading.{prefix_after}
-use Rattle.script_reader.specs.Reading.{StandsAfter}
+use Rattle.table_line.specs.LayerOrder.{CanStand}
+use Rattle.script_reader.specs.FirstFault.{bare, data_due, head_refusal, in_body, in_head}
+use Rattle.script_reader.specs.FirstFault.{prefix_after, StandsAfter}
 use Rattle.script_reader.specs.Grammar.{spaced}
 use Rattle.script_reader.specs.Words.{byte_text}
 use Rattle.script_reader.specs.Ids.{script_id}
 use Rattle.script_reader.specs.Lines.{is_line_text}
 use Rattle.script_reader.specs.Options.{option_words}
-use Rattle.script_reader.specs.inside.Parsing.{parse_line, step, submit}
+use Rattle.script_reader.specs.inside.LineParser.{parse_line, step, submit}
 
 -- a write that asks for this
 abbrev asks_for : Bool → Bool → Bool → WriteOptions

@@ -1,19 +1,19 @@
 -- Laws of reading line by line, whatever is read of each:
 -- reading goes on, ends in a value, or ends at a fault.
 -- Its own crate alone cites it, for theorems of many of its files.
-use Rattle.std.proofs.Common.{◌≡◌, ℕ, ◌+◌, Bool, true, false, not, List, [], ◌∷◌, ◌++◌, length}
-use Rattle.std.proofs.Common.{Option, Some, None, Ok, Err, refl, ap, ◌∙◌, sym, subst, arith}
-use Rattle.std.specs.Prelude.{Result}
+use Rattle.std.proofs.Common.{◌≡◌, ℕ, ◌+◌, true, false, not, List, [], ◌∷◌, ◌++◌, length, Option}
+use Rattle.std.proofs.Common.{Bool, cond, Some, None, Ok, Err, refl, ap, ◌∙◌, sym, subst, arith}
+use Rattle.std.specs.Prelude.{map, Result}
 use Rattle.std.specs.List.{AllByRecursion, AllZip}
 use Rattle.std.proofs.lemmas.Bool.{cond-false, cond-true}
 use Rattle.std.proofs.lemmas.List.{append-nil}
 use Rattle.refusals.specs.declared.fault.Fault.{Fault}
 use Rattle.refusals.specs.declared.refusal.Refusal.{Refusal}
-use Rattle.refusals.specs.declared.refusal.Refusal.TheVariants.{BadLine, Memory}
+use Rattle.refusals.specs.declared.refusal.Refusal.TheVariants.{Memory}
 use Rattle.script_reader.specs.Lines.{is_ascii_line, is_skipped, unskipped}
-use Rattle.script_reader.specs.Reading.{is_memory}
+use Rattle.script_reader.specs.FirstFault.{is_memory}
 use Rattle.script_reader.specs.inside.Drafts.{◌>>=◌}
-use Rattle.script_reader.specs.inside.Readers.{and_then, at_line, line_by, read_by, step_if}
+use Rattle.script_reader.specs.inside.Readers.{and_then, at_line, read_by}
 
 -- what goes on well has a value, from which it goes on well
 pub bind_ok : {A B : Type 0} (r : Result A Refusal) (f : A → Result B Refusal) (y : B)
@@ -21,11 +21,48 @@ pub bind_ok : {A B : Type 0} (r : Result A Refusal) (f : A → Result B Refusal)
 bind_ok (Ok x) f y e = (x, refl, e)
 bind_ok (Err refusal) f y e = absurd (cc)
 
+-- so does what makes something of it
+pub made_ok : {A B : Type 0} (r : Result A Refusal) (f : A → B) (y : B)
+    → (r >>= λ x. Ok (f x)) ≡ Ok y → (x : A) × (r ≡ Ok x) × (f x ≡ y)
+made_ok (Ok x) f y e = (x, refl, cc)
+made_ok (Err refusal) f y e = absurd (cc)
+
+-- and what is refused had none
+pub made_err : {A B : Type 0} (r : Result A Refusal) (f : A → B) (refusal : Refusal)
+    → (r >>= λ x. Ok (f x)) ≡ Err refusal → r ≡ Err refusal
+made_err (Ok x) f refusal e = absurd (cc)
+made_err (Err other) f refusal e = cc
+
 -- what has this value goes on from it
 pub bind_at : {A B : Type 0} (r : Result A Refusal) (f : A → Result B Refusal) (x : A)
     (y : Result B Refusal) → r ≡ Ok x → f x ≡ y → (r >>= f) ≡ y
 bind_at (Ok z) f x y e g = let same : z ≡ x = cc in ap f same ∙ g
 bind_at (Err refusal) f x y e g = absurd (cc)
+
+-- a test that bars nothing leaves what is behind it
+pub barred_ok : {A E : Type 0} (t : Bool) (bad : E) (r : Result A E) (y : A)
+    → cond t (Err bad) r ≡ Ok y → (t ≡ false) × (r ≡ Ok y)
+barred_ok true bad r y e = absurd (cc)
+barred_ok false bad r y e = (refl, e)
+
+-- one that bars a value leaves its refusal
+pub barred_err : {A : Type 0} (t : Bool) (bad : Refusal) (x : A) (refusal : Refusal)
+    → cond t (Err bad) (Ok x) ≡ Err refusal → (t ≡ true) × (bad ≡ refusal)
+barred_err true bad x refusal e = (refl, cc)
+barred_err false bad x refusal e = absurd (cc)
+
+-- what is true of all of two lists is of both in a row
+pub all_append : {A : Type 0} (P : A → Type 0) (xs ys : List A) → AllByRecursion P xs
+    → AllByRecursion P ys → AllByRecursion P (xs ++ ys)
+all_append P [] ys all others = others
+all_append P (x ∷ xs) ys all others = (all.0, all_append P xs ys all.1 others)
+
+-- what is true of what is made of each
+pub all_map : {A B : Type 0} (P : A → Type 0) (Q : B → Type 0) (f : A → B)
+    → ((x : A) → P x → Q (f x)) → (xs : List A) → AllByRecursion P xs
+    → AllByRecursion Q (map f xs)
+all_map P Q f each [] all = tt
+all_map P Q f each (x ∷ xs) all = (each x all.0, all_map P Q f each xs all.1)
 
 -- a good answer names no line
 pub line_ok : {A : Type 0} (number : ℕ) (r : Result A Refusal) (x : A) → at_line number r ≡ Ok x
@@ -199,9 +236,9 @@ pub record Tells {W : Type 0} (Says : List ℕ → W → Type 0) (lines : List (
   pub says : AllZip Says (unskipped lines) ws
 
 -- one more line to skip
-tells_skipped : {W : Type 0} (Says : List ℕ → W → Type 0) (line : List ℕ) (lines : List (List ℕ))
-    (ws : List W) → is_ascii_line line ≡ true →
-    is_skipped line ≡ true → Tells Says lines ws → Tells Says (line ∷ lines) ws
+pub tells_skipped : {W : Type 0} (Says : List ℕ → W → Type 0) (line : List ℕ)
+    (lines : List (List ℕ)) (ws : List W) → is_ascii_line line ≡ true
+    → is_skipped line ≡ true → Tells Says lines ws → Tells Says (line ∷ lines) ws
 tells_skipped Says line lines ws plain skipped h = record {
   plain = (plain, h.plain);
   says =
@@ -210,7 +247,7 @@ tells_skipped Says line lines ws plain skipped h = record {
 }
 
 -- one more line that says something
-tells_said : {W : Type 0} (Says : List ℕ → W → Type 0) (line : List ℕ) (lines : List (List ℕ))
+pub tells_said : {W : Type 0} (Says : List ℕ → W → Type 0) (line : List ℕ) (lines : List (List ℕ))
     (w : W) (ws : List W) → is_ascii_line line ≡ true →
     is_skipped line ≡ false → Says line w → Tells Says lines ws → Tells Says (line ∷ lines) (w ∷ ws)
 tells_said Says line lines w ws plain kept says h = record {
@@ -219,126 +256,3 @@ tells_said Says line lines w ws plain kept says h = record {
       subst (λ (x : List (List ℕ)). AllZip Says x (w ∷ ws)) (sym (kept_said line lines kept))
       (says, h.says);
 }
-
--- what a line's step that goes on has heard
-pub data Hears {S W : Type 0} (Says : List ℕ → W → Type 0) (step : S → W → Result S Refusal)
-    (s t : S) (line : List ℕ) : Type 0 where
-  hears_nothing : is_ascii_line line ≡ true → is_skipped line ≡ true → s ≡ t
-      → Hears Says step s t line
-  hears_one : (w : W) → is_ascii_line line ≡ true → is_skipped line ≡ false → Says line w
-      → step s w ≡ Ok t → Hears Says step s t line
-
--- what lines that are read say, and where that leads
-pub record Led {S W : Type 0} (Says : List ℕ → W → Type 0) (step : S → W → Result S Refusal)
-    (s t : S) (lines : List (List ℕ)) : Type 0 where
-  pub said : List W
-  pub tells : Tells Says lines said
-  pub leads : fold step s said ≡ Ok t
-
-module _ {S W : Type 0} (parse : List ℕ → Option W) (Says : List ℕ → W → Type 0)
-    (step : S → W → Result S Refusal)
-    (parse_says : (line : List ℕ) (w : W) → parse line ≡ Some w → Says line w)
-    (says_parse : (line : List ℕ) (w : W) → Says line w → parse line ≡ Some w) where
-  -- a line that isn't plain is a bad one
-  pub strange_line : (s : S) (line : List ℕ) → is_ascii_line line ≡ false
-      → line_by parse step s line ≡ Err BadLine
-  strange_line s line e = cond-true _ _ _ (ap not e)
-
-  -- a skipped line changes nothing
-  pub skipped_line : (s : S) (line : List ℕ) → is_ascii_line line ≡ true → is_skipped line ≡ true
-      → line_by parse step s line ≡ Ok s
-  skipped_line s line plain skipped = cond-false _ _ _ (ap not plain) ∙ cond-true _ _ _ skipped
-
-  -- another line is heard
-  pub kept_line : (s : S) (line : List ℕ) → is_ascii_line line ≡ true → is_skipped line ≡ false
-      → line_by parse step s line ≡ step_if step s (parse line)
-  kept_line s line plain kept = cond-false _ _ _ (ap not plain) ∙ cond-false _ _ _ kept
-
-  -- what a line that is read has said
-  hears : (s t : S) (line : List ℕ) → line_by parse step s line ≡ Ok t → Hears Says step s t line
-  hears s t line e = by_tests (is_ascii_line line) (is_skipped line) refl refl
-    where
-      one : (o : Option W) → is_ascii_line line ≡ true → is_skipped line ≡ false → parse line ≡ o
-          → step_if step s o ≡ Ok t → Hears Says step s t line
-      one None plain kept is again = absurd (cc)
-      one (Some w) plain kept is again = hears_one w plain kept (parse_says line w is) again
-
-      by_tests : (plain skipped : Bool) → is_ascii_line line ≡ plain → is_skipped line ≡ skipped
-          → Hears Says step s t line
-      by_tests false skipped strange is =
-          absurd (let bad = sym (strange_line s line strange) ∙ e in cc)
-      by_tests true true plain skipped =
-          hears_nothing plain skipped (let same = sym (skipped_line s line plain skipped) ∙ e in cc)
-      by_tests true false plain kept =
-          one (parse line) plain kept refl (sym (kept_line s line plain kept) ∙ e)
-
-  -- one more line that was read
-  led_on : (s t u : S) (line : List ℕ) (lines : List (List ℕ)) → Hears Says step s t line
-      → Led Says step t u lines → Led Says step s u (line ∷ lines)
-  led_on s t u line lines (hears_nothing plain skipped same) g = record {
-    said = g.said;
-    tells = tells_skipped Says line lines g.said plain skipped g.tells;
-    leads = ap (λ x. fold step x g.said) same ∙ g.leads;
-  }
-  led_on s t u line lines (hears_one w plain kept says is) g = record {
-    said = w ∷ g.said;
-    tells = tells_said Says line lines w g.said plain kept says g.tells;
-    leads = bind_at _ _ _ _ is g.leads;
-  }
-
-  -- what lines that are read have said
-  pub lines_tell : (s t : S) (lines : List (List ℕ)) → fold (line_by parse step) s lines ≡ Ok t
-      → Led Says step s t lines
-  lines_tell s t [] e = record { said = []; tells = record { plain = tt; says = tt }; leads = e }
-  lines_tell s t (line ∷ lines) e =
-      let r = bind_ok (line_by parse step s line) _ t e in
-      led_on s r.0 t line lines (hears s r.0 line r.1) (lines_tell r.0 t lines r.2)
-
-  -- lines that say this are read
-  pub told_lines : (s t : S) (lines : List (List ℕ)) (ws : List W)
-      → AllByRecursion (λ line. is_ascii_line line ≡ true) lines →
-      AllZip Says (unskipped lines) ws → fold step s ws ≡ Ok t
-      → fold (line_by parse step) s lines ≡ Ok t
-  told_lines s t [] [] plain says e = e
-  told_lines s t [] (w ∷ ws) plain says e = absurd says
-  told_lines s t (line ∷ lines) ws plain says e =
-      by_test (is_skipped line) refl
-      (λ r vs tells again. told_lines r t lines vs plain.1 tells again)
-    where
-      kept : (vs : List W) → is_skipped line ≡ false → AllZip Says (line ∷ unskipped lines) vs
-          → fold step s vs ≡ Ok t →
-          ((r : S) (more : List W) → AllZip Says (unskipped lines) more → fold step r more ≡ Ok t
-          → fold (line_by parse step) r lines ≡ Ok t) →
-          fold (line_by parse step) s (line ∷ lines) ≡ Ok t
-      kept [] is tells again others = absurd tells
-      kept (w ∷ vs) is tells again others =
-          let r = bind_ok (step s w) _ t again in
-          bind_at _ _ _ _ (kept_line s line plain.0 is
-          ∙ ap (step_if step s) (says_parse line w tells.0) ∙ r.1) (others r.0 vs tells.1 r.2)
-
-      by_test : (skipped : Bool) → is_skipped line ≡ skipped →
-          ((r : S) (more : List W) → AllZip Says (unskipped lines) more → fold step r more ≡ Ok t
-          → fold (line_by parse step) r lines ≡ Ok t) →
-          fold (line_by parse step) s (line ∷ lines) ≡ Ok t
-      by_test true skipped others =
-          let others_say =
-          subst (λ (x : List (List ℕ)). AllZip Says x ws)
-          (kept_skipped line lines skipped) says in
-          bind_at _ _ _ _ (skipped_line s line plain.0 skipped) (others s ws others_say e)
-      by_test false is others =
-          kept ws is (subst (λ (x : List (List ℕ)). AllZip Says x ws)
-          (kept_said line lines is) says) e others
-
-  -- lines say one thing
-  pub one_told : (lines : List (List ℕ)) (vs ws : List W) → AllZip Says lines vs
-      → AllZip Says lines ws → vs ≡ ws
-  one_told [] [] [] says again = refl
-  one_told [] (v ∷ vs) ws says again = absurd says
-  one_told [] [] (w ∷ ws) says again = absurd again
-  one_told (line ∷ lines) [] ws says again = absurd says
-  one_told (line ∷ lines) (v ∷ vs) [] says again = absurd again
-  one_told (line ∷ lines) (v ∷ vs) (w ∷ ws) says again =
-      let same : v ≡ w =
-      (let both = sym (says_parse line v says.0) ∙ says_parse line w again.0 in cc) in
-      ap (λ (x : W). x ∷ vs) same
-      ∙ ap (λ (xs : List W). w ∷ xs) (one_told lines vs ws says.1 again.1)

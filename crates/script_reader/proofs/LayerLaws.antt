@@ -8,7 +8,7 @@ use Rattle.table_line.specs.LineLaws.{asks_fails_none, asks_or_fails, one_layer}
 use Rattle.table_line.specs.Refusals.{refusal_of}
 use Rattle.table_line.specs.TableLines.{IsTableLine}
 use Rattle.script_reader.specs.Grammar.{AsksFor}
-use Rattle.script_reader.specs.inside.Parsing.{asked_from, asked_of}
+use Rattle.script_reader.specs.inside.LineParser.{asked_from, asked_of}
 use Rattle.text_words.specs.Words.{words_of}
 
 -- what a table line asks for is what its words ask for

@@ -1,12 +1,12 @@
 -- The first line of a text, and the shorter text after it.
 -- Serves the proof of the reader's `next_line`.
--- Its own crate alone cites it, for the theorems of src/reader.rt.
-use Rattle.std.proofs.Common.{◌≡◌, ℕ, ◌+◌, ◌<◌, ◌≤◌, Bool, true, false, cond, List, [], ◌∷◌, length}
+-- Its own crate alone cites it, for the theorems of src/laws.rt and src/reader.rt.
+use Rattle.std.proofs.Common.{◌≡◌, ℕ, ◌<◌, ◌≤◌, Bool, true, false, cond, List, [], ◌∷◌, length}
 use Rattle.std.proofs.Common.{Option, Some, None, refl, ap, arith}
 use Rattle.std.specs.Prelude.{◌==◌, unwrap_or}
 use Rattle.std.specs.List.{onto_first}
 use Rattle.text_words.specs.Words.{before_byte, after_byte}
-use Rattle.script_reader.specs.Lines.{is_skipped, unskipped_numbers, lines_of}
+use Rattle.script_reader.specs.Lines.{lines_of}
 
 -- the text after the first line
 abbrev pub after_line : List ℕ → List ℕ
@@ -59,33 +59,3 @@ pub first_line_of : (text : List ℕ) → 0 < length text
     × (length (after_line text) < length text)
 first_line_of [] filled = absurd (omega arith)
 first_line_of (b ∷ bytes) filled = (first_line b bytes, after_line_shorter b bytes)
-
--- one more byte
-lines_step : (t : Bool) (b : ℕ) (ls : List (List ℕ)) (n : ℕ) → length ls ≤ n
-    → length (cond t ([] ∷ ls) (onto_first b ls)) ≤ n + 1
-lines_step true b ls n low = omega arith
-lines_step false b [] n low = omega arith
-lines_step false b (line ∷ ls) n low = omega arith
-
--- a text has no more lines than bytes
-pub lines_short : (text : List ℕ) → length (lines_of text) ≤ length text
-lines_short [] = omega arith
-lines_short (b ∷ bytes) =
-    let h = lines_step (b == 10) b (lines_of bytes) (length bytes) (lines_short bytes) in
-    omega arith
-
--- one more line
-kept_step : (t : Bool) (number : ℕ) (ns : List ℕ) (n : ℕ) → length ns ≤ n
-    → length (cond t ns (number ∷ ns)) ≤ n + 1
-kept_step true number ns n low = omega arith
-kept_step false number ns n low = omega arith
-
--- nor more that aren't skipped
-pub kept_short : (number : ℕ) (lines : List (List ℕ))
-    → length (unskipped_numbers number lines) ≤ length lines
-kept_short number [] = omega arith
-kept_short number (line ∷ lines) =
-    let h =
-    kept_step (is_skipped line) number (unskipped_numbers (number + 1) lines) (length lines)
-    (kept_short (number + 1) lines) in
-    omega arith

@@ -1,11 +1,10 @@
 -- How the picks of a crash are read one after another.
--- Its own crate alone cites it, for the theorems of src/values.rt.
+-- Its own crate alone cites it, for theorems of many of its files.
 use Rattle.std.proofs.Common.{◌≡◌, ℕ, ◌+◌, ◌≤◌, Bool, true, false, cond, List, [], ◌∷◌, ◌++◌}
 use Rattle.std.proofs.Common.{length, Option, Some, None, refl, ap, ◌∙◌, sym, arith, append_assoc}
 use Rattle.std.specs.Prelude.{◌==◌, option_map}
 use Rattle.std.specs.List.{onto_first}
-use Rattle.std.proofs.lemmas.List.{append-nil}
-use Rattle.script_reader.specs.inside.Parsing.{numbers_of, picks_of, split_words, with_number}
+use Rattle.script_reader.specs.inside.LineParser.{numbers_of, picks_of, split_words, with_number}
 use Rattle.text_words.specs.Words.{after_byte, before_byte, number_of}
 
 -- the words of what stands behind a word
@@ -22,7 +21,7 @@ split_step true b bytes first behind e = refl
 split_step false b bytes first behind e = ap (onto_first b) e
 
 -- the words of a text are the first and those behind it
-split_first : (bytes : List ℕ)
+pub split_first : (bytes : List ℕ)
     → split_words bytes ≡ before_byte 32 bytes ∷ words_behind (after_byte 32 bytes)
 split_first [] = refl
 split_first (b ∷ bytes) = split_step (b == 32) b bytes _ _ (split_first bytes)
@@ -69,11 +68,6 @@ pub no_pick : (front words : List ℕ) (all : Option (List ℕ))
 no_pick front words all number e =
     sym e ∙ ap (picks_after front)
     (picks_first words ∙ ap (λ o. with_number o (picks_of (after_byte 32 words))) number)
-
--- no word is left
-pub picks_done : (front : List ℕ) (all : Option (List ℕ)) → picks_after front (picks_of None) ≡ all
-    → all ≡ Some front
-picks_done front all e = sym e ∙ ap Some (append-nil front)
 
 -- how much is left
 abbrev pub left_of : Option (List ℕ) → ℕ

@@ -11,7 +11,7 @@ use Rattle.script_reader.specs.declared.seat_call.Call.{Call}
 use Rattle.script_reader.specs.declared.seat_call.Call.TheVariants.{Submit, Mark}
 use Rattle.script_reader.specs.Plans.{Disk}
 use Rattle.script_reader.specs.RunPlans.{IsRunPlan, RunPlan}
-use Rattle.script_reader.specs.inside.RunParsing.{parse_run_line}
+use Rattle.script_reader.specs.inside.RunLineParser.{parse_run_line}
 
 -- a seat's line
 abbrev call : ℕ → Call → RunLine

@@ -19,15 +19,17 @@ use Rattle.script_reader.specs.declared.seat_call.Call.{Call}
 use Rattle.script_reader.specs.declared.seat_call.Call.TheVariants as calls
 use Rattle.script_reader.specs.Lines.{is_line_text, is_skipped}
 use Rattle.script_reader.specs.RunGrammar.{SaysCall, SaysLine}
-use Rattle.script_reader.specs.inside.Parsing.{discard_words, head_words, write_words}
-use Rattle.script_reader.specs.inside.RunParsing.{call_of, mark_call, parse_run_line, run_head_line}
-use Rattle.script_reader.specs.inside.RunParsing.{run_line_parts, seat_line, seat_of, submission_of}
-use Rattle.script_reader.proofs.ParsingLaws.{before_all, bind_at, bind_some, chosen, cut_at}
-use Rattle.script_reader.proofs.ParsingLaws.{cut_joined, discard_words_again, discard_words_read}
-use Rattle.script_reader.proofs.ParsingLaws.{first_some, first_word, head_read, layer_again}
-use Rattle.script_reader.proofs.ParsingLaws.{log_again, map_some, number_lacks_space, number_line}
-use Rattle.script_reader.proofs.ParsingLaws.{same_bytes, same_some, verb_read, write_words_again}
-use Rattle.script_reader.proofs.ParsingLaws.{write_words_read}
+use Rattle.script_reader.specs.inside.LineParser.{discard_words, head_words, write_words}
+use Rattle.script_reader.specs.inside.RunLineParser.{call_of, mark_call, parse_run_line}
+use Rattle.script_reader.specs.inside.RunLineParser.{run_head_line, run_line_parts, seat_line}
+use Rattle.script_reader.specs.inside.RunLineParser.{seat_of, submission_of}
+use Rattle.script_reader.proofs.LineParserLaws.{before_all, bind_at, bind_some, chosen, cut_word}
+use Rattle.script_reader.proofs.LineParserLaws.{kept_by, cut_joined, discard_words_again}
+use Rattle.script_reader.proofs.LineParserLaws.{discard_words_read, first_some, first_word}
+use Rattle.script_reader.proofs.LineParserLaws.{head_read, layer_again, log_again, map_some}
+use Rattle.script_reader.proofs.LineParserLaws.{number_lacks_space, number_line, same_bytes}
+use Rattle.script_reader.proofs.LineParserLaws.{same_some, verb_read, write_words_again}
+use Rattle.script_reader.proofs.LineParserLaws.{write_words_read}
 use Rattle.text_words.specs.WordLaws.{number_again, number_read}
 use Rattle.text_words.specs.Words.{after_byte, before_byte, number_of, IsNumber}
 
@@ -42,14 +44,7 @@ seat_write_read : (words : List ℕ) (s : Submission) → write_words words ≡ 
     → SaysSubmission (first_word (codes "w") words) s
 seat_write_read words s e =
     let w = write_words_read words s e in
-    subst (λ (x : Submission). SaysSubmission (first_word (codes "w") words) x) w.is (record {
-      first_word = w.first_word;
-      count_word = w.count_word;
-      first_number = w.first_number;
-      count_number = w.count_number;
-      is_byte = w.is_byte;
-      spelled = ap (λ x. first_word (codes "w") x) w.spelled;
-    })
+    subst (λ (x : Submission). SaysSubmission (first_word (codes "w") words) x) w.5 w.4
 
 -- what is heard as a seat's discard is said
 seat_discard_read : (words : List ℕ) (s : Submission) → discard_words words ≡ Some s
@@ -94,25 +89,20 @@ call_read : (words : List ℕ) (rest : Option (List ℕ)) (call : Call) → afte
     → call_of (before_byte 32 words) rest ≡ Some call
     → SaysCall words call
 call_read words rest call cut e =
-    ⊎_elim
-    (λ (h : (bytes_eq (before_byte 32 words) (codes "mark") ≡ true) × (mark_call rest ≡ Some call)).
-    seat_mark_read words rest call cut (same_bytes _ _ h.0) h.1)
-    (λ (h : (bytes_eq (before_byte 32 words) (codes "mark") ≡ false)
-    × (option_map calls.Submit (submission_of (before_byte 32 words) rest) ≡ Some call)).
-    let p = map_some calls.Submit (submission_of (before_byte 32 words) rest) call h.1 in
+    chosen (bytes_eq (before_byte 32 words) (codes "mark")) _ _ (Some call) e
+    (λ mark is. seat_mark_read words rest call cut (same_bytes _ _ mark) is)
+    (λ other is.
+    let p = map_some calls.Submit (submission_of (before_byte 32 words) rest) call is in
     subst (λ (x : Call). SaysCall words x) p.2 (submission_read words rest p.0 cut p.1))
-    (chosen (bytes_eq (before_byte 32 words) (codes "mark")) _ _ (Some call) e)
 
 -- a word that names a seat is `s` and its number
 seat_read : (verb : List ℕ) (seat : ℕ) → seat_of verb ≡ Some seat
     → (word : List ℕ) × (verb ≡ codes "s" ++ word) × IsNumber word seat
 seat_read [] seat e = absurd (cc)
 seat_read (byte ∷ word) seat e =
-    ⊎_elim
-    (λ (h : ((byte == 115) ≡ true) × (number_of word ≡ Some seat)).
-    (word, ap (λ (b : ℕ). b ∷ word) (eqb-true byte 115 h.0), number_read word seat h.1))
-    (λ (h : ((byte == 115) ≡ false) × (None ≡ Some seat)). absurd (let none = h.1 in cc))
-    (chosen (byte == 115) _ _ (Some seat) e)
+    chosen (byte == 115) _ _ (Some seat) e (λ s is.
+    (word, ap (λ (b : ℕ). b ∷ word) (eqb-true byte 115 s), number_read word seat is))
+    (λ other none. absurd (cc none))
 
 -- what is heard as a seat's line is said
 seat_line_read : (verb words : List ℕ) (said : RunLine) → seat_line verb words ≡ Some said
@@ -196,7 +186,7 @@ seat_line_again : (word words : List ℕ) (seat : ℕ) (call : Call) → IsNumbe
     → parse_run_line (codes "s" ++ (word ++ 32 ∷ words))
     ≡ Some (run_lines.Body (record { seat = seat; call = call }))
 seat_line_again word words seat call is says =
-    let c = cut_at 32 word words (number_lacks_space word is.0) in
+    let c = cut_word 32 word (Some words) (number_lacks_space word is.0) in
     let said : seat_line (codes "s" ++ word) words
     ≡ Some (run_lines.Body (record { seat = seat; call = call })) =
     bind_at _ _ _ _ (number_again word seat is)
@@ -233,29 +223,13 @@ parses_run line (run_lines.Body said) says =
     rw says.spelled (seat_line_again says.seat_word says.words said.seat said.call says.number
     says.says)
 
--- a line says one thing
-pub one_run_said : (line : List ℕ) (said other : RunLine) → SaysLine line said → SaysLine line other
-    → said ≡ other
-one_run_said line said other says again =
-    same_some said other (sym (parses_run line said says) ∙ parses_run line other again)
-
 -- nothing is heard of a comment
 comment_parts : (word : List ℕ) (rest : Option (List ℕ)) → run_line_parts (35 ∷ word) rest ≡ None
 comment_parts word None = refl
 comment_parts word (Some words) = refl
 
--- nothing is heard of a line that is skipped
-skipped_unheard : (line : List ℕ) → is_skipped line ≡ true → parse_run_line line ≡ None
-skipped_unheard [] skipped = refl
-skipped_unheard (b ∷ line) skipped =
-    subst (λ (x : ℕ). parse_run_line (x ∷ line) ≡ None) (sym (eqb-true b 35 skipped))
-    (comment_parts (before_byte 32 line) (after_byte 32 line))
-
 -- a line that says something isn't skipped
 pub run_said_kept : (line : List ℕ) (said : RunLine) → SaysLine line said → is_skipped line ≡ false
 run_said_kept line said says =
-    ⊎_elim
-    (λ (skipped : is_skipped line ≡ true). absurd
-    (let both = sym (parses_run line said says) ∙ skipped_unheard line skipped in cc))
-    (λ (kept : is_skipped line ≡ false). kept)
-    (cases_Bool (is_skipped line))
+    kept_by parse_run_line refl (λ l. comment_parts (before_byte 32 l) (after_byte 32 l)) line said
+    (parses_run line said says)

@@ -8,7 +8,10 @@ use Rattle.std.specs.Prelude.{is_some, map, slice_get}
 use Rattle.std.specs.List.{AllByRecursion, AllZip}
 use Rattle.std.proofs.lemmas.Bool.{cases_lt, eq-eqb}
 use Rattle.std.proofs.lemmas.List.{append-nil, length-append, length-map}
+use Rattle.std.proofs.lemmas.List.Elements.{filter-append}
+use Rattle.std.proofs.lemmas.Slice.Zip.{AllZip-long}
 use Rattle.std.proofs.lemmas.Option.{slice_get-get_or, slice_get_past}
+use Rattle.script_reader.proofs.FoldLaws.{kept_said, kept_skipped}
 use Rattle.std.proofs.Math.Bool.{or-true}
 use Rattle.bio.specs.Sizes.{bytes_of}
 use Rattle.script_reader.specs.declared.command.Command.{Command}
@@ -26,10 +29,10 @@ use Rattle.script_reader.specs.Plans.{is_ended, lines_of_script, top_of, with_en
 use Rattle.script_reader.specs.Plans.{IsPlan, CanFollow, ScriptValue}
 use Rattle.script_reader.specs.CanonicalText.{canonical_text}
 use Rattle.script_reader.proofs.CanonicalTextLaws.{spelling_spells}
-use Rattle.script_reader.proofs.TextLaws.{one_script_of}
-use Rattle.script_reader.proofs.FaultLaws.{as_many}
-use Rattle.script_reader.proofs.OneFault.{longer}
-use Rattle.script_reader.proofs.ParsingLaws.{said_kept}
+use Rattle.script_reader.proofs.FaultLaws.{longer}
+use Rattle.script_reader.proofs.ReaderLaws.{one_script}
+use Rattle.script_reader.proofs.RecorderLaws.{recorder}
+use Rattle.script_reader.proofs.LineParserLaws.{said_kept}
 
 -- ---- spellings
 
@@ -37,7 +40,7 @@ use Rattle.script_reader.proofs.ParsingLaws.{said_kept}
 pub same_from_spelling : (plan other : ScriptValue) → IsPlan plan → IsPlan other
     → canonical_text plan ≡ canonical_text other → plan ≡ other
 same_from_spelling plan other is_plan is_other same =
-    one_script_of (canonical_text plan) plan other (spelling_spells plan is_plan)
+    one_script recorder (lines_of (canonical_text plan)) plan other (spelling_spells plan is_plan)
     (subst (λ (text : List ℕ). IsTextOf text other) (sym same) (spelling_spells other is_other))
 
 -- ---- skipped lines
@@ -45,11 +48,10 @@ same_from_spelling plan other is_plan is_other same =
 -- a line that is skipped isn't kept
 kept_without : (before after : List (List ℕ)) (line : List ℕ) → is_skipped line ≡ true
     → unskipped (before ++ line ∷ after) ≡ unskipped (before ++ after)
-kept_without [] after line skipped =
-    ap (λ (t : Bool). cond (not t) (line ∷ unskipped after) (unskipped after)) skipped
-kept_without (first ∷ before) after line skipped =
-    ap (λ (ks : List (List ℕ)). cond (not (is_skipped first)) (first ∷ ks) ks)
-    (kept_without before after line skipped)
+kept_without before after line skipped =
+    filter-append (λ l. not (is_skipped l)) before (line ∷ after)
+    ∙ ap (λ (ks : List (List ℕ)). unskipped before ++ ks) (kept_skipped line after skipped)
+    ∙ sym (filter-append (λ l. not (is_skipped l)) before after)
 
 -- lines with one more are plain where they are, and it is
 plain_with : (before after : List (List ℕ)) (line : List ℕ) → is_ascii_line line ≡ true
@@ -101,53 +103,39 @@ record KeptAt (number : ℕ) (lines : List (List ℕ)) (i n : ℕ) : Type 0 wher
   pub after_byte : length (unskipped before) ≡ i
   pub there : slice_get (unskipped lines) i ≡ Some line
 
--- one line in front that is skipped
-kept_behind : (number : ℕ) (first : List ℕ) (lines : List (List ℕ)) (i n : ℕ)
-    → is_skipped first ≡ true → KeptAt (number + 1) lines i n → KeptAt number (first ∷ lines) i n
-kept_behind number first lines i n skipped rest =
-    let same : unskipped (first ∷ lines) ≡ unskipped lines =
-    ap (λ (t : Bool). cond (not t) (first ∷ unskipped lines) (unskipped lines)) skipped in
-    let at : n ≡ number + 1 + length rest.before = rest.number_is in
-    record {
-      before = first ∷ rest.before;
-      line = rest.line;
-      more = rest.more;
-      split = ap (λ (ls : List (List ℕ)). first ∷ ls) rest.split;
-      number_is = omega arith;
-      after_byte =
-          ap (λ (t : Bool). length
-          (cond (not t) (first ∷ unskipped rest.before) (unskipped rest.before))) skipped
-          ∙ rest.after_byte;
-      there = ap (λ (ks : List (List ℕ)). slice_get ks i) same ∙ rest.there;
-    }
+-- what stands behind others, counted from there
+get_behind : {A : Type 0} (front rest : List A) (place : ℕ)
+    → slice_get (front ++ rest) (place + length front) ≡ slice_get rest place
+get_behind [] rest place = ap (slice_get rest) (omega arith)
+get_behind (s ∷ front) rest place =
+    let next : place + length (s ∷ front) ≡ suc (place + length front) = omega arith in
+    ap (slice_get (s ∷ (front ++ rest))) next ∙ get_behind front rest place
 
--- one line in front that is kept
-kept_next : (number : ℕ) (first : List ℕ) (lines : List (List ℕ)) (i n : ℕ)
-    → is_skipped first ≡ false → KeptAt (number + 1) lines i n
-    → KeptAt number (first ∷ lines) (suc i) n
-kept_next number first lines i n parse_words rest =
-    let same : unskipped (first ∷ lines) ≡ first ∷ unskipped lines =
-    ap (λ (t : Bool). cond (not t) (first ∷ unskipped lines) (unskipped lines)) parse_words in
+-- one line in front, of which this is kept
+kept_behind : (number : ℕ) (first : List ℕ) (lines kept : List (List ℕ)) (i j n : ℕ)
+    → ((ls : List (List ℕ)) → unskipped (first ∷ ls) ≡ kept ++ unskipped ls) → j ≡ i + length kept
+    → KeptAt (number + 1) lines i n → KeptAt number (first ∷ lines) j n
+kept_behind number first lines kept i j n is place rest =
     let at : n ≡ number + 1 + length rest.before = rest.number_is in
+    let count : length (unskipped rest.before) ≡ i = rest.after_byte in
+    let both = length-append kept (unskipped rest.before) in
     record {
       before = first ∷ rest.before;
       line = rest.line;
       more = rest.more;
       split = ap (λ (ls : List (List ℕ)). first ∷ ls) rest.split;
       number_is = omega arith;
-      after_byte =
-          ap (λ (t : Bool). length
-          (cond (not t) (first ∷ unskipped rest.before) (unskipped rest.before))) parse_words
-          ∙ ap suc rest.after_byte;
-      there = ap (λ (ks : List (List ℕ)). slice_get ks (suc i)) same ∙ rest.there;
+      after_byte = ap length (is rest.before) ∙ both ∙ omega arith;
+      there =
+          ap (λ (ks : List (List ℕ)). slice_get ks j) (is lines)
+          ∙ ap (slice_get (kept ++ unskipped lines)) place
+          ∙ get_behind kept (unskipped lines) i ∙ rest.there;
     }
 
 -- a line in front that is the one
 kept_first : (number : ℕ) (first : List ℕ) (lines : List (List ℕ)) (n : ℕ)
     → is_skipped first ≡ false → Some number ≡ Some n → KeptAt number (first ∷ lines) zero n
-kept_first number first lines n parse_words same =
-    let kept_front : unskipped (first ∷ lines) ≡ first ∷ unskipped lines =
-    ap (λ (t : Bool). cond (not t) (first ∷ unskipped lines) (unskipped lines)) parse_words in
+kept_first number first lines n kept same =
     let is : number ≡ n = cc in
     record {
       before = [];
@@ -156,7 +144,7 @@ kept_first number first lines n parse_words same =
       split = refl;
       number_is = sym is ∙ omega arith;
       after_byte = refl;
-      there = ap (λ (ks : List (List ℕ)). slice_get ks zero) kept_front;
+      there = ap (λ (ks : List (List ℕ)). slice_get ks zero) (kept_said first lines kept);
     }
 
 -- one more line in front
@@ -167,11 +155,12 @@ kept_step : (number : ℕ) (first : List ℕ) (lines : List (List ℕ)) (i n : �
     → ((j : ℕ) → slice_get (unskipped_numbers (number + 1) lines) j ≡ Some n
     → KeptAt (number + 1) lines j n) → KeptAt number (first ∷ lines) i n
 kept_step number first lines i n true skipped e rest =
-    kept_behind number first lines i n skipped (rest i e)
-kept_step number first lines zero n false parse_words e rest =
-    kept_first number first lines n parse_words e
-kept_step number first lines (suc i) n false parse_words e rest =
-    kept_next number first lines i n parse_words (rest i e)
+    kept_behind number first lines [] i i n (λ ls. kept_skipped first ls skipped) (omega arith)
+    (rest i e)
+kept_step number first lines zero n false kept e rest = kept_first number first lines n kept e
+kept_step number first lines (suc i) n false kept e rest =
+    kept_behind number first lines (first ∷ []) i (suc i) n (λ ls. kept_said first ls kept)
+    (omega arith) (rest i e)
 
 -- a number of the lines that aren't skipped is that of a kept line
 kept_at : (number : ℕ) (lines : List (List ℕ)) (i n : ℕ)
@@ -186,20 +175,11 @@ said_at : (lines : List (List ℕ)) (ss : List LineMeaning) (i : ℕ) (line : Li
     → AllZip ParsesAs lines ss → slice_get lines i ≡ Some line
     → (s : LineMeaning) × (slice_get ss i ≡ Some s) × ParsesAs line s
 said_at [] [] i line says e = absurd (cc)
-said_at [] (s ∷ ss) i line says e = absurd (says)
-said_at (first ∷ lines) [] i line says e = absurd (says)
 said_at (first ∷ lines) (s ∷ ss) zero line says e =
     let same : first ≡ line = cc in
     (s, refl, subst (λ (l : List ℕ). ParsesAs l s) same says.0)
 said_at (first ∷ lines) (s ∷ ss) (suc i) line says e = said_at lines ss i line says.1 e
-
--- what stands behind others, counted from there
-get_behind : (front rest : List LineMeaning) (place : ℕ)
-    → slice_get (front ++ rest) (place + length front) ≡ slice_get rest place
-get_behind [] rest place = ap (slice_get rest) (omega arith)
-get_behind (s ∷ front) rest place =
-    let next : place + length (s ∷ front) ≡ suc (place + length front) = omega arith in
-    ap (slice_get (s ∷ (front ++ rest))) next ∙ get_behind front rest place
+said_at lines ss i line says e = absurd (says)
 
 -- as many lines are in a head as its disks and layers
 length-head : (plan : ScriptValue)
@@ -219,7 +199,7 @@ pub line_says : (text : List ℕ) (plan : ScriptValue) (place number : ℕ) → 
 line_says text plan place number spells e =
     let found = kept_at 1 (lines_of text) (place + head_count plan) number e in
     let head = head_of plan.data_disk plan.log_disk plan.log_size in
-    let parse_words =
+    let said =
     said_at (unskipped (lines_of text)) (lines_of_script plan)
     (place + head_count plan) found.line spells.says found.there in
     let at : number ≡ 1 + length found.before = found.number_is in
@@ -230,12 +210,12 @@ line_says text plan place number spells e =
       split = found.split;
       number_is = omega arith;
       after_byte = found.after_byte;
-      parsed = parse_words.0;
+      parsed = said.0;
       command =
           sym (get_behind head (lines_behind_head plan) place)
           ∙ ap (λ (n : ℕ). slice_get (lines_of_script plan) (place + n)) (length-head plan)
-          ∙ parse_words.1;
-      says = parse_words.2;
+          ∙ said.1;
+      says = said.2;
     }
 
 -- as many numbers are printed as lines are kept
@@ -269,7 +249,8 @@ length-unskipped : (text : List ℕ) (plan : ScriptValue) → IsTextOf text plan
     → length (unskipped_numbers 1 (lines_of text)) ≡ count_behind_head plan + head_count plan
 length-unskipped text plan spells =
     let numbers = length-unskipped_numbers 1 (lines_of text) in
-    let says = as_many (unskipped (lines_of text)) (lines_of_script plan) spells.says in
+    let says =
+    AllZip-long ParsesAs (unskipped (lines_of text)) (lines_of_script plan) spells.says in
     let body = length-lines_of_body plan.names 0 plan.commands in
     let ending = length-with_ending plan.ending (lines_of_body plan.names 0 plan.commands) in
     let parts =
@@ -299,19 +280,11 @@ lined text plan place spells past =
 -- more lines are kept after one that isn't skipped
 kept_more : (before between : List (List ℕ)) (line : List ℕ) → is_skipped line ≡ false
     → length (unskipped before) < length (unskipped (before ++ line ∷ between))
-kept_more [] between line parse_words =
-    let here =
-    ap (λ (t : Bool). length
-    (cond (not t) (line ∷ unskipped between) (unskipped between))) parse_words in
+kept_more before between line kept =
+    let both = ap length (filter-append (λ l. not (is_skipped l)) before (line ∷ between)
+    ∙ ap (λ (ks : List (List ℕ)). unskipped before ++ ks) (kept_said line between kept)) in
+    let sum = length-append (unskipped before) (line ∷ unskipped between) in
     omega arith
-kept_more (first ∷ before) between line parse_words =
-    more_step (is_skipped first) (unskipped before) (unskipped (before ++ line ∷ between))
-    (kept_more before between line parse_words)
-  where
-    more_step : (t : Bool) (few many : List (List ℕ)) → length few < length many
-        → length (cond (not t) (first ∷ few) few) < length (cond (not t) (first ∷ many) many)
-    more_step true few many less = less
-    more_step false few many less = omega arith
 
 -- no line of a command is after another
 not_later : (lines : List (List ℕ)) (plan : ScriptValue) (place m n : ℕ)
@@ -326,9 +299,9 @@ not_later lines plan place m n a b =
     (omega arith) in
     let rest : a.line ∷ a.more ≡ more.line ∷ more.tail = more.rest_is in
     let line : a.line ≡ more.line = cc in
-    let parse_words : is_skipped more.line ≡ false =
+    let kept : is_skipped more.line ≡ false =
     ap is_skipped (sym line) ∙ said_kept a.line a.parsed a.says in
-    let grown = kept_more a.before more.between more.line parse_words in
+    let grown = kept_more a.before more.between more.line kept in
     let counted = ap (λ (ls : List (List ℕ)). length (unskipped ls)) more.long_is in
     let few : length (unskipped a.before) ≡ place + head_count plan = a.after_byte in
     let many : length (unskipped b.before) ≡ place + head_count plan = b.after_byte in

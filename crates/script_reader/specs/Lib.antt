@@ -2,7 +2,7 @@
 pub use Rattle.bio.specs.Refusals
 pub use Rattle.bio.specs.Sizes
 pub use Rattle.table_line.specs.Ranges
-pub use Rattle.table_line.specs.Standing
+pub use Rattle.table_line.specs.LayerOrder
 pub use Rattle.table_line.specs.TableLines
 pub use Rattle.table_line.specs.Refusals as TableRefusals
 pub use Rattle.table_line.specs.Texts as TableTexts
@@ -13,11 +13,11 @@ pub mod LineMeaning
 pub mod Options
 pub mod Plans
 pub mod Grammar
-pub mod Reading
+pub mod FirstFault
 pub mod CanonicalText
 pub mod Texts
 pub mod RunPlans
 pub mod RunGrammar
-pub mod RunReading
+pub mod RunFirstFault
 pub mod RunText
 pub mod inside

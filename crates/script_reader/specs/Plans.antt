@@ -25,7 +25,7 @@ use Rattle.script_reader.specs.declared.line.BodyLine.{BodyLine}
 use Rattle.script_reader.specs.declared.line.BodyLine.TheVariants as body_lines
 use Rattle.script_reader.specs.Ids.{is_id, script_id, same_name}
 use Rattle.script_reader.specs.Lines.{is_line_text}
-use Rattle.table_line.specs.Standing.{top_sectors, CanStand}
+use Rattle.table_line.specs.LayerOrder.{top_sectors, CanStand}
 use Rattle.table_line.specs.declared.layer_spec.LayerSpec.{LayerSpec}
 
 -- a disk of a script: its sectors, and the layers over it, from the lowest up

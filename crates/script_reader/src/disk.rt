@@ -1,8 +1,8 @@
 //! A disk of a script: its sectors, and the layers over it.
-//! Its clauses are written in specs/Plans and specs/Reading; its theorems in proofs/disk/.
+//! Its clauses are written in specs/FirstFault and specs/Plans; its theorems in proofs/disk/.
 ghost use Rattle.std.specs.Prelude.{◌≡◌, OnOk};
 ghost use Rattle.script_reader.specs.Plans.{top_of};
-ghost use Rattle.script_reader.specs.Reading.{bare, with_layer};
+ghost use Rattle.script_reader.specs.FirstFault.{bare, with_layer};
 
 use std::alloc::{AllocError, Global};
 use std::marker::Model;

@@ -13,11 +13,11 @@ ghost use Rattle.script_reader.specs.Lines.{is_skipped};
 ghost use Rattle.script_reader.specs.Lines.{IsUnbroken, lines_of};
 ghost use Rattle.script_reader.specs.Plans.{IsPlan, CanFollow, ScriptValue, count_behind_head};
 ghost use Rattle.script_reader.specs.Plans.{head_count, top_of};
-ghost use Rattle.script_reader.specs.Reading.{IsFirstFault};
+ghost use Rattle.script_reader.specs.FirstFault.{IsFirstFault};
 ghost use Rattle.script_reader.specs.CanonicalText.{canonical_text};
 ghost use Rattle.script_reader.specs.RunGrammar.{AreRunLines, IsRunText};
 ghost use Rattle.script_reader.specs.RunPlans.{IsRunPlan, RunPlan};
-ghost use Rattle.script_reader.specs.RunReading.{IsFirstRunFault};
+ghost use Rattle.script_reader.specs.RunFirstFault.{IsFirstRunFault};
 ghost use Rattle.script_reader.specs.RunText.{run_text};
 
 /// Lines make a text by a line feed after each, which the last may lack unless it is empty.
@@ -36,6 +36,7 @@ pub fn one_script()
 {}
 
 /// Each script has a text: its spelling.
+#[tactic(auto, using(crate::proofs::CanonicalTextLaws::spelling_spells))]
 pub fn each_script_has_a_text()
     ensures { (plan : ScriptValue) → IsPlan plan → IsTextOf (canonical_text plan) plan }
 {}

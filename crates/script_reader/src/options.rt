@@ -1,8 +1,8 @@
 //! The options of a write: flush, fua and meta, in this order.
-//! Its clauses are written in specs/inside/Parsing; the search alone proves it.
+//! Its clauses are written in specs/inside/LineParser; the search alone proves it.
 ghost use Rattle.std.specs.Prelude.{◌≡◌, option_copied};
-ghost use Rattle.script_reader.specs.inside.Parsing.{options_of as the_options};
-ghost use Rattle.script_reader.specs.inside.Parsing.{take_word as the_taking};
+ghost use Rattle.script_reader.specs.inside.LineParser.{options_of as the_options};
+ghost use Rattle.script_reader.specs.inside.LineParser.{take_word as the_taking};
 
 use crate::command::WriteOptions;
 use text_words::cut;

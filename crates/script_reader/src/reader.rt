@@ -5,14 +5,14 @@ ghost use Rattle.std.specs.Prelude.{◌≡◌, ◌<◌, ◌∷◌, [], None, IfE
 ghost use Rattle.std.specs.Prelude.{length, option_copied, option_map};
 ghost use Rattle.script_reader.specs.LineMeaning.{as_said};
 ghost use Rattle.script_reader.specs.LineMeaning as parsed_lines;
-ghost use Rattle.script_reader.specs.inside.Parsing.{mark_of, message_of as the_message};
-ghost use Rattle.script_reader.specs.inside.Parsing.{parse_parts};
-ghost use Rattle.script_reader.specs.inside.Parsing.{picks_of as the_picks, plain_parts};
+ghost use Rattle.script_reader.specs.inside.LineParser.{mark_of, message_of as the_message};
+ghost use Rattle.script_reader.specs.inside.LineParser.{parse_parts};
+ghost use Rattle.script_reader.specs.inside.LineParser.{picks_of as the_picks, plain_parts};
 ghost use Rattle.script_reader.specs.Lines.{command_line, lines_of, is_ascii_line as is_plain_line};
 ghost use Rattle.script_reader.specs.Lines.{is_skipped as is_a_skipped_line};
 ghost use Rattle.script_reader.specs.Grammar.{IsTextOf};
 ghost use Rattle.script_reader.specs.Plans.{ScriptValue};
-ghost use Rattle.script_reader.specs.Reading.{IsFaultOf, IsReadAs};
+ghost use Rattle.script_reader.specs.FirstFault.{IsFaultOf, IsReadAs};
 ghost use Rattle.script_reader.specs.inside.Readers.{fault_of, read_text, Reads};
 
 use crate::command::Step;

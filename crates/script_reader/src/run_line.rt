@@ -1,12 +1,13 @@
 //! What a line of a run's script says by its words alone.
-//! Its clauses are written in specs/inside/RunParsing; the search alone proves it.
+//! Its clauses are written in specs/inside/RunLineParser; the search alone proves it.
 ghost use Rattle.std.specs.Prelude.{◌≡◌, IfErr, IfOk, Some, option_copied};
-ghost use Rattle.script_reader.specs.inside.RunParsing.{call_of as the_call, mark_call};
-ghost use Rattle.script_reader.specs.inside.RunParsing.{parse_run_line, run_head_line, seat_line};
-ghost use Rattle.script_reader.specs.inside.RunParsing.{seat_of as the_seat};
-ghost use Rattle.script_reader.specs.inside.RunParsing.{submission_of as the_submission};
-ghost use Rattle.script_reader.specs.inside.RunParsing.{IsNoRunLine};
-ghost use Rattle.script_reader.specs.inside.RunParsing.{IsUnread};
+ghost use Rattle.script_reader.specs.inside.RunLineParser.{call_of as the_call, mark_call};
+ghost use Rattle.script_reader.specs.inside.RunLineParser.{parse_run_line, run_head_line};
+ghost use Rattle.script_reader.specs.inside.RunLineParser.{seat_line};
+ghost use Rattle.script_reader.specs.inside.RunLineParser.{seat_of as the_seat};
+ghost use Rattle.script_reader.specs.inside.RunLineParser.{submission_of as the_submission};
+ghost use Rattle.script_reader.specs.inside.RunLineParser.{IsNoRunLine};
+ghost use Rattle.script_reader.specs.inside.RunLineParser.{IsUnread};
 
 use crate::command::Submission;
 use crate::line::{HeadLine, discard_words, head_words, is_line_text, write_words};

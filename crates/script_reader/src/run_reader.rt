@@ -4,7 +4,7 @@ ghost use Rattle.std.specs.Prelude.{IfErr, IfOk};
 ghost use Rattle.bio.specs.Sizes.{bytes_of};
 ghost use Rattle.script_reader.specs.RunGrammar.{IsRunText};
 ghost use Rattle.script_reader.specs.RunPlans.{call_answer, RunPlan};
-ghost use Rattle.script_reader.specs.RunReading.{IsReadAsRun, IsRunFaultAt};
+ghost use Rattle.script_reader.specs.RunFirstFault.{IsReadAsRun, IsRunFaultAt};
 ghost use Rattle.script_reader.specs.inside.Drafts.{as_refusal, Follows};
 ghost use Rattle.script_reader.specs.inside.Readers.{Reads};
 ghost use Rattle.script_reader.specs.inside.RunReaders.{read_run_text};

@@ -2,7 +2,7 @@
 //! Its clauses are written in specs/; its theorems in proofs/values/.
 ghost use Rattle.std.specs.Prelude.{◌≡◌, IfErr, IfOk, Some, option_copied};
 ghost use Rattle.script_reader.specs.inside.Readers.{HasNoPicks};
-ghost use Rattle.script_reader.specs.inside.Parsing.{picks_of as the_picks};
+ghost use Rattle.script_reader.specs.inside.LineParser.{picks_of as the_picks};
 ghost use Rattle.script_reader.specs.Words.{half_of, byte_of as the_byte};
 
 use crate::line_error::LineError;

@@ -28,15 +28,15 @@ use Rattle.blockdev.specs.declared.message.MessageError.{MessageError}
 use Rattle.blockdev.specs.Calls.{Call, Discards, Flushes, Reads, Writes}
 use Rattle.blockdev.specs.Messages.{Unchanged}
 use Rattle.sector_disk.specs.Candidates.{left_by}
-use Rattle.sector_disk.specs.Shown.{cache_of, shown_of}
-use Rattle.table_line.specs.Standing.{some_drops, top_origin}
+use Rattle.sector_disk.specs.DiskView.{cache_of, shown_of}
+use Rattle.table_line.specs.LayerOrder.{some_drops, top_origin}
 use Rattle.layer_table.specs.declared.stack.Stack.{Stack}
 use Rattle.layer_table.specs.Layers.{disk_of, layers_of, layers_under, stack_shown}
 use Rattle.log_format.specs.Entries.{sectors_per}
 use Rattle.log_format.specs.LogOf.{IsLogOf, status_of}
-use Rattle.log_format.specs.Placing.{first_sector}
+use Rattle.log_format.specs.Placement.{first_sector}
 use Rattle.log_store.specs.Calls.{HasFaulted}
-use Rattle.log_store.specs.Shown.{store_of}
+use Rattle.log_store.specs.Fields.{store_of}
 use Rattle.log_store.specs.Store.{entries_of}
 use Rattle.pending.specs.CoreState.{CoreState, added_to, new_state, records, sized_state}
 use Rattle.script_reader.specs.declared.command.Command.{Command}
@@ -53,27 +53,27 @@ use Rattle.script_reader.specs.Plans.{Disk, ScriptValue, head_count, name_at, to
 use Rattle.recorder.specs.declared.recorder.Recorder.{Recorder}
 use Rattle.recorder.specs.declared.reply.Reply.TheVariants as replies
 use Rattle.recorder.specs.RecorderView.{log_of}
-use Rattle.recorder.specs.Replayed.{ReplaysToWhatCouldBe}
-use Rattle.recorder.specs.Shown.{core_of, recorder_view}
+use Rattle.recorder.specs.CrashReplay.{ReplaysToWhatCouldBe}
+use Rattle.recorder.specs.Fields.{core_of, recorder_view}
 use Rattle.run_error.specs.declared.run_error.RunError.{RunError}
 use Rattle.run_error.specs.declared.run_error.RunError.TheVariants as faults
 use Rattle.script_runner.specs.declared.recording.Lies.{Lies}
 use Rattle.script_runner.specs.declared.request.Request.{Request}
 use Rattle.script_runner.specs.declared.request.Request.TheVariants as requests
 use Rattle.script_runner.specs.declared.running.Running.{Running}
-use Rattle.script_runner.specs.Begun.{IsNewOn, IsUnmadeOn}
+use Rattle.script_runner.specs.NewRecorder.{IsNewOn, IsUnmadeOn}
 use Rattle.run_error.specs.Errors.{IsFileError}
-use Rattle.script_runner.specs.Followed.{IsFollowed, StandsFor, submissions_of}
+use Rattle.script_runner.specs.RequestEvents.{IsFollowed, StandsFor, submissions_of}
 use Rattle.script_runner.specs.HandOver.{HandsOver, ReadsSectors}
 use Rattle.script_runner.specs.Lines.{Answering, Asks, Does, EndsAsked, EndsRequest, HearsEnd}
 use Rattle.script_runner.specs.Lines.{PrintsMark, RefusesMessage, RunsLine, submission_text}
-use Rattle.script_runner.specs.OnDisks.{DiskRecorder, DiskRun, FailsOnDisks, IsCounted, IsRecorded}
-use Rattle.script_runner.specs.OnDisks.{IsStackOf, IsUnmade, Starts, file as disk_file, left_on}
-use Rattle.script_runner.specs.OnDisks.{run as disk_run, stack_answering, unmade}
+use Rattle.script_runner.specs.DiskRun.{DiskRecorder, DiskRun, FailsOnDisks, IsCounted, IsRecorded}
+use Rattle.script_runner.specs.DiskRun.{IsStackOf, IsUnmade, Starts, file as disk_file, left_on}
+use Rattle.script_runner.specs.DiskRun.{run as disk_run, stack_answering, unmade}
 use Rattle.script_runner.specs.Runs.{Chain, EndsRun, RefusesClose, RefusesLine, RunsLines, close}
 use Rattle.script_runner.specs.Runs.{file as run_file, message}
 use Rattle.script_runner.specs.Rehearsals.{IsRehearsed, is_memory_stop}
-use Rattle.script_runner.specs.Submitted.{bio_of, is_asked}
+use Rattle.script_runner.specs.Submissions.{bio_of, is_asked}
 use Rattle.script_runner.specs.Texts.{mark_failed, outcome_line, read_line}
 
 -- ---- handing over

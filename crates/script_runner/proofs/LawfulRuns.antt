@@ -34,11 +34,11 @@ use Rattle.script_runner.specs.declared.request.Request.{Request}
 use Rattle.script_runner.specs.declared.request.Request.TheVariants as requests
 use Rattle.script_runner.specs.declared.running.Running.{Running}
 use Rattle.script_runner.specs.Lines.{Answering, Asks, EndsRequest, HearsEnd, TakesStep, reply_of}
-use Rattle.script_runner.specs.OnDisks.{stack_answering, DiskRun, Starts}
+use Rattle.script_runner.specs.DiskRun.{stack_answering, DiskRun, Starts}
 use Rattle.script_runner.specs.Runs.{RunsLines}
-use Rattle.script_runner.specs.Submitted.{bio_of}
-use Rattle.script_runner.proofs.Submitting.{bio_passes}
-use Rattle.recorder.specs.Shown.{core_of}
+use Rattle.script_runner.specs.Submissions.{bio_of}
+use Rattle.script_runner.proofs.SubmitLines.{bio_passes}
+use Rattle.recorder.specs.Fields.{core_of}
 
 -- each request among the events passed the test of a device of so many sectors
 abbrev AreWithin : ℕ → List CoreEvent → Type 0

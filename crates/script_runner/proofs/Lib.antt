@@ -1,16 +1,16 @@
 -- The lemmas of `script_runner`; the proof of a function stands in the folder of its source file.
-mod Printing
-mod Stepping
-mod Submitting
-mod Chaining
+mod PrintedLines
+mod LineSteps
+mod SubmitLines
+mod StepChains
 mod Scripts
-mod Reading
-mod Writing
+mod ReadLines
+mod ClosedLog
 mod Logs
 mod Moments
-mod OnDisks
+mod DiskRun
 mod Plays
-mod Following
-mod Bare
+mod RequestFates
+mod BareDisk
 mod LawfulRuns
 mod Counterexamples

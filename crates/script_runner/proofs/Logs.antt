@@ -13,20 +13,20 @@ use Rattle.recorder.specs.declared.reply.Reply.TheVariants as replies
 use Rattle.script_runner.specs.declared.request.Request.{Request}
 use Rattle.script_runner.specs.declared.request.Request.TheVariants as requests
 use Rattle.script_runner.specs.Lines.{Answering, Asks, EndsRequest, HearsEnd, RunsLine, reply_of}
-use Rattle.script_runner.specs.Submitted.{bio_of}
-use Rattle.script_runner.specs.Written.{IsWritten}
+use Rattle.script_runner.specs.Submissions.{bio_of}
+use Rattle.script_runner.specs.WholeLog.{IsWritten}
 use Rattle.bio.specs.Lawful.{has_no_close}
 use Rattle.log_store.specs.Calls.{Same}
 use Rattle.pending.specs.CoreState.{CoreState}
 use Rattle.recorder.specs.RecorderView.{log_of}
-use Rattle.script_runner.proofs.Writing.{kept_close, kept_complete, kept_mark, kept_submit}
-use Rattle.script_runner.proofs.Writing.{kept_turn}
+use Rattle.script_runner.proofs.ClosedLog.{kept_close, kept_complete, kept_mark, kept_submit}
+use Rattle.script_runner.proofs.ClosedLog.{kept_turn}
 use Rattle.blockdev.specs.declared.device.BlockDev.{Ghosts}
 use Rattle.script_reader.specs.declared.command.Command.{Command}
 use Rattle.script_reader.specs.declared.script_id.ScriptId.{ScriptId}
 use Rattle.recorder.specs.declared.recorder.Recorder.{Recorder}
 use Rattle.recorder.specs.Growth.{RecorderFrame}
-use Rattle.recorder.specs.Shown.{core_of, recorder_view}
+use Rattle.recorder.specs.Fields.{core_of, recorder_view}
 use Rattle.script_runner.specs.declared.running.Running.{Running}
 use Rattle.script_runner.specs.Runs.{RunsLines}
 

@@ -7,7 +7,7 @@ use Rattle.script_reader.specs.declared.script_id.ScriptId.{ScriptId}
 use Rattle.script_reader.specs.Plans.{ScriptValue, moment_at}
 use Rattle.script_runner.specs.declared.running.Running.{Running}
 use Rattle.script_runner.specs.Lines.{Answering}
-use Rattle.script_runner.specs.OnDisks.{DiskRun, Starts}
+use Rattle.script_runner.specs.DiskRun.{DiskRun, Starts}
 use Rattle.script_runner.specs.Runs.{RunsLines}
 
 -- before the first line both are 0

@@ -9,19 +9,19 @@ use Rattle.script_reader.specs.Plans.{Disk, ScriptValue}
 use Rattle.layer_table.specs.declared.stack.Stack.{Stack}
 use Rattle.pending.specs.CoreState.{CoreState}
 use Rattle.recorder.specs.declared.recorder.Recorder.{Recorder}
-use Rattle.recorder.specs.Shown.{core_of}
+use Rattle.recorder.specs.Fields.{core_of}
 use Rattle.run_error.specs.declared.run_error.RunError.{RunError}
 use Rattle.run_error.specs.Errors.{memory_error}
 use Rattle.script_runner.specs.CallLaws.{keeps_same}
 use Rattle.script_runner.specs.declared.playing.Played.{Played}
 use Rattle.script_runner.specs.declared.running.Running.{Running}
-use Rattle.script_runner.specs.Begun.{IsUnmadeOn}
+use Rattle.script_runner.specs.NewRecorder.{IsUnmadeOn}
 use Rattle.script_runner.specs.Lines.{Answering}
 use Rattle.layer_table.specs.Layers.{on_stack}
-use Rattle.script_runner.specs.OnDisks.{stack_answering, DiskRun, FailsOnDisks, IsStackOf, Starts}
-use Rattle.script_runner.specs.OnDisks.{file as no_file, run as no_run, unmade as no_log}
-use Rattle.script_runner.specs.inside.Played.{FailsPlaying, IsPlayed, StartsBeside, StartsOn, file}
-use Rattle.script_runner.specs.inside.Played.{run, unmade}
+use Rattle.script_runner.specs.DiskRun.{stack_answering, DiskRun, FailsOnDisks, IsStackOf, Starts}
+use Rattle.script_runner.specs.DiskRun.{file as no_file, run as no_run, unmade as no_log}
+use Rattle.script_runner.specs.inside.Play.{FailsPlaying, IsPlayed, StartsBeside, StartsOn, file}
+use Rattle.script_runner.specs.inside.Play.{run, unmade}
 
 -- what was played from one kind of start was played from
 -- another, where each of the one kind is of the other

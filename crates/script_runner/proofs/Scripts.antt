@@ -14,7 +14,7 @@ use Rattle.script_reader.specs.declared.script_id.ScriptId.{ScriptId}
 use Rattle.script_reader.specs.Lines.{command_line}
 use Rattle.script_reader.specs.Plans.{head_count, top_of, CanFollow, HasName, IsPlan, ScriptValue}
 use Rattle.script_reader.specs.Plans.{submissions}
-use Rattle.recorder.specs.Shown.{core_of}
+use Rattle.recorder.specs.Fields.{core_of}
 use Rattle.run_error.specs.declared.run_error.RunError.{RunError}
 use Rattle.run_error.specs.declared.run_error.RunError.TheVariants.{Refused}
 use Rattle.script_runner.specs.CallLaws.{appends_kept, appends_twice}
@@ -24,7 +24,7 @@ use Rattle.script_runner.specs.Lines.{Answering, EndsSubmitted, FitsDevice, HasS
 use Rattle.script_runner.specs.Lines.{PrintsLine, RunsLine, StopsLine, count_of}
 use Rattle.script_runner.specs.Runs.{EndsRun, PrintsLines, close, file, message}
 use Rattle.blockdev.specs.Messages.{message_refusal}
-use Rattle.script_runner.proofs.Chaining.{chain_snoc}
+use Rattle.script_runner.proofs.StepChains.{chain_snoc}
 
 -- each command of a script may come after those before it
 abbrev pub IsOrderlyScript : ScriptValue → Type 0

@@ -27,7 +27,7 @@ use Rattle.recorder.specs.declared.reply.Reply.{Reply}
 use Rattle.recorder.specs.declared.reply.Reply.TheVariants as replies
 use Rattle.recorder.specs.Calls.{Turns, Closes, Completes, Drains, Marks, Submits}
 use Rattle.recorder.specs.Growth.{RecorderFrame}
-use Rattle.recorder.specs.Shown.{core_of, recorder_view}
+use Rattle.recorder.specs.Fields.{core_of, recorder_view}
 use Rattle.log_store.specs.Calls.{Same}
 use Rattle.script_reader.specs.Plans.{moment_at}
 use Rattle.script_runner.specs.declared.request.Request.{Request}
@@ -37,7 +37,7 @@ use Rattle.script_runner.specs.declared.step_error.StepError.{StepError}
 use Rattle.script_runner.specs.declared.step_error.StepError.TheVariants.{AtLine, Whole}
 use Rattle.run_error.specs.Errors.{IsFileError}
 use Rattle.script_runner.specs.HandOver.{ReadsSectors, HandsOver}
-use Rattle.script_runner.specs.Submitted.{bio_of}
+use Rattle.script_runner.specs.Submissions.{bio_of}
 use Rattle.script_runner.specs.Texts.{mark_failed, read_line, outcome_line}
 
 -- what the recorder answers to a submission that it doesn't refuse

@@ -8,10 +8,10 @@ use Rattle.bio.specs.declared.event.CoreEvent.TheVariants as core_events
 use Rattle.bio.specs.declared.outcome.End.TheVariants as ends
 use Rattle.script_reader.specs.Plans.{ScriptValue}
 use Rattle.run_error.specs.declared.run_error.RunError.{RunError}
-use Rattle.script_runner.specs.OnDisks.{stack_answering, DiskRun, FailsOnDisks, Starts}
+use Rattle.script_runner.specs.DiskRun.{stack_answering, DiskRun, FailsOnDisks, Starts}
 use Rattle.script_runner.specs.Runs.{RunsLines}
-use Rattle.script_runner.specs.Submitted.{is_asked}
-use Rattle.recorder.specs.Shown.{core_of}
+use Rattle.script_runner.specs.Submissions.{is_asked}
+use Rattle.recorder.specs.Fields.{core_of}
 
 -- the event says that logging ended for want of memory
 abbrev pub is_memory_stop : CoreEvent → Bool

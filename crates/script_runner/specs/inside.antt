@@ -1,5 +1,5 @@
 -- The definitions of `script_runner` that its proofs alone use: no other crate cites them.
 -- Any crate above may cite it.
-pub mod Played
+pub mod Play
 pub mod Replies
 pub mod Steps

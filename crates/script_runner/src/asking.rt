@@ -1,11 +1,11 @@
 //! What a line asks of the recorder: that a request is submitted, or that one has ended.
-//! Its clauses are written in specs/Lines and specs/Submitted; its theorems in proofs/asking/.
+//! Its clauses are written in specs/Lines and specs/Submissions; its theorems in proofs/asking/.
 ghost use Rattle.std.specs.Prelude.{◌≡◌, Ok};
 ghost use Rattle.script_reader.specs.Plans.{submission_answer};
 ghost use Rattle.recorder.specs.Growth.{RecorderFrame};
-ghost use Rattle.recorder.specs.Shown.{core_of, recorder_view};
+ghost use Rattle.recorder.specs.Fields.{core_of, recorder_view};
 ghost use Rattle.script_runner.specs.Lines.{Asks, HearsEnd};
-ghost use Rattle.script_runner.specs.Submitted.{bio_of};
+ghost use Rattle.script_runner.specs.Submissions.{bio_of};
 
 use crate::last_data::LastData;
 use crate::request::{Request, bio_of};

@@ -5,10 +5,10 @@ ghost use Rattle.bio.specs.Sizes.{bytes_of};
 ghost use Rattle.script_reader.specs.Plans.{IsDisk, top_of};
 ghost use Rattle.layer_table.specs.StackMessages.{StackAnswers};
 ghost use Rattle.run_error.specs.Errors.{memory_error};
-ghost use Rattle.script_runner.specs.Begun.{IsNewOn, IsUnmadeOn};
+ghost use Rattle.script_runner.specs.NewRecorder.{IsNewOn, IsUnmadeOn};
 ghost use Rattle.script_runner.specs.Lines.{answering};
-ghost use Rattle.script_runner.specs.OnDisks.{FailsOnDisks, IsStackOf, Starts, stack_answering};
-ghost use Rattle.script_runner.specs.inside.Played.{FailsPlaying, IsPlayed, StartsBeside, StartsOn};
+ghost use Rattle.script_runner.specs.DiskRun.{FailsOnDisks, IsStackOf, Starts, stack_answering};
+ghost use Rattle.script_runner.specs.inside.Play.{FailsPlaying, IsPlayed, StartsBeside, StartsOn};
 
 use crate::run_script::run;
 use crate::running::Running;

@@ -1,11 +1,11 @@
 //! Records a script: `record` runs it, and hands over the log's disk, the status and the lies.
-//! Its clauses are written in specs/OnDisks; its theorems in proofs/recording/.
+//! Its clauses are written in specs/DiskRun; its theorems in proofs/recording/.
 ghost use Rattle.std.specs.Prelude.{◌≡◌, IfErr, IfOk, List, option_copied, ℕ};
 ghost use Rattle.std.specs.Io.KnownBytes.{Appends};
 ghost use Rattle.bio.specs.Content.{AgreeBelow, gather};
-ghost use Rattle.sector_disk.specs.Shown.{shown_of};
+ghost use Rattle.sector_disk.specs.DiskView.{shown_of};
 ghost use Rattle.layer_table.specs.Layers.{disk_of};
-ghost use Rattle.script_runner.specs.OnDisks.{FailsOnDisks, IsRecorded, left_on};
+ghost use Rattle.script_runner.specs.DiskRun.{FailsOnDisks, IsRecorded, left_on};
 
 use crate::laws::{closed_runs_leave_whole_logs, lines_go_as_one_call};
 use crate::playing::play_on_disks;

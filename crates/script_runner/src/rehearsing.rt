@@ -32,7 +32,7 @@ impl Model for Rehearsed {
 
     ghost Value = { List CoreEvent };
 
-    ghost use Rattle.recorder.specs.Shown.{core_of};
+    ghost use Rattle.recorder.specs.Fields.{core_of};
 
     ghost view = { λ rehearsed. (core_of rehearsed.recorder).events };
 }

@@ -1,11 +1,11 @@
 //! The request that a line submits, and what became of it.
-//! Its clauses are written in specs/Submitted; the search alone proves it.
+//! Its clauses are written in specs/Submissions; the search alone proves it.
 ghost use Rattle.std.specs.Prelude.{◌≡◌, IfOk, IsOk, Ok, false, ℕ};
 ghost use Rattle.std.specs.List.{list_all};
 ghost use Rattle.bio.specs.Check.{check_sized_answer};
 ghost use Rattle.bio.specs.Requests.{has_data};
 ghost use Rattle.script_reader.specs.Plans.{submission_answer};
-ghost use Rattle.script_runner.specs.Submitted.{bio_of, is_asked};
+ghost use Rattle.script_runner.specs.Submissions.{bio_of, is_asked};
 
 use crate::last_data::LastData;
 use bio::{Bio, Id};
@@ -23,7 +23,7 @@ pub enum Request {
 
 /// The request that a script's line submits. Its bytes lie in memory once however many hold them,
 /// and those of the write before are used again.
-#[tactic(auto, using(crate::proofs::Submitting::bio_suits))]
+#[tactic(auto, using(crate::proofs::SubmitLines::bio_suits))]
 pub fn bio_of(last: &mut LastData, submission: Submission) -> Result<Bio, AllocError>
     requires { (bytes sectors : ℕ) × (submission_answer bytes sectors submission ≡ Ok tt) }
     ensures made { IfOk result (λ bio. bio ≡ bio_of submission) }

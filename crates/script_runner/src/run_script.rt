@@ -2,7 +2,7 @@
 //! Its clauses are written in specs/Lines and specs/Runs; its theorems in proofs/run_script/.
 ghost use Rattle.bio.specs.Sizes.{bytes_of};
 ghost use Rattle.script_reader.specs.Plans.{top_of};
-ghost use Rattle.recorder.specs.Shown.{core_of};
+ghost use Rattle.recorder.specs.Fields.{core_of};
 ghost use Rattle.std.specs.Prelude.{◌≡◌, IfErr, OnOk, []};
 ghost use Rattle.script_runner.specs.Lines.{answering};
 ghost use Rattle.script_runner.specs.Runs.{EndsRun, PrintsLines};

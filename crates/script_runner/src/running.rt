@@ -3,7 +3,7 @@
 //! Its clauses are written in specs/; its theorems in proofs/running/.
 ghost use Rattle.std.specs.Prelude.{IsTrue};
 ghost use Rattle.std.specs.List.{list_all};
-ghost use Rattle.script_runner.specs.Submitted.{fits_device, is_asked};
+ghost use Rattle.script_runner.specs.Submissions.{fits_device, is_asked};
 
 use crate::asking::{ask, complete_request};
 use crate::handing::{do_request, read_sectors};
@@ -100,7 +100,7 @@ impl<D: Message + Drop, L: Message + Drop> Running<D, L> {
     ghost use Rattle.recorder.specs.declared.reply.Reply.TheVariants as replies;
     ghost use Rattle.recorder.specs.Calls.{Closes};
     ghost use Rattle.recorder.specs.Growth.{RecorderFrame};
-    ghost use Rattle.recorder.specs.Shown.{core_of, recorder_view};
+    ghost use Rattle.recorder.specs.Fields.{core_of, recorder_view};
     ghost use Rattle.script_runner.specs.declared.step_error.StepError.TheVariants.{AtLine};
     ghost use Rattle.script_runner.specs.Lines.{EndsRecording, EndsSubmitted, FitsDevice};
     ghost use Rattle.script_runner.specs.Lines.{GivesTurn, HasScriptText, PrintsLine, ReadsData};
@@ -241,7 +241,7 @@ impl<D: Message + Drop, L: Message + Drop> Running<D, L> {
     }
 
     // Hands a message to a layer of a disk.
-    #[tactic(auto, using(crate::proofs::Stepping::line_ascii))]
+    #[tactic(auto, using(crate::proofs::LineSteps::line_ascii))]
     fn message(&mut self, over: DiskName, layer: u64, text: &Bytes) -> Result<(), StepError>
         requires { is_line_text text.now ≡ true }
         ensures keeps { StepKeeps self.old self.new }

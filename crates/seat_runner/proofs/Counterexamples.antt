@@ -10,8 +10,8 @@ use Rattle.bio.specs.declared.outcome.Status.{Status}
 use Rattle.bio.specs.Lawful.{has_no_close}
 use Rattle.bio.specs.Sizes.{bytes_of}
 use Rattle.bio.specs.Content.{Content, gather}
-use Rattle.sector_disk.specs.Shown.{shown_of}
-use Rattle.table_line.specs.Standing.{some_drops}
+use Rattle.sector_disk.specs.DiskView.{shown_of}
+use Rattle.table_line.specs.LayerOrder.{some_drops}
 use Rattle.layer_table.specs.declared.stack.Stack.{Stack}
 use Rattle.layer_table.specs.Layers.{disk_of, stack_shown}
 use Rattle.log_format.specs.LogOf.{status_of}
@@ -24,10 +24,10 @@ use Rattle.script_reader.specs.Plans.{top_of}
 use Rattle.script_reader.specs.RunPlans.{RunPlan}
 use Rattle.lock_state.specs.declared.note.Receipt.{Receipt}
 use Rattle.lock_state.specs.Calls.{Holds}
-use Rattle.lock_state.specs.Comparing.{Each}
+use Rattle.lock_state.specs.Comparison.{Each}
 use Rattle.lock_state.specs.History.{Part, first_cause, named, new_part, owned}
-use Rattle.lock_state.specs.Legal.{LegalHistory}
-use Rattle.lock_state.specs.Placed.{Ground, StandsOn, entries_in, ground_of}
+use Rattle.lock_state.specs.LegalHistory.{LegalHistory}
+use Rattle.lock_state.specs.PlacedItems.{Ground, StandsOn, entries_in, ground_of}
 use Rattle.run_error.specs.declared.run_error.RunError.{RunError}
 use Rattle.run_error.specs.declared.run_error.RunError.TheVariants.{LoggingEnded}
 use Rattle.run_error.specs.declared.run_error.RunError.TheVariants.{Refused as refused}
@@ -35,10 +35,10 @@ use Rattle.run_error.specs.Errors.{refused_by}
 use Rattle.refusals.specs.declared.refusal.Refusal.{Refusal}
 use Rattle.refusals.specs.declared.refusal.Refusal.TheVariants as refusals
 use Rattle.script_runner.specs.declared.recording.Lies.{Lies}
-use Rattle.script_runner.specs.OnDisks.{IsStackOf, seen_on}
-use Rattle.script_runner.specs.Submitted.{bio_of}
+use Rattle.script_runner.specs.DiskRun.{IsStackOf, seen_on}
+use Rattle.script_runner.specs.Submissions.{bio_of}
 use Rattle.shared.specs.Answers.{Answered, Marked}
-use Rattle.shared.specs.Closing.{Agrees, Differs, IsReceipt, LeavesLog}
+use Rattle.shared.specs.Close.{Agrees, Differs, IsReceipt, LeavesLog}
 use Rattle.shared.specs.declared.closing.Closed.{Closed}
 use Rattle.seat_runner.specs.declared.tally.Outcome.TheVariants.{Done, Failed, Logged}
 use Rattle.seat_runner.specs.declared.tally.Tally.{Tally}

@@ -16,7 +16,7 @@ use Rattle.layer_table.specs.Layers.{disk_of, stack_shown}
 use Rattle.layer_table.specs.StackLaws.{part_of_disk}
 use Rattle.lock_state.specs.declared.note.Receipt.{Receipt}
 use Rattle.lock_state.specs.History.{Part}
-use Rattle.lock_state.specs.Placed.{Ground, StandsOn, ground_of}
+use Rattle.lock_state.specs.PlacedItems.{Ground, StandsOn, ground_of}
 use Rattle.log_format.specs.declared.entry.Entry.{Entry}
 use Rattle.log_format.specs.LogLaws.{log_within}
 use Rattle.log_format.specs.LogOf.{IsLogOf, log_sectors}
@@ -26,22 +26,22 @@ use Rattle.refusals.specs.declared.refusal.Refusal.TheVariants as refusals
 use Rattle.run_error.specs.declared.run_error.RunError.{RunError}
 use Rattle.run_error.specs.Errors.{memory_error, refused_by}
 use Rattle.script_runner.specs.declared.recording.Lies.{Lies}
-use Rattle.script_runner.specs.OnDisks.{IsStackOf, seen_on}
+use Rattle.script_runner.specs.DiskRun.{IsStackOf, seen_on}
 use Rattle.sector_disk.specs.declared.disk.SectorDisk.{SectorDisk}
-use Rattle.sector_disk.specs.Shown.{shown_of}
-use Rattle.sector_disk.specs.ShownLaws.{content_whole, disk_lawful}
+use Rattle.sector_disk.specs.DiskView.{shown_of}
+use Rattle.sector_disk.specs.DiskViewLaws.{content_whole, disk_lawful}
 use Rattle.bio.specs.Content.{AgreeBelow, Content, gather, sector_of}
 use Rattle.bio.specs.SectorLaws.{length-gather, sector_of-gather}
 use Rattle.seat_runner.specs.declared.tally.Tally.{Tally}
-use Rattle.seat_runner.specs.inside.Playing.{AreNewPlayers, FitsRecorder, HavePlayed, Player}
-use Rattle.seat_runner.specs.inside.Playing.{new_player}
+use Rattle.seat_runner.specs.inside.SeatWork.{AreNewPlayers, FitsRecorder, HavePlayed, Player}
+use Rattle.seat_runner.specs.inside.SeatWork.{new_player}
 use Rattle.seat_runner.specs.SeatRuns.{FailsRun, HasRun, IsClosed, IsForeignClose, IsRun, IsSeatRun}
 use Rattle.seat_runner.specs.SeatRuns.{IsUnclosed, IsUnplayed, busy, foreign, memory, thread}
 use Rattle.seat_runner.specs.Tallies.{joined}
 use Rattle.seat_runner.proofs.Seats.{take_next}
-use Rattle.shared.specs.Closing.{LeavesLog}
+use Rattle.shared.specs.Close.{LeavesLog}
 use Rattle.shared.specs.declared.closing.Closed.{Closed}
-use Rattle.table_line.specs.Standing.{top_origin, top_sectors}
+use Rattle.table_line.specs.LayerOrder.{top_origin, top_sectors}
 
 module _ {A : Type 0} where
   -- what stands in a list that is one longer

@@ -9,24 +9,21 @@ use Rattle.std.proofs.lemmas.Bool.{and_from, and_parts}
 use Rattle.std.proofs.lemmas.Bool.Decides.{nat_tests}
 use Rattle.bio.specs.declared.outcome.DevError.TheVariants as devices
 use Rattle.bio.specs.Lawful.{is_text}
-use Rattle.bio.specs.Sizes.{bytes_of}
 use Rattle.script_reader.specs.declared.command.Submission.{Submission}
 use Rattle.script_reader.specs.declared.seat_call.Call.{Call}
 use Rattle.script_reader.specs.declared.seat_call.Call.TheVariants.{Mark, Submit}
 use Rattle.script_reader.specs.declared.seat_call.SeatCall.{SeatCall}
 use Rattle.script_reader.specs.Lines.{is_line_byte, is_line_text}
-use Rattle.script_reader.specs.Plans.{top_of}
-use Rattle.script_reader.specs.RunPlans.{CanStand, IsRunPlan, RunPlan}
 use Rattle.lock_state.specs.declared.note.Receipt.{Receipt}
 use Rattle.lock_state.specs.History.{Part, new_part, one_if}
 use Rattle.seat_runner.specs.declared.tally.Outcome.{Outcome}
 use Rattle.seat_runner.specs.declared.tally.Outcome.TheVariants.{Done, Failed, Logged, NotLogged}
 use Rattle.seat_runner.specs.declared.tally.Outcome.TheVariants.{Refused}
 use Rattle.seat_runner.specs.declared.tally.Tally.{Tally}
-use Rattle.seat_runner.specs.inside.Playing.{CanMake, DoesLine, DoesLines, FitsRecorder, Makes}
-use Rattle.seat_runner.specs.inside.Playing.{Player}
+use Rattle.seat_runner.specs.inside.SeatWork.{DoesLine, DoesLines, Makes}
+use Rattle.seat_runner.specs.inside.SeatWork.{Player}
 use Rattle.seat_runner.specs.SeatRuns.{AreMade, IsMade, IsSeatRun, calls_of}
-use Rattle.script_runner.specs.Submitted.{bio_of}
+use Rattle.script_runner.specs.Submissions.{bio_of}
 use Rattle.seat_runner.specs.Tallies.{Came, HasRoom, and_kept, counted, how_many, is_done}
 use Rattle.seat_runner.specs.Tallies.{is_failed, is_logged, is_not_logged, is_refused, mark_outcome}
 use Rattle.seat_runner.specs.Tallies.{mark_receipt_in, outcome_of, receipt_in, receipts_of}
@@ -340,18 +337,6 @@ does line inside old second made tally outcome same later own makes counts = rec
       (ap (λ (p : Player). p.tally) later ∙ makes.tally) counts);
 }
 
--- no line is done yet
-pub did_none : (player : Player) → DoesLines [] player player
-did_none player = record {
-  number = refl;
-  ran = λ number new. record {
-    calls = [];
-    made = ap (λ (p : Player). p.part) new;
-    told = ap (λ (p : Player). p.tally) new;
-    kept = ap (λ (p : Player). p.receipts) new;
-  };
-}
-
 -- a line more is done
 pub did_more : (lines : List SeatCall) (line : SeatCall) (old between new : Player)
     → length lines < 2 ^ 64 - 1
@@ -395,18 +380,6 @@ stands : {A : Type 0} (P : A → Type 0) (xs : List A) (k : ℕ) (x : A) → All
 stands P [] k x all there = absurd (cc)
 stands P (y ∷ xs) zero x all there = subst P (cc) all.0
 stands P (y ∷ xs) (suc k) x all there = stands P xs k x all.1 there
-
--- a recorder that a script fits may be asked for the call of each line
-pub can_make : (bytes sectors : ℕ) (plan : RunPlan) (place : ℕ) (line : SeatCall)
-    → FitsRecorder bytes sectors plan → IsRunPlan plan
-    → slice_get plan.calls place ≡ Some line → CanMake bytes sectors line.call
-can_make bytes sectors plan place line fits is there =
-    let stand =
-    stands (CanStand (bytes_of plan.log_size)
-    (top_of plan.data_disk) plan.seats) plan.calls place line is.calls there in
-    subst (λ (n : ℕ). CanMake n sectors line.call) fits.log_size
-    (subst (λ (n : ℕ). CanMake (bytes_of plan.log_size) n line.call) fits.data_size
-    (record { tested = stand.tested; spelled = stand.spelled }))
 
 -- a text of a line has no zero byte
 byte_is_text : (byte : ℕ) → is_line_byte byte ≡ true → not (byte == 0) ≡ true

@@ -4,14 +4,14 @@ pub use Rattle.bio.specs.Sizes as LogSizes
 pub use Rattle.script_reader.specs.Plans
 pub use Rattle.script_reader.specs.RunPlans
 pub use Rattle.layer_table.specs.Layers
-pub use Rattle.lock_state.specs.Closing
+pub use Rattle.lock_state.specs.Close
 pub use Rattle.lock_state.specs.History
-pub use Rattle.lock_state.specs.Legal
-pub use Rattle.script_runner.specs.OnDisks
-pub use Rattle.script_runner.specs.Submitted
-pub use Rattle.sector_disk.specs.Shown as DiskShown
+pub use Rattle.lock_state.specs.LegalHistory
+pub use Rattle.script_runner.specs.DiskRun
+pub use Rattle.script_runner.specs.Submissions
+pub use Rattle.sector_disk.specs.DiskView
 pub use Rattle.shared.specs.Answers
-pub use Rattle.shared.specs.Closing as Closes
+pub use Rattle.shared.specs.Close as Closes
 pub mod Tallies
 pub mod SeatRuns
 pub mod inside

@@ -8,7 +8,7 @@ use Rattle.bio.specs.declared.outcome.Status.{Status}
 use Rattle.bio.specs.Lawful.{has_no_close}
 use Rattle.bio.specs.Sizes.{bytes_of}
 use Rattle.bio.specs.Content.{Content, gather}
-use Rattle.sector_disk.specs.Shown.{shown_of}
+use Rattle.sector_disk.specs.DiskView.{shown_of}
 use Rattle.script_reader.specs.declared.seat_call.Call.{Call}
 use Rattle.script_reader.specs.declared.seat_call.Call.TheVariants.{Mark, Submit}
 use Rattle.script_reader.specs.declared.seat_call.SeatCall.{SeatCall}
@@ -18,10 +18,10 @@ use Rattle.layer_table.specs.declared.stack.Stack.{Stack}
 use Rattle.layer_table.specs.Layers.{disk_of, stack_shown}
 use Rattle.lock_state.specs.declared.note.Receipt.{Receipt}
 use Rattle.lock_state.specs.Calls.{Holds}
-use Rattle.lock_state.specs.Comparing.{Each}
+use Rattle.lock_state.specs.Comparison.{Each}
 use Rattle.lock_state.specs.History.{Part, first_cause, named, new_part, owned}
-use Rattle.lock_state.specs.Legal.{LegalHistory}
-use Rattle.lock_state.specs.Placed.{Ground, StandsOn, entries_in, ground_of}
+use Rattle.lock_state.specs.LegalHistory.{LegalHistory}
+use Rattle.lock_state.specs.PlacedItems.{Ground, StandsOn, entries_in, ground_of}
 use Rattle.log_format.specs.LogOf.{status_of}
 use Rattle.log_store.specs.Calls.{HasFaulted}
 use Rattle.run_error.specs.declared.run_error.RunError.{RunError}
@@ -30,17 +30,17 @@ use Rattle.run_error.specs.Errors.{refused_by}
 use Rattle.refusals.specs.declared.refusal.Refusal.{Refusal}
 use Rattle.refusals.specs.declared.refusal.Refusal.TheVariants as refusals
 use Rattle.script_runner.specs.declared.recording.Lies.{Lies}
-use Rattle.script_runner.specs.OnDisks.{IsStackOf, seen_on}
-use Rattle.script_runner.specs.Submitted.{bio_of}
+use Rattle.script_runner.specs.DiskRun.{IsStackOf, seen_on}
+use Rattle.script_runner.specs.Submissions.{bio_of}
 use Rattle.seat_runner.specs.declared.tally.Tally.{Tally}
 use Rattle.seat_runner.specs.Tallies.{Came, joined, mark_outcome, mark_receipt_in, outcome_of}
 use Rattle.seat_runner.specs.Tallies.{receipt_in, receipts_of, tally_of}
 use Rattle.shared.specs.Answers.{Answered, Marked}
-use Rattle.shared.specs.Closing.{Agrees, Differs, IsReceipt, LeavesLog}
+use Rattle.shared.specs.Close.{Agrees, Differs, IsReceipt, LeavesLog}
 use Rattle.shared.specs.declared.answer.Answer.{Answer}
 use Rattle.shared.specs.declared.answer.MarkAnswer.{MarkAnswer}
 use Rattle.shared.specs.declared.closing.Closed.{Closed}
-use Rattle.table_line.specs.Standing.{some_drops}
+use Rattle.table_line.specs.LayerOrder.{some_drops}
 
 -- a seat made a call, which came to this: the recorder answered
 -- it so, and the seat's list has what goes with that answer

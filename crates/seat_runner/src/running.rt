@@ -1,9 +1,9 @@
 //! The threads of a run.
-//! Its clauses are written in specs/SeatRuns and specs/inside/Playing; the search alone proves it.
+//! Its clauses are written in specs/SeatRuns and specs/inside/SeatWork; the search alone proves it.
 ghost use Rattle.std.specs.Prelude.{◌≡◌, ◌⊎◌, IfErr, IfOk};
 ghost use Rattle.refusals.specs.declared.refusal.Refusal.TheVariants as refusals;
-ghost use Rattle.seat_runner.specs.inside.Playing.{AreNewPlayers, DoesLines, FitsRecorder};
-ghost use Rattle.seat_runner.specs.inside.Playing.{HavePlayed};
+ghost use Rattle.seat_runner.specs.inside.SeatWork.{AreNewPlayers, DoesLines, FitsRecorder};
+ghost use Rattle.seat_runner.specs.inside.SeatWork.{HavePlayed};
 ghost use Rattle.seat_runner.specs.SeatRuns.{IsUnplayed};
 
 use crate::work::Work;

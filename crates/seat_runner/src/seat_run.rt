@@ -1,16 +1,16 @@
 //! A script's run, from its disks to the log's disk.
 //! Its clauses are written in specs/; its theorems in proofs/seat_run/.
 ghost use Rattle.std.specs.Prelude.{◌≡◌, ◌<◌, IfErr, IfOk, length, map};
-ghost use Rattle.lock_state.specs.Placed.{ground_of};
+ghost use Rattle.lock_state.specs.PlacedItems.{ground_of};
 ghost use Rattle.seat_runner.specs.Tallies.{joined};
 ghost use Rattle.bio.specs.declared.outcome.End.TheVariants as ends;
 ghost use Rattle.script_reader.specs.RunPlans.{IsRunPlan};
 ghost use Rattle.layer_table.specs.Layers.{disk_of, stack_shown};
 ghost use Rattle.run_error.specs.declared.run_error.RunError.TheVariants.{LoggingEnded};
-ghost use Rattle.script_runner.specs.OnDisks.{IsStackOf};
-ghost use Rattle.sector_disk.specs.Shown.{shown_of};
+ghost use Rattle.script_runner.specs.DiskRun.{IsStackOf};
+ghost use Rattle.sector_disk.specs.DiskView.{shown_of};
 ghost use Rattle.bio.specs.Content.{gather};
-ghost use Rattle.seat_runner.specs.inside.Playing.{AreNewPlayers, FitsRecorder};
+ghost use Rattle.seat_runner.specs.inside.SeatWork.{AreNewPlayers, FitsRecorder};
 ghost use Rattle.seat_runner.specs.SeatRuns.{FailsRun, IsClosed, IsRun, IsUnclosed};
 ghost use Rattle.shared.specs.Seats.{AreNewSeats};
 
@@ -203,7 +203,13 @@ fn close<R: Run + Names>(
     ensures refused { IfErr result (IsUnclosed seats.items receipts.items) }
 {
     match recorder.close(seats, writer, receipts) {
-        Ok(Ending { closed, posts: _ }) => Ok(closed),
+        Ok(
+            Ending {
+                closed,
+                posts: _,
+                released: _,
+            },
+        ) => Ok(closed),
         Err(Unclosed::Busy(_)) => Err(Refusal::Busy),
         Err(Unclosed::Foreign(_)) => Err(Refusal::Foreign),
     }

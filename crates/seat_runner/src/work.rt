@@ -1,12 +1,12 @@
 //! What one thread does at its seat.
-//! Its clauses are written in specs/Tallies and specs/inside/Playing; its theorems in proofs/work/.
+//! Its clauses are written in specs/; its theorems in proofs/work/.
 ghost use Rattle.std.specs.Prelude.{◌≡◌, ◌==◌, ◌<◌, Ok, true, vec_capacity, vec_len};
 ghost use Rattle.script_reader.specs.declared.seat_call.Call.TheVariants.{Mark, Submit};
 ghost use Rattle.script_reader.specs.Plans.{submission_answer};
 ghost use Rattle.script_reader.specs.Lines.{is_line_text};
 ghost use Rattle.lock_state.specs.History.{new_part};
-ghost use Rattle.seat_runner.specs.inside.Playing.{CanMake, DoesLine, DoesLines, FitsRecorder};
-ghost use Rattle.seat_runner.specs.inside.Playing.{Makes, new_player};
+ghost use Rattle.seat_runner.specs.inside.SeatWork.{CanMake, DoesLine, DoesLines, FitsRecorder};
+ghost use Rattle.seat_runner.specs.inside.SeatWork.{Makes, new_player};
 ghost use Rattle.seat_runner.specs.Tallies.{and_kept, mark_receipt_in, receipt_in};
 
 use crate::tally::{Outcome, Tally};
@@ -33,7 +33,7 @@ pub struct Work<R: Run + Names> {
 }
 
 impl<R: Run + Names> Model for Work<R> {
-    ghost use Rattle.seat_runner.specs.inside.Playing.{Player};
+    ghost use Rattle.seat_runner.specs.inside.SeatWork.{Player};
 
     ghost Value = { Player };
 

@@ -12,7 +12,7 @@ use Rattle.bio.specs.Content.{Content}
 use Rattle.sector_disk.specs.declared.disk.SectorDisk.{SectorDisk}
 use Rattle.sector_disk.specs.Candidates.{Flushes, Step, view_of}
 use Rattle.sector_disk.specs.CandidateLaws.{syncs_start}
-use Rattle.sector_disk.specs.Shown.{Does, HasPast, flushed_after, start_of, steps_of}
+use Rattle.sector_disk.specs.DiskView.{Does, HasPast, flushed_after, start_of, steps_of}
 use Rattle.sector_disk.specs.Sizes.{Begins}
 
 -- content of one value in each sector

@@ -10,8 +10,8 @@ use Rattle.sector_disk.specs.Candidates.{Cache, Flushes, LeftSince, MayLeave, Pu
 use Rattle.sector_disk.specs.Candidates.{cache_after, candidates_after, left_by}
 use Rattle.sector_disk.specs.CandidateLaws.{is_current, left-kept, since-during}
 use Rattle.sector_disk.specs.PickLaws.{picks_leave_one}
-use Rattle.sector_disk.specs.Shown.{HasPast, cache_of, flushed_after, start_of}
-use Rattle.sector_disk.specs.Shown as shown
+use Rattle.sector_disk.specs.DiskView.{HasPast, cache_of, flushed_after, start_of}
+use Rattle.sector_disk.specs.DiskView as shown
 
 -- what a disk knows by its past
 cache_by : (old new : SectorDisk) (past : List Step) → HasPast old new past

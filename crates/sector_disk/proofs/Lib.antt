@@ -1,11 +1,11 @@
 -- The lemmas of `sector_disk`; the proof of a function stands in the folder of its source file.
 pub mod Chains
-pub mod Reading
-pub mod Choosing
-pub mod Keeping
-pub mod Moved
-pub mod Beginning
+pub mod SectorValues
+pub mod NextPick
+pub mod FieldsKept
+pub mod DeviceLaw
+pub mod NewPast
 pub mod Lawful
 pub mod Examples
-mod Giving
+mod ImageBack
 mod Counterexamples

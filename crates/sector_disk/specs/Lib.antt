@@ -2,7 +2,7 @@
 pub mod Candidates
 pub mod CandidateLaws
 pub mod PickLaws
-pub mod Shown
+pub mod DiskView
 pub mod Sizes
-pub mod ShownLaws
+pub mod DiskViewLaws
 pub mod inside

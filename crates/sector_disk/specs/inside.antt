@@ -1,6 +1,6 @@
 -- The definitions of `sector_disk` that its proofs alone use: no other crate cites them.
 -- Any crate above may cite it.
 pub mod Storage
-pub mod Chosen
-pub mod Added
-pub mod Given
+pub mod Choice
+pub mod CallTable
+pub mod Overlay

@@ -3,8 +3,8 @@
 ghost use Rattle.std.specs.Prelude.{true, ◌∷◌, ◌++◌, ◌≡◌, ◌%◌, ◌*◌, ◌+◌, ◌/◌, ◌≤◌, IfOk};
 ghost use Rattle.std.specs.Prelude.{MatchOption, None, OnErr, OnOk, Some, [], drop, length};
 ghost use Rattle.std.specs.Prelude.{slice_get, take};
-ghost use Rattle.sector_disk.specs.inside.Added.{IsFilled, count_of};
-ghost use Rattle.sector_disk.specs.inside.Given.{is_image_in, is_write_of, put_over};
+ghost use Rattle.sector_disk.specs.inside.CallTable.{IsFilled, count_of};
+ghost use Rattle.sector_disk.specs.inside.Overlay.{is_image_in, is_write_of, put_over};
 ghost use Rattle.sector_disk.specs.inside.Storage.{before_at, content_at, is_open, place_of};
 ghost use Rattle.sector_disk.specs.inside.Storage.{value_at, value_in};
 ghost use Rattle.bio.specs.Content.{gather, writes};

@@ -2,7 +2,7 @@
 //! Its clauses are written in specs/; its theorems in proofs/choice/.
 ghost use Rattle.std.specs.Prelude.{◌≡◌, ◌-◌, ◌%◌, ◌<◌, ◌≤◌, length, slice_get, true, unwrap_or, ℕ};
 ghost use Rattle.sector_disk.specs.Candidates.{Cache};
-ghost use Rattle.sector_disk.specs.inside.Chosen.{AreChosen};
+ghost use Rattle.sector_disk.specs.inside.Choice.{AreChosen};
 ghost use Rattle.sector_disk.specs.inside.Storage.{ArePlaced, is_chain, walk};
 
 use crate::call::{Call, before, is_open};

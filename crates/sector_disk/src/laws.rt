@@ -1,12 +1,12 @@
 //! What a crash of a disk may leave: just what picks can name; unsynced sectors may
 //! be old, and calls tear.
-//! Its clauses are written in specs/Candidates and specs/Shown; its theorems in proofs/laws/.
+//! Its clauses are written in specs/Candidates and specs/DiskView; its theorems in proofs/laws/.
 ghost use Rattle.std.specs.Prelude.{◌∷◌, ◌++◌, ◌≡◌, ◌+◌, ◌-◌, ◌/◌, ◌<◌, ◌≤◌, Bool, List, Ok, []};
 ghost use Rattle.std.specs.Prelude.{false, length, replicate, true, ℕ};
 ghost use Rattle.blockdev.specs.Calls.{Discards, Flushes, Writes};
 ghost use Rattle.sector_disk.specs.Candidates.{left_by};
 ghost use Rattle.sector_disk.specs.declared.disk.SectorDisk.{SectorDisk};
-ghost use Rattle.sector_disk.specs.Shown.{Does, cache_of, shown_of};
+ghost use Rattle.sector_disk.specs.DiskView.{Does, cache_of, shown_of};
 ghost use Rattle.bio.specs.Content.{Content, Patched, discards, sector_of, writes};
 
 /// What any picks leave, a crash may leave.

@@ -17,20 +17,20 @@ use Rattle.bio.specs.declared.request.Bio.TheVariants as bios
 use Rattle.board.specs.Posts.{opening}
 use Rattle.log_format.specs.Entries.{end_mark}
 use Rattle.log_format.specs.LogOf.{IsLogOf, status_of}
-use Rattle.pending.specs.Beginnings.{entries_of}
+use Rattle.pending.specs.Prefixes.{entries_of}
 use Rattle.pending.specs.CoreState.{CoreState, items_of, sized_state}
 use Rattle.bio.specs.Content.{Content}
 use Rattle.lock_state.specs.declared.note.Done.{Done}
 use Rattle.lock_state.specs.declared.note.Item.{Item}
 use Rattle.lock_state.specs.declared.note.Own.{Own}
 use Rattle.lock_state.specs.declared.note.Receipt.{Receipt}
-use Rattle.lock_state.specs.Closing.{IsOwn, IsShort}
-use Rattle.lock_state.specs.Comparing.{BeginsTaken, Fails, IsServed, Names}
+use Rattle.lock_state.specs.Close.{IsOwn, IsShort}
+use Rattle.lock_state.specs.Comparison.{BeginsTaken, Fails, IsServed, Names}
 use Rattle.lock_state.specs.History.{Part, Queue, begun, ended, first_cause, new_part, noted}
-use Rattle.lock_state.specs.Placed.{Stay, entries_in}
+use Rattle.lock_state.specs.PlacedItems.{Stay, entries_in}
 use Rattle.shared.specs.Answers.{Answered, Marked}
-use Rattle.shared.specs.Closing.{Agrees, Differs, IfBusy, IfForeign, IsReceipt, LeavesLog}
-use Rattle.shared.specs.Posting.{ArePosted, IsCurrent}
+use Rattle.shared.specs.Close.{Agrees, Differs, IfBusy, IfForeign, IsReceipt, LeavesLog}
+use Rattle.shared.specs.Posts.{ArePosted, IsCurrent}
 use Rattle.shared.specs.Seats.{AreNewReaders, AreNewSeats}
 use Rattle.shared.specs.declared.answer.Answer.TheVariants.{Done as done, Failed, Logged, NotLogged}
 use Rattle.shared.specs.declared.answer.Answer.TheVariants.{Read, Refused}
@@ -228,8 +228,10 @@ posted_back posted =
     let entries = goes.entries in
     absurd (omega arith)
 
--- what is up to date where a receipt's entry isn't placed, and where it wasn't posted
-current_missing : IsCurrent 512 [] (record { id = 0; number = 0 } ∷ []) (opening ∷ []) → ⊥
+-- what is up to date where a receipt's entry isn't placed, and where it wasn't posted, whether an
+-- end was or not
+current_missing : IsCurrent 512 [] None None (record { id = 0; number = 0 } ∷ [])
+    (opening ∷ []) → ⊥
 current_missing current =
     none_stays current.written.placed current.stays (current.told 0 _ refl)
   where
@@ -237,13 +239,18 @@ current_missing current =
     none_stays [] stays some = absurd (omega arith)
     none_stays (x ∷ xs) stays some = absurd (let there = stays 0 x refl in cc)
 
-current_unposted : IsCurrent 512 (ending ∷ []) (record { id = 0; number = 0 } ∷ [])
-    (opening ∷ []) → ⊥
-current_unposted current =
+current_unposted : (released : Option End) → IsCurrent 512 (ending ∷ []) None released
+    (record { id = 0; number = 0 } ∷ [])
+    (record { entries = 0; sector = 0; end = released } ∷ []) → ⊥
+current_unposted released current =
     let log = current.written in
     let cause = first_cause log.end log.released in
     let same = one_stays log.placed current.stays (current.told 0 _ refl) in
-    let is : opening ≡ status_of 512 (entries_in log.placed) cause =
+    let known : cause ≡ released =
+    ap (λ (end : Option End). first_cause end log.released) (none_of log.end current.end_stays)
+    ∙ current.let_go in
+    let is : record { entries = 0; sector = 0; end = released }
+    ≡ status_of 512 (entries_in log.placed) cause =
     current.latest (record {
       fit = record {
         entries = subst (λ (placed : List Item). (status_of 512 (entries_in placed) cause).entries
@@ -251,11 +258,16 @@ current_unposted current =
         sector = subst (λ (placed : List Item). (status_of 512 (entries_in placed) cause).sector
             ≤ 1048576) (sym same) (omega arith);
       };
-      follows = record { entries = omega arith; end = λ other none. absurd (cc none) };
+      follows = record { entries = omega arith; end = λ other was. known ∙ was };
     }) in
     true≢false (ap (λ (status : Status). status.entries == 0)
     (is ∙ ap (λ (placed : List Item). status_of 512 (entries_in placed) cause) same))
   where
+    none_of : (end : Option End) → ((first : End) → end ≡ Some first → None ≡ Some first)
+        → end ≡ None
+    none_of None stays = refl
+    none_of (Some first) stays = absurd (let is = stays first refl in cc)
+
     one_stays : (placed : List Item) → Stay placed (ending ∷ []) → 0 < length placed
         → placed ≡ ending ∷ []
     one_stays [] stays some = absurd (omega arith)

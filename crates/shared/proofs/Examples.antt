@@ -1,21 +1,34 @@
 -- Worked answers: some that hold, and some that don't.
 -- Nothing cites it: it is checked with its crate.
-use Rattle.std.proofs.Common.{◌≡◌, ◌==◌, ◌<◌, ℕ, zero, suc, Bool, true, false, List, [], ◌∷◌, length}
-use Rattle.std.proofs.Common.{None, inl, inr, refl, ap, subst, true≢false, arith}
+use Rattle.std.proofs.Common.{◌≡◌, ◌==◌, ◌<◌, ℕ, zero, suc, Bool, true, false, List, [], ◌∷◌}
+use Rattle.std.proofs.Common.{length}
+use Rattle.std.proofs.Common.{None, Ok, Err, Some, inl, inr, refl, ap, subst, ◌∙◌, true≢false}
+use Rattle.std.proofs.Common.{arith}
+use Rattle.std.specs.Prelude.{is_some}
 use Rattle.bio.specs.declared.event.CoreEvent.TheVariants as events
+use Rattle.bio.specs.declared.outcome.End.TheVariants.{Device, Full}
 use Rattle.bio.specs.declared.request.Bio.{Bio}
 use Rattle.bio.specs.declared.request.Bio.TheVariants as bios
+use Rattle.bio.specs.declared.outcome.Status.{Status}
 use Rattle.board.specs.Posts.{opening}
 use Rattle.log_format.specs.Entries.{entry_of}
 use Rattle.lock_state.specs.declared.note.Item.{Item}
 use Rattle.lock_state.specs.declared.note.Receipt.{Receipt}
-use Rattle.lock_state.specs.Comparing.{Each}
-use Rattle.lock_state.specs.History.{Part, begun, ended, new_part, noted}
-use Rattle.lock_state.specs.Placed.{Log}
-use Rattle.shared.specs.Answers.{Answered, Marked}
-use Rattle.shared.specs.Posting.{IsCurrent, IsOfPrefix}
-use Rattle.shared.specs.declared.answer.Answer.TheVariants.{Done, Logged}
+use Rattle.lock_state.specs.Comparison.{Each}
+use Rattle.lock_state.specs.History.{Part, Queue, begun, ended, ended_by, finished, new_part, noted}
+use Rattle.lock_state.specs.History.{recorded_by}
+use Rattle.lock_state.specs.PlacedItems.{Log}
+use Rattle.pending.specs.CoreState.{sized_state}
+use Rattle.shared.specs.Answers.{Answered, AnswersPassed, Marked}
+use Rattle.shared.specs.Admission.{Enters, MarkEnters}
+use Rattle.shared.specs.Posts.{IsCurrent, IsOfPrefix, KeepsCauses, TellsCause}
+use Rattle.shared.specs.Search.{Finds}
+use Rattle.shared.specs.NextItem.{FindsNext}
+use Rattle.shared.specs.declared.answer.Answer.TheVariants.{Done, Logged, NotLogged}
 use Rattle.shared.specs.declared.answer.MarkAnswer.TheVariants as marks
+use Rattle.shared.specs.declared.calls.Entered.TheVariants.{Recorded, Unrecorded}
+use Rattle.shared.specs.declared.marks.EnteredMark.TheVariants as entered
+use Rattle.shared.specs.declared.writing.Next.TheVariants.{Finished, Stopped}
 
 abbrev plain : Bio
 plain = bios.Write 1 [] false false false
@@ -52,6 +65,66 @@ mark_missing : Marked (new_part 0) (1 ∷ []) (marks.Logged (record { id = 3; nu
     (new_part 0) → ⊥
 mark_missing answered = true≢false (ap (λ (part : Part). length part.own == 0) answered)
 
+-- behind a stop a write is done, and one with FUA is told the cause
+passed_plain : AnswersPassed (Some Full) plain Done
+passed_plain = inr refl
+
+passed_fua : AnswersPassed (Some Full) fua (NotLogged Full)
+passed_fua = (refl, refl)
+
+-- it isn't done, nor told another cause
+passed_fua_done : AnswersPassed (Some Full) fua Done → ⊥
+passed_fua_done answers = elim answers [
+  | inl none ↦ absurd (cc none)
+  | inr other ↦ true≢false other
+]
+
+passed_other : AnswersPassed (Some Full) fua (NotLogged Device) → ⊥
+passed_other answers = let cause = answers.0 in absurd (cc cause)
+
+-- a queue of no events, one whose logging ended, and one that was closed
+abbrev fresh : Queue
+fresh = record { core = sized_state 512; by = []; stop = None }
+
+abbrev stopped : Queue
+stopped = ended_by fresh Full
+
+abbrev closed : Queue
+closed = finished fresh
+
+-- the first request is the first event
+first_enters : Enters fresh 0 plain (Recorded 0) (recorded_by fresh (Some 0) (events.Submit plain))
+first_enters = (refl, (refl, refl))
+
+-- and isn't passed while recording goes on
+none_passed : Enters fresh 0 plain (Unrecorded None) fresh → ⊥
+none_passed enters = true≢false enters.0
+
+-- a mark behind a stop is told its cause, and no other
+stopped_mark : MarkEnters stopped 0 (1 ∷ []) (entered.Stopped Full) stopped
+stopped_mark = (refl, (refl, refl))
+
+other_mark : MarkEnters stopped 0 (1 ∷ []) (entered.Stopped Device) stopped → ⊥
+other_mark enters = let cause = enters.1.0 in absurd (cc cause)
+
+-- the writer finds nothing in a queue of no events, and waits; and a stop with its cause
+nothing_next : FindsNext fresh None fresh None
+nothing_next = (refl, (refl, (omega arith, (refl, (refl, refl)))))
+
+stop_next : FindsNext stopped (Some (Stopped Full)) stopped None
+stop_next = (refl, (refl, (refl, refl)))
+
+-- it isn't finished while recording goes on, nor where a stop ended it
+open_finished : FindsNext fresh (Some Finished) fresh None → ⊥
+open_finished finds = true≢false finds.0
+
+stop_finished : FindsNext stopped (Some Finished) stopped None → ⊥
+stop_finished finds = let none = finds.1.0 in absurd (cc none)
+
+-- nor before the end mark of a close is taken
+close_finished : FindsNext closed (Some Finished) closed None → ⊥
+close_finished finds = true≢false (ap is_some finds.1.1.1.0)
+
 -- the item of a flush, whose entry takes one sector of the log
 abbrev flushed : ℕ → Item
 flushed id = record { id = id; entry = entry_of 512 bios.Flush }
@@ -82,16 +155,79 @@ both_placed = record { placed = two; settled = 2; end = None; released = None }
 abbrev told_of : ℕ → Receipt
 told_of n = record { id = n; number = n }
 
+-- the second one is found there, and so nobody waits for it
+second_found : Finds both_placed 1 0 (Some (Ok (told_of 1)))
+second_found = (
+  refl,
+  (
+    omega arith,
+    record {
+      within = omega arith;
+      item = flushed 1;
+      there = refl;
+      named = refl;
+    },
+  ),
+)
+
+second_awaited : Finds both_placed 1 0 None → ⊥
+second_awaited finds = finds.0 1 (flushed 1) (omega arith) (omega arith) refl refl
+
+-- a third one isn't; whoever waits for it is told the first cause, and no other
+abbrev both_ended : Log
+both_ended = record both_placed { end = Some Full; released = Some Device }
+
+other_cause : Finds both_ended 2 0 (Some (Err Device)) → ⊥
+other_cause finds = let cause = finds.1 in absurd (cc cause)
+
+-- a posted end is why the store ended, or else why those who waited were let go; there is no other
+abbrev full : Status
+full = record { entries = 2; sector = 2; end = Some Full }
+
+store_told : TellsCause (Some Full) (Some Device) full
+store_told cause is other = absurd (other is)
+
+stop_told : TellsCause None (Some Full) full
+stop_told cause is other = is
+
+none_told : TellsCause None None full → ⊥
+none_told tells = let is = tells Full refl (λ none. absurd (cc none)) in absurd (cc is)
+
+other_told : TellsCause (Some Device) None full → ⊥
+other_told tells = let is = tells Full refl (λ same. absurd (cc same)) in absurd (cc is)
+
+-- a cause that a log's lock knew isn't forgotten
+end_forgotten : KeepsCauses both_ended (record both_ended { end = None }) → ⊥
+end_forgotten keeps = let is = keeps.end Full refl in absurd (cc is)
+
+release_forgotten : KeepsCauses both_ended (record both_ended { released = None }) → ⊥
+release_forgotten keeps = let is = keeps.released Device refl in absurd (cc is)
+
 -- What was posted of it is up to date, where both receipts were told.
-two_current : IsCurrent 512 two (told_of 0 ∷ told_of 1 ∷ [])
+two_current : IsCurrent 512 two None None (told_of 0 ∷ told_of 1 ∷ [])
     (opening ∷ record { entries = 2; sector = 2; end = None } ∷ [])
 two_current = record {
   written = both_placed;
   stays = λ number item there. there;
+  end_stays = λ cause is. is;
+  let_go = refl;
+  ends = ends;
   told = told;
   latest = λ may. refl;
 }
   where
+    ends : Each (TellsCause None None)
+        (opening ∷ record { entries = 2; sector = 2; end = None } ∷ [])
+    ends zero status there cause is other =
+        let same : opening ≡ status = cc in
+        let end : opening.end ≡ Some cause = ap (λ (s : Status). s.end) same ∙ is in
+        absurd (cc end)
+    ends (suc zero) status there cause is other =
+        let same : record { entries = 2; sector = 2; end = None } ≡ status = cc in
+        let end : opening.end ≡ Some cause = ap (λ (s : Status). s.end) same ∙ is in
+        absurd (cc end)
+    ends (suc (suc k)) status there cause is other = absurd (cc there)
+
     told : Each (λ (receipt : Receipt). receipt.number < 2) (told_of 0 ∷ told_of 1 ∷ [])
     told zero receipt there =
         let is : told_of 0 ≡ receipt = cc in

@@ -1,5 +1,5 @@
 -- The lemmas of `shared`; the proof of a function stands in the folder of its source file.
-pub mod Finishing
-pub mod Posting
+pub mod ClosedLog
+pub mod PostedStatus
 mod Examples
 mod Counterexamples

@@ -1,7 +1,8 @@
 -- The definitions that the contracts of `shared` are written in.
 pub mod Answers
-pub mod Closing
-pub mod Entering
-pub mod Posting
+pub mod Admission
+pub mod NextItem
+pub mod Search
+pub mod Posts
 pub mod Seats
-pub mod Writing
+pub mod Close

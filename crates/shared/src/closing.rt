@@ -1,19 +1,20 @@
 // The close of a recorder: what it compares, and what it hands back.
-// Its clauses are written in specs/Closing and specs/Posting; its theorems in proofs/closing/.
+// Its clauses are written in specs/Close and specs/Posts; its theorems in proofs/closing/.
 ghost use Rattle.std.specs.Prelude.{◌≡◌, ◌<◌, ◌≤◌, List, [], length, IfErr, IfOk};
-ghost use Rattle.std.specs.Prelude.{MatchBool, None, true, false};
+ghost use Rattle.std.specs.Prelude.{MatchBool, None, Some, true, false};
 ghost use Rattle.bio.specs.Lawful.{has_no_close};
 ghost use Rattle.log_format.specs.LogOf.{status_of};
 ghost use Rattle.bio.specs.Content.{Content};
+ghost use Rattle.bio.specs.declared.outcome.End.{End as Cause};
 ghost use Rattle.lock_state.specs.Calls.{Holds};
 ghost use Rattle.lock_state.specs.declared.note.Receipt.{Receipt as Naming};
-ghost use Rattle.lock_state.specs.Closing.{IsShort};
-ghost use Rattle.lock_state.specs.Comparing.{BeginsTaken, Each};
+ghost use Rattle.lock_state.specs.Close.{IsShort};
+ghost use Rattle.lock_state.specs.Comparison.{BeginsTaken, Each};
 ghost use Rattle.lock_state.specs.History.{Part, first_cause, named, owned};
-ghost use Rattle.lock_state.specs.Legal.{LegalHistory};
-ghost use Rattle.lock_state.specs.Placed.{LeavesBeginning, StandsOn, Stay, entries_in};
-ghost use Rattle.shared.specs.Closing.{Agrees, Differs, IfBusy, IfForeign, IsReceipt, LeavesLog};
-ghost use Rattle.shared.specs.Posting.{ArePosted, IsCurrent, IsLatest};
+ghost use Rattle.lock_state.specs.LegalHistory.{LegalHistory};
+ghost use Rattle.lock_state.specs.PlacedItems.{LeavesBeginning, StandsOn, Stay, entries_in};
+ghost use Rattle.shared.specs.Close.{Agrees, Differs, IfBusy, IfForeign, IsReceipt, LeavesLog};
+ghost use Rattle.shared.specs.Posts.{ArePosted, IsCurrent, IsLatest, TellsCause};
 
 use crate::desk::Desk;
 use crate::log_desk::LogDesk;
@@ -68,6 +69,8 @@ pub struct Closed<D: Drop, L: Drop> {
 pub struct Ending<D: Drop, L: Drop, R: Run + Names> {
     pub closed: Closed<D, L>,
     pub posts: Posts<R>,
+    /// Why those who waited for the log were let go, where they were.
+    pub released: Option<End>,
 }
 
 /// What is handed back where recording wasn't closed: all that was handed in.
@@ -85,6 +88,8 @@ pub struct Open<D: BlockDev + Drop, L: BlockDev + Drop, R: Run + Names> {
 pub struct Strangers<D: Drop, L: Drop, R: Run + Names> {
     pub closed: Closed<D, L>,
     pub posts: Posts<R>,
+    /// Why those who waited for the log were let go, where they were.
+    pub released: Option<End>,
     pub seats: Vec<Seat<R>>,
     pub writer: WriterSeat<R>,
     pub receipts: Vec<Receipt>,
@@ -149,7 +154,9 @@ impl<D: BlockDev + Drop, L: BlockDev + Drop, R: Run + Names> Shared<D, L, R> {
         ensures taken { IfOk result (λ c. c.closed.taken ≡ c.closed.core.state.taken) }
         ensures posted { IfOk result (λ c. ArePosted R.sector_bytes c.closed.placed.items c.posts) }
         ensures current { IfOk result (λ c. IsCurrent R.sector_bytes
-            c.closed.placed.items receipts.items c.posts) }
+            c.closed.placed.items c.closed.store_end c.released receipts.items c.posts) }
+        ensures ends { IfOk result
+            (λ c. Each (TellsCause c.closed.store_end c.released) c.posts) }
         ensures foreign { IfErr result
             (λ e. IfForeign e (λ f. Differs
             (record { core = f.closed.core.state; by = f.closed.by.items; stop = f.closed.stop })
@@ -163,6 +170,8 @@ impl<D: BlockDev + Drop, L: BlockDev + Drop, R: Run + Names> Shared<D, L, R> {
             (λ e. IfForeign e (λ f. StandsOn R.log (L.shown f.closed.log))) }
         ensures foreign_posted { IfErr result
             (λ e. IfForeign e (λ f. ArePosted R.sector_bytes f.closed.placed.items f.posts)) }
+        ensures foreign_ends { IfErr result
+            (λ e. IfForeign e (λ f. Each (TellsCause f.closed.store_end f.released) f.posts)) }
         ensures foreign_counts { IfErr result (λ e. IfForeign e (λ f.
             length seats.items ≡ R.parts → 0 < R.parts
             → named f.closed.by.items ≡ owned seats.items)) }
@@ -196,6 +205,7 @@ impl<D: BlockDev + Drop, L: BlockDev + Drop, R: Run + Names> Shared<D, L, R> {
         let mut seats = seats;
         queue.audit(&mut seats);
         let notes = notes.as_mut_slice();
+        let released = log.released();
         let agrees = agree(
             &queue,
             &log,
@@ -206,11 +216,16 @@ impl<D: BlockDev + Drop, L: BlockDev + Drop, R: Run + Names> Shared<D, L, R> {
         );
         if agrees {
             let closed = finish(queue, log, device);
-            return Ok(Ending { closed, posts });
+            return Ok(Ending {
+                closed,
+                posts,
+                released,
+            });
         }
         Err(Unclosed::Foreign(Strangers {
             closed: take_apart(queue, log, device),
             posts,
+            released,
             seats,
             writer,
             receipts,
@@ -221,6 +236,7 @@ impl<D: BlockDev + Drop, L: BlockDev + Drop, R: Run + Names> Shared<D, L, R> {
     fn leave_locks(self) -> Result<Held<D, L, R>, Shared<D, L, R>>
         ensures posted { IfOk result (λ held. ArePosted R.sector_bytes held.log.placed held.posts) }
         ensures latest { IfOk result (λ held. IsLatest R.sector_bytes held.log held.posts) }
+        ensures ends { IfOk result (λ held. Each (TellsCause held.log.end held.log.released) held.posts) }
         ensures closed { IfOk result (λ held. (has_no_close held.desk.queue.core.events ≡ false)
             × (length held.desk.queue.core.events ≤ length held.desk.notes.items)) }
     {
@@ -319,6 +335,7 @@ fn finish<D: BlockDev + Drop, L: BlockDev + Drop, R: Run>(
         Agrees (record { core = result.core.state; by = result.by.items; stop = result.stop })
         result.placed.items result.settled result.store_end result.done.items seats receipts }
     ensures stay { Stay log.placed result.placed.items }
+    ensures end_stays { (cause : Cause) → log.end ≡ Some cause → result.store_end ≡ Some cause }
     ensures same { (result.core.state.events ≡ queue.core.events) × (result.by.items ≡ queue.by) }
     ensures crash { (L.shown result.log).lies ≡ 0 → (left : Content)
         → (L.shown result.log).crash left →

@@ -1,9 +1,9 @@
 // What a close hands back of the board.
-// Its clauses are written in specs/Posting; its theorems in proofs/posts/.
+// Its clauses are written in specs/Posts; its theorems in proofs/posts/.
 ghost use Rattle.std.specs.Prelude.{◌≡◌, ℕ, List};
 ghost use Rattle.board.specs.Posts.{Begins, last_of};
 ghost use Rattle.lock_state.specs.declared.note.Item.{Item as Placing};
-ghost use Rattle.shared.specs.Posting.{ArePosted};
+ghost use Rattle.shared.specs.Posts.{ArePosted};
 
 use bio::Status;
 use board::{Board, Names, StatusSeat};

@@ -1,6 +1,6 @@
 -- What a recorder's log lies on in these tests.
 use Rattle.std.specs.Prelude.{ℕ, false}
-use Rattle.lock_state.specs.Placed.{Ground}
+use Rattle.lock_state.specs.PlacedItems.{Ground}
 
 -- a disk of so many sectors, under no layers
 abbrev pub disk_ground : ℕ → Ground

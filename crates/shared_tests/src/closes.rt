@@ -3,11 +3,11 @@
 ghost use Rattle.std.specs.Prelude.{◌≡◌};
 ghost use Rattle.shared_tests.specs.Disks.{disk_ground};
 
-use bio::{Bio, Bytes, Ms};
+use bio::{Bio, Bytes, End, Ms};
 use board::Names;
 use lock_state::{Run, Seat};
 use sector_disk::SectorDisk;
-use shared::{Answer, Ending, Shared, Started, Unclosed, Unnamed, WriterSeat};
+use shared::{Answer, Ending, MarkAnswer, Shared, Started, Unclosed, Unnamed, WriterSeat};
 use std::alloc::{AllocError, Global};
 use std::marker::Brand;
 use std::sync::Wait;
@@ -76,9 +76,13 @@ fn unasked<R: Run + Names, H: Wait>(
         return Ok(false);
     };
     let is_asked = back.recorder.ask_close(rt).is_ok() && back.recorder.ask_close(rt).is_ok();
-    let Ok(Ending { closed, posts: _ }) = back
-        .recorder
-        .close(back.seats, back.writer, back.receipts)
+    let Ok(
+        Ending {
+            closed,
+            posts: _,
+            released: _,
+        },
+    ) = back.recorder.close(back.seats, back.writer, back.receipts)
     else {
         return Ok(false);
     };
@@ -121,11 +125,19 @@ fn recorded<R: Run + Names, H: Wait>(
     let is_asked = recorder.ask_close(rt).is_ok();
     recorder.write_loop(rt, &mut writer);
     let behind = recorder.status(&mut reader);
-    let Ok(Ending { closed, mut posts }) = recorder.close(seats, writer, Vec::new(alloc)) else {
+    let Ok(
+        Ending {
+            closed,
+            mut posts,
+            released,
+        },
+    ) = recorder.close(seats, writer, Vec::new(alloc))
+    else {
         return Ok(false);
     };
     posts.agree(&mut reader);
-    let is_written = closed.placed.len() == 3 && closed.settled == 3 && closed.end.is_none();
+    let goes_on = closed.end.is_none() && released.is_none();
+    let is_written = closed.placed.len() == 3 && closed.settled == 3 && goes_on;
     let is_posted = behind == closed.status && posts.last() == behind;
     let is_shown = before.entries == 0 && before.sector == 0 && is_posted;
     let are_done = matches!(written, Answer::Done) && matches!(flushed, Answer::Done);
@@ -196,6 +208,48 @@ fn is_foreign<R: Run + Names>(alloc: Global, wrote: Wrote<R>) -> Result<bool, Al
     Ok(back.seats.len() == 1 && back.closed.placed.is_empty() && is_unposted)
 }
 
+// A recorder whose logging ended before its seat's calls: a write with FUA and a mark are told the
+// cause, a plain write is done.
+fn stopped<R: Run + Names, H: Wait>(
+    rt: &H,
+    alloc: Global,
+    unnamed: Unnamed,
+) -> Result<bool, AllocError>
+    requires ledger { (unnamed.ledger.name ≡ R.name) × (unnamed.ledger.parts ≡ R.parts)
+        × (unnamed.ledger.parts ≡ 1) }
+    requires table { unnamed.table ≡ R.table }
+    requires board { unnamed.board ≡ R.board }
+    requires sectors { (R.sectors ≡ 16) × (R.log ≡ disk_ground 16) }
+    requires sector_size { R.sector_bytes ≡ 512 }
+{
+    let Some(started) = start::<R>(alloc, unnamed)? else {
+        return Ok(false);
+    };
+    let Started {
+        recorder,
+        mut seats,
+        writer: _,
+        readers: _,
+    } = started;
+    let Some(mut seat) = seats.pop() else {
+        return Ok(false);
+    };
+    recorder.give_up(rt);
+    let sure = Bio::Write {
+        first: 1,
+        bytes: Bytes::from_vec(vec![in alloc; 7; 512]?),
+        flush: false,
+        fua: true,
+        meta: false,
+    };
+    let told = recorder.submit(rt, &mut seat, sure, Ms::new(0));
+    let done = recorder.submit(rt, &mut seat, write(alloc, 2)?, Ms::new(0));
+    let marked = recorder.mark(rt, &mut seat, &[120]);
+    let is_told = matches!(told, Answer::NotLogged(End::Memory));
+    let is_marked = matches!(marked, MarkAnswer::NotLogged(End::Memory));
+    Ok(is_told && matches!(done, Answer::Done) && is_marked)
+}
+
 // The seats of two recorders change their calls: each recorder
 // finds that its seat isn't its own, and hands it back.
 fn foreign_seats<B: Run + Names, C: Run + Names, H: Wait>(
@@ -239,6 +293,14 @@ fn a_seat_writes_flushes_and_reads(rt: HostRuntime) -> Result<(), Fail> {
     let alloc = rt.alloc();
     let unnamed = Unnamed::new(alloc, 1)?;
     assert!(rt; recorded::<Brand, HostRuntime>(&rt, alloc, unnamed)?);
+    Ok(())
+}
+
+#[test]
+fn a_write_behind_a_stop_is_told_its_cause(rt: HostRuntime) -> Result<(), Fail> {
+    let alloc = rt.alloc();
+    let unnamed = Unnamed::new(alloc, 1)?;
+    assert!(rt; stopped::<Brand, HostRuntime>(&rt, alloc, unnamed)?);
     Ok(())
 }
 

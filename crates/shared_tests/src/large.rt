@@ -130,6 +130,7 @@ fn four_seats<H: Threads + Wait + Clock + Print + Sync + Send + Copy + Drop>(
         rises,
         receipts,
         closed,
+        released: _,
     } = played;
     let has_status = is_same(rt, &closed.status, &status, "four seats' status");
     let have_answered = have_answers(rt, tallies.as_slice(), &tally(OWN, 1, 0));

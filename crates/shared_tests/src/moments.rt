@@ -104,7 +104,14 @@ fn is_handed_on<R: Run + Names, H: Wait>(
     let answer = recorder.submit(rt, &mut seat, bio, Ms::new(5));
     seats.push(seat)?;
     let is_asked = recorder.ask_close(rt).is_ok();
-    let Ok(Ending { closed, posts: _ }) = recorder.close(seats, writer, Vec::new(alloc)) else {
+    let Ok(
+        Ending {
+            closed,
+            posts: _,
+            released: _,
+        },
+    ) = recorder.close(seats, writer, Vec::new(alloc))
+    else {
         return Ok(false);
     };
     Ok(matches!(answer, Answer::Done) && is_asked && closed.device.last == Ms::new(5))

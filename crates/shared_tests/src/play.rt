@@ -1,11 +1,11 @@
 //! Runs a recorder with a thread for each seat and one that writes the log, and closes it.
 ghost use Rattle.std.specs.Prelude.{◌≡◌, ◌<◌, ◌≤◌};
 ghost use Rattle.std.specs.Thread.{IsSend};
-ghost use Rattle.lock_state.specs.Placed.{ground_of};
+ghost use Rattle.lock_state.specs.PlacedItems.{ground_of};
 
 use crate::gate::Sign;
 use crate::work::{Call, Player, Tally, Work};
-use bio::Status;
+use bio::{End, Status};
 use blockdev::BlockDev;
 use board::Names;
 use lock_state::{Receipt, Run, Seat};
@@ -62,6 +62,8 @@ pub struct Played<D: Drop, L: Drop> {
     pub rises: bool,
     pub receipts: Vec<Receipt>,
     pub closed: Closed<D, L>,
+    /// Why those who waited were let go, where they were.
+    pub released: Option<End>,
 }
 
 // The seats and the readers, once all calls were made.
@@ -314,7 +316,14 @@ pub fn play<
     } = parts_of(alloc, works)?;
     let (seen, rises) = last_looks(alloc, &recorder, watches)?;
     let kept = Vec::from_slice(alloc, receipts.as_slice())?;
-    let Ok(Ending { closed, posts: _ }) = recorder.close(seats, writer, receipts) else {
+    let Ok(
+        Ending {
+            closed,
+            posts: _,
+            released,
+        },
+    ) = recorder.close(seats, writer, receipts)
+    else {
         return Ok(None);
     };
     Ok(Some(Played {
@@ -324,5 +333,6 @@ pub fn play<
         rises,
         receipts: kept,
         closed,
+        released,
     }))
 }

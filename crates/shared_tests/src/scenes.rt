@@ -220,10 +220,11 @@ fn small_log<H: Threads + Wait + Clock + Print + Sync + Send + Copy + Drop>(
         return Ok(holds(rt, false, "one seat plays"));
     };
     let is_status = is_same(rt, &played.closed.status, &status, "a small log's status");
+    let is_told = is_same(rt, &played.released, &status.end, "why a waiter is let go");
     let [found] = played.tallies.as_slice() else {
         return Ok(holds(rt, false, "one tally"));
     };
-    Ok(is_same(rt, found, &answer, "one seat's answer") && is_status)
+    Ok(is_same(rt, found, &answer, "one seat's answer") && is_status && is_told)
 }
 
 // In a log of two sectors a mark finds no room.

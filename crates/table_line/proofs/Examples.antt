@@ -11,7 +11,7 @@ use Rattle.table_line.specs.declared.table_error.TableError.TheVariants.{BadFeat
 use Rattle.table_line.specs.declared.table_error.TableError.TheVariants.{OutOfRange, UnknownTarget}
 use Rattle.table_line.specs.declared.table_error.TableError.TheVariants.{WrongCount}
 use Rattle.table_line.specs.Ranges.{IsBlockSize, IsCycle, IsLayerSpec}
-use Rattle.table_line.specs.Standing.{drops_writes, top_origin, top_sectors, CanStand}
+use Rattle.table_line.specs.LayerOrder.{drops_writes, top_origin, top_sectors, CanStand}
 use Rattle.table_line.specs.declared.layer_spec.LayerSpec.{LayerSpec}
 use Rattle.table_line.specs.Refusals.{refusal_of}
 use Rattle.table_line.specs.TableLines.{AreFor, IsTableLine}

@@ -1,7 +1,7 @@
 -- The definitions that the contracts of `table_line` are written in.
 pub use Rattle.text_words.specs.Words
 pub mod Ranges
-pub mod Standing
+pub mod LayerOrder
 pub mod TableLines
 pub mod Refusals
 pub mod Texts

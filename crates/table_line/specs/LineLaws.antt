@@ -22,9 +22,9 @@ use Rattle.table_line.specs.TableLines.{name_of, AreFor, AreSets, IsDelay, IsFea
 use Rattle.table_line.specs.TableLines.{IsTableLine, IsTarget}
 use Rattle.table_line.specs.Texts.{behind_spaces, feature_words, later_sets, line_text, line_words}
 use Rattle.table_line.specs.Texts.{set_words, target_words}
-use Rattle.table_line.specs.inside.Readings.{read_words}
-use Rattle.table_line.specs.inside.ReadingSteps.{error_of}
-use Rattle.table_line.specs.inside.ReadingLaws.{errors_read, said_again, said_read}
+use Rattle.table_line.specs.inside.LineParser.{read_words}
+use Rattle.table_line.specs.inside.ParserSteps.{error_of}
+use Rattle.table_line.specs.inside.LineParserLaws.{errors_read, said_again, said_read}
 
 -- words ask for one layer at most
 pub one_layer : (words : List (List ℕ)) (spec other : LayerSpec) → IsTableLine words spec

@@ -9,9 +9,9 @@ ghost use Rattle.table_line.specs.Ranges.{IsLayerSpec};
 ghost use Rattle.table_line.specs.Refusals.{are_same, has_one_place, is_same_place, refusal_of};
 ghost use Rattle.table_line.specs.Refusals.{word_in};
 ghost use Rattle.table_line.specs.TableLines.{IsTableLine};
-ghost use Rattle.table_line.specs.inside.Readings.{delay_in, feature_in, feature_named};
-ghost use Rattle.table_line.specs.inside.Readings.{later_delay, name_in, number_in, offset_in};
-ghost use Rattle.table_line.specs.inside.Readings.{read_words, spec_in, target_in};
+ghost use Rattle.table_line.specs.inside.LineParser.{delay_in, feature_in, feature_named};
+ghost use Rattle.table_line.specs.inside.LineParser.{later_delay, name_in, number_in, offset_in};
+ghost use Rattle.table_line.specs.inside.LineParser.{read_words, spec_in, target_in};
 
 use crate::feature::Feature;
 use crate::layer_spec::{LayerSpec, Target, is_in_range};

@@ -1,6 +1,6 @@
 //! A device that fails just one of its calls.
 ghost use Rattle.std.specs.Prelude.{◌≡◌, ◌+◌, ◌^◌, ◌-◌, false, min, true};
-ghost use Rattle.blockdev.specs.Counted.{counted, lawful_counted};
+ghost use Rattle.blockdev.specs.OwnCounts.{counted, lawful_counted};
 
 use bio::{DevError, Ms};
 use blockdev::BlockDev;

@@ -1,6 +1,6 @@
 //! A device that loses each call, and counts a lie.
 ghost use Rattle.std.specs.Prelude.{true};
-ghost use Rattle.blockdev.specs.Counted.{counted, lawful_counted};
+ghost use Rattle.blockdev.specs.OwnCounts.{counted, lawful_counted};
 
 use bio::{DevError, Ms};
 use blockdev::BlockDev;

@@ -1,6 +1,6 @@
 //! A device that does its calls and answers that they failed, from some call on.
 ghost use Rattle.std.specs.Prelude.{false};
-ghost use Rattle.blockdev.specs.Counted.{counted, lawful_counted};
+ghost use Rattle.blockdev.specs.OwnCounts.{counted, lawful_counted};
 
 use bio::{DevError, Ms};
 use blockdev::BlockDev;

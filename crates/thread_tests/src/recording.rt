@@ -2,9 +2,9 @@
 //! all is compared at the end.
 ghost use Rattle.std.specs.Prelude.{◌≡◌};
 ghost use Rattle.bio.specs.Sizes.{bytes_of};
-ghost use Rattle.lock_state.specs.Placed.{ground_of};
-ghost use Rattle.log_store.specs.Shown.{store_of};
-ghost use Rattle.sector_disk.specs.Shown.{shown_of};
+ghost use Rattle.lock_state.specs.PlacedItems.{ground_of};
+ghost use Rattle.log_store.specs.Fields.{store_of};
+ghost use Rattle.sector_disk.specs.DiskView.{shown_of};
 
 use bio::{Bio, Bytes, Ms, SectorSize, check, check_sized};
 use holders::Fresh;

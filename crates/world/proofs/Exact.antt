@@ -10,7 +10,7 @@ use Rattle.bio.specs.Possible.{Possible, PossibleAt, covers_at, has_kept, is_kep
 use Rattle.bio.specs.PossibleLaws.{value_covers}
 use Rattle.world.specs.Runs.{IsReachable, values_of_id}
 use Rattle.world.specs.inside.Plan.{IsChoice, plan}
-use Rattle.world.proofs.Finishing.{plan_leaves}
+use Rattle.world.proofs.LastSteps.{plan_leaves}
 
 -- the request whose value a sector has, by the reason why it could hold it
 abbrev pub chosen : (events : List CoreEvent) (first now : Content) (sector : ℕ)

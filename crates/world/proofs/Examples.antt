@@ -17,7 +17,7 @@ use Rattle.world.specs.declared.step_error.StepError.TheVariants as step_errors
 use Rattle.world.specs.Cells.{AllSteps, CellState, IsFresh, IsPut, IsRun, Steps, WorldState}
 use Rattle.world.specs.Cells.{empty_cell, landed_of, landing, put_at, settling}
 use Rattle.world.specs.Refusals.{step_refusal}
-use Rattle.world.proofs.Replacing.{put_none}
+use Rattle.world.proofs.ImageSector.{put_none}
 use Rattle.world.specs.Machine.{Machine, before_submit, has_step, newest, start}
 use Rattle.world.specs.Texts.{end_text, step_text}
 use Rattle.world.specs.Runs.{IsReachable, Leaves, calls_below, durable, is_run, taken, values_of_id}

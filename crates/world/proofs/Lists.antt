@@ -8,7 +8,7 @@ use Rattle.std.specs.List.{list_all, list_any}
 use Rattle.std.specs.Prelude.{reverse, slice_get, unwrap_or, if◌then◌else◌}
 use Rattle.world.specs.declared.step.Step.{Step}
 use Rattle.world.specs.Machine.{before_submit, is_submit}
-use Rattle.world.specs.inside.Allowed.{IsBefore}
+use Rattle.world.specs.inside.StepTests.{IsBefore}
 
 -- one more at the end of a list is the first of it the other way round
 pub reverse_snoc : {A : Type 0} (xs : List A) (x : A) → reverse (xs ++ x ∷ []) ≡ x ∷ reverse xs

@@ -37,11 +37,6 @@ pub with_here : (sector : ℕ) (ids : List ℕ) (old : ℕ → List ℕ)
 with_here sector ids old =
     ap (λ (b : Bool). if b then ids else old sector) (eq-eqb sector sector refl)
 
--- another sector has what it had
-pub with_other : (sector : ℕ) (ids : List ℕ) (old : ℕ → List ℕ) (other : ℕ)
-    → (other == sector) ≡ false → with_sector sector ids old other ≡ old other
-with_other sector ids old other differ = ap (λ (b : Bool). if b then ids else old other) differ
-
 -- a request is among these and one more just where it is that one or among these
 pub among_cases : (new id : ℕ) (ids : List ℕ) → is_among (new ∷ ids) id ≡ true
     → (new ≡ id) ⊎ (is_among ids id ≡ true)

@@ -11,8 +11,9 @@ ghost use Rattle.bio.specs.Possible.{covers_at};
 ghost use Rattle.bio.specs.Requests.{covers, first_sector, sector_count};
 ghost use Rattle.world.specs.Cells.{landed_of, settled_of};
 ghost use Rattle.world.specs.Machine.{before_submit, is_among, is_end, is_submit, newest};
-ghost use Rattle.world.specs.inside.Allowed.{end_settled, is_allowed, is_in, is_landed, is_settled};
-ghost use Rattle.world.specs.inside.Allowed.{pends, succeeds};
+ghost use Rattle.world.specs.inside.StepTests.{end_settled, is_allowed, is_in, is_landed};
+ghost use Rattle.world.specs.inside.StepTests.{is_settled};
+ghost use Rattle.world.specs.inside.StepTests.{pends, succeeds};
 ghost use Rattle.world.specs.inside.Plan.{AllEnd};
 
 use crate::cell::Cell;

@@ -12,7 +12,7 @@ ghost use Rattle.world.specs.Cells.{landed_of, landing, machine_of, settling};
 ghost use Rattle.world.specs.Machine.{has_step, newest};
 ghost use Rattle.world.specs.Runs.{values_of_id};
 ghost use Rattle.world.specs.declared.step_error.StepError.TheVariants as errors;
-ghost use Rattle.world.specs.inside.Allowed.{is_allowed};
+ghost use Rattle.world.specs.inside.StepTests.{is_allowed};
 
 use crate::allowed::{is_allowed, newest_at};
 use crate::cell::{Cell, land_in, settle_in};

@@ -7,7 +7,7 @@ use Rattle.std.specs.Prelude.{if◌then◌else◌}
 use Rattle.chains.specs.declared.links.Links.{Links}
 use Rattle.chains.specs.declared.walk.Walk.{Walk}
 use Rattle.chains.specs.Edits.{chain_in}
-use Rattle.chains.specs.Shown.{Shown}
+use Rattle.chains.specs.ChainsView.{Shown}
 use Rattle.chains.specs.inside.Rings.{after, times, Holds}
 
 -- the rows to which the links lead from a row up to the last, after so many steps at most

@@ -1,13 +1,13 @@
 // How the log that an image has is copied to a new log, on disks in memory.
 // Its clauses are written in specs/; its theorems in proofs/copy_log/images/.
 ghost use Rattle.std.specs.Prelude.{◌≡◌, ◌≤◌, IfErr, IfOk};
-ghost use Rattle.sector_disk.specs.Shown.{shown_of};
-ghost use Rattle.log_reader.specs.Shown.{reader_of};
-ghost use Rattle.log_store.specs.Shown.{store_of};
+ghost use Rattle.sector_disk.specs.DiskView.{shown_of};
+ghost use Rattle.log_reader.specs.ReaderView.{reader_of};
+ghost use Rattle.log_store.specs.Fields.{store_of};
 ghost use Rattle.run_error.specs.Errors.{memory_error};
 ghost use Rattle.dmlw_files.specs.Images.{IsImage, image_of};
-ghost use Rattle.dmlw_commands.specs.CopiesLog.{FailsOnImage, IsCopied, copy_stopped};
-ghost use Rattle.dmlw_commands.specs.OnDisks.{IsBegun, IsOpened, RefusesOpen};
+ghost use Rattle.dmlw_commands.specs.LogCopies.{FailsOnImage, IsCopied, copy_stopped};
+ghost use Rattle.dmlw_commands.specs.DiskCopy.{IsBegun, IsOpened, RefusesOpen};
 
 use bio::{End, SectorSize};
 use log_copy::{CopyFault, copy_log};

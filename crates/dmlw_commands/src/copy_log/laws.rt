@@ -1,14 +1,14 @@
 // What the image of a copy replays to: the law is a
 // function whose contract it is, and which runs to nothing.
-// Its clauses are written in specs/CopiesLog; its theorems in proofs/copy_log/laws/.
+// Its clauses are written in specs/LogCopies; its theorems in proofs/copy_log/laws/.
 ghost use Rattle.std.specs.Prelude.{◌≡◌, List, None, Option, length, take, ℕ};
 ghost use Rattle.bio.specs.Content.{Content};
 ghost use Rattle.log_format.specs.declared.decode.Super.{Super};
 ghost use Rattle.log_format.specs.declared.entry.Entry.{Entry};
 ghost use Rattle.log_format.specs.Replay.{replay};
 ghost use Rattle.log_reader.specs.declared.fault.LogFault.{LogFault};
-ghost use Rattle.log_reader.specs.Readings.{IsReading};
-ghost use Rattle.dmlw_commands.specs.CopiesLog.{IsCopied};
+ghost use Rattle.log_reader.specs.ImageLog.{IsReading};
+ghost use Rattle.dmlw_commands.specs.LogCopies.{IsCopied};
 
 /// Of the image of a copy as many entries are read as of the log, and no fault. On each disk the
 /// first of them, however many, replay to what the first of the log's entries replay to.

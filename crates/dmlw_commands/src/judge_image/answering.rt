@@ -9,7 +9,7 @@ ghost use Rattle.bio.specs.Content.{sector_of};
 ghost use Rattle.refusals.specs.declared.refusal.Refusal.TheVariants.{BadMoment};
 ghost use Rattle.script_reader.specs.Grammar.{IsTextOf};
 ghost use Rattle.run_error.specs.Errors.{IsFileError, memory_error, refused_by};
-ghost use Rattle.dmlw_commands.specs.Endings.{err_stream};
+ghost use Rattle.dmlw_commands.specs.Ends.{err_stream};
 ghost use Rattle.dmlw_commands.specs.Exits.{told_line};
 ghost use Rattle.dmlw_files.specs.Files.{KeepsFiles};
 ghost use Rattle.dmlw_files.specs.Images.{IsImage};

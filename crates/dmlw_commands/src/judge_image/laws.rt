@@ -12,7 +12,7 @@ ghost use Rattle.judge.specs.Verdicts.{IsVerdict};
 ghost use Rattle.bio.specs.Content.{Content};
 ghost use Rattle.world.specs.Findings.{IsFinding};
 ghost use Rattle.world.specs.declared.finding.Finding.{Finding};
-ghost use Rattle.dmlw_commands.specs.Beginnings.{BeginsLog, IsReplayedTo, replayed_first};
+ghost use Rattle.dmlw_commands.specs.PrefixImages.{BeginsLog, IsReplayedTo, replayed_first};
 ghost use Rattle.dmlw_commands.specs.Judgements.{HasVerdict, IsJudged, Question, blank};
 ghost use Rattle.dmlw_commands.specs.Paths.{IsFound, verdict_of};
 

@@ -1,12 +1,12 @@
 //! Replays the log that an image has on the disk that another image is.
 //! Its clauses are written in specs/; its theorems in proofs/replay_log/images/.
 ghost use Rattle.std.specs.Prelude.{◌≡◌, ◌/◌, IfErr, IfOk, length};
-ghost use Rattle.sector_disk.specs.Shown.{shown_of};
+ghost use Rattle.sector_disk.specs.DiskView.{shown_of};
 ghost use Rattle.sector_disk.specs.Sizes.{Begins};
 ghost use Rattle.bio.specs.Content.{sector_of};
 ghost use Rattle.run_error.specs.Errors.{memory_error};
 ghost use Rattle.dmlw_files.specs.Images.{IsImage, image_of};
-ghost use Rattle.dmlw_commands.specs.ReplayOpened.{stop_by};
+ghost use Rattle.dmlw_commands.specs.DiskReplay.{stop_by};
 ghost use Rattle.dmlw_commands.specs.Replays.{FailsOnImages, IsReplayed};
 
 use headline::{ReopenError, reopen_and_replay};

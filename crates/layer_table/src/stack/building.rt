@@ -5,9 +5,9 @@ ghost use Rattle.std.specs.Prelude.{◌≡◌, ◌⊎◌, ◌<◌, ◌≤◌, �
 ghost use Rattle.std.specs.Prelude.{OnOk, false, length, true};
 ghost use Rattle.refusals.specs.declared.refusal.Refusal.TheVariants as refusals;
 ghost use Rattle.blockdev.specs.Calls.{IsRange};
-ghost use Rattle.sector_disk.specs.Shown.{shown_of};
+ghost use Rattle.sector_disk.specs.DiskView.{shown_of};
 ghost use Rattle.table_line.specs.Ranges.{IsLayerSpec};
-ghost use Rattle.table_line.specs.Standing.{CanStand};
+ghost use Rattle.table_line.specs.LayerOrder.{CanStand};
 ghost use Rattle.std.specs.List.{AllByRecursion};
 ghost use Rattle.layer_table.specs.Layers.{disk_of, layer_asked, layers_of, layers_three};
 ghost use Rattle.layer_table.specs.Layers.{layers_under, layers_with, stack_shown, AreOver};

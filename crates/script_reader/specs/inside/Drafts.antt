@@ -1,5 +1,5 @@
 -- The steps of the reader over a body. `Grammar` and
--- `Reading` say in the grammar's words what they come to.
+-- `FirstFault` say in the grammar's words what they come to.
 -- Its own crate alone cites it.
 use Rattle.std.specs.Prelude.{◌≡◌, ℕ, Bool, false, List, [], ◌∷◌, ◌++◌, Option, Some, None, Result}
 use Rattle.std.specs.Prelude.{Ok, Err, length, nat_lt, slice_index_or, if◌then◌else◌}

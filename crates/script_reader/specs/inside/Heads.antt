@@ -14,13 +14,14 @@ use Rattle.script_reader.specs.declared.disk_name.DiskName.TheVariants as disks
 use Rattle.script_reader.specs.declared.head.Head.{Head}
 use Rattle.script_reader.specs.declared.head.Part.{Part}
 use Rattle.script_reader.specs.declared.head.Part.TheVariants as parts
+use Rattle.script_reader.specs.inside.Drafts.{◌>>=◌}
 use Rattle.script_reader.specs.inside.Stages.{Stage}
 use Rattle.script_reader.specs.inside.Stages as heads
 use Rattle.script_reader.specs.declared.line.HeadLine.{HeadLine}
 use Rattle.script_reader.specs.declared.line.HeadLine.TheVariants as head_lines
 use Rattle.script_reader.specs.Plans.{is_disk_size, is_log_disk_size, is_within, least_sectors}
 use Rattle.script_reader.specs.Plans.{top_of, Disk}
-use Rattle.script_reader.specs.Reading.{bare, with_layer}
+use Rattle.script_reader.specs.FirstFault.{bare, with_layer}
 
 -- how much was read, where this part was, of these disks and
 -- this size of the log's sectors, and a crash has these picks
@@ -53,13 +54,11 @@ layer_step least disk asked =
 
 -- a head with another data disk
 abbrev pub with_data : Result Disk Refusal → Disk → SectorSize → Result Stage Refusal
-with_data (Ok data_disk) log_disk size = Ok (heads.Whole data_disk log_disk size)
-with_data (Err refusal) log_disk size = Err refusal
+with_data read log_disk size = read >>= λ data_disk. Ok (heads.Whole data_disk log_disk size)
 
 -- a head with another log disk
 abbrev pub with_log : Disk → Result Disk Refusal → SectorSize → Result Stage Refusal
-with_log data_disk (Ok log_disk) size = Ok (heads.Whole data_disk log_disk size)
-with_log data_disk (Err refusal) size = Err refusal
+with_log data_disk read size = read >>= λ log_disk. Ok (heads.Whole data_disk log_disk size)
 
 -- a layer over the data disk, behind which none of the log disk stands
 abbrev pub data_layer : List LayerSpec → Disk → Disk → SectorSize → Result LayerSpec TableError
@@ -83,16 +82,9 @@ layer_in false data_disk log_disk size disks.Log asked =
 abbrev pub head_step : Stage → Bool → HeadLine → Result Stage Refusal
 head_step heads.Empty began (head_lines.Data sectors) =
     if is_disk_size sectors then Ok (heads.Data (bare sectors)) else Err BadLine
-head_step heads.Empty began (head_lines.Log sectors size) = Err BadLine
-head_step heads.Empty began (head_lines.Layer over asked) = Err BadLine
-head_step (heads.Data data_disk) began (head_lines.Data sectors) = Err BadLine
 head_step (heads.Data data_disk) began (head_lines.Log sectors size) =
     if is_log_disk_size (bytes_of size) sectors then Ok
     (heads.Whole data_disk (bare sectors) size) else Err BadLine
-head_step (heads.Data data_disk) began (head_lines.Layer over asked) = Err BadLine
-head_step (heads.Whole data_disk log_disk log_size) began (head_lines.Data sectors) = Err BadLine
-head_step (heads.Whole data_disk log_disk log_size) began (head_lines.Log sectors size) =
-    Err BadLine
 head_step (heads.Whole data_disk log_disk log_size) began (head_lines.Layer over asked) =
     layer_in began data_disk log_disk log_size over asked
-head_step (heads.Ended data_disk log_disk log_size picks) began line = Err BadLine
+head_step _ _ _ = Err BadLine

@@ -1,5 +1,5 @@
 -- The steps of the reader over lines. `Grammar` and
--- `Reading` say in the grammar's words what they come to.
+-- `FirstFault` say in the grammar's words what they come to.
 -- Its own crate alone cites it.
 use Rattle.std.specs.Prelude.{◌≡◌, ℕ, ◌+◌, Bool, true, false, not, List, [], ◌∷◌, Option, Some}
 use Rattle.std.specs.Prelude.{None, Result, Ok, Err, if◌then◌else◌}
@@ -13,14 +13,14 @@ use Rattle.script_reader.specs.LineMeaning as parsed_lines
 use Rattle.script_reader.specs.declared.line.BodyLine.{BodyLine}
 use Rattle.script_reader.specs.inside.Stages.{Stage}
 use Rattle.script_reader.specs.inside.Stages as heads
-use Rattle.script_reader.specs.inside.Drafts.{Body, body_of, body_step, IsDraft}
+use Rattle.script_reader.specs.inside.Drafts.{◌>>=◌, Body, body_of, body_step, IsDraft}
 use Rattle.refusals.specs.declared.fault.Fault.{Fault}
 use Rattle.script_reader.specs.declared.line_error.LineError.{LineError}
 use Rattle.script_reader.specs.declared.line_error.LineError.TheVariants as line_errors
 use Rattle.script_reader.specs.Lines.{is_ascii_line, is_skipped, lines_of}
 use Rattle.script_reader.specs.Plans.{top_of, ScriptValue}
 use Rattle.script_reader.specs.inside.Heads.{head_step, stage_of}
-use Rattle.script_reader.specs.inside.Parsing.{parse_line}
+use Rattle.script_reader.specs.inside.LineParser.{parse_line}
 
 -- a script, as far as it was read
 pub record Progress : Type 0 where
@@ -42,29 +42,23 @@ has_begun (command ∷ body) = true
 
 -- the head after one more line
 abbrev pub with_head : Progress → Result Stage Refusal → Result Progress Refusal
-with_head p (Err refusal) = Err refusal
-with_head p (Ok head) = Ok (record p { head = head })
+with_head p read = read >>= λ head. Ok (record p { head = head })
 
 -- the body after one more line
 abbrev pub with_body : Progress → Result Body Refusal → Result Progress Refusal
-with_body p (Err refusal) = Err refusal
-with_body p (Ok body) = Ok (record p { body = body })
+with_body p read = read >>= λ body. Ok (record p { body = body })
 
 -- one more line of the body, which comes after a whole head
 abbrev pub body_line : Stage → Progress → BodyLine → Result Progress Refusal
 body_line (heads.Whole data_disk log_disk log_size) p line =
     with_body p (body_step (bytes_of log_size) (top_of data_disk) p.body line)
-body_line (heads.Data data_disk) p line = Err BadLine
-body_line heads.Empty p line = Err BadLine
-body_line (heads.Ended data_disk log_disk log_size picks) p line = Err BadLine
+body_line _ p line = Err BadLine
 
 -- a crash, which comes after a whole head
 abbrev pub crash_line : Stage → Progress → List ℕ → Result Progress Refusal
 crash_line (heads.Whole data_disk log_disk log_size) p picks =
     Ok (record p { head = heads.Ended data_disk log_disk log_size picks })
-crash_line (heads.Data data_disk) p picks = Err BadLine
-crash_line heads.Empty p picks = Err BadLine
-crash_line (heads.Ended data_disk log_disk log_size ended) p picks = Err BadLine
+crash_line _ p picks = Err BadLine
 
 -- one more line that is none to skip
 abbrev pub parsed_step : Progress → LineMeaning → Result Progress Refusal
@@ -113,8 +107,7 @@ finished (heads.Ended data_disk log_disk log_size picks) body =
       commands = body.body;
       ending = Some picks;
     })
-finished (heads.Data data_disk) body = Err BadLine
-finished heads.Empty body = Err BadLine
+finished _ body = Err BadLine
 
 -- the end of the text, after what was read
 abbrev pub finish_step : Progress → Result ScriptValue Refusal

@@ -1,4 +1,4 @@
--- The steps of the reader of a run's script over lines. `RunGrammar` and `RunReading` say in the
+-- The steps of the reader of a run's script over lines. `RunGrammar` and `RunFirstFault` say in the
 -- grammar's words what they come to.
 -- Its own crate alone cites it.
 use Rattle.std.specs.Prelude.{ℕ, ◌&&◌, Bool, true, false, List, [], ◌∷◌, ◌++◌, Option, Some, None}
@@ -15,10 +15,10 @@ use Rattle.script_reader.specs.declared.seat_call.SeatCall.{SeatCall}
 use Rattle.script_reader.specs.Lines.{lines_of}
 use Rattle.script_reader.specs.Plans.{top_of}
 use Rattle.script_reader.specs.RunPlans.{call_answer, RunPlan}
-use Rattle.script_reader.specs.inside.Drafts.{as_refusal}
+use Rattle.script_reader.specs.inside.Drafts.{◌>>=◌, as_refusal}
 use Rattle.script_reader.specs.inside.Heads.{head_step, stage_of}
 use Rattle.script_reader.specs.inside.Readers.{line_by, read_by}
-use Rattle.script_reader.specs.inside.RunParsing.{parse_run_line}
+use Rattle.script_reader.specs.inside.RunLineParser.{parse_run_line}
 use Rattle.script_reader.specs.inside.Stages.{Stage}
 use Rattle.script_reader.specs.inside.Stages as heads
 
@@ -41,8 +41,7 @@ is_closed (Some seats) (call ∷ calls) = true
 
 -- the head after one more line
 abbrev pub with_run_head : RunProgress → Result Stage Refusal → Result RunProgress Refusal
-with_run_head p (Ok head) = Ok (record p { head = head })
-with_run_head p (Err refusal) = Err refusal
+with_run_head p read = read >>= λ head. Ok (record p { head = head })
 
 -- one more line of the head that isn't the number of seats
 abbrev pub run_head_step : RunProgress → HeadLine → Result RunProgress Refusal
@@ -56,26 +55,19 @@ is_seat_count count = nat_le 1 count && nat_le count 64
 abbrev pub seats_line : Stage → Option ℕ → RunProgress → ℕ → Result RunProgress Refusal
 seats_line (heads.Whole data_disk log_disk log_size) None p count =
     if is_seat_count count then Ok (record p { seats = Some count }) else Err BadLine
-seats_line (heads.Whole data_disk log_disk log_size) (Some seats) p count = Err BadLine
-seats_line heads.Empty seats p count = Err BadLine
-seats_line (heads.Data data_disk) seats p count = Err BadLine
-seats_line (heads.Ended data_disk log_disk log_size picks) seats p count = Err BadLine
+seats_line _ _ p count = Err BadLine
 
 -- the body after one more line, of which a test of sectors answers this
 abbrev pub with_call : RunProgress → SeatCall → Result (Unit {0}) Refusal
     → Result RunProgress Refusal
-with_call p line (Ok fine) = Ok (record p { calls = p.calls ++ line ∷ [] })
-with_call p line (Err refusal) = Err refusal
+with_call p line test = test >>= λ fine. Ok (record p { calls = p.calls ++ line ∷ [] })
 
 -- one more line of the body, which comes behind the number of seats and is of one of them
 abbrev pub call_line : Stage → Option ℕ → RunProgress → SeatCall → Result RunProgress Refusal
 call_line (heads.Whole data_disk log_disk log_size) (Some seats) p line =
     if nat_lt line.seat seats then with_call p line
     (as_refusal (call_answer (bytes_of log_size) (top_of data_disk) line.call)) else Err BadLine
-call_line (heads.Whole data_disk log_disk log_size) None p line = Err BadLine
-call_line heads.Empty seats p line = Err BadLine
-call_line (heads.Data data_disk) seats p line = Err BadLine
-call_line (heads.Ended data_disk log_disk log_size picks) seats p line = Err BadLine
+call_line _ _ p line = Err BadLine
 
 -- one more line that is none to skip
 abbrev pub said_step : RunProgress → RunLine → Result RunProgress Refusal
@@ -97,10 +89,7 @@ finished_run (heads.Whole data_disk log_disk log_size) (Some seats) calls =
       seats = seats;
       calls = calls;
     })
-finished_run (heads.Whole data_disk log_disk log_size) None calls = Err BadLine
-finished_run heads.Empty seats calls = Err BadLine
-finished_run (heads.Data data_disk) seats calls = Err BadLine
-finished_run (heads.Ended data_disk log_disk log_size picks) seats calls = Err BadLine
+finished_run _ _ calls = Err BadLine
 
 -- the end of the text, after what was read
 abbrev pub run_finish_step : RunProgress → Result RunPlan Refusal

@@ -1,9 +1,9 @@
 //! Makes a disk, of zeroes or of an image, and gives its image back.
 //! Its clauses are written in specs/; its theorems in proofs/disk/image/.
 ghost use Rattle.std.specs.Prelude.{◌≡◌, ◌*◌, ◌/◌, ◌%◌, ◌≤◌, IfOk, length, replicate};
-ghost use Rattle.sector_disk.specs.Shown.{shown_of};
+ghost use Rattle.sector_disk.specs.DiskView.{shown_of};
 ghost use Rattle.sector_disk.specs.Sizes.{Begins, IsDiskSize, IsImageSize};
-ghost use Rattle.sector_disk.specs.inside.Added.{count_of};
+ghost use Rattle.sector_disk.specs.inside.CallTable.{count_of};
 ghost use Rattle.sector_disk.specs.inside.Storage.{change_values, content_at};
 ghost use Rattle.bio.specs.Content.{AgreeBelow, gather, put, sector_of};
 

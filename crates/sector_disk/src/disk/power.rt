@@ -2,7 +2,7 @@
 //! Its clauses are written in specs/; the search alone proves it.
 ghost use Rattle.std.specs.Prelude.{◌≡◌, length};
 ghost use Rattle.sector_disk.specs.Candidates.{left_by};
-ghost use Rattle.sector_disk.specs.Shown.{cache_of, shown_of};
+ghost use Rattle.sector_disk.specs.DiskView.{cache_of, shown_of};
 ghost use Rattle.sector_disk.specs.Sizes.{Begins};
 
 use crate::choice::choose;

@@ -21,12 +21,12 @@ use Rattle.table_line.specs.Ranges.{are_delays, is_block_size, is_length, AreDel
 use Rattle.table_line.specs.Ranges.{IsLength}
 use Rattle.table_line.specs.Refusals.{are_same, has_one_place, is_same_place, may_have, word_in}
 use Rattle.table_line.specs.TableLines.{AreFor, AreSets, IsSet}
-use Rattle.table_line.specs.inside.Readings.{◌>>=◌, delay_in, in_range, later_delay, number_in}
-use Rattle.table_line.specs.inside.Readings.{offset_in, or_error, read_named, read_words}
-use Rattle.table_line.specs.inside.ReadingSteps.{bind_ok, error_of, last_test, number_found}
-use Rattle.table_line.specs.inside.ReadingSteps.{number_if, or_ok, range_found, same_bytes}
-use Rattle.table_line.specs.inside.ReadingSteps.{target_found, test_at, tests_behind, value_at}
-use Rattle.table_line.specs.inside.ReadingSteps.{word_of, HasTarget}
+use Rattle.table_line.specs.inside.LineParser.{◌>>=◌, delay_in, in_range, later_delay, number_in}
+use Rattle.table_line.specs.inside.LineParser.{offset_in, or_error, read_named, read_words}
+use Rattle.table_line.specs.inside.ParserSteps.{bind_ok, error_of, last_test, number_found}
+use Rattle.table_line.specs.inside.ParserSteps.{number_if, or_ok, range_found, same_bytes}
+use Rattle.table_line.specs.inside.ParserSteps.{target_found, test_at, tests_behind, value_at}
+use Rattle.table_line.specs.inside.ParserSteps.{word_of, HasTarget}
 
 pub dust_tests : (t u v w : Bool) (start sectors offset bytes : ℕ) →
     error_of (number_if t start >>= λ a.

@@ -1,7 +1,7 @@
 -- Answers to the goals of `has_explain` (src/command_line.rt) that the search leaves.
 use Rattle.std.proofs.Common.{◌∙◌, ◌≤◌, ◌-◌, arith, drop, length, length-drop}
 use Rattle.std.proofs.lemmas.List.{take_all}
-use Rattle.dmlw_cli.proofs.Entering.{explains_of}
+use Rattle.dmlw_cli.proofs.TaskOfWords.{explains_of}
 use Rattle.dmlw_cli.proofs.command_line.has_explain.Goals as goal
 
 pub returns-in-len1-up : goal.returns-in-len1-up

@@ -3,7 +3,7 @@ use Rattle.std.proofs.Common.{◌∙◌, List, map, ap, subst}
 use Rattle.std.proofs.lemmas.Result.{IfOk-weaker}
 use Rattle.clap.specs.Words.{App, FailsBy, Kinds, Text, fault_of, is_simple, is_simple_and_free}
 use Rattle.clap.specs.Words.{subcommand_of}
-use Rattle.dmlw_cli.proofs.Entering.{is_free_program, is_simple_app}
+use Rattle.dmlw_cli.proofs.TaskOfWords.{is_free_program, is_simple_app}
 use Rattle.dmlw_cli.proofs.command_line.parse.Goals as goal
 
 pub returns-clause-entered : goal.returns-clause-entered

@@ -1,5 +1,5 @@
 -- Answers to the goals of `plain_words_path` (src/laws.rt) that the search leaves.
-use Rattle.dmlw_cli.proofs.Plain.{path_done}
+use Rattle.dmlw_cli.proofs.PlainCommands.{path_done}
 use Rattle.dmlw_cli.proofs.laws.plain_words_path.Goals as goal
 
 pub returns : goal.returns

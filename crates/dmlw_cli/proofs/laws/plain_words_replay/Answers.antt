@@ -1,5 +1,5 @@
 -- Answers to the goals of `plain_words_replay` (src/laws.rt) that the search leaves.
-use Rattle.dmlw_cli.proofs.Plain.{replay_done, replay_leaves}
+use Rattle.dmlw_cli.proofs.PlainCommands.{replay_done, replay_leaves}
 use Rattle.dmlw_cli.proofs.laws.plain_words_replay.Goals as goal
 
 pub returns-clause-ends : goal.returns-clause-ends

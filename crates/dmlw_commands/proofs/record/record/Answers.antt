@@ -1,8 +1,8 @@
 -- Answers to the goals of `record` (src/record.rt) that the search leaves.
 use Rattle.std.proofs.Common.{◌∙◌}
-use Rattle.dmlw_commands.specs.EndingLaws.{ends_told}
-use Rattle.dmlw_commands.proofs.Endings.{done_holds, ended_holds, keeps_or_asks, recording_ends}
-use Rattle.dmlw_commands.proofs.Endings.{records_all, refused_keeps}
+use Rattle.dmlw_commands.specs.EndLaws.{ends_told}
+use Rattle.dmlw_commands.proofs.CommandEnds.{done_holds, ended_holds, keeps_or_asks, recording_ends}
+use Rattle.dmlw_commands.proofs.CommandEnds.{records_all, refused_keeps}
 use Rattle.dmlw_commands.proofs.record.record.Goals as goal
 
 pub returns-clause-ends : goal.returns-clause-ends

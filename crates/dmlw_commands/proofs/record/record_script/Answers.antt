@@ -2,8 +2,8 @@
 use Rattle.std.proofs.Common.{inl, refl}
 use Rattle.dmlw_files.specs.Images.{image_of}
 use Rattle.script_runner.specs.CallLaws.{on_error}
-use Rattle.dmlw_commands.proofs.Endings.{holds_log}
-use Rattle.dmlw_commands.proofs.Failing.{fails_for_file, unwritten_log}
+use Rattle.dmlw_commands.proofs.CommandEnds.{holds_log}
+use Rattle.dmlw_commands.proofs.RecordEnds.{fails_for_file, unwritten_log}
 use Rattle.dmlw_commands.specs.Records.{file}
 use Rattle.dmlw_commands.proofs.record.record_script.Goals as goal
 

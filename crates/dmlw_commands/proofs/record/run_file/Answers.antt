@@ -1,7 +1,7 @@
 -- Answers to the goals of `run_file` (src/record.rt) that the search leaves.
 use Rattle.script_runner.specs.CallLaws.{on_error}
-use Rattle.dmlw_commands.proofs.Failing.{fails_for_file, fails_of_text, not_too_long}
-use Rattle.dmlw_commands.proofs.Failing.{printed_of_text}
+use Rattle.dmlw_commands.proofs.RecordEnds.{fails_for_file, fails_of_text, not_too_long}
+use Rattle.dmlw_commands.proofs.RecordEnds.{printed_of_text}
 use Rattle.dmlw_commands.proofs.record.run_file.Goals as goal
 
 pub returns-clause-printed : goal.returns-clause-printed

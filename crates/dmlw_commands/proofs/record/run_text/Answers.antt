@@ -1,7 +1,7 @@
 -- Answers to the goals of `run_text` (src/record.rt) that the search leaves.
 use Rattle.std.proofs.Common.{refl}
 use Rattle.script_runner.specs.CallLaws.{on_error}
-use Rattle.dmlw_commands.proofs.Failing.{fails_unread}
+use Rattle.dmlw_commands.proofs.RecordEnds.{fails_unread}
 use Rattle.dmlw_commands.proofs.record.run_text.Goals as goal
 
 pub returns-in_err-script-clause-faults : goal.returns-in_err-script-clause-faults

@@ -1,6 +1,6 @@
 -- What holds at the calls and the turns of the loops of `used_sectors` (src/pieces.rt).
 use Rattle.std.proofs.Common.{◌≡◌, ◌-◌, ◌*◌, ◌<◌, ◌≤◌, replicate, ℕ}
-use Rattle.sector_disk.specs.Shown.{shown_of}
+use Rattle.sector_disk.specs.DiskView.{shown_of}
 use Rattle.dmlw_files.proofs.pieces.used_sectors.Given as goal
 
 abbrev pub invariant-loop-behind : goal.invariant-loop-behind

@@ -2,7 +2,7 @@
 use Rattle.std.proofs.Common.{◌∙◌, ◌+◌, ◌*◌, ◌/◌, arith, length, take, ◌≡◌}
 use Rattle.std.proofs.lemmas.List.{length-take}
 use Rattle.std.specs.Prelude.{min}
-use Rattle.sector_disk.specs.Shown.{shown_of}
+use Rattle.sector_disk.specs.DiskView.{shown_of}
 use Rattle.dmlw_files.proofs.Ranges.{written_more}
 use Rattle.dmlw_files.proofs.pieces.write_sectors.Goals as goal
 

@@ -1,7 +1,7 @@
 -- Answers to the goals of `print_seats` (src/running.rt) that the search leaves.
 use Rattle.std.proofs.Common.{◌+◌, ◌<◌, arith, length}
 use Rattle.std.proofs.lemmas.Option.{slice_get-get_or}
-use Rattle.dmlw_run.proofs.Printing.{prints_next}
+use Rattle.dmlw_run.proofs.SeatLines.{prints_next}
 use Rattle.dmlw_run.proofs.running.print_seats.Goals as goal
 
 pub loop-number-preserved : goal.loop-number-preserved

@@ -1,7 +1,7 @@
 -- What holds at the calls and the turns of the loops of `print_seats` (src/running.rt).
 use Rattle.std.proofs.Common.{take}
 use Rattle.std.specs.Io.KnownBytes.{Appends}
-use Rattle.dmlw_run.specs.RunsLog.{seat_lines}
+use Rattle.dmlw_run.specs.LogRuns.{seat_lines}
 use Rattle.dmlw_run.proofs.running.print_seats.Given as goal
 
 abbrev pub invariant-loop-number : goal.invariant-loop-number

@@ -1,8 +1,8 @@
 -- Answers to the goals of `run` (src/running.rt) that the search leaves.
 use Rattle.std.proofs.Common.{◌∙◌}
-use Rattle.dmlw_commands.specs.EndingLaws.{ends_told}
-use Rattle.dmlw_run.proofs.Endings.{done_holds, ended_holds, keeps_or_asks, running_ends, runs_all}
-use Rattle.dmlw_run.proofs.Endings.{refused_keeps}
+use Rattle.dmlw_commands.specs.EndLaws.{ends_told}
+use Rattle.dmlw_run.proofs.RunEnds.{done_holds, ended_holds, keeps_or_asks, running_ends, runs_all}
+use Rattle.dmlw_run.proofs.RunEnds.{refused_keeps}
 use Rattle.dmlw_run.proofs.running.run.Goals as goal
 
 pub returns-clause-ends : goal.returns-clause-ends

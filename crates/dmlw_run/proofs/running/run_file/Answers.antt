@@ -1,6 +1,6 @@
 -- Answers to the goals of `run_file` (src/running.rt) that the search leaves.
 use Rattle.script_runner.specs.CallLaws.{on_error}
-use Rattle.dmlw_run.proofs.Failing.{fails_for_file, fails_of_text, not_too_long, printed_of_text}
+use Rattle.dmlw_run.proofs.RunOutcome.{fails_for_file, fails_of_text, not_too_long, printed_of_text}
 use Rattle.dmlw_run.proofs.running.run_file.Goals as goal
 
 pub returns-clause-printed : goal.returns-clause-printed

@@ -2,9 +2,9 @@
 use Rattle.std.proofs.Common.{inl, refl}
 use Rattle.dmlw_files.specs.Images.{image_of}
 use Rattle.script_runner.specs.CallLaws.{on_error}
-use Rattle.dmlw_run.proofs.Endings.{holds_log}
-use Rattle.dmlw_run.proofs.Failing.{fails_for_file, unwritten_log}
-use Rattle.dmlw_run.specs.RunsLog.{file}
+use Rattle.dmlw_run.proofs.RunEnds.{holds_log}
+use Rattle.dmlw_run.proofs.RunOutcome.{fails_for_file, unwritten_log}
+use Rattle.dmlw_run.specs.LogRuns.{file}
 use Rattle.dmlw_run.proofs.running.run_named.Goals as goal
 
 pub returns-in_err-write-clause-faults : goal.returns-in_err-write-clause-faults

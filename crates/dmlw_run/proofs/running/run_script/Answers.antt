@@ -1,7 +1,7 @@
 -- Answers to the goals of `run_script` (src/running.rt) that the search leaves.
 use Rattle.script_runner.specs.CallLaws.{on_error}
 use Rattle.dmlw_files.specs.Images.{image_of}
-use Rattle.dmlw_run.proofs.Failing.{fails_run, fails_to_tell, printed}
+use Rattle.dmlw_run.proofs.RunOutcome.{fails_run, fails_to_tell, printed}
 use Rattle.dmlw_run.proofs.running.run_script.Goals as goal
 
 pub returns-clause-printed : goal.returns-clause-printed

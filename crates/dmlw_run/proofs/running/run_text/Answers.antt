@@ -1,7 +1,7 @@
 -- Answers to the goals of `run_text` (src/running.rt) that the search leaves.
 use Rattle.std.proofs.Common.{refl}
 use Rattle.script_runner.specs.CallLaws.{on_error}
-use Rattle.dmlw_run.proofs.Failing.{fails_unread}
+use Rattle.dmlw_run.proofs.RunOutcome.{fails_unread}
 use Rattle.dmlw_run.proofs.running.run_text.Goals as goal
 
 pub returns-in_err-script-clause-faults : goal.returns-in_err-script-clause-faults

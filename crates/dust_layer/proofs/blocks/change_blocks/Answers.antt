@@ -1,8 +1,8 @@
 -- Answers to the goals of `change_blocks` (src/blocks.rt) that the search leaves.
 use Rattle.std.proofs.Common.{refl, sym, ◌∙◌, arith}
-use Rattle.dust_layer.specs.Bad.{listed}
-use Rattle.dust_layer.proofs.Passing.{changes_failed, changes_fails, changes_first, changes_goes}
-use Rattle.dust_layer.proofs.Passing.{changes_land, changes_step}
+use Rattle.dust_layer.specs.BadBlocks.{listed}
+use Rattle.dust_layer.proofs.BlockWalk.{changes_failed, changes_fails, changes_first, changes_goes}
+use Rattle.dust_layer.proofs.BlockWalk.{changes_land, changes_step}
 use Rattle.dust_layer.proofs.blocks.change_blocks.Goals as goal
 
 pub loop-done-init : goal.loop-done-init

@@ -1,7 +1,7 @@
 -- What holds at the calls and the turns of the loops of `change_blocks` (src/blocks.rt).
-use Rattle.dust_layer.specs.Bad.{listed}
+use Rattle.dust_layer.specs.BadBlocks.{listed}
 use Rattle.dust_layer.specs.Change.{call_of, fua_of}
-use Rattle.dust_layer.proofs.Passing.{Changes}
+use Rattle.dust_layer.proofs.BlockWalk.{Changes}
 use Rattle.dust_layer.proofs.blocks.change_blocks.Given as goal
 
 -- the parts of the blocks so far are done

@@ -1,6 +1,6 @@
 -- What holds at the calls and the turns of the loops of `read_blocks` (src/blocks.rt).
 use Rattle.std.proofs.Common.{◌≡◌, length}
-use Rattle.dust_layer.specs.Bad.{listed}
+use Rattle.dust_layer.specs.BadBlocks.{listed}
 use Rattle.dust_layer.proofs.ReadParts.{Reading}
 use Rattle.dust_layer.proofs.blocks.read_blocks.Given as goal
 

@@ -3,7 +3,7 @@ use Rattle.std.proofs.Common.{◌≡◌, ℕ, suc, ◌+◌, ◌/◌, length, ◌
 use Rattle.bio.specs.Content.{sector_of}
 use Rattle.bio.specs.PlaceLaws.{stands_there}
 use Rattle.judge.specs.inside.Accounts.{AreHeld}
-use Rattle.judge.proofs.Holding.{held_next}
+use Rattle.judge.proofs.HeldValues.{held_next}
 use Rattle.judge.proofs.held.held_values.Goals as goal
 
 pub loop-place-preserved : goal.loop-place-preserved

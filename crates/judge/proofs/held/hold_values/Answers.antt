@@ -2,7 +2,7 @@
 use Rattle.std.proofs.Common.{◌≡◌, ℕ, Some, length, subst, arith}
 use Rattle.bio.specs.Content.{sector_of}
 use Rattle.judge.specs.inside.Last.{AreCovered}
-use Rattle.judge.proofs.Holding.{fit_all}
+use Rattle.judge.proofs.HeldValues.{fit_all}
 use Rattle.judge.proofs.held.hold_values.Goals as goal
 
 pub returns-clause-held : goal.returns-clause-held

@@ -1,8 +1,8 @@
 -- Answers to the goals of `are_causes` (src/compare.rt) that the search leaves.
 use Rattle.std.proofs.Common.{Bool, sym, subst}
 use Rattle.std.specs.Prelude.{MatchBool}
-use Rattle.lock_state.specs.Comparing.{AreCauses}
-use Rattle.lock_state.proofs.Matching.{causes_all}
+use Rattle.lock_state.specs.Comparison.{AreCauses}
+use Rattle.lock_state.proofs.SeatList.{causes_all}
 use Rattle.lock_state.proofs.compare.are_causes.Goals as goal
 
 pub returns : goal.returns

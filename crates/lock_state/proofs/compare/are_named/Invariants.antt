@@ -1,5 +1,5 @@
 -- What holds at the calls and the turns of the loops of `are_named` (src/compare.rt).
-use Rattle.lock_state.specs.Comparing.{EachTo, Names}
+use Rattle.lock_state.specs.Comparison.{EachTo, Names}
 use Rattle.lock_state.proofs.compare.are_named.Given as goal
 
 abbrev pub invariant-loop-receipt : goal.invariant-loop-receipt

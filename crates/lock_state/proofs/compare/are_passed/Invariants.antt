@@ -1,6 +1,6 @@
 -- What holds at the calls and the turns of the loops of `are_passed` (src/compare.rt).
 use Rattle.std.proofs.Common.{◌≡◌, ℕ, Some}
-use Rattle.lock_state.specs.Comparing.{EachTo}
+use Rattle.lock_state.specs.Comparison.{EachTo}
 use Rattle.lock_state.proofs.compare.are_passed.Given as goal
 
 abbrev pub invariant-loop-place : goal.invariant-loop-place

@@ -3,7 +3,7 @@ use Rattle.std.proofs.Common.{◌≡◌, ◌+◌, ◌<◌, length, suc, sym, sub
 use Rattle.std.proofs.lemmas.Option.{slice_get-get_or}
 use Rattle.bio.specs.PlaceLaws.{stands_there}
 use Rattle.bio.specs.declared.event.CoreEvent.TheVariants.{Close}
-use Rattle.lock_state.proofs.Matching.{Matched, matched-other, matched-own, unmatched}
+use Rattle.lock_state.proofs.SeatList.{Matched, matched-other, matched-own, unmatched}
 use Rattle.lock_state.proofs.compare.is_list_of.Goals as goal
 use Rattle.lock_state.proofs.compare.is_list_of.Goals.{then-is_seat+else-not-is_at, else-is_seat}
 

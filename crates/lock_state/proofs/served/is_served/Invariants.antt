@@ -1,5 +1,5 @@
 -- What holds at the calls and the turns of the loops of `is_served` (src/served.rt).
-use Rattle.lock_state.specs.Comparing.{EachTo, IsServed}
+use Rattle.lock_state.specs.Comparison.{EachTo, IsServed}
 use Rattle.lock_state.proofs.served.is_served.Given as goal
 
 abbrev pub invariant-loop-event : goal.invariant-loop-event

@@ -3,7 +3,7 @@ use Rattle.std.proofs.Common.{◌≡◌, ℕ, get_or, Some, slice_get, slice_set
 use Rattle.std.proofs.lemmas.Option.{slice_get-get_or}
 use Rattle.lock_state.specs.declared.served.Seen.{Seen}
 use Rattle.lock_state.specs.declared.served.Seen.TheVariants.{Never}
-use Rattle.lock_state.proofs.Serving.{not_noted, nobody_ok, failed_ok, is_noted}
+use Rattle.lock_state.proofs.CallCounts.{not_noted, nobody_ok, failed_ok, is_noted}
 use Rattle.lock_state.proofs.served.note.Goals as goal
 
 pub returns-in_default-clause-noted : goal.returns-in_default-clause-noted

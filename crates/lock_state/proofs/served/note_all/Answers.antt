@@ -2,10 +2,10 @@
 use Rattle.std.proofs.Common.{◌≡◌, ◌+◌, ◌<◌, suc, List, length, take, sym, ◌∙◌, subst, arith}
 use Rattle.bio.specs.PlaceLaws.{stands_there}
 use Rattle.lock_state.specs.declared.note.Done.{Done}
-use Rattle.lock_state.specs.Comparing.{AllTell}
+use Rattle.lock_state.specs.Comparison.{AllTell}
 use Rattle.lock_state.proofs.Lists.{take_next}
-use Rattle.lock_state.proofs.Matching.{take_length, take_past}
-use Rattle.lock_state.proofs.Serving.{all_tell-push}
+use Rattle.lock_state.proofs.SeatList.{take_length, take_past}
+use Rattle.lock_state.proofs.CallCounts.{all_tell-push}
 use Rattle.lock_state.proofs.served.note_all.Goals as goal
 
 pub loop-place-preserved : goal.loop-place-preserved

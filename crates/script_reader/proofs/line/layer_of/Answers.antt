@@ -2,7 +2,7 @@
 use Rattle.std.proofs.Common.{ap}
 use Rattle.text_words.specs.Words.{words_of}
 use Rattle.script_reader.specs.declared.line.HeadLine.TheVariants as head_lines
-use Rattle.script_reader.specs.inside.Parsing.{asked_of}
+use Rattle.script_reader.specs.inside.LineParser.{asked_of}
 use Rattle.script_reader.proofs.LayerLaws.{asked_is, asked_read, one_asked}
 use Rattle.script_reader.proofs.line.layer_of.Goals as goal
 

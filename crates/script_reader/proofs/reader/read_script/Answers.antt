@@ -1,12 +1,21 @@
 -- Answers to the goals of `read_script` (src/reader.rt) that the search leaves.
-use Rattle.script_reader.proofs.TextLaws.{reads_found, reads_only, reads_fault}
+use Rattle.script_reader.specs.Lines.{lines_of}
+use Rattle.script_reader.specs.FirstFault.{IsFaultOf, IsReadAs}
+use Rattle.script_reader.proofs.FaultLaws.{fault_found}
+use Rattle.script_reader.proofs.ReaderLaws.{found, only}
+use Rattle.script_reader.proofs.RecorderFaults.{recorder_faults}
+use Rattle.script_reader.proofs.RecorderLaws.{recorder}
 use Rattle.script_reader.proofs.reader.read_script.Goals as goal
 
 pub returns-clause-found : goal.returns-clause-found
-returns-clause-found c = reads_found c.args.text.now c.read.result c.read.ensures
+returns-clause-found c = found recorder (lines_of c.args.text.now) c.read.result c.read.ensures
 
 pub returns-clause-only : goal.returns-clause-only
-returns-clause-only c = reads_only c.args.text.now c.read.result c.read.ensures
+returns-clause-only c plan spells =
+    only recorder (IsReadAs plan) (lines_of c.args.text.now) plan c.read.result
+    (λ script same. same) (λ fault memory. memory) c.read.ensures spells
 
 pub returns-clause-fault : goal.returns-clause-fault
-returns-clause-fault c = reads_fault c.args.text.now c.read.result c.read.ensures
+returns-clause-fault c =
+    fault_found recorder recorder_faults (IsFaultOf c.args.text.now) (lines_of c.args.text.now)
+    c.read.result (λ fault line first. first) (λ fault memory. memory) c.read.ensures

@@ -2,7 +2,8 @@
 use Rattle.std.proofs.Common.{◌≡◌, ap, sym, ◌∙◌, []}
 use Rattle.script_reader.specs.Lines.{lines_of}
 use Rattle.script_reader.specs.inside.RunReaders.{read_run_lines, read_run_text, run_progress}
-use Rattle.script_reader.proofs.RunReading.{end_is_run}
+use Rattle.script_reader.proofs.ReaderLaws.{end_is_script}
+use Rattle.script_reader.proofs.RunLaws.{runner}
 use Rattle.script_reader.proofs.run_reader.read_run.Goals as goal
 
 pub finish-requires : goal.finish-requires
@@ -11,4 +12,4 @@ finish-requires c =
     let whole : read_run_lines p c.loop-line.number [] ≡ read_run_text c.args.text.now =
     ap (λ t. read_run_lines p c.loop-line.number (lines_of t)) (sym c.in_default.ensures)
     ∙ c.loop-line.invariant.read in
-    end_is_run p c.args.text.now c.loop-line.number whole
+    end_is_script runner p c.loop-line.number (lines_of c.args.text.now) whole

@@ -1,7 +1,7 @@
 -- Answers to the goals of `picks_of` (src/values.rt) that the search leaves.
 use Rattle.std.proofs.Common.{◌≡◌, ◌+◌, List, ℕ, refl, ap, sym, ◌∙◌, arith, length}
 use Rattle.std.specs.Prelude.{option_copied}
-use Rattle.script_reader.specs.inside.Parsing.{picks_of as the_picks}
+use Rattle.script_reader.specs.inside.LineParser.{picks_of as the_picks}
 use Rattle.text_words.specs.Words.{after_byte, number_of as the_number}
 use Rattle.script_reader.proofs.PickLaws.{left_behind, left_of, no_pick, pick_read, picks_after}
 use Rattle.script_reader.proofs.values.picks_of.Goals as goal

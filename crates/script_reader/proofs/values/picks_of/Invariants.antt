@@ -1,7 +1,7 @@
 -- What holds at the calls and the turns of the loops of `picks_of` (src/values.rt).
 use Rattle.std.proofs.Common.{◌≡◌}
 use Rattle.std.specs.Prelude.{option_copied}
-use Rattle.script_reader.specs.inside.Parsing.{picks_of}
+use Rattle.script_reader.specs.inside.LineParser.{picks_of}
 use Rattle.script_reader.proofs.PickLaws.{left_of, picks_after}
 use Rattle.script_reader.proofs.values.picks_of.Given as goal
 

@@ -6,7 +6,7 @@ use Rattle.bio.specs.declared.ms.Ms.{Ms}
 use Rattle.bio.specs.declared.outcome.DevError.{DevError}
 use Rattle.blockdev.specs.Calls.{Reads}
 use Rattle.script_runner.specs.HandOver.{ReadsSectors}
-use Rattle.script_runner.proofs.Reading.{byte_range, filled, range_parts}
+use Rattle.script_runner.proofs.ReadLines.{byte_range, filled, range_parts}
 use Rattle.script_runner.proofs.handing.read_sectors.Goals as goal
 
 pub returns-in-Ok-clause-reads : goal.returns-in-Ok-clause-reads

@@ -1,5 +1,5 @@
 -- Answers to the goals of `bare_logs_fail_by_memory_alone` (src/laws.rt) that the search leaves.
-use Rattle.script_runner.proofs.Bare.{bare_log_fails}
+use Rattle.script_runner.proofs.BareDisk.{bare_log_fails}
 use Rattle.script_runner.proofs.laws.bare_logs_fail_by_memory_alone.Goals as goal
 
 pub returns : goal.returns

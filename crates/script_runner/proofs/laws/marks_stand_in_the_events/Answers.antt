@@ -1,7 +1,7 @@
 -- Answers to the goals of `marks_stand_in_the_events` (src/laws.rt) that the search leaves.
-use Rattle.script_runner.proofs.Following.{queued_stands, stays}
+use Rattle.script_runner.proofs.RequestFates.{queued_stands, stays}
 use Rattle.script_runner.proofs.laws.marks_stand_in_the_events.Goals as goal
-use Rattle.recorder.specs.Shown.{core_of}
+use Rattle.recorder.specs.Fields.{core_of}
 
 pub returns : goal.returns
 returns g c = λ names body mark text more id old mid new line queued ran.

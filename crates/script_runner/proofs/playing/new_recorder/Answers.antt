@@ -2,7 +2,7 @@
 use Rattle.std.proofs.Common.{◌∙◌, ap, inr}
 use Rattle.bio.specs.Causes.{end_cause}
 use Rattle.run_error.specs.declared.run_error.RunError.TheVariants.{LoggingEnded}
-use Rattle.script_runner.proofs.OnDisks.{new_log}
+use Rattle.script_runner.proofs.DiskRun.{new_log}
 use Rattle.script_runner.proofs.playing.new_recorder.Goals as goal
 
 pub returns-in-Ok-new-clause-made : goal.returns-in-Ok-new-clause-made

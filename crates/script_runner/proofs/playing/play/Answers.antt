@@ -4,9 +4,9 @@ use Rattle.std.specs.Prelude.{◌/◌}
 use Rattle.bio.specs.Sizes.{bytes_of}
 use Rattle.bio.specs.declared.sector_size.SectorSize.{SectorSize}
 use Rattle.script_runner.specs.CallLaws.{on_error}
-use Rattle.script_runner.specs.inside.Played.{FailsPlaying, run}
+use Rattle.script_runner.specs.inside.Play.{FailsPlaying, run}
 use Rattle.script_runner.proofs.Plays.{fails_at_start, start_bytes, started, unstarted}
-use Rattle.script_runner.proofs.Stepping.{if_failed}
+use Rattle.script_runner.proofs.LineSteps.{if_failed}
 use Rattle.script_runner.proofs.playing.play.Goals as goal
 
 pub start_on-requires : goal.start_on-requires

@@ -1,7 +1,7 @@
 -- Answers to the goals of `print_first_bytes` (src/print.rt) that the search leaves.
 use Rattle.std.proofs.Common.{◌*◌, rules}
 use Rattle.std.specs.Prelude.{slice_index_or}
-use Rattle.script_runner.proofs.Reading.{byte_printed}
+use Rattle.script_runner.proofs.ReadLines.{byte_printed}
 use Rattle.script_runner.proofs.print.print_first_bytes.Goals as goal
 
 pub loop-sector-preserved : goal.loop-sector-preserved

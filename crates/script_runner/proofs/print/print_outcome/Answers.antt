@@ -1,5 +1,5 @@
 -- Answers to the goals of `print_outcome` (src/print.rt) that the search leaves.
-use Rattle.script_runner.proofs.Printing.{outcome_printed}
+use Rattle.script_runner.proofs.PrintedLines.{outcome_printed}
 use Rattle.script_runner.proofs.print.print_outcome.Goals as goal
 
 pub returns-clause-output : goal.returns-clause-output

@@ -1,17 +1,17 @@
 -- Answers to the goals of `record` (src/recording.rt) that the search leaves.
 use Rattle.std.proofs.Common.{◌≡◌, ◌∙◌, ap, subst, sym}
 use Rattle.script_runner.specs.CallLaws.{on_error}
-use Rattle.script_runner.specs.OnDisks.{DiskRecorder, FailsOnDisks, IsCounted}
+use Rattle.script_runner.specs.DiskRun.{DiskRecorder, FailsOnDisks, IsCounted}
 use Rattle.log_format.specs.LogOf.{status_of}
-use Rattle.log_store.specs.Shown.{store_of}
+use Rattle.log_store.specs.Fields.{store_of}
 use Rattle.log_store.specs.Store.{entries_of}
 use Rattle.pending.specs.CoreState.{IsSound}
-use Rattle.recorder.specs.Replayed.{ReplaysToWhatCouldBe}
-use Rattle.recorder.specs.Shown.{core_of, recorder_view}
+use Rattle.recorder.specs.CrashReplay.{ReplaysToWhatCouldBe}
+use Rattle.recorder.specs.Fields.{core_of, recorder_view}
 use Rattle.layer_table.specs.Layers.{stack_shown}
 use Rattle.bio.specs.Content.{Content}
-use Rattle.script_runner.proofs.OnDisks.{image_agrees, image_long, image_of, is_recorded, same_lies}
-use Rattle.script_runner.proofs.Stepping.{if_failed}
+use Rattle.script_runner.proofs.DiskRun.{image_agrees, image_long, image_of, is_recorded, same_lies}
+use Rattle.script_runner.proofs.LineSteps.{if_failed}
 use Rattle.script_runner.proofs.recording.record.Goals as goal
 
 pub returns-in_err-played-clause-recorded : goal.returns-in_err-played-clause-recorded

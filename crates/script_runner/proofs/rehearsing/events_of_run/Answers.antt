@@ -9,12 +9,12 @@ use Rattle.bio.specs.Sizes.{bytes_of}
 use Rattle.script_reader.specs.Plans.{top_of}
 use Rattle.pending.specs.CoreState.{CoreState}
 use Rattle.script_runner.specs.CallLaws.{on_error}
-use Rattle.script_runner.specs.OnDisks.{DiskRecorder, file}
+use Rattle.script_runner.specs.DiskRun.{DiskRecorder, file}
 use Rattle.script_runner.specs.Rehearsals.{FailsRehearsal, is_memory_stop}
 use Rattle.script_runner.proofs.LawfulRuns.{run_lawful}
-use Rattle.script_runner.proofs.Stepping.{if_failed}
+use Rattle.script_runner.proofs.LineSteps.{if_failed}
 use Rattle.script_runner.proofs.rehearsing.events_of_run.Goals as goal
-use Rattle.recorder.specs.Shown.{core_of}
+use Rattle.recorder.specs.Fields.{core_of}
 
 pub returns-in_err-played-clause-rehearsed : goal.returns-in_err-played-clause-rehearsed
 returns-in_err-played-clause-rehearsed c =

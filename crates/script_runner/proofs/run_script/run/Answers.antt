@@ -4,7 +4,7 @@ use Rattle.script_reader.specs.declared.command.Command.{Command}
 use Rattle.script_reader.specs.Lines.{command_line}
 use Rattle.script_reader.specs.Plans.{HasName}
 use Rattle.refusals.specs.declared.refusal.Refusal.{Refusal}
-use Rattle.recorder.specs.Shown.{core_of}
+use Rattle.recorder.specs.Fields.{core_of}
 use Rattle.run_error.specs.declared.run_error.RunError.TheVariants.{Refused}
 use Rattle.script_runner.specs.declared.step_error.StepError.TheVariants.{AtLine}
 use Rattle.script_runner.specs.Lines.{answering, EndsSubmitted, FitsDevice, HasScriptText}

@@ -1,6 +1,6 @@
 -- Answers to the goals of `close` (src/seat_run.rt) that the search leaves.
 use Rattle.std.proofs.Common.{◌≡◌, inr, refl, subst}
-use Rattle.shared.specs.Closing.{IfForeign}
+use Rattle.shared.specs.Close.{IfForeign}
 use Rattle.shared.specs.declared.closing.Unclosed.{Unclosed}
 use Rattle.shared.specs.declared.closing.Unclosed.TheVariants.{Foreign}
 use Rattle.seat_runner.proofs.seat_run.close.Goals as goal

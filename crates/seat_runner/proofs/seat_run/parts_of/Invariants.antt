@@ -1,6 +1,6 @@
 -- What holds at the calls and the turns of the loops of `parts_of` (src/seat_run.rt).
 use Rattle.std.proofs.Common.{◌≡◌, map}
-use Rattle.seat_runner.specs.inside.Playing.{Player}
+use Rattle.seat_runner.specs.inside.SeatWork.{Player}
 use Rattle.seat_runner.specs.Tallies.{joined}
 use Rattle.seat_runner.proofs.seat_run.parts_of.Given as goal
 

@@ -2,7 +2,7 @@
 use Rattle.std.proofs.Common.{◌∙◌, ap}
 use Rattle.script_runner.specs.CallLaws.{on_error}
 use Rattle.sector_disk.specs.declared.disk.SectorDisk.{SectorDisk}
-use Rattle.sector_disk.specs.Shown.{shown_of}
+use Rattle.sector_disk.specs.DiskView.{shown_of}
 use Rattle.bio.specs.Content.{gather}
 use Rattle.seat_runner.proofs.Runs.{fails_memory, fails_unclosed, fails_unplayed, is_run}
 use Rattle.seat_runner.proofs.seat_run.run_on.Goals as goal

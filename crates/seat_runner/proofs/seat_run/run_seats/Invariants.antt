@@ -2,7 +2,7 @@
 use Rattle.bio.specs.Sizes.{bytes_of}
 use Rattle.script_reader.specs.Plans.{top_of}
 use Rattle.layer_table.specs.Layers.{stack_shown}
-use Rattle.lock_state.specs.Placed.{ground_of}
+use Rattle.lock_state.specs.PlacedItems.{ground_of}
 use Rattle.seat_runner.proofs.seat_run.run_seats.Given as goal
 
 abbrev pub ghosts-run_on-R-Ledger : goal.ghosts-run_on-R-Ledger

@@ -1,6 +1,6 @@
 -- Answers to the goals of `works_of` (src/seat_run.rt) that the search leaves.
 use Rattle.std.proofs.Common.{◌≡◌, ◌∙◌, arith, length, ap, subst, sym}
-use Rattle.seat_runner.specs.inside.Playing.{AreNewPlayers, new_player}
+use Rattle.seat_runner.specs.inside.SeatWork.{AreNewPlayers, new_player}
 use Rattle.seat_runner.proofs.Runs.{long_push, players_push}
 use Rattle.seat_runner.proofs.seat_run.works_of.Goals as goal
 

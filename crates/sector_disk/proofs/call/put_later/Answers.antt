@@ -1,9 +1,9 @@
 -- Answers to the goals of `put_later` (src/call.rt) that the search leaves.
 use Rattle.std.proofs.Common.{◌≡◌, ◌+◌, ◌*◌, ◌∙◌, ◌-◌, ap, arith, drop, length, sym, take}
-use Rattle.sector_disk.specs.inside.Given.{put_over}
+use Rattle.sector_disk.specs.inside.Overlay.{put_over}
 use Rattle.sector_disk.specs.inside.Storage.{place_of, value_at}
-use Rattle.sector_disk.proofs.Giving.{gather-kept, left_first, left_later, rest-next, rest-put}
-use Rattle.sector_disk.proofs.Reading.{gather-next, length-value_at}
+use Rattle.sector_disk.proofs.ImageBack.{gather-kept, left_first, left_later, rest-next, rest-put}
+use Rattle.sector_disk.proofs.SectorValues.{gather-next, length-value_at}
 use Rattle.sector_disk.proofs.call.put_later.Goals as goal
 use Rattle.sector_disk.proofs.call.put_later.Goals.{then-place-gt0, else-place-gt0}
 

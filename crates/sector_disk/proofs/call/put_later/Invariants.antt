@@ -1,7 +1,7 @@
 -- What holds at the calls and the turns of the loops of `put_later` (src/call.rt).
 use Rattle.std.proofs.Common.{◌≡◌, ◌*◌, drop, take}
 use Rattle.bio.specs.Content.{gather}
-use Rattle.sector_disk.specs.inside.Given.{put_over}
+use Rattle.sector_disk.specs.inside.Overlay.{put_over}
 use Rattle.sector_disk.proofs.call.put_later.Given as goal
 
 abbrev pub invariant-loop-sector : goal.invariant-loop-sector

@@ -3,7 +3,7 @@ use Rattle.std.proofs.Common.{ap, replicate, sym, ◌∙◌}
 use Rattle.std.specs.Prelude.{unwrap_or}
 use Rattle.bio.specs.ContentLaws.{writes-whole}
 use Rattle.sector_disk.specs.inside.Storage.{change_values}
-use Rattle.sector_disk.proofs.Reading.{discarded}
+use Rattle.sector_disk.proofs.SectorValues.{discarded}
 use Rattle.sector_disk.proofs.call.read_call.Goals as goal
 
 pub copy_from_slice-requires : goal.copy_from_slice-requires

@@ -1,6 +1,6 @@
 -- Answers to the goals of `take_image` (src/call.rt) that the search leaves.
 use Rattle.std.proofs.Common.{◌∙◌, ℕ, Global, Vec, ap}
-use Rattle.sector_disk.proofs.Giving.{given}
+use Rattle.sector_disk.proofs.ImageBack.{given}
 use Rattle.sector_disk.proofs.call.take_image.Goals as goal
 
 pub returns-in-Write : goal.returns-in-Write

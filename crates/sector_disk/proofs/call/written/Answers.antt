@@ -1,6 +1,6 @@
 -- Answers to the goals of `written` (src/call.rt) that the search leaves.
 use Rattle.std.proofs.Common.{inl, inr}
-use Rattle.sector_disk.proofs.Reading.{written-none, written-some}
+use Rattle.sector_disk.proofs.SectorValues.{written-none, written-some}
 use Rattle.sector_disk.proofs.call.written.Goals as goal
 use Rattle.sector_disk.proofs.call.written.Goals.{then-sector-first-via-then-sector-first}
 use Rattle.sector_disk.proofs.call.written.Goals.{then-sector-first-via-else-sector-first+then-sector-first-2}

@@ -1,8 +1,8 @@
 -- Answers to the goals of `choose` (src/choice.rt) that the search leaves.
 use Rattle.std.proofs.Common.{◌≡◌, ℕ, length, refl, subst, ◌∙◌, arith}
 use Rattle.std.proofs.lemmas.List.{length-set}
-use Rattle.sector_disk.specs.inside.Chosen.{AreChosen}
-use Rattle.sector_disk.proofs.Choosing.{chosen-next, unsynced-next}
+use Rattle.sector_disk.specs.inside.Choice.{AreChosen}
+use Rattle.sector_disk.proofs.NextPick.{chosen-next, unsynced-next}
 use Rattle.sector_disk.proofs.choice.choose.Goals as goal
 use Rattle.sector_disk.proofs.choice.choose.Goals.{then-count-gt1, else-count-gt1}
 

@@ -1,8 +1,8 @@
 -- Answers to the goals of `finish` (src/closing.rt) that the search leaves.
 use Rattle.std.proofs.Common.{List, subst, sym}
-use Rattle.lock_state.specs.Placed.{Stay}
+use Rattle.lock_state.specs.PlacedItems.{Stay}
 use Rattle.lock_state.specs.declared.note.Item.{Item}
-use Rattle.shared.proofs.Finishing.{agrees_finally, leaves_finally}
+use Rattle.shared.proofs.ClosedLog.{agrees_finally, leaves_finally}
 use Rattle.shared.proofs.closing.finish.Goals as goal
 
 pub returns-clause-agrees : goal.returns-clause-agrees

@@ -1,6 +1,6 @@
 -- What holds at the calls and the turns of the loops of `stage` (src/scenes.rt).
-use Rattle.lock_state.specs.Placed.{ground_of}
-use Rattle.sector_disk.specs.Shown.{shown_of}
+use Rattle.lock_state.specs.PlacedItems.{ground_of}
+use Rattle.sector_disk.specs.DiskView.{shown_of}
 use Rattle.shared_tests.proofs.scenes.stage.Given as goal
 
 abbrev pub ghosts-play-R-Ledger : goal.ghosts-play-R-Ledger

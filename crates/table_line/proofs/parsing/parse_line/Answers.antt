@@ -2,8 +2,8 @@
 use Rattle.std.proofs.Common.{ap, sym, ◌∙◌}
 use Rattle.text_words.specs.Words.{words_of}
 use Rattle.table_line.specs.LineLaws.{read_in_range}
-use Rattle.table_line.specs.inside.ReadingSteps.{error_back, error_of}
-use Rattle.table_line.specs.inside.ReadingLaws.{errors_read, said_again, said_read}
+use Rattle.table_line.specs.inside.ParserSteps.{error_back, error_of}
+use Rattle.table_line.specs.inside.LineParserLaws.{errors_read, said_again, said_read}
 use Rattle.table_line.proofs.parsing.parse_line.Goals as goal
 
 pub returns-clause-layer : goal.returns-clause-layer

@@ -1,7 +1,7 @@
 -- What holds at the calls and the turns of the loops of `two_seats` (src/recording.rt).
 use Rattle.bio.specs.Sizes.{bytes_of}
-use Rattle.lock_state.specs.Placed.{ground_of}
-use Rattle.log_store.specs.Shown.{store_of}
+use Rattle.lock_state.specs.PlacedItems.{ground_of}
+use Rattle.log_store.specs.Fields.{store_of}
 use Rattle.thread_tests.proofs.recording.two_seats.Given as goal
 
 abbrev pub ghosts-two_seats_record-R-Ledger : goal.ghosts-two_seats_record-R-Ledger

@@ -1,5 +1,5 @@
 -- What holds at the calls and the turns of the loops of `before_submit` (src/allowed.rt).
-use Rattle.world.specs.inside.Allowed.{IsBefore}
+use Rattle.world.specs.inside.StepTests.{IsBefore}
 use Rattle.world.proofs.allowed.before_submit.Given as goal
 
 abbrev pub invariant-loop-place : goal.invariant-loop-place

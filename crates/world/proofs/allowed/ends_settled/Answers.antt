@@ -4,7 +4,7 @@ use Rattle.std.proofs.lemmas.List.{take_all}
 use Rattle.std.specs.List.{list_all}
 use Rattle.bio.specs.PlaceLaws.{stands_there}
 use Rattle.world.specs.declared.step.Step.{Step}
-use Rattle.world.specs.inside.Allowed.{end_settled}
+use Rattle.world.specs.inside.StepTests.{end_settled}
 use Rattle.world.proofs.Lists.{all_more, all_reverse, some_fails}
 use Rattle.world.proofs.allowed.ends_settled.Goals as goal
 

@@ -1,7 +1,7 @@
 -- What holds at the calls and the turns of the loops of `ends_settled` (src/allowed.rt).
 use Rattle.std.proofs.Common.{◌≡◌, take, true}
 use Rattle.std.specs.List.{list_all}
-use Rattle.world.specs.inside.Allowed.{end_settled}
+use Rattle.world.specs.inside.StepTests.{end_settled}
 use Rattle.world.proofs.allowed.ends_settled.Given as goal
 
 abbrev pub invariant-loop-call : goal.invariant-loop-call

@@ -1,6 +1,6 @@
 -- Answers to the goals of `put_bytes` (src/putting.rt) that the search leaves.
 use Rattle.std.proofs.Common.{Some, List, ℕ, length, refl, ap, sym, ◌∙◌}
-use Rattle.world.proofs.Replacing.{is_put}
+use Rattle.world.proofs.ImageSector.{is_put}
 use Rattle.world.proofs.putting.put_bytes.Goals as goal
 
 pub returns : goal.returns

@@ -1,7 +1,7 @@
 -- Answers to the goals of `put_zeroes` (src/putting.rt) that the search leaves.
 use Rattle.std.proofs.Common.{replicate}
 use Rattle.bio.specs.Content.{discards}
-use Rattle.world.proofs.Replacing.{put_outside, range_value}
+use Rattle.world.proofs.ImageSector.{put_outside, range_value}
 use Rattle.world.proofs.putting.put_zeroes.Goals as goal
 
 pub returns-in-Some : goal.returns-in-Some

@@ -8,7 +8,7 @@ use Rattle.judge.specs.Accounts.{IsAccount, place_at}
 use Rattle.judge.specs.Firsts.{first_on}
 use Rattle.judge.specs.Verdicts.{IsVerdict}
 use Rattle.world.specs.inside.Plan.{AllEnd, plan, sure_by}
-use Rattle.world.proofs.Accounting.{account_leaves, lawful_ends}
+use Rattle.world.proofs.PossibleChoice.{account_leaves, lawful_ends}
 use Rattle.world.proofs.reaching.find.Goals as goal
 
 pub run_of-requires-clause-within : goal.run_of-requires-clause-within

@@ -4,7 +4,7 @@ use Rattle.bio.specs.Content.{sector_of}
 use Rattle.judge.specs.Firsts.{first_on}
 use Rattle.world.specs.declared.finding.Finding.{Finding}
 use Rattle.world.specs.Findings.{IsFinding}
-use Rattle.world.proofs.Leaving.{reachable_possible}
+use Rattle.world.proofs.RunIsPossible.{reachable_possible}
 use Rattle.world.proofs.reaching.reach.Goals as goal
 
 pub returns-in-RuledOut : goal.returns-in-RuledOut

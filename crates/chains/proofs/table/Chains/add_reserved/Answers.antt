@@ -3,7 +3,7 @@ use Rattle.std.proofs.Common.{◌≡◌, ◌<◌, max, [], ◌∷◌, ◌++◌, 
 use Rattle.std.proofs.Common.{◌∙◌, arith}
 use Rattle.std.proofs.lemmas.List.{length-map, length-set}
 use Rattle.chains.specs.Edits.{chain_in, lengthened, shortened}
-use Rattle.chains.specs.Shown.{count_in}
+use Rattle.chains.specs.ChainsView.{count_in}
 use Rattle.chains.specs.inside.Tables.{seen_chains, seen_lasts, values_of, walked_in, IsOpen}
 use Rattle.chains.specs.inside.Tables.{IsTable}
 use Rattle.chains.proofs.TableLaws.{seen-of, sound-of, table-rest, table-seen, walk-rest}

@@ -1,15 +1,15 @@
--- Answers to the goals of `copy_image` (src/images.rt) that the search leaves.
+-- Answers to the goals of `copy_image` (src/copy_log/images.rt) that the search leaves.
 use Rattle.std.proofs.Common.{inl, refl, subst, sym}
 use Rattle.script_runner.specs.CallLaws.{on_error}
 use Rattle.sector_disk.specs.declared.disk.SectorDisk.{SectorDisk}
-use Rattle.sector_disk.specs.Shown.{shown_of}
-use Rattle.sector_disk.specs.ShownLaws.{disk_lawful}
-use Rattle.log_reader.specs.Shown.{reader_of}
-use Rattle.log_store.specs.Shown.{store_of}
-use Rattle.dmlw_commands.specs.CopiesLog.{FailsOnImage, stopped}
-use Rattle.dmlw_commands.specs.OnDisks.{IsCopiedOn}
-use Rattle.dmlw_commands.proofs.Copied.{content_whole, copied_on, fails_to_open, image_left}
-use Rattle.dmlw_commands.proofs.Copied.{log_fits, never_failed, stopped_on}
+use Rattle.sector_disk.specs.DiskView.{shown_of}
+use Rattle.sector_disk.specs.DiskViewLaws.{disk_lawful}
+use Rattle.log_reader.specs.ReaderView.{reader_of}
+use Rattle.log_store.specs.Fields.{store_of}
+use Rattle.dmlw_commands.specs.LogCopies.{FailsOnImage, stopped}
+use Rattle.dmlw_commands.specs.DiskCopy.{IsCopiedOn}
+use Rattle.dmlw_commands.proofs.CopyOnDisks.{content_whole, copied_on, fails_to_open, image_left}
+use Rattle.dmlw_commands.proofs.CopyOnDisks.{log_fits, never_failed, stopped_on}
 use Rattle.dmlw_commands.proofs.copy_log.images.copy_image.Goals as goal
 
 pub returns-in_err-reader-clause-fails : goal.returns-in_err-reader-clause-fails

@@ -1,5 +1,5 @@
--- Answers to the goals of `copies_replay_alike` (src/laws.rt) that the search leaves.
-use Rattle.dmlw_commands.proofs.Alike.{copy_alike, copy_whole}
+-- Answers to the goals of `copies_replay_alike` (src/copy_log/laws.rt) that the search leaves.
+use Rattle.dmlw_commands.proofs.CopyReplay.{copy_alike, copy_whole}
 use Rattle.dmlw_commands.proofs.copy_log.laws.copies_replay_alike.Goals as goal
 
 pub returns-clause-whole : goal.returns-clause-whole

@@ -3,7 +3,7 @@ use Rattle.std.proofs.Common.{List, Option, subst, sym, ℕ}
 use Rattle.run_error.specs.Errors.{IsFileError}
 use Rattle.dmlw_files.specs.Files.{MatchesContents}
 use Rattle.dmlw_commands.specs.Judgements.{file}
-use Rattle.dmlw_commands.proofs.Answered.{answered_files, answered_none, failed_file}
+use Rattle.dmlw_commands.proofs.QuestionEnds.{answered_files, answered_none, failed_file}
 use Rattle.dmlw_commands.proofs.judge_image.answering.answer_files.Goals as goal
 
 pub returns-in_err-text-clause-judged : goal.returns-in_err-text-clause-judged

@@ -8,7 +8,7 @@ use Rattle.run_error.specs.declared.run_error.RunError.{RunError}
 use Rattle.script_runner.specs.CallLaws.{on_error}
 use Rattle.script_runner.specs.Rehearsals.{IsRehearsed}
 use Rattle.dmlw_commands.specs.Judgements.{HasAnswer, HasNoVerdict, question}
-use Rattle.dmlw_commands.proofs.Answered.{failed_run, faulted_by, judged_by}
+use Rattle.dmlw_commands.proofs.QuestionEnds.{failed_run, faulted_by, judged_by}
 use Rattle.dmlw_commands.proofs.judge_image.answering.answer_script.Goals as goal
 
 pub returns-in_err-rehearsed-clause-faults : goal.returns-in_err-rehearsed-clause-faults

@@ -1,7 +1,7 @@
 -- Answers to the goals of `ask` (src/judge_image/answering.rt) that the search leaves.
 use Rattle.std.proofs.Common.{◌∙◌}
-use Rattle.dmlw_commands.specs.EndingLaws.{ends_told}
-use Rattle.dmlw_commands.proofs.Answered.{answering_ends}
+use Rattle.dmlw_commands.specs.EndLaws.{ends_told}
+use Rattle.dmlw_commands.proofs.QuestionEnds.{answering_ends}
 use Rattle.dmlw_commands.proofs.judge_image.answering.ask.Goals as goal
 
 pub returns-clause-ends : goal.returns-clause-ends

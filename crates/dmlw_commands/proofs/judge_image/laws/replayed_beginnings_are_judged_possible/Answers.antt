@@ -1,6 +1,6 @@
 -- Answers to goals of `replayed_beginnings_are_judged_possible`.
 -- Its own crate alone cites it, for the theorems of src/judge_image/laws.rt.
-use Rattle.dmlw_commands.proofs.Replaying.{asked_yes, begun_yes, judged_yes}
+use Rattle.dmlw_commands.proofs.PrefixIsPossible.{asked_yes, begun_yes, judged_yes}
 use Rattle.dmlw_commands.proofs.judge_image.laws.replayed_beginnings_are_judged_possible.Goals as goal
 
 pub returns-clause-content : goal.returns-clause-content

@@ -1,7 +1,7 @@
 -- What holds at the calls and the turns of the loops of `last_moment` (src/judge_image/moments.rt).
 use Rattle.std.proofs.Common.{◌≡◌, None}
 use Rattle.bio.specs.Places.{first_below}
-use Rattle.dmlw_commands.proofs.Stopping.{stops_at}
+use Rattle.dmlw_commands.proofs.LastMoment.{stops_at}
 use Rattle.dmlw_commands.proofs.judge_image.moments.last_moment.Given as goal
 
 abbrev pub invariant-loop-place : goal.invariant-loop-place

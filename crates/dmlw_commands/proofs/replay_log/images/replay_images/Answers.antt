@@ -1,11 +1,12 @@
--- Answers to the goals of `replay_images` (src/images.rt) that the search leaves.
+-- Answers to the goals of `replay_images` (src/replay_log/images.rt) that the search leaves.
 use Rattle.std.proofs.Common.{IfErr, IfOk, Result, inl, refl, subst, ℕ}
 use Rattle.headline.specs.declared.reopening.ReopenError.{ReopenError}
-use Rattle.headline.specs.Reopened.{IsRefused, IsReplayed as IsReopened}
+use Rattle.headline.specs.ReopenedLog.{IsRefused, IsReplayed as IsReopened}
 use Rattle.script_runner.specs.CallLaws.{on_error}
-use Rattle.sector_disk.specs.Shown.{shown_of}
-use Rattle.dmlw_commands.proofs.Replayed.{fails_on, fails_to_open, honest, image_left, never_failed}
-use Rattle.dmlw_commands.proofs.Replayed.{replayed_on}
+use Rattle.sector_disk.specs.DiskView.{shown_of}
+use Rattle.dmlw_commands.proofs.ReplayOnDisk.{fails_on, fails_to_open, honest, image_left}
+use Rattle.dmlw_commands.proofs.ReplayOnDisk.{never_failed}
+use Rattle.dmlw_commands.proofs.ReplayOnDisk.{replayed_on}
 use Rattle.dmlw_commands.proofs.replay_log.images.replay_images.Goals as goal
 
 pub returns-in_err-log-clause-fails : goal.returns-in_err-log-clause-fails

@@ -1,7 +1,7 @@
--- Answers to the goals of `replay_named` (src/replaying.rt) that the search leaves.
+-- Answers to the goals of `replay_named` (src/replay_log/replaying.rt) that the search leaves.
 use Rattle.script_runner.specs.CallLaws.{on_error}
 use Rattle.dmlw_commands.proofs.ReplayEnds.{fails_by_file}
-use Rattle.dmlw_commands.proofs.Replayed.{both_images, failed_from, replayed_from}
+use Rattle.dmlw_commands.proofs.ReplayOnDisk.{both_images, failed_from, replayed_from}
 use Rattle.dmlw_commands.proofs.replay_log.replaying.replay_named.Goals as goal
 
 pub returns-in_err-log-clause-fails : goal.returns-in_err-log-clause-fails

@@ -1,9 +1,9 @@
 -- Answers to the goals of `LinearBlockDev::flush` (src/linear.rt) that the search leaves.
-use Rattle.fault_layers.specs.CutLaws.{goes_cut_nothing}
+use Rattle.fault_layers.specs.WindowLaws.{goes_window_nothing}
 use Rattle.fault_layers.proofs.linear.LinearBlockDev.flush.Goals as goal
 
 pub returns-clause-goes : goal.returns-clause-goes
 returns-clause-goes g c =
-    goes_cut_nothing c.args.self.now.offset c.args.self.now.length
+    goes_window_nothing c.args.self.now.offset c.args.self.now.length
     (g.D.BlockDev.shown c.args.self.now.lower)
     (g.D.BlockDev.shown c.flush.new.self) c.flush.ensures.goes

@@ -1,7 +1,8 @@
 -- Answers to the goals of `Stack::under` (src/stack.rt) that the search leaves.
 use Rattle.std.proofs.Common.{ap, ◌∙◌}
-use Rattle.layer_table.proofs.Under.{all_under, first_asked, none_refused, none_under, of_error}
-use Rattle.layer_table.proofs.Under.{one_under, partly_under}
+use Rattle.layer_table.proofs.StackLayers.{all_under, first_asked, none_refused, none_under}
+use Rattle.layer_table.proofs.StackLayers.{of_error}
+use Rattle.layer_table.proofs.StackLayers.{one_under, partly_under}
 use Rattle.layer_table.proofs.stack.Stack.under.Goals as goal
 
 pub loop-spec-init : goal.loop-spec-init

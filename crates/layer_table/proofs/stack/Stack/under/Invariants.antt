@@ -1,6 +1,6 @@
 -- What holds at the calls and the turns of the loops of `Stack::under` (src/stack.rt).
 use Rattle.std.proofs.Common.{length}
-use Rattle.layer_table.proofs.Under.{AreUnder}
+use Rattle.layer_table.proofs.StackLayers.{AreUnder}
 use Rattle.layer_table.proofs.stack.Stack.under.Given as goal
 
 abbrev pub invariant-loop-spec : goal.invariant-loop-spec

@@ -2,7 +2,7 @@
 use Rattle.std.proofs.Common.{◌≡◌, ◌<◌, ℕ, Some, slice_get}
 use Rattle.pending.specs.CoreState.{items_of}
 use Rattle.lock_state.specs.declared.note.Item.{Item}
-use Rattle.lock_state.specs.Comparing.{listed}
+use Rattle.lock_state.specs.Comparison.{listed}
 use Rattle.lock_state.proofs.queue.QueueState.has_taken.Given as goal
 
 abbrev pub invariant-loop-k : goal.invariant-loop-k

@@ -5,9 +5,9 @@ use Rattle.std.specs.Prelude.{MatchBool}
 use Rattle.pending.specs.CoreState.{items_of}
 use Rattle.bio.specs.declared.event.CoreEvent.{CoreEvent}
 use Rattle.bio.specs.PlaceLaws.{stands_there, slice_get-within}
-use Rattle.lock_state.specs.Comparing.{listed}
+use Rattle.lock_state.specs.Comparison.{listed}
 use Rattle.lock_state.specs.History.{Queue}
-use Rattle.lock_state.proofs.Taking.{taken_as, taken_match}
+use Rattle.lock_state.proofs.TakenList.{taken_as, taken_match}
 use Rattle.lock_state.proofs.queue.QueueState.is_taken_as.Goals as goal
 
 pub unreachable-requires : goal.unreachable-requires

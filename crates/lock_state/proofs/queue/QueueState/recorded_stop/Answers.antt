@@ -2,9 +2,9 @@
 use Rattle.std.proofs.Common.{List, sym, ap, ◌∙◌}
 use Rattle.std.specs.Prelude.{slice_get}
 use Rattle.bio.specs.declared.event.CoreEvent.{CoreEvent}
-use Rattle.lock_state.specs.Comparing.{stop_cause_at}
+use Rattle.lock_state.specs.Comparison.{stop_cause_at}
 use Rattle.lock_state.specs.History.{Queue, stop_of}
-use Rattle.lock_state.proofs.Ending.{stop_of-unended, stop_of-ended}
+use Rattle.lock_state.proofs.RecordingEnd.{stop_of-unended, stop_of-ended}
 use Rattle.lock_state.proofs.queue.QueueState.recorded_stop.Goals as goal
 
 pub returns-in-None : goal.returns-in-None

@@ -1,6 +1,6 @@
 -- Answers to the goals of `Running::close` (src/running.rt) that the search leaves.
 use Rattle.std.proofs.Common.{◌∙◌, refl}
-use Rattle.script_runner.proofs.Stepping.{closed-only}
+use Rattle.script_runner.proofs.LineSteps.{closed-only}
 use Rattle.script_runner.proofs.running.Running.close.Goals as goal
 
 pub returns : goal.returns

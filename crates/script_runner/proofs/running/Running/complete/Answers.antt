@@ -2,7 +2,7 @@
 use Rattle.std.proofs.Common.{◌≡◌, Some, refl, rules, []}
 use Rattle.std.specs.Prelude.{slice_get}
 use Rattle.script_runner.specs.declared.request.Request.TheVariants as requests
-use Rattle.script_runner.proofs.Stepping.{stands_at}
+use Rattle.script_runner.proofs.LineSteps.{stands_at}
 use Rattle.script_runner.proofs.running.Running.complete.Goals as goal
 
 pub returns-in-NotAsked-clause-runs : goal.returns-in-NotAsked-clause-runs

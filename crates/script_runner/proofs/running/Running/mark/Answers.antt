@@ -2,7 +2,7 @@
 use Rattle.std.proofs.Common.{List, refl, subst, ℕ}
 use Rattle.recorder.specs.Calls.{Marks}
 use Rattle.script_runner.specs.inside.Replies.{mark_outcome}
-use Rattle.script_runner.proofs.Stepping.{mark_prints, on_ok}
+use Rattle.script_runner.proofs.LineSteps.{mark_prints, on_ok}
 use Rattle.script_runner.proofs.running.Running.mark.Goals as goal
 
 pub returns-in_err-clone-clause-keeps : goal.returns-in_err-clone-clause-keeps

@@ -6,10 +6,10 @@ use Rattle.blockdev.specs.declared.message.MessageError.{MessageError}
 use Rattle.script_reader.specs.declared.disk_name.DiskName.{DiskName}
 use Rattle.pending.specs.CoreState.{CoreShown}
 use Rattle.recorder.specs.Growth.{RecorderFrame}
-use Rattle.recorder.specs.Shown.{recorder_view}
+use Rattle.recorder.specs.Fields.{recorder_view}
 use Rattle.script_runner.specs.declared.running.Running.{Running}
 use Rattle.script_runner.specs.declared.step_error.StepError.TheVariants.{AtLine}
-use Rattle.script_runner.specs.Submitted.{fits_device}
+use Rattle.script_runner.specs.Submissions.{fits_device}
 use Rattle.script_runner.specs.Lines.{RefusesMessage, TellsData, TellsLog, TellsLayer, answering}
 use Rattle.script_runner.specs.inside.Steps.{StepKeeps}
 use Rattle.script_runner.proofs.running.Running.message.Goals.{in-Data, in-Log}

@@ -5,8 +5,8 @@ use Rattle.script_reader.specs.declared.command.Command.{Command}
 use Rattle.script_reader.specs.declared.command.Step.TheVariants as steps
 use Rattle.script_runner.specs.CallLaws.{keeps_same}
 use Rattle.script_runner.specs.Lines.{PrintsLine, TellsLayer, answering}
-use Rattle.script_runner.proofs.Stepping.{appends_none, both_ok, if_err, is_close_step, is_step}
-use Rattle.script_runner.proofs.Stepping.{on_ok, step_runs}
+use Rattle.script_runner.proofs.LineSteps.{appends_none, both_ok, if_err, is_close_step, is_step}
+use Rattle.script_runner.proofs.LineSteps.{on_ok, step_runs}
 use Rattle.script_runner.proofs.running.Running.run_line.Goals as goal
 
 pub returns-in-Close-clause-faults : goal.returns-in-Close-clause-faults

@@ -1,6 +1,6 @@
 -- What holds at the calls and the turns of the loops of `Work::run` (src/work.rt).
 use Rattle.std.proofs.Common.{take}
-use Rattle.seat_runner.specs.inside.Playing.{DoesLines}
+use Rattle.seat_runner.specs.inside.SeatWork.{DoesLines}
 use Rattle.seat_runner.proofs.work.Work.run.Given as goal
 
 abbrev pub invariant-loop-place : goal.invariant-loop-place

@@ -1,7 +1,7 @@
 -- Answers to the goals of `SectorDisk::crash` (src/disk.rt) that the search leaves.
 use Rattle.std.proofs.Common.{ap, length, ◌∙◌}
 use Rattle.sector_disk.specs.inside.Storage.{is_table}
-use Rattle.sector_disk.proofs.Beginning.{begins_chosen, chosen_of, kept_chosen}
+use Rattle.sector_disk.proofs.NewPast.{begins_chosen, chosen_of, kept_chosen}
 use Rattle.sector_disk.proofs.disk.SectorDisk.crash.Goals as goal
 
 pub invariant_of-self : goal.invariant_of-self

@@ -1,7 +1,7 @@
 -- Answers to the goals of `SectorDisk::from_bytes` (src/disk.rt) that the search leaves.
 use Rattle.std.proofs.lemmas.Result.{IfOk-weaker}
-use Rattle.sector_disk.specs.Shown.{shown_of}
-use Rattle.sector_disk.proofs.Beginning.{image_made}
+use Rattle.sector_disk.specs.DiskView.{shown_of}
+use Rattle.sector_disk.proofs.NewPast.{image_made}
 use Rattle.sector_disk.proofs.disk.SectorDisk.from_bytes.Goals as goal
 
 pub returns : goal.returns

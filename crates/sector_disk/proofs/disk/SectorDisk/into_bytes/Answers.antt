@@ -1,7 +1,7 @@
 -- Answers to the goals of `SectorDisk::into_bytes` (src/disk.rt) that the search leaves.
 use Rattle.std.proofs.Common.{refl}
 use Rattle.std.proofs.lemmas.Result.{IfOk-weaker}
-use Rattle.sector_disk.proofs.Moved.{given_of}
+use Rattle.sector_disk.proofs.DeviceLaw.{given_of}
 use Rattle.sector_disk.proofs.disk.SectorDisk.into_bytes.Goals as goal
 
 pub returns-clause-content : goal.returns-clause-content

@@ -1,7 +1,7 @@
 -- Answers to the goals of `SectorDisk::new` (src/disk.rt) that the search leaves.
 use Rattle.std.proofs.lemmas.Result.{IfOk-weaker}
-use Rattle.sector_disk.specs.Shown.{shown_of}
-use Rattle.sector_disk.proofs.Beginning.{zeroes_made}
+use Rattle.sector_disk.specs.DiskView.{shown_of}
+use Rattle.sector_disk.proofs.NewPast.{zeroes_made}
 use Rattle.sector_disk.proofs.disk.SectorDisk.new.Goals as goal
 
 pub returns : goal.returns

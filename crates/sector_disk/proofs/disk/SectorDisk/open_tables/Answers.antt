@@ -1,7 +1,7 @@
 -- Answers to the goals of `SectorDisk::open_tables` (src/disk.rt) that the search leaves.
 use Rattle.std.proofs.Common.{refl, sym, ◌∙◌, arith}
 use Rattle.std.proofs.lemmas.Bool.{eqb-true}
-use Rattle.sector_disk.proofs.Keeping.{kept_opened, start_opened}
+use Rattle.sector_disk.proofs.FieldsKept.{kept_opened, start_opened}
 use Rattle.sector_disk.proofs.disk.SectorDisk.open_tables.Goals as goal
 
 pub invariant_of-self : goal.invariant_of-self

@@ -2,7 +2,7 @@
 use Rattle.std.proofs.Common.{ap, drop, List, refl, take, ◌∷◌, ◌∙◌}
 use Rattle.sector_disk.specs.Candidates.{Puts, Step}
 use Rattle.sector_disk.specs.inside.Storage.{change_values}
-use Rattle.sector_disk.proofs.Keeping.{kept_added, past_added, start_added}
+use Rattle.sector_disk.proofs.FieldsKept.{kept_added, past_added, start_added}
 use Rattle.sector_disk.proofs.disk.SectorDisk.put.Goals as goal
 
 pub invariant_of-self-2 : goal.invariant_of-self-2

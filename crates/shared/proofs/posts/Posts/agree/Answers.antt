@@ -1,8 +1,8 @@
 -- Answers to the goals of `Posts::agree` (src/posts.rt) that the search leaves.
 use Rattle.std.proofs.Common.{List, subst, sym}
 use Rattle.bio.specs.declared.outcome.Status.{Status}
-use Rattle.shared.specs.Posting.{ArePosted}
-use Rattle.shared.proofs.Posting.{posted_begins}
+use Rattle.shared.specs.Posts.{ArePosted}
+use Rattle.shared.proofs.PostedStatus.{posted_begins}
 use Rattle.shared.proofs.posts.Posts.agree.Goals as goal
 
 pub returns-clause-seen : goal.returns-clause-seen

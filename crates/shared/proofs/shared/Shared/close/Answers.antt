@@ -1,9 +1,9 @@
 -- Answers to the goals of `Shared::close` (src/shared.rt) that the search leaves.
 use Rattle.std.proofs.Common.{List, ◌∙◌, subst, sym}
 use Rattle.lock_state.specs.declared.note.Item.{Item}
-use Rattle.shared.proofs.Finishing.{agrees_of, differs_apart, differs_of, receipts_there}
-use Rattle.shared.proofs.Posting.{posted_stays, told_within}
-use Rattle.shared.specs.Posting.{ArePosted}
+use Rattle.shared.proofs.ClosedLog.{agrees_of, differs_apart, differs_of, receipts_there}
+use Rattle.shared.proofs.PostedStatus.{posted_stays, told_within}
+use Rattle.shared.specs.Posts.{ArePosted}
 use Rattle.shared.proofs.shared.Shared.close.Goals as goal
 
 pub returns-then-agrees-clause-agrees : goal.returns-then-agrees-clause-agrees
@@ -35,6 +35,9 @@ returns-then-agrees-clause-current g c =
     record {
       written = c.in-Ok.held.log;
       stays = c.finish-closed.ensures.stay;
+      end_stays = c.finish-closed.ensures.end_stays;
+      let_go = sym c.released-released.ensures;
+      ends = c.in-Ok.ensures.ends;
       told = told_within _ _ _ before.named;
       latest = c.in-Ok.ensures.latest;
     }
@@ -58,3 +61,15 @@ returns-clause-foreign g c =
     (differs_of _ _ _ _ _ _ _ _ _
     (c.as_slice.ensures.value
     ∙ c.audit.ensures.same.1) c.as_slice-2.ensures.value c.if-agrees.ensures.agrees)
+
+pub returns-then-agrees-clause-ends : goal.returns-then-agrees-clause-ends
+returns-then-agrees-clause-ends g c k status there cause is other =
+    c.released-released.ensures
+    ∙ c.in-Ok.ensures.ends k status there cause is
+    (λ end. other (c.finish-closed.ensures.end_stays cause end))
+
+pub returns-clause-foreign_ends : goal.returns-clause-foreign_ends
+returns-clause-foreign_ends g c k status there cause is other =
+    c.released-released.ensures
+    ∙ c.in-Ok.ensures.ends k status there cause is
+    (λ end. other (c.take_apart.ensures.store_end ∙ end))

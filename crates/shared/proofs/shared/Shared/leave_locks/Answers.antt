@@ -1,7 +1,8 @@
 -- Answers to the goals of `Shared::leave_locks` (src/closing.rt) that the search leaves.
 use Rattle.std.proofs.Common.{List, subst, sym}
 use Rattle.bio.specs.declared.outcome.Status.{Status}
-use Rattle.shared.specs.Posting.{ArePosted, IsLatest}
+use Rattle.lock_state.specs.Comparison.{Each}
+use Rattle.shared.specs.Posts.{ArePosted, IsLatest, TellsCause}
 use Rattle.shared.proofs.shared.Shared.leave_locks.Goals as goal
 
 pub returns-then-is_ready-clause-posted : goal.returns-then-is_ready-clause-posted
@@ -15,3 +16,9 @@ returns-then-is_ready-clause-latest g c =
     let desk = c.into_inner-log.result in
     subst (λ (posts : List Status). IsLatest g.R.Run.sector_bytes desk.log posts)
     (sym c.new-posts.ensures) desk.latest
+
+pub returns-then-is_ready-clause-ends : goal.returns-then-is_ready-clause-ends
+returns-then-is_ready-clause-ends g c =
+    let desk = c.into_inner-log.result in
+    subst (λ (posts : List Status). Each (TellsCause desk.log.end desk.log.released) posts)
+    (sym c.new-posts.ensures) desk.ends

@@ -3,9 +3,9 @@ use Rattle.std.proofs.Common.{◌/◌, ◌&&◌, not, length, ap, sym, ◌∙◌
 use Rattle.std.specs.Prelude.{reverse}
 use Rattle.world.specs.Cells.{WorldState, machine_in, machine_of}
 use Rattle.world.specs.Machine.{has_step, may_take}
-use Rattle.world.specs.inside.Allowed.{is_allowed}
-use Rattle.world.proofs.Accounting.{lawful_ends}
-use Rattle.world.proofs.Allowing.{allowed_is}
+use Rattle.world.specs.inside.StepTests.{is_allowed}
+use Rattle.world.proofs.PossibleChoice.{lawful_ends}
+use Rattle.world.proofs.StepTests.{allowed_is}
 use Rattle.world.proofs.cache.World.has_step.Goals as goal
 
 pub is_allowed-requires : goal.is_allowed-requires

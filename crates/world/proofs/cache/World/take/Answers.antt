@@ -5,7 +5,7 @@ use Rattle.std.specs.Prelude.{get_or, slice_set}
 use Rattle.world.specs.declared.step.Step.{Step}
 use Rattle.world.specs.Cells.{Steps, empty_cell, landing, machine_of}
 use Rattle.world.specs.Machine.{has_step}
-use Rattle.world.proofs.Stepping.{destage_steps, destage_within, land_steps, land_within}
+use Rattle.world.proofs.MachineSteps.{destage_steps, destage_within, land_steps, land_within}
 use Rattle.world.proofs.cache.World.take.Goals as goal
 
 pub land-requires : goal.land-requires

@@ -2,7 +2,7 @@
 -- Its own crate alone cites it, for the theorems of src/disk/device.rt.
 use Rattle.std.proofs.Common.{false}
 use Rattle.bio.specs.Content.{discards}
-use Rattle.sector_disk.proofs.Moved.{goes_past, goes_unchanged}
+use Rattle.sector_disk.proofs.DeviceLaw.{goes_past, goes_unchanged}
 use Rattle.sector_disk.proofs.disk.device.SectorDiskBlockDev.discard.Goals as goal
 
 pub returns-in_err-put-clause-goes : goal.returns-in_err-put-clause-goes

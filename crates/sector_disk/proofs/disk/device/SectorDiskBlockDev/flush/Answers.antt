@@ -1,9 +1,9 @@
 -- Answers to the goals of `SectorDiskBlockDev::flush` (src/disk/device.rt) that the search leaves.
 use Rattle.std.proofs.Common.{refl, ◌∙◌}
 use Rattle.sector_disk.specs.CandidateLaws.{syncs_flush}
-use Rattle.sector_disk.specs.Shown.{start_of}
-use Rattle.sector_disk.proofs.Keeping.{kept_synced}
-use Rattle.sector_disk.proofs.Moved.{goes_flushed, past_flushed}
+use Rattle.sector_disk.specs.DiskView.{start_of}
+use Rattle.sector_disk.proofs.FieldsKept.{kept_synced}
+use Rattle.sector_disk.proofs.DeviceLaw.{goes_flushed, past_flushed}
 use Rattle.sector_disk.proofs.disk.device.SectorDiskBlockDev.flush.Goals as goal
 
 pub invariant_of-self : goal.invariant_of-self

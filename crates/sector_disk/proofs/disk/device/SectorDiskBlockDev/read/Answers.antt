@@ -2,8 +2,8 @@
 use Rattle.std.proofs.Common.{◌/◌, length, refl}
 use Rattle.bio.specs.Content.{nothing}
 use Rattle.blockdev.specs.JoinLaws.{goes_none}
-use Rattle.sector_disk.specs.Shown.{shown_of}
-use Rattle.sector_disk.proofs.Moved.{read_of}
+use Rattle.sector_disk.specs.DiskView.{shown_of}
+use Rattle.sector_disk.proofs.DeviceLaw.{read_of}
 use Rattle.sector_disk.proofs.disk.device.SectorDiskBlockDev.read.Goals as goal
 
 pub returns-clause-bytes : goal.returns-clause-bytes

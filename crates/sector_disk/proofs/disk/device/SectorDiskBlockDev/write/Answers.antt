@@ -1,8 +1,8 @@
 -- Answers to the goals of `SectorDiskBlockDev::write` (src/disk/device.rt) that the search leaves.
 use Rattle.bio.specs.Content.{writes}
 use Rattle.blockdev.specs.JoinLaws.{goes_none}
-use Rattle.sector_disk.specs.Shown.{shown_of}
-use Rattle.sector_disk.proofs.Moved.{goes_past, goes_unchanged, lands_past, written_past}
+use Rattle.sector_disk.specs.DiskView.{shown_of}
+use Rattle.sector_disk.proofs.DeviceLaw.{goes_past, goes_unchanged, lands_past, written_past}
 use Rattle.sector_disk.proofs.disk.device.SectorDiskBlockDev.write.Goals as goal
 
 pub returns-in_err-to_vec-clause-goes : goal.returns-in_err-to_vec-clause-goes

@@ -1,0 +1,367 @@
+-- What copying the log of an image comes to on disks in memory.
+-- Its own crate alone cites it, for theorems of many of its files.
+use Rattle.std.proofs.Common.{◌≡◌, ◌∙◌, ℕ, ◌+◌, ◌*◌, ◌/◌, ◌<◌, ◌≤◌, true, false, List, [], ◌++◌}
+use Rattle.std.proofs.Common.{map, take, Option, None, Some, Result, Ok, Err, IfErr, IfOk, ap}
+use Rattle.std.proofs.Common.{arith, inl, inr, length, refl, subst, sym}
+use Rattle.std.specs.Prelude.{slice_get}
+use Rattle.std.proofs.Math.Nat.{eq-zero-or-pos}
+use Rattle.std.specs.List.{list_all}
+use Rattle.std.proofs.lemmas.List.{take_all}
+use Rattle.bio.specs.Content.{AgreeBelow, Content, HasWholeSectors, sector_of}
+use Rattle.bio.specs.declared.outcome.End.TheVariants as ends
+use Rattle.blockdev.specs.View.{IsLawful, View}
+use Rattle.bio.specs.SectorLaws.{length-gather, sector_of-gather}
+use Rattle.sector_disk.specs.declared.disk.SectorDisk.{SectorDisk}
+use Rattle.sector_disk.specs.DiskView.{shown_of}
+use Rattle.sector_disk.specs.DiskViewLaws.{disk_lawful}
+use Rattle.sector_disk.specs.Sizes.{Begins}
+use Rattle.log_format.specs.declared.decode.Super.{Super}
+use Rattle.log_format.specs.declared.entry.Entry.{Entry}
+use Rattle.log_format.specs.Decode.{super_of}
+use Rattle.log_format.specs.Entries.{sectors_of}
+use Rattle.log_format.specs.EntryLaws.{sector_size_bounds}
+use Rattle.log_format.specs.EntryWalk.{entries_at}
+use Rattle.log_format.specs.LogOf.{IsLogOf, log_sectors, next_sector}
+use Rattle.log_reader.specs.declared.fault.LogFault.{LogFault}
+use Rattle.log_reader.specs.declared.fault.OpenDeviceError.{OpenDeviceError}
+use Rattle.log_reader.specs.declared.fault.OpenDeviceError.TheVariants as device_opens
+use Rattle.log_reader.specs.declared.fault.OpenError.TheVariants as opens
+use Rattle.log_reader.specs.declared.fault.ReadDeviceError.TheVariants as reads
+use Rattle.log_reader.specs.SameDiskLaws.{reads_alike}
+use Rattle.log_reader.specs.AnyDisk.{any_reading}
+use Rattle.log_reader.specs.Devices.{HasFaulted}
+use Rattle.log_reader.specs.DiskLogLaws.{size_of_head}
+use Rattle.log_reader.specs.Reader.{OpenRefuses, Reader}
+use Rattle.log_reader.specs.ImageLog.{IsReading}
+use Rattle.log_reader.specs.DiskLog.{Reads}
+use Rattle.log_reader.specs.Refusals.{open_device_refusal}
+use Rattle.log_store.specs.Calls.{HasFailed, StoreFrame}
+use Rattle.log_store.specs.Store.{Store, StoreInvariant, entries_of}
+use Rattle.log_copy.specs.declared.fault.CopyError.{CopyError}
+use Rattle.log_copy.specs.declared.fault.CopyError.TheVariants as copies
+use Rattle.log_copy.specs.declared.fault.CopyFault.{CopyFault}
+use Rattle.log_copy.specs.Copies.{HasNoRoom, IsCopied as IsPlaced, IsLog, IsUnaligned, StopsBy}
+use Rattle.log_copy.specs.Copies.{entries_from}
+use Rattle.log_copy.specs.Resize.{is_aligned_to, resized}
+use Rattle.run_error.specs.declared.run_error.RunError.{RunError}
+use Rattle.run_error.specs.Errors.{refused_by}
+use Rattle.dmlw_files.specs.Files.{MatchesContents}
+use Rattle.dmlw_files.specs.Images.{IsImage, image_of}
+use Rattle.dmlw_commands.specs.declared.copy_log.images.Copied.{Copied}
+use Rattle.dmlw_commands.specs.LogCopies.{FailsCopy, FailsOnImage, HasStopCause, IsCopied}
+use Rattle.dmlw_commands.specs.LogCopies.{IsCopiedFrom, LacksRoom, StopsCopy, memory, of_image}
+use Rattle.dmlw_commands.specs.LogCopies.{unopened}
+use Rattle.dmlw_commands.specs.DiskCopy.{IsBegun, IsCopiedOn, IsOpened, RefusesOpen}
+
+-- a device that counts no faults hasn't failed
+pub never_failed : (v w : View) → v.faults ≡ 0 → w.faults ≡ 0 → HasFaulted v w → ⊥
+never_failed v w first second (inl grew) = absurd (omega arith)
+never_failed v w first second (inr full) = absurd (omega arith)
+
+-- the content of a device has whole sectors
+pub content_whole : (v : View) → IsLawful v → HasWholeSectors v.size v.content
+content_whole v lawful =
+    lawful.whole v.moment v.content (omega arith)
+    (lawful.nested v.moment v.content (omega arith) lawful.current)
+
+-- why a log isn't opened is why it isn't copied
+pub fails_to_open : (log : List ℕ) (sectors : ℕ) (fault : RunError) (stop : RunError)
+    → RefusesOpen log fault → stop ≡ fault
+    → FailsOnImage log sectors stop
+fails_to_open log sectors fault stop (inl is) same =
+    subst (FailsOnImage log sectors) (sym (same ∙ is)) memory
+fails_to_open log sectors fault stop (inr refuses) same =
+    subst (FailsOnImage log sectors) (sym same) (unopened fault refuses)
+
+-- what came of the image in a file came of the file
+pub copied_from : (log_file : Option (List ℕ)) (log : List ℕ) (sectors : ℕ)
+    (r : Result Copied RunError)
+    → MatchesContents log_file log → IsImage log
+    → IfOk r (λ done. IsCopied log done.count sectors (image_of done.disk))
+    → IfOk r (λ done. IsCopiedFrom log_file done.count sectors (image_of done.disk))
+copied_from log_file log sectors (Ok done) read image is =
+    record { log = log; log_read = read; log_image = image; copied = is }
+copied_from log_file log sectors (Err stop) read image is = is
+
+-- and what failed of it failed of the file
+pub failed_from : (log_file : Option (List ℕ)) (log : List ℕ) (sectors : ℕ)
+    (r : Result Copied RunError)
+    → MatchesContents log_file log → IsImage log
+    → IfErr r (FailsOnImage log sectors) → IfErr r (FailsCopy log_file sectors)
+failed_from log_file log sectors (Ok done) read image fails = fails
+failed_from log_file log sectors (Err stop) read image fails = of_image log stop read image fails
+
+-- an image has a first sector
+some_sector : (log : List ℕ) → IsImage log → 0 < length log / 512
+some_sector log image = let least = image.least in omega arith
+
+-- a disk that isn't opened as a log, and never fails
+pub unopened_on : (log : List ℕ) (v w : View) (error : OpenDeviceError) (fault : RunError)
+    → IsImage log → Begins (length log / 512) (sector_of log) v
+    → (HasFaulted v w → ⊥) → OpenRefuses v w error → fault ≡ refused_by (open_device_refusal error)
+    → RefusesOpen log fault
+unopened_on log v w (device_opens.Log (opens.BadSuper cause)) fault image begins never refuses is =
+    let first : v.content 0 ≡ sector_of log 0 = begins.content 0 (some_sector log image) in
+    inr (opens.BadSuper cause, ap super_of (sym first) ∙ refuses, is)
+unopened_on log v w (device_opens.Log opens.CutShort) fault image begins never refuses is =
+    let first : v.content 0 ≡ sector_of log 0 = begins.content 0 (some_sector log image) in
+    let size = begins.size in
+    inr (
+      opens.CutShort,
+      record {
+        head = refuses.head;
+        super_block = ap super_of (sym first) ∙ refuses.super_block;
+        some = refuses.some;
+        too_many =
+            subst (λ (n : ℕ). log_sectors refuses.head.sectorsize n ≤ refuses.head.count) size
+            refuses.too_many;
+      },
+      is,
+    )
+unopened_on log v w device_opens.Device fault image begins never refuses is = absurd (never refuses)
+unopened_on log v w device_opens.Memory fault image begins never refuses is = inl is
+
+-- the sectors of a log that was opened are no larger than those of the new log
+pub log_fits : (log : List ℕ) (sectors : ℕ) (r : Reader) (v : Store) → IsOpened log r
+    → IsBegun sectors v → r.head.sectorsize ≤ v.sector_bytes
+log_fits log sectors r v opened begun =
+    let bounds =
+    sector_size_bounds r.head.sectorsize
+    (size_of_head (r.device.content 0) r.head opened.super_block) in
+    let few = bounds.1 in
+    let to = begun.sector_bytes in
+    omega arith
+
+-- what is read of a reader's disk is a reading of the image
+reading_on : (log : List ℕ) (r : Reader) (es : List Entry) (fault : Option LogFault) → IsImage log
+    → IsOpened log r → IsLog r es fault
+    → IsReading log r.head es fault
+reading_on log r es fault image opened reading =
+    let R : ℕ → Type 0 = λ n. Reads n r.device.content r.head es fault in
+    reads_alike (length log / 512) r.device.content (sector_of log) r.head es fault
+    (some_sector log image) opened.content (subst R opened.size reading)
+
+-- a disk's log has so many entries as it counts, where these are read: so it has no fault
+no_fault : (disk : ℕ) (c : Content) (head : Super) (es : List Entry) (fault : Option LogFault)
+    (count : ℕ) → Reads disk c head es fault → count ≡ head.count
+    → (0 < count → count ≤ length es) → (fault ≡ None) × (count ≡ length es)
+no_fault disk c head es None count reading all some =
+    let counted : length es ≡ head.count = reading.end in (refl, all ∙ sym counted)
+no_fault disk c head es (Some found) count reading all some =
+    let less : length es < head.count = reading.end.0 in
+    let within = some (omega arith) in
+    absurd (omega arith)
+
+-- a new log has no entries
+begun_none : (sectors : ℕ) (v : Store) → IsBegun sectors v → entries_of v ≡ []
+begun_none sectors v begun = ap (entries_at v.sector_bytes v.device.content 1) begun.placed
+
+-- what is placed in a new log is the first entries, copied
+placed_entries : (sectors from place count : ℕ) (es : List Entry) (v w : Store) → IsBegun sectors v
+    → w.device.lies ≡ 0 → place ≡ 0
+    → IsPlaced from es place count v w → entries_of w ≡ map (resized from 4096) (take count es)
+placed_entries sectors from place count es v w begun honest first placed =
+    placed.entries honest
+    ∙ ap (λ (xs : List Entry). xs
+    ++ map (resized from v.sector_bytes) (entries_from es place count)) (begun_none sectors v begun)
+    ∙ ap (λ (n : ℕ). map (resized from n) (entries_from es place count)) begun.sector_bytes
+    ∙ ap (λ (n : ℕ). map (resized from 4096) (entries_from es n count)) first
+
+-- and they are aligned
+placed_aligned : (sectors from place count : ℕ) (es : List Entry) (v w : Store) → IsBegun sectors v
+    → place ≡ 0 → IsPlaced from es place count v w
+    → list_all (is_aligned_to from 4096) (take count es) ≡ true
+placed_aligned sectors from place count es v w begun first placed =
+    subst (λ (n : ℕ). list_all (is_aligned_to from 4096) (entries_from es n count) ≡ true) first
+    (subst (λ (n : ℕ). list_all (is_aligned_to from n) (entries_from es place count)
+    ≡ true) begun.sector_bytes placed.aligned)
+
+-- a copy that was done
+pub copied_on : (log : List ℕ) (sectors count : ℕ) (r : Reader) (v w : Store) → IsImage log
+    → IsOpened log r → IsBegun sectors v
+    → HasWholeSectors r.device.size r.device.content → w.device.lies ≡ 0
+    → w.device.crash w.device.content → StoreFrame v w
+    → ((es : List Entry) (fault : Option LogFault) → IsLog r es fault
+    → IsPlaced r.head.sectorsize es r.next count v w) → r.next + count ≡ r.head.count
+    → (w.device.lies ≡ 0 → (left : Content) → w.device.crash left
+    → IsLogOf w.device.size left w.sector_bytes (entries_of w))
+    → IsCopiedOn log count sectors w.device
+copied_on log sectors count r v w image opened begun whole_sectors honest current goes placing
+    counted whole =
+    let read = any_reading r.device.size r.device.content r.head whole_sectors opened.super_block in
+    let es = read.entries in
+    let placed = placing es read.fault read.reads in
+    let first = opened.place in
+    let all : count ≡ r.head.count = omega arith in
+    let within : 0 < count → count ≤ length es = λ some. let few = placed.some some in
+    omega arith in
+    let ended = no_fault r.device.size r.device.content r.head es read.fault count
+    read.reads all within in
+    let taken : take count es ≡ es = let same = ended.1 in take_all count es (omega arith) in
+    let size = goes.size ∙ begun.size in
+    let to = goes.sector_bytes ∙ begun.sector_bytes in
+    let entries =
+    placed_entries sectors r.head.sectorsize r.next count es v w begun honest first placed
+    ∙ ap (λ (xs : List Entry). map (resized r.head.sectorsize 4096) xs) taken in
+    record {
+      head = r.head;
+      entries = es;
+      reading =
+          subst (IsReading log r.head es) ended.0
+          (reading_on log r es read.fault image opened read.reads);
+      all = ended.1;
+      aligned =
+          subst (λ (xs : List Entry). list_all (is_aligned_to r.head.sectorsize 4096) xs
+          ≡ true) taken
+          (placed_aligned sectors r.head.sectorsize r.next count es v w begun first placed);
+      size = size;
+      copied =
+          subst (λ (n : ℕ). IsLogOf n w.device.content 4096
+          (map (resized r.head.sectorsize 4096) es)) size
+          (subst (λ (n : ℕ). IsLogOf w.device.size w.device.content n
+          (map (resized r.head.sectorsize 4096) es)) to
+          (subst (IsLogOf w.device.size w.device.content w.sector_bytes) entries
+          (whole honest w.device.content current)));
+    }
+
+-- a log stands on a disk that has the same sectors
+log_alike : (disk size : ℕ) (c d : Content) (es : List Entry) → 0 < disk → AgreeBelow disk c d
+    → IsLogOf disk c size es → IsLogOf disk d size es
+log_alike disk size c d es some agree log =
+    let head : Super = record { count = length es; sectorsize = size } in
+    let reading =
+    reads_alike disk c d head es None some agree
+    (record { super_block = log.super_block; entries = log.entries; end = refl }) in
+    record { super_block = reading.super_block; entries = reading.entries }
+
+-- the image of the disk that a copy left
+pub image_left : (log : List ℕ) (sectors count : ℕ) (disk : SectorDisk) → 8 ≤ sectors
+    → IsCopiedOn log count sectors (shown_of disk)
+    → IsCopied log count sectors (image_of disk)
+image_left log sectors count disk some done =
+    let v = shown_of disk in
+    let size = done.size in
+    let whole = content_whole v (disk_lawful disk) in
+    record {
+      head = done.head;
+      entries = done.entries;
+      reading = done.reading;
+      all = done.all;
+      aligned = done.aligned;
+      size =
+          length-gather v.size v.content 0 v.size whole (omega arith)
+          ∙ ap (λ (n : ℕ). 512 * n) size;
+      copied =
+          log_alike sectors 4096 v.content (sector_of (image_of disk))
+          (map (resized done.head.sectorsize 4096) done.entries) (omega arith)
+          (λ sector below. sector_of-gather v.size v.content whole sector
+          (omega arith)) done.copied;
+    }
+
+-- the next entry doesn't fit the new log, after those that are placed
+lacks_room : (sectors from place count : ℕ) (es : List Entry) (v w : Store) → IsBegun sectors v
+    → StoreInvariant w → w.device.lies ≡ 0 → place ≡ 0 → StoreFrame v w
+    → IsPlaced from es place count v w → HasNoRoom from es (place + count) w
+    → LacksRoom from es count sectors
+lacks_room sectors from place count es v w begun kept honest first goes placed none =
+    let size = goes.size ∙ begun.size in
+    let to = goes.sector_bytes ∙ begun.sector_bytes in
+    let here : place + count ≡ count = omega arith in
+    let entries = placed_entries sectors from place count es v w begun honest first placed in
+    let after : w.next ≡ next_sector (map (resized from 4096) (take count es)) =
+    (kept.stand honest).after ∙ ap next_sector entries in
+    record {
+      next = none.next;
+      there = subst (λ (n : ℕ). slice_get es n ≡ Some none.next) here none.there;
+      full =
+          subst (λ (n : ℕ). log_sectors 4096 sectors ≤ n + sectors_of
+          (resized from 4096 none.next)) after
+          (subst (λ (n : ℕ). log_sectors 4096 n ≤ w.next + sectors_of
+          (resized from 4096 none.next)) size
+          (subst (λ (n : ℕ). log_sectors n w.device.size ≤ w.next + sectors_of
+          (resized from n none.next)) to none.full));
+    }
+
+-- what stopped a copy on disks that never fail
+cause_on : (sectors applied : ℕ) (es : List Entry) (fault : Option LogFault) (r last : Reader)
+    (v w : Store) (cause : CopyError) → IsBegun sectors v
+    → r.next ≡ 0 → r.failed ≡ false → applied ≤ length es → (HasFaulted r.device last.device → ⊥)
+    → (HasFailed v w → ⊥) → StoreInvariant w → w.device.lies ≡ 0
+    → StoreFrame v w → IsPlaced r.head.sectorsize es r.next applied v w
+    → StopsBy es fault (r.next + applied) r last v w cause
+    → HasStopCause r.head es fault sectors applied cause
+cause_on sectors applied es fault r last v w
+    (copies.Log (reads.Log found)) begun first fresh within reader store kept honest goes placed
+    is =
+    let all = is.1 in (is.0, omega arith)
+cause_on sectors applied es fault r last v w (copies.Log reads.Device) begun first fresh within
+    reader store kept honest goes placed failed = absurd (reader failed)
+cause_on sectors applied es fault r last v w (copies.Log reads.Memory) begun first fresh within
+    reader store kept honest goes placed is = tt
+cause_on sectors applied es fault r last v w
+    (copies.Log reads.Failed) begun first fresh within reader store kept honest goes placed
+    refused =
+    absurd (cc (fresh, refused))
+cause_on sectors applied es fault r last v w copies.Unaligned begun first fresh within reader store
+    kept honest goes placed is =
+    let here : r.next + applied ≡ applied = omega arith in
+    subst (λ (n : ℕ). IsUnaligned r.head.sectorsize n es applied) begun.sector_bytes
+    (subst (IsUnaligned r.head.sectorsize v.sector_bytes es) here is)
+cause_on sectors applied es fault r last v w
+    (copies.Store ends.Full) begun first fresh within reader store kept honest goes placed
+    (is, inl before) =
+    absurd (cc (begun.end, before))
+cause_on sectors applied es fault r last v w
+    (copies.Store ends.Full) begun first fresh within reader store kept honest goes placed
+    (is, inr none) =
+    lacks_room sectors r.head.sectorsize r.next applied es v w begun kept honest first goes placed
+    none
+cause_on sectors applied es fault r last v w
+    (copies.Store ends.Device) begun first fresh within reader store kept honest goes placed
+    (is, inl before) =
+    absurd (cc (begun.end, before))
+cause_on sectors applied es fault r last v w
+    (copies.Store ends.Device) begun first fresh within reader store kept honest goes placed
+    (is, inr failed) =
+    absurd (store failed)
+cause_on sectors applied es fault r last v w (copies.Store ends.Memory) begun first fresh within
+    reader store kept honest goes placed is = tt
+
+-- as many entries as were copied there are
+copied_within : (from place count : ℕ) (es : List Entry) (v w : Store) → place ≡ 0
+    → IsPlaced from es place count v w → count ≤ length es
+copied_within from place count es v w first placed = elim (eq-zero-or-pos count) [
+  | inl none ↦ omega arith
+  | inr some ↦ let all = placed.some some in omega arith
+]
+
+-- a copy that stopped
+pub stopped_on : (log : List ℕ) (sectors : ℕ) (stop : CopyFault) (r last : Reader) (v w : Store)
+    → IsImage log → IsOpened log r → IsBegun sectors v
+    → HasWholeSectors r.device.size r.device.content → (HasFaulted r.device last.device → ⊥)
+    → (HasFailed v w → ⊥) → StoreInvariant w → w.device.lies ≡ 0
+    → StoreFrame v w → ((es : List Entry) (fault : Option LogFault) → IsLog r es fault
+    → IsPlaced r.head.sectorsize es r.next stop.applied v w)
+    → ((es : List Entry) (fault : Option LogFault) → IsLog r es fault
+    → StopsBy es fault (r.next + stop.applied) r last v w stop.cause)
+    → StopsCopy log sectors stop
+stopped_on log sectors stop r last v w image opened begun whole_sectors reader store kept honest
+    goes placing stopping =
+    let read = any_reading r.device.size r.device.content r.head whole_sectors opened.super_block in
+    let es = read.entries in
+    let placed = placing es read.fault read.reads in
+    let first = opened.place in
+    let within = copied_within r.head.sectorsize r.next stop.applied es v w first placed in
+    record {
+      head = r.head;
+      entries = es;
+      fault = read.fault;
+      reading = reading_on log r es read.fault image opened read.reads;
+      within = within;
+      aligned =
+          placed_aligned sectors r.head.sectorsize r.next stop.applied es v w begun first placed;
+      cause =
+          cause_on sectors stop.applied es read.fault r last v w stop.cause begun first opened.fresh
+          within reader store kept honest goes placed
+          (stopping es read.fault read.reads);
+    }

@@ -1,0 +1,268 @@
+-- What replaying the log of an image on a disk comes to.
+-- Its own crate alone cites it, for theorems of many of its files.
+use Rattle.std.proofs.Common.{◌≡◌, ◌∙◌, ◌⊎◌, ℕ, ◌+◌, ◌*◌, ◌/◌, ◌<◌, ◌≤◌, List, Option, Result, Ok}
+use Rattle.std.proofs.Common.{Err, IfErr, IfOk, ap, arith, inl, inr, length, refl, subst, sym}
+use Rattle.std.proofs.lemmas.Option.{slice_get_within}
+use Rattle.bio.specs.Content.{Content, sector_of}
+use Rattle.bio.specs.SectorLaws.{length-gather, sector_of-gather}
+use Rattle.blockdev.specs.View.{View}
+use Rattle.blockdev.specs.Law.{NoLie}
+use Rattle.bio.specs.declared.outcome.DevError.TheVariants as devices
+use Rattle.sector_disk.specs.declared.disk.SectorDisk.{SectorDisk}
+use Rattle.sector_disk.specs.DiskView.{shown_of}
+use Rattle.sector_disk.specs.DiskViewLaws.{content_whole}
+use Rattle.sector_disk.specs.Sizes.{Begins}
+use Rattle.log_format.specs.declared.decode.Super.{Super}
+use Rattle.log_format.specs.declared.entry.Entry.{Entry}
+use Rattle.log_format.specs.Decode.{super_of}
+use Rattle.log_format.specs.LogOf.{log_sectors}
+use Rattle.log_reader.specs.declared.fault.LogFault.{LogFault}
+use Rattle.log_reader.specs.declared.fault.OpenDeviceError.{OpenDeviceError}
+use Rattle.log_reader.specs.declared.fault.OpenDeviceError.TheVariants as device_opens
+use Rattle.log_reader.specs.declared.fault.OpenError.TheVariants as opens
+use Rattle.log_reader.specs.declared.fault.ReadDeviceError.TheVariants as reads
+use Rattle.log_reader.specs.SameDiskLaws.{reads_alike}
+use Rattle.log_reader.specs.Devices.{HasFaulted}
+use Rattle.log_reader.specs.Reader.{OpenRefuses}
+use Rattle.log_reader.specs.ImageLog.{IsReading}
+use Rattle.log_reader.specs.DiskLog.{Reads}
+use Rattle.log_reader.specs.Refusals.{open_device_refusal}
+use Rattle.replay.specs.SameDiskLaws.{replay_alike}
+use Rattle.replay.specs.declared.fault.ReplayError.{ReplayError}
+use Rattle.replay.specs.declared.fault.ReplayError.TheVariants as replays
+use Rattle.replay.specs.declared.fault.ReplayFault.{ReplayFault}
+use Rattle.replay.specs.declared.upto.Upto.{Upto}
+use Rattle.replay.specs.Replays.{HasReplayCause, IsApplied, LeavesBy, ReachesPast, entries_from}
+use Rattle.headline.specs.declared.reopening.ReopenError.{ReopenError}
+use Rattle.headline.specs.declared.reopening.ReopenError.TheVariants as reopens
+use Rattle.headline.specs.ReopenedLog.{IsRefused, IsReplayed as IsReopened, IsStopped, first_reader}
+use Rattle.run_error.specs.declared.run_error.RunError.{RunError}
+use Rattle.run_error.specs.Errors.{memory_error, refused_by}
+use Rattle.dmlw_files.specs.Images.{IsImage, image_of}
+use Rattle.dmlw_commands.specs.Lists.{RefusesImage}
+use Rattle.dmlw_files.specs.Files.{MatchesContents}
+use Rattle.dmlw_commands.specs.declared.replay_log.images.Replayed.{Replayed}
+use Rattle.dmlw_commands.specs.DiskReplay.{IsReplayedOn, stop_by}
+use Rattle.dmlw_commands.specs.Replays.{AreImages, FailsOnImages, FailsReplay, HasStopCause}
+use Rattle.dmlw_commands.specs.Replays.{IsReplayed, IsReplayedFrom, StopsReplay, images, memory}
+use Rattle.dmlw_commands.specs.Replays.{stopped, unopened}
+
+-- a device that counts no faults hasn't failed
+pub never_failed : (v w : View) → v.faults ≡ 0 → w.faults ≡ 0 → HasFaulted v w → ⊥
+never_failed v w first second (inl grew) = absurd (omega arith)
+never_failed v w first second (inr full) = absurd (omega arith)
+
+-- a device that counts no lies told none
+pub honest : (v w : View) → v.lies ≡ 0 → w.lies ≡ 0 → NoLie v w
+honest v w first second = record { same = second ∙ sym first; counted = omega arith }
+
+-- why a log isn't opened is why it isn't replayed
+pub fails_to_open : (log first : List ℕ) (upto : Upto) (fault : RunError) (stop : RunError)
+    → (fault ≡ memory_error) ⊎ RefusesImage log fault
+    → stop ≡ fault → FailsOnImages log first upto stop
+fails_to_open log first upto fault stop (inl is) same =
+    subst (FailsOnImages log first upto)
+    (sym (same ∙ is)) memory
+fails_to_open log first upto fault stop (inr refuses) same =
+    subst (FailsOnImages log first upto) (sym same) (unopened fault refuses)
+
+-- what came of the images in files came of the files
+pub replayed_from : (log_file first_file : Option (List ℕ)) (log first : List ℕ) (upto : Upto)
+    (r : Result Replayed RunError) → AreImages log_file first_file log first
+    → IfOk r (λ done. IsReplayed log first upto done.count (image_of done.disk))
+    → IfOk r (λ done. IsReplayedFrom log_file first_file upto done.count (image_of done.disk))
+replayed_from log_file first_file log first upto (Ok done) are is =
+    record { log = log; first = first; files = are; replayed = is }
+replayed_from log_file first_file log first upto (Err stop) are is = is
+
+-- and what failed of them failed of the files
+pub failed_from : (log_file first_file : Option (List ℕ)) (log first : List ℕ) (upto : Upto)
+    (r : Result Replayed RunError) → AreImages log_file first_file log first
+    → IfErr r (FailsOnImages log first upto) → IfErr r (FailsReplay log_file first_file upto)
+failed_from log_file first_file log first upto (Ok done) are fails = fails
+failed_from log_file first_file log first upto (Err stop) are fails =
+    images log first stop are fails
+
+-- the images in two files, of which the second was read after the first
+pub both_images : (log_file first_file now : Option (List ℕ)) (log first : List ℕ)
+    → MatchesContents log_file log → IsImage log → MatchesContents now first
+    → IsImage first → now ≡ first_file → AreImages log_file first_file log first
+both_images log_file first_file now log first log_read log_image first_read first_image same =
+    record {
+      log_read = log_read;
+      log_image = log_image;
+      first_read = subst (λ (known : Option (List ℕ)). MatchesContents known first) same first_read;
+      first_image = first_image;
+    }
+
+-- an image has a first sector
+some_sector : (log : List ℕ) → IsImage log → 0 < length log / 512
+some_sector log image = let least = image.least in omega arith
+
+-- a disk that isn't opened as a log, and never fails
+pub unopened_on : (log : List ℕ) (v w : View) (error : OpenDeviceError) (fault : RunError)
+    → IsImage log → Begins (length log / 512) (sector_of log) v
+    → (HasFaulted v w → ⊥) → OpenRefuses v w error → fault ≡ refused_by (open_device_refusal error)
+    → (fault ≡ memory_error) ⊎ RefusesImage log fault
+unopened_on log v w (device_opens.Log (opens.BadSuper cause)) fault image begins never refuses is =
+    let first : v.content 0 ≡ sector_of log 0 = begins.content 0 (some_sector log image) in
+    inr (opens.BadSuper cause, ap super_of (sym first) ∙ refuses, is)
+unopened_on log v w (device_opens.Log opens.CutShort) fault image begins never refuses is =
+    let first : v.content 0 ≡ sector_of log 0 = begins.content 0 (some_sector log image) in
+    let size = begins.size in
+    inr (
+      opens.CutShort,
+      record {
+        head = refuses.head;
+        super_block = ap super_of (sym first) ∙ refuses.super_block;
+        some = refuses.some;
+        too_many =
+            subst (λ (n : ℕ). log_sectors refuses.head.sectorsize n ≤ refuses.head.count) size
+            refuses.too_many;
+      },
+      is,
+    )
+unopened_on log v w device_opens.Device fault image begins never refuses is = absurd (never refuses)
+unopened_on log v w device_opens.Memory fault image begins never refuses is = inl is
+
+-- what is read of a disk that is an image is a reading of the image
+reading_on : (log : List ℕ) (v : View) (head : Super) (es : List Entry) (fault : Option LogFault)
+    → IsImage log → Begins (length log / 512) (sector_of log) v
+    → Reads v.size v.content head es fault → IsReading log head es fault
+reading_on log v head es fault image begins reads =
+    let R : ℕ → Type 0 = λ n. Reads n v.content head es fault in
+    reads_alike (length log / 512) v.content (sector_of log) head es fault (some_sector log image)
+    (λ s below. sym (begins.content s below))
+    (subst R begins.size reads)
+
+-- a replay that was done
+pub replayed_on : (log first : List ℕ) (upto : Upto) (count : ℕ) (disk v w : View) → IsImage log
+    → Begins (length log / 512) (sector_of log) disk
+    → Begins (length first / 512) (sector_of first) v → w.size ≡ v.size → NoLie v w
+    → IsReopened disk upto count v w → IsReplayedOn log first upto count w
+replayed_on log first upto count disk v w image log_begins begins size no_lie done =
+    let applied : IsApplied done.head.sectorsize done.entries 0 count v.content w.content =
+    done.applied no_lie in
+    let alike =
+    replay_alike done.head.sectorsize (entries_from done.entries 0 count)
+    (length first / 512) (sector_of first) v.content begins.content in
+    record {
+      head = done.head;
+      entries = done.entries;
+      fault = done.fault;
+      reading = reading_on log disk done.head done.entries done.fault image log_begins done.reading;
+      named = done.named;
+      within = λ some. let all = applied.some some in omega arith;
+      size = size ∙ begins.size;
+      content = λ sector below. ap (λ (c : Content). c sector) applied.content ∙ alike sector below;
+    }
+
+-- what stopped a replay on disks that never fail
+cause_on : (es : List Entry) (fault : Option LogFault) (upto : Upto) (head : Super)
+    (log last v w : View) (disk applied : ℕ) (cause : ReplayError)
+    → v.size ≡ disk → (HasFaulted log last → ⊥) → (HasFaulted v w → ⊥)
+    → HasReplayCause es fault upto (first_reader log head)
+    (first_reader last head) v w applied cause → HasStopCause upto head es fault disk applied cause
+cause_on es fault upto head log last v w disk applied replays.PastEntries size reader target asks =
+    asks
+cause_on es fault upto head log last v w disk applied replays.NoSuchMark size reader target lacks =
+    lacks
+cause_on es fault upto head log last v w disk applied replays.NoFlush size reader target lacks =
+    lacks
+cause_on es fault upto head log last v w disk applied replays.PastTarget size reader target
+    reaches =
+    let here : 0 + applied ≡ applied = omega arith in
+    subst (λ (n : ℕ). ReachesPast head.sectorsize es applied n) size
+    (subst (λ (p : ℕ). ReachesPast head.sectorsize es p v.size) here reaches)
+cause_on es fault upto head log last v w disk applied (replays.Log (reads.Log found)) size reader
+    target is = is
+cause_on es fault upto head log last v w disk applied (replays.Log reads.Device) size reader target
+    failed = absurd (reader failed)
+cause_on es fault upto head log last v w disk applied (replays.Log reads.Memory) size reader
+    target is = tt
+cause_on es fault upto head log last v w disk applied (replays.Log reads.Failed) size reader
+    target refused = cc
+cause_on es fault upto head log last v w disk applied (replays.Target devices.Io) size reader target
+    failed = absurd (target (failed refl))
+cause_on es fault upto head log last v w disk applied (replays.Target devices.Memory) size reader
+    target is = tt
+
+-- as many entries as were applied when a replay stopped, there are
+applied_within : (size : ℕ) (es : List Entry) (old new : Content) (applied : ℕ)
+    (cause : ReplayError) → LeavesBy size es 0 old new applied cause
+    → 0 < applied → applied ≤ length es
+applied_within size es old new applied replays.PastEntries leaves more =
+    let all = leaves.some more in omega arith
+applied_within size es old new applied replays.NoSuchMark leaves more =
+    let all = leaves.some more in omega arith
+applied_within size es old new applied replays.NoFlush leaves more =
+    let all = leaves.some more in omega arith
+applied_within size es old new applied replays.PastTarget leaves more =
+    let all = leaves.some more in omega arith
+applied_within size es old new applied (replays.Log error) leaves more =
+    let all = leaves.some more in omega arith
+applied_within size es old new applied (replays.Target error) leaves more =
+    let there = slice_get_within es (0 + applied) leaves.next leaves.there in omega arith
+
+-- a replay that stopped
+pub stopped_on : (log first : List ℕ) (upto : Upto) (stop : ReplayFault) (disk last v w : View)
+    → IsImage log → Begins (length log / 512) (sector_of log) disk
+    → Begins (length first / 512) (sector_of first) v → (HasFaulted disk last → ⊥)
+    → (HasFaulted v w → ⊥) → NoLie v w → IsStopped disk last upto v w stop
+    → StopsReplay log first upto stop
+stopped_on log first upto stop disk last v w image log_begins begins reader target no_lie halted =
+    record {
+      head = halted.head;
+      entries = halted.entries;
+      fault = halted.fault;
+      reading =
+          reading_on log disk halted.head halted.entries halted.fault image log_begins
+          halted.reading;
+      within =
+          applied_within halted.head.sectorsize halted.entries v.content w.content stop.applied
+          stop.cause (halted.leaves no_lie);
+      cause =
+          cause_on halted.entries halted.fault upto halted.head disk last v w
+          (length first / 512) stop.applied stop.cause begins.size reader target halted.cause;
+    }
+
+-- why a log isn't replayed on disks that never fail
+pub fails_on : (log first : List ℕ) (upto : Upto) (error : ReopenError) (stop : RunError)
+    (disk last v w : View) → IsImage log
+    → Begins (length log / 512) (sector_of log) disk
+    → Begins (length first / 512) (sector_of first) v → (HasFaulted disk last → ⊥)
+    → (HasFaulted v w → ⊥) → NoLie v w
+    → IsRefused disk last upto v w error → stop ≡ stop_by error → FailsOnImages log first upto stop
+fails_on log first upto (reopens.Open error) stop disk last v w image log_begins begins reader
+    target no_lie refused same =
+    fails_to_open log first upto (refused_by (open_device_refusal error)) stop
+    (unopened_on log disk last error
+    (refused_by (open_device_refusal error)) image log_begins reader refused refl) same
+fails_on log first upto (reopens.Replay fault) stop disk last v w image log_begins begins reader
+    target no_lie refused same =
+    subst (FailsOnImages log first upto) (sym same)
+    (stopped fault (stopped_on log first upto fault disk last v w image log_begins begins reader
+    target no_lie refused))
+
+-- the image of the disk that a replay left
+pub image_left : (log first : List ℕ) (upto : Upto) (count : ℕ) (disk : SectorDisk) → IsImage first
+    → IsReplayedOn log first upto count (shown_of disk)
+    → IsReplayed log first upto count (image_of disk)
+image_left log first upto count disk is done =
+    let w = shown_of disk in
+    let size : w.size ≡ length first / 512 = done.size in
+    let long : length (image_of disk) ≡ 512 * w.size =
+    length-gather w.size w.content 0 w.size (content_whole disk) (omega arith) in
+    let whole = is.whole in
+    record {
+      head = done.head;
+      entries = done.entries;
+      fault = done.fault;
+      reading = done.reading;
+      named = done.named;
+      within = done.within;
+      size = omega arith;
+      content =
+          λ sector below. sector_of-gather w.size w.content (content_whole disk) sector
+          (omega arith) ∙ done.content sector below;
+    }

@@ -1,0 +1,146 @@
+-- What copying the log in a file to a new log with sectors
+-- of 4,096 bytes comes to. A disk has sectors of 512 bytes.
+-- Any crate above may cite it.
+use Rattle.std.specs.Prelude.{◌≡◌, ◌⊎◌, ℕ, ◌+◌, ◌*◌, ◌≤◌, IsTrue, List, ◌++◌, Option, None}
+use Rattle.std.specs.Prelude.{Some, Result, Ok, Err, codes, length, map, slice_get, take}
+use Rattle.std.specs.Fmt.{decimal}
+use Rattle.std.specs.Io.KnownBytes.{Appends, Keeps}
+use Rattle.std.specs.List.{list_all}
+use Rattle.bio.specs.Content.{sector_of}
+use Rattle.bio.specs.declared.outcome.End.TheVariants as ends
+use Rattle.log_format.specs.declared.entry.Entry.{Entry}
+use Rattle.log_format.specs.declared.decode.Super.{Super}
+use Rattle.log_format.specs.Entries.{sectors_of}
+use Rattle.log_format.specs.LogOf.{IsLogOf, log_sectors, next_sector}
+use Rattle.log_reader.specs.declared.fault.LogFault.{LogFault}
+use Rattle.log_reader.specs.declared.fault.ReadDeviceError.TheVariants as reads
+use Rattle.log_reader.specs.ImageLog.{IsReading}
+use Rattle.log_copy.specs.declared.fault.CopyError.{CopyError}
+use Rattle.log_copy.specs.declared.fault.CopyError.TheVariants as copies
+use Rattle.log_copy.specs.declared.fault.CopyFault.{CopyFault}
+use Rattle.log_copy.specs.Copies.{IsUnaligned}
+use Rattle.log_copy.specs.Refusals.{copy_refusal}
+use Rattle.log_copy.specs.Resize.{is_aligned_to, resized}
+use Rattle.run_error.specs.declared.run_error.RunError.{RunError}
+use Rattle.run_error.specs.declared.run_error.RunError.TheVariants.{StoppedAfter}
+use Rattle.run_error.specs.Errors.{IsFileError, memory_error}
+use Rattle.dmlw_commands.specs.declared.ending.Ended.{Ended}
+use Rattle.dmlw_commands.specs.Ends.{ErrStream, Tells}
+use Rattle.dmlw_commands.specs.Lists.{RefusesImage}
+use Rattle.dmlw_files.specs.Files.{MatchesContents, Write, one_more}
+use Rattle.dmlw_files.specs.Images.{IsImage}
+
+-- the line that says how many entries were copied
+abbrev pub copied_line : ℕ → List ℕ
+copied_line count = codes "copied " ++ (decimal count ++ codes "\n")
+
+-- the log of an image, of so many entries and without a fault, was copied: another image, of a disk
+-- of so many sectors, has the log of the same entries in sectors of 4,096 bytes, each with its
+-- flags, its body, and its place and length in bytes
+pub record IsCopied (log : List ℕ) (count sectors : ℕ) (image : List ℕ) : Type 0 where
+  pub head : Super
+  pub entries : List Entry
+  pub reading : IsReading log head entries None
+  pub all : count ≡ length entries
+  pub aligned : IsTrue (list_all (is_aligned_to head.sectorsize 4096) entries)
+  pub size : length image ≡ 512 * sectors
+  pub copied : IsLogOf sectors (sector_of image) 4096 (map (resized head.sectorsize 4096) entries)
+
+-- the entry at this place of a log with sectors of `from` bytes doesn't fit a log with sectors of
+-- 4,096 bytes on a disk of so many sectors, after those that are before it
+pub record LacksRoom (from : ℕ) (es : List Entry) (place sectors : ℕ) : Type 0 where
+  pub next : Entry
+  pub there : slice_get es place ≡ Some next
+  pub full : log_sectors 4096 sectors ≤ next_sector
+      (map (resized from 4096) (take place es)) + sectors_of (resized from 4096 next)
+
+-- the cause by which a copy to a disk of so many sectors stopped after so many entries, of a log
+-- with this super block, these entries and this fault
+abbrev pub HasStopCause : Super → List Entry → Option LogFault → ℕ → ℕ → CopyError → Type 0
+HasStopCause head es fault sectors applied (copies.Log (reads.Log found)) =
+    (fault ≡ Some found) × (applied ≡ length es)
+HasStopCause head es fault sectors applied (copies.Log reads.Memory) = Unit {0}
+HasStopCause head es fault sectors applied copies.Unaligned =
+    IsUnaligned head.sectorsize 4096 es applied
+HasStopCause head es fault sectors applied (copies.Store ends.Full) =
+    LacksRoom head.sectorsize es applied sectors
+HasStopCause head es fault sectors applied (copies.Store ends.Memory) = Unit {0}
+HasStopCause head es fault sectors applied other = ⊥
+
+-- a copy of this log to a disk of so many sectors stopped so
+pub record StopsCopy (log : List ℕ) (sectors : ℕ) (stop : CopyFault) : Type 0 where
+  pub head : Super
+  pub entries : List Entry
+  pub fault : Option LogFault
+  pub reading : IsReading log head entries fault
+  pub within : stop.applied ≤ length entries
+  pub aligned : IsTrue (list_all (is_aligned_to head.sectorsize 4096) (take stop.applied entries))
+  pub cause : HasStopCause head entries fault sectors stop.applied stop.cause
+
+-- by what a copy ends that stopped so
+abbrev pub copy_stopped : CopyFault → RunError
+copy_stopped stop = StoppedAfter stop.applied (copy_refusal stop.cause)
+
+-- Why the log of an image isn't copied: there is no memory,
+-- the image isn't opened as a log, or the copy stops.
+pub data FailsOnImage (log : List ℕ) (sectors : ℕ) : RunError → Type 0 where
+  memory : FailsOnImage log sectors memory_error
+  unopened : (fault : RunError) → RefusesImage log fault
+      → FailsOnImage log sectors fault
+  stopped : (stop : CopyFault) → StopsCopy log sectors stop
+      → FailsOnImage log sectors (copy_stopped stop)
+
+-- Why the log in a file isn't copied: a file can't be used, or
+-- there is no memory; or so it is of the image in the file.
+pub data FailsCopy (log_file : Option (List ℕ)) (sectors : ℕ) : RunError → Type 0 where
+  file : (fault : RunError) → IsFileError fault → FailsCopy log_file sectors fault
+  of_image : (log : List ℕ) (stop : RunError) → MatchesContents log_file log → IsImage log
+      → FailsOnImage log sectors stop → FailsCopy log_file sectors stop
+
+-- the log in a file was copied, with so many entries, and this image came of it
+pub record IsCopiedFrom (log_file : Option (List ℕ)) (count sectors : ℕ)
+    (image : List ℕ) : Type 0 where
+  pub log : List ℕ
+  pub log_read : MatchesContents log_file log
+  pub log_image : IsImage log
+  pub copied : IsCopied log count sectors image
+
+-- the log in a file was copied, and what came of it is what another file holds, where that is known
+pub record HoldsCopied (log_file : Option (List ℕ)) (sectors : ℕ)
+    (written : Option (List ℕ)) : Type 0 where
+  pub count : ℕ
+  pub image : List ℕ
+  pub copied : IsCopiedFrom log_file count sectors image
+  pub held : MatchesContents written image
+
+-- the log in a file was copied, how many entries was printed, and one more write was asked for, of
+-- the file of this name with the image that came of it
+pub record PrintsCopy (log_file : Option (List ℕ)) (name : List ℕ) (sectors : ℕ)
+    (writes_old writes_new : Option (List Write)) (old new : Option (List ℕ))
+    (count : ℕ) : Type 0 where
+  pub image : List ℕ
+  pub copied : IsCopiedFrom log_file count sectors image
+  pub printed : Appends old new (copied_line count)
+  pub asked : writes_new ≡ one_more writes_old name image
+
+-- What copying comes to: it was done; or it fails, nothing was printed, and no file was asked to be
+-- written; or the output can't be written, and no file was asked to be; or the image can't be
+-- written, after the printing.
+abbrev pub Copies : Option (List ℕ) → List ℕ → ℕ → Option (List Write) → Option (List Write)
+    → Option (List ℕ) → Option (List ℕ) → Result ℕ RunError → Type 0
+Copies log_file name sectors writes_old writes_new old new (Ok count) =
+    PrintsCopy log_file name sectors writes_old writes_new old new count
+Copies log_file name sectors writes_old writes_new old new (Err stop) =
+    (FailsCopy log_file sectors stop × Keeps old new × (writes_new ≡ writes_old))
+    ⊎ (IsFileError stop × (writes_new ≡ writes_old))
+    ⊎ (IsFileError stop × (count : ℕ)
+    × PrintsCopy log_file name sectors writes_old writes_new old new count)
+
+-- How the copy of the log in a file to a disk of so many sectors ends, whose image goes into the
+-- file of this name: as what it did has it.
+pub record EndsCopying (log_file : Option (List ℕ)) (name : List ℕ) (sectors : ℕ)
+    (writes_old writes_new : Option (List Write)) (old new : Option (List ℕ))
+    (t : ErrStream) (ended : Ended) : Type 0 where
+  pub done : Result ℕ RunError
+  pub copied : Copies log_file name sectors writes_old writes_new old new done
+  pub tells : Tells t done ended

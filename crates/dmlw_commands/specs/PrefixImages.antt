@@ -1,0 +1,30 @@
+-- Images that are what a beginning of a script's log leaves.
+-- Any crate above may cite it.
+use Rattle.std.specs.Prelude.{ℕ, ◌/◌, ◌≤◌, List, length, take}
+use Rattle.bio.specs.Content.{AgreeBelow, Content, sector_of}
+use Rattle.bio.specs.declared.event.CoreEvent.{CoreEvent}
+use Rattle.log_format.specs.Replay.{replay}
+use Rattle.pending.specs.Prefixes.{BelongsTo, entries_of}
+use Rattle.pending.specs.CompletionList.{completion_list, dm_log_writes}
+use Rattle.pending.specs.Moments.{last_moment}
+use Rattle.dmlw_commands.specs.Judgements.{blank}
+
+-- what replaying so many first entries of the log of these events, with sectors of so many bytes,
+-- leaves of an image of zero bytes
+abbrev pub replayed_first : ℕ → List CoreEvent → ℕ → ℕ → Content
+replayed_first size events count bytes =
+    replay size (entries_of (take count (completion_list (dm_log_writes size) events)))
+    (blank bytes)
+
+-- So many first entries of the log of these events belong
+-- to the moment, and logging goes on up to it.
+pub record BeginsLog (size : ℕ) (events : List CoreEvent) (moment count : ℕ) : Type 0 where
+  pub safe : moment ≤ last_moment events
+  pub belongs : BelongsTo (dm_log_writes size) events moment count
+
+-- The image is what replaying them leaves of zeroes.
+pub record IsReplayedTo (size : ℕ) (events : List CoreEvent) (moment count : ℕ)
+    (image : List ℕ) : Type 0 where
+  pub begins : BeginsLog size events moment count
+  pub content : AgreeBelow (length image / 512) (replayed_first size events count (length image))
+      (sector_of image)

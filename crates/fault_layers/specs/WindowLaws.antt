@@ -1,0 +1,172 @@
+-- A range of a lawful device is lawful, and keeps each clause of the law.
+-- Any crate above may cite it.
+use Rattle.std.proofs.Common.{◌≡◌, ℕ, ◌+◌, Bool, List, length, refl, ap, ◌∙◌, inl, inr, arith}
+use Rattle.std.specs.Prelude.{◌/◌, Option, replicate, unwrap_or}
+use Rattle.blockdev.specs.Calls.{IsRange}
+use Rattle.blockdev.specs.View.{IsLawful, Place, View}
+use Rattle.blockdev.specs.Law.{AfterPatch, DeviceFrame, WriteDone, NoLie}
+use Rattle.blockdev.specs.Messages.{Unchanged}
+use Rattle.bio.specs.Content.{Content, Patch, Patched, discards, moved, nothing, put}
+use Rattle.bio.specs.Content.{sector_of, writes}
+use Rattle.bio.specs.ContentLaws.{over-shift}
+use Rattle.fault_layers.specs.Window.{SeenFrom, window}
+
+-- a patch of the device beneath has the values of a patch of the range, in the same sectors
+abbrev IsShifted : ℕ → Patch → Patch → Type 0
+IsShifted offset below patch = (sector : ℕ) → below (offset + sector) ≡ patch sector
+
+-- so it is with the values of each call
+writes-shifted : (offset first : ℕ) (bytes : List ℕ)
+    → IsShifted offset (writes (offset + first) bytes) (writes first bytes)
+writes-shifted offset first bytes = over-shift offset first (length bytes / 512) (sector_of bytes)
+
+discards-shifted : (offset first count : ℕ)
+    → IsShifted offset (discards (offset + first) count) (discards first count)
+discards-shifted offset first count = over-shift offset first count (λ _. replicate 512 0)
+
+-- what is put beneath is put in the range
+put-shifted : (offset : ℕ) (below patch : Patch) (content : Content) → IsShifted offset below patch
+    → (sector : ℕ) → put below content (offset + sector) ≡ put patch (moved offset content) sector
+put-shifted offset below patch content shifted sector =
+    ap (λ (o : Option (List ℕ)). unwrap_or o (content (offset + sector))) (shifted sector)
+
+-- what is patched beneath is patched in the range
+patched-shifted : (offset : ℕ) (below patch : Patch) (old new : Content)
+    → IsShifted offset below patch → Patched below old new
+    → Patched patch (moved offset old) (moved offset new)
+patched-shifted offset below patch old new shifted patched =
+    λ sector. elim (patched (offset + sector)) [
+      | inl same ↦ inl same
+      | inr has ↦ inr (has ∙ put-shifted offset below patch old shifted sector)
+    ]
+
+-- so it is with what a crash leaves
+after-shifted : (offset : ℕ) (below patch : Patch) (set : Content → Type 0) (left low : Content)
+    → IsShifted offset below patch
+    → ((sector : ℕ) → left sector ≡ moved offset low sector) → AfterPatch below set low
+    → AfterPatch patch (SeenFrom offset set) left
+after-shifted offset below patch set left low shifted seen after = (
+  moved offset after.0,
+  (after.0, after.1, λ sector. refl),
+  λ sector. elim (patched-shifted offset below patch after.0 low shifted after.2 sector) [
+    | inl same ↦ inl (seen sector ∙ same)
+    | inr has ↦ inr (seen sector ∙ has)
+  ],
+)
+
+-- where nothing is changed beneath, nothing is in a range
+pub unchanged_window : (v w : View) (offset length : ℕ) → Unchanged v w
+    → Unchanged (window v offset length) (window w offset length)
+unchanged_window v w offset length same = record {
+  size = refl;
+  place =
+      ap (λ (place : Place). record {
+        origin = place.origin + offset;
+        disk = place.disk;
+      }) same.place;
+  content = ap (λ (content : Content). moved offset content) same.content;
+  crash = λ left may. (may.0, same.crash may.0 may.1, may.2);
+  crash_before = λ left may. (may.0, same.crash_before may.0 may.1, may.2);
+  moment = same.moment;
+  since = λ moment left may. (may.0, same.since moment may.0 may.1, may.2);
+  since_before = λ moment left may. (may.0, same.since_before moment may.0 may.1, may.2);
+  faults = same.faults;
+  lies = same.lies;
+  can_lie = same.can_lie;
+}
+
+-- a range of a lawful device is lawful
+pub lawful_window : (v : View) (offset length : ℕ) → IsRange v.size offset length → IsLawful v
+    → IsLawful (window v offset length)
+lawful_window v offset length fits lawful = record {
+  some_sectors = fits.some;
+  few_sectors = let a = fits.within in let b = lawful.few_sectors in omega arith;
+  current = (v.content, lawful.current, λ sector. refl);
+  nested = λ moment left h may. (may.0, lawful.nested moment may.0 h may.1, may.2);
+  only_now = λ left may. (may.0, lawful.only_now may.0 may.1, may.2);
+  whole = λ moment left h may sector low.
+      ap (λ (xs : List ℕ). Rattle.std.specs.Prelude.length xs) (may.2 sector)
+      ∙ lawful.whole moment may.0 h may.1 (offset + sector) (let a = fits.within in omega arith);
+  faults = lawful.faults;
+  lies = lawful.lies;
+}
+
+-- where the device beneath goes by the shifted call, the range goes by the call
+goes_window : (offset length : ℕ) (below patch : Patch) (v w : View) → IsShifted offset below patch
+    → DeviceFrame below v w
+    → DeviceFrame patch (window v offset length) (window w offset length)
+goes_window offset length below patch v w shifted goes = record {
+  size = refl;
+  place = ap (λ (p : Place). record { origin = p.origin + offset; disk = p.disk }) goes.place;
+  content = patched-shifted offset below patch v.content w.content shifted goes.content;
+  crash =
+      λ left may. after-shifted offset below patch v.crash left may.0 shifted may.2
+      (goes.crash may.0 may.1);
+  moment = goes.moment;
+  gains = λ moment left h may. elim (goes.gains moment may.0 h may.1) [
+    | inl before ↦ inl (may.0, before, may.2)
+    | inr during ↦ inr (after-shifted offset below patch v.crash left may.0 shifted may.2 during)
+  ];
+  keeps = λ moment left h may. (may.0, goes.keeps moment may.0 h may.1, may.2);
+  faults = goes.faults;
+  lies = goes.lies;
+  can_lie = goes.can_lie;
+  honest = goes.honest;
+}
+
+-- what lands beneath lands in the range
+lands_window : (offset length : ℕ) (below patch : Patch) (fua : Bool) (v w : View)
+    → IsShifted offset below patch
+    → (NoLie v w → WriteDone below fua v w)
+    → NoLie (window v offset length) (window w offset length)
+    → WriteDone patch fua (window v offset length) (window w offset length)
+lands_window offset length below patch fua v w shifted lands told =
+    let landed = lands (record { same = told.same; counted = told.counted }) in
+    record {
+      content =
+          λ sector. landed.content (offset + sector)
+          ∙ put-shifted offset below patch v.content shifted sector;
+      durable = λ is left may.
+          let old = landed.durable is may.0 may.1 in (
+            moved offset old.0,
+            (old.0, old.1, λ sector. refl),
+            λ sector. may.2 sector ∙ old.2 (offset + sector)
+                ∙ put-shifted offset below patch old.0 shifted sector,
+          );
+    }
+
+-- so it is for each kind of call
+pub goes_window_nothing : (offset length : ℕ) (v w : View) → DeviceFrame nothing v w
+    → DeviceFrame nothing (window v offset length) (window w offset length)
+goes_window_nothing offset length v w =
+    goes_window offset length nothing nothing v w (λ sector. refl)
+
+pub goes_window_writes : (offset length first : ℕ) (bytes : List ℕ) (v w : View)
+    → DeviceFrame (writes (offset + first) bytes) v w
+    → DeviceFrame (writes first bytes) (window v offset length) (window w offset length)
+goes_window_writes offset length first bytes v w =
+    goes_window offset length (writes (offset + first) bytes) (writes first bytes) v w
+    (writes-shifted offset first bytes)
+
+pub goes_window_discards : (offset length first count : ℕ) (v w : View)
+    → DeviceFrame (discards (offset + first) count) v w
+    → DeviceFrame (discards first count) (window v offset length) (window w offset length)
+goes_window_discards offset length first count v w =
+    goes_window offset length (discards (offset + first) count) (discards first count) v w
+    (discards-shifted offset first count)
+
+pub lands_window_writes : (offset length first : ℕ) (bytes : List ℕ) (fua : Bool) (v w : View)
+    → (NoLie v w → WriteDone (writes (offset + first) bytes) fua v w)
+    → NoLie (window v offset length) (window w offset length)
+    → WriteDone (writes first bytes) fua (window v offset length) (window w offset length)
+lands_window_writes offset length first bytes fua v w =
+    lands_window offset length (writes (offset + first) bytes) (writes first bytes) fua v w
+    (writes-shifted offset first bytes)
+
+pub lands_window_discards : (offset length first count : ℕ) (fua : Bool) (v w : View)
+    → (NoLie v w → WriteDone (discards (offset + first) count) fua v w)
+    → NoLie (window v offset length) (window w offset length)
+    → WriteDone (discards first count) fua (window v offset length) (window w offset length)
+lands_window_discards offset length first count fua v w =
+    lands_window offset length (discards (offset + first) count) (discards first count) fua v w
+    (discards-shifted offset first count)

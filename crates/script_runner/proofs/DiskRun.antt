@@ -1,0 +1,311 @@
+-- The start of a run on disks in memory, and what its log's disk holds at the end.
+-- Its own crate alone cites it, for the theorems of src/playing.rt and src/recording.rt.
+use Rattle.std.proofs.Common.{◌≡◌, ◌∙◌, ◌*◌, ◌+◌, ◌/◌, ◌<◌, ◌≤◌, ℕ, Option, None, Some, List, []}
+use Rattle.std.proofs.Common.{◌∷◌, false, length, take, refl, sym, ap, subst, arith}
+use Rattle.bio.specs.declared.outcome.Status.{Status}
+use Rattle.bio.specs.Lawful.{has_no_close}
+use Rattle.bio.specs.Sizes.{bytes_of}
+use Rattle.bio.specs.declared.sector_size.SectorSize.{SectorSize}
+use Rattle.bio.specs.declared.sector_size.SectorSize.TheVariants as sizes
+use Rattle.bio.specs.Content.{AgreeBelow, Content, gather, sector_of, writes}
+use Rattle.bio.specs.SectorLaws.{length-gather, sector_of-gather}
+use Rattle.blockdev.specs.declared.device.BlockDev.{Ghosts}
+use Rattle.blockdev.specs.Law.{DeviceFrame}
+use Rattle.blockdev.specs.View.{Place}
+use Rattle.layer_table.specs.declared.stack.Stack.{Stack}
+use Rattle.layer_table.specs.Layers.{disk_of, layers_of, layers_under, stack_shown, AreOver}
+use Rattle.layer_table.specs.Layers.{IsSeenAs, Layer}
+use Rattle.layer_table.specs.StackLaws.{part_of_disk}
+use Rattle.table_line.specs.declared.layer_spec.LayerSpec.{LayerSpec}
+use Rattle.table_line.specs.Ranges.{IsLayerSpec}
+use Rattle.table_line.specs.LayerOrder.{top_origin, top_sectors, CanStand}
+use Rattle.std.specs.List.{AllByRecursion}
+use Rattle.sector_disk.specs.declared.disk.SectorDisk.{SectorDisk}
+use Rattle.sector_disk.specs.CandidateLaws.{is_current}
+use Rattle.sector_disk.specs.PickLaws.{picks_leave_one}
+use Rattle.sector_disk.specs.DiskView.{cache_of, shown_of, start_of, steps_of}
+use Rattle.sector_disk.specs.DiskViewLaws.{content_whole, disk_lawful}
+use Rattle.sector_disk.specs.Sizes.{Begins}
+use Rattle.log_format.specs.LogLaws.{log_within}
+use Rattle.log_format.specs.LogOf.{IsLogOf, log_sectors, status_of}
+use Rattle.log_format.specs.Placement.{first_sector}
+use Rattle.log_store.specs.declared.store.LogStore.{LogStore}
+use Rattle.log_store.specs.Fields.{store_of}
+use Rattle.log_store.specs.Store.{entries_of}
+use Rattle.pending.specs.CoreState.{CoreState, sized_state}
+use Rattle.recorder.specs.declared.recorder.Recorder.{Recorder}
+use Rattle.recorder.specs.Growth.{HasWholeLog, RecorderFrame}
+use Rattle.recorder.specs.RecorderView.{log_of}
+use Rattle.recorder.specs.CrashReplay.{ReplaysToWhatCouldBe}
+use Rattle.recorder.specs.Fields.{core_of, recorder_view}
+use Rattle.script_runner.specs.NewRecorder.{IsNewOn}
+use Rattle.script_runner.specs.DiskRun.{DiskRecorder, DiskRun, IsCounted, IsNew, IsRecorded}
+use Rattle.script_runner.specs.DiskRun.{IsStackOf, Starts, left_on, seen_on, stack_answering}
+use Rattle.script_runner.specs.DiskRun.{zeroes}
+use Rattle.script_reader.specs.Plans.{top_of, Disk, IsDisk, ScriptValue}
+use Rattle.script_runner.specs.declared.recording.Lies.{Lies}
+use Rattle.script_runner.specs.Runs.{RunsLines}
+use Rattle.script_runner.specs.WholeLog.{IsWritten}
+
+-- layers that may stand are those that lines may ask for
+pub asked : (sectors : ℕ) (layers : List LayerSpec) → CanStand sectors layers
+    → AllByRecursion IsLayerSpec layers
+asked sectors [] stand = tt
+asked sectors (layer ∷ layers) stand = (stand.0, asked layer.length layers stand.2)
+
+-- a disk's layers may stand over it
+pub stands : (disk : Disk) (layers : List LayerSpec) {sectors : ℕ} → layers ≡ disk.layers
+    → sectors ≡ disk.sectors → IsDisk disk → CanStand sectors layers
+stands disk layers {sectors} above here is =
+    subst (λ (ls : List LayerSpec). CanStand sectors ls) (sym above)
+    (subst (λ (n : ℕ). CanStand n disk.layers) (sym here) is.stand)
+
+-- what is said of a disk, is said of one of the same sectors and layers
+same_stack : (sectors : ℕ) (layers : List LayerSpec) (stack : Stack) {disk : Disk}
+    → sectors ≡ disk.sectors → layers ≡ disk.layers
+    → IsStackOf (record { sectors = sectors; layers = layers }) stack → IsStackOf disk stack
+same_stack sectors layers stack {disk} here above is =
+    subst (λ (n : ℕ). IsStackOf (record { sectors = n; layers = disk.layers }) stack) here
+    (subst (λ (ls : List LayerSpec). IsStackOf
+    (record { sectors = sectors; layers = ls }) stack) above is)
+
+-- a new disk under the layers that were put over it
+pub stacked : (spec : Disk) (disk : SectorDisk) (bare stack : Stack) {sectors : ℕ}
+    {layers : List LayerSpec} → sectors ≡ spec.sectors → layers ≡ spec.layers
+    → Begins sectors zeroes (shown_of disk)
+    → layers_of bare ≡ [] → disk_of bare ≡ disk → IsSeenAs (shown_of disk) (stack_shown bare)
+    → layers_of stack ≡ layers_under layers 0 (layers_of bare) → disk_of stack ≡ disk_of bare
+    → AreOver layers (stack_shown bare) (stack_shown stack)
+    → IsStackOf spec stack
+stacked spec disk bare stack {sectors} {layers} here above blank none beneath seen named same over =
+    same_stack sectors layers stack here above (
+    let is : disk_of stack ≡ disk = same ∙ beneath in record {
+      blank = subst (λ (d : SectorDisk). Begins sectors zeroes (shown_of d)) (sym is) blank;
+      layers = named ∙ ap (λ (ls : List Layer). layers_under layers 0 ls) none;
+      over =
+          subst (λ (d : SectorDisk). AreOver layers (shown_of d) (stack_shown stack)) (sym is)
+          (record {
+            size = over.size ∙ ap (λ (n : ℕ). top_sectors n layers) seen.size;
+            place =
+                over.place ∙ ap (λ (p : Place). record {
+                  origin = top_origin p.origin layers;
+                  disk = p.disk;
+                }) seen.place;
+            moment = over.moment ∙ seen.moment;
+            faults = over.faults ∙ seen.faults;
+            lies = over.lies ∙ seen.lies;
+            can_lie = λ none. over.can_lie none ∙ seen.can_lie;
+          });
+    })
+
+-- the top's sectors and its place on the disk
+pub stack_size : (disk : Disk) (stack : Stack) → IsStackOf disk stack
+    → (stack_shown stack).size ≡ top_of disk
+stack_size disk stack is = is.over.size ∙ ap (λ (n : ℕ). top_sectors n disk.layers) is.blank.size
+
+stack_place : (disk : Disk) (stack : Stack) → IsStackOf disk stack
+    → (stack_shown stack).place ≡ record { origin = top_origin 0 disk.layers; disk = disk.sectors }
+stack_place disk stack is =
+    is.over.place ∙ ap (λ (n : ℕ). record {
+      origin = top_origin 0 disk.layers;
+      disk = n;
+    }) is.blank.size
+
+-- a recorder over a log that was made on a device is new
+pub new_log : {L : Type 0} {l : Ghosts L} (bytes : ℕ) (device : L) (store : LogStore L l)
+    (recorder : Recorder L l)
+    → (store_of store).sector_bytes ≡ bytes → store.placed ≡ 0 → store.moment ≡ 0
+    → DeviceFrame (writes 0 (first_sector bytes 0)) (l.shown device) (l.shown store.device)
+    → ((l.shown store.device).lies ≡ 0 → (left : Content) → (l.shown store.device).crash left
+    → IsLogOf (l.shown store.device).size left bytes [])
+    → (core_of recorder ≡ sized_state (store_of store).sector_bytes) × (recorder.store ≡ store)
+    × (recorder.end ≡ None) → IsNewOn bytes device recorder
+new_log {L} {l} bytes device store recorder size none start goes empty (core, same, end) = record {
+  core = core ∙ ap sized_state size;
+  end = end;
+  placed = ap (λ (s : LogStore L l). s.placed) same ∙ none;
+  moment = ap (λ (s : LogStore L l). s.moment) same ∙ start;
+  made =
+      subst (λ (s : LogStore L l). DeviceFrame (writes 0 (first_sector bytes 0)) (l.shown device)
+      (l.shown s.device)) (sym same) goes;
+  empty =
+      subst (λ (s : LogStore L l). (l.shown s.device).lies ≡ 0 → (left : Content)
+      → (l.shown s.device).crash left → IsLogOf (l.shown s.device).size left bytes [])
+      (sym same) empty;
+}
+
+-- a device on which one of the log's sectors fits has one
+one_fits : (size : SectorSize) (sectors : ℕ) → bytes_of size / 512 ≤ sectors
+    → 0 < log_sectors (bytes_of size) sectors
+one_fits sizes.B512 sectors room = omega (arith, room)
+one_fits sizes.B4096 sectors room = omega (arith, room)
+
+-- what is on a disk a crash may leave
+may_leave : (ending : Option (List ℕ)) (disk : SectorDisk)
+    → (shown_of disk).crash (left_on ending disk)
+may_leave None disk = (disk_lawful disk).current
+may_leave (Some picks) disk =
+    picks_leave_one (cache_of disk) picks (is_current (start_of disk) (steps_of disk))
+
+-- a log that is seen of a disk's content is seen of its image too
+image_log : (plan : ScriptValue) (device : Stack) (seen : Content) (image : List ℕ)
+    → bytes_of plan.log_size / 512 ≤ top_of plan.log_disk
+    → (stack_shown device).size ≡ top_of plan.log_disk
+    → (stack_shown device).place
+    ≡ record { origin = top_origin 0 plan.log_disk.layers; disk = plan.log_disk.sectors }
+    → AgreeBelow plan.log_disk.sectors (left_on plan.ending (disk_of device)) (sector_of image)
+    → ((sector : ℕ) → seen sector
+    ≡ left_on plan.ending (disk_of device) ((stack_shown device).place.origin + sector))
+    → {es : List _} → IsLogOf (stack_shown device).size seen (bytes_of plan.log_size) es
+    → IsLogOf (stack_shown device).size (seen_on plan.log_disk image) (bytes_of plan.log_size) es
+image_log plan device seen image room size place agree looks {es} log_c =
+    let part = part_of_disk device in
+    let within = part.within in
+    let left = left_on plan.ending (disk_of device) in
+    let origin : (stack_shown device).place.origin ≡ top_origin 0 plan.log_disk.layers =
+    ap (λ (p : Place). p.origin) place in
+    let disk : (shown_of (disk_of device)).size ≡ plan.log_disk.sectors =
+    sym part.disk ∙ ap (λ (p : Place). p.disk) place in
+    let some : 0 < log_sectors (bytes_of plan.log_size) (stack_shown device).size =
+    one_fits plan.log_size (stack_shown device).size (omega (arith, room, size)) in
+    log_within (stack_shown device).size seen (seen_on plan.log_disk image)
+    (bytes_of plan.log_size) es some
+    (λ sector h. agree (top_origin 0 plan.log_disk.layers + sector) (omega arith)
+    ∙ ap (λ (n : ℕ). left (n + sector)) (sym origin) ∙ sym (looks sector)) log_c
+
+-- the image of a disk: the bytes of all its sectors
+abbrev pub image_of : SectorDisk → List ℕ
+image_of disk = gather (shown_of disk).content 0 (shown_of disk).size
+
+-- it has the bytes of so many sectors as another disk of its size
+pub image_long : (disk : SectorDisk) {sectors : ℕ} → (shown_of disk).size ≡ sectors
+    → length (image_of disk) ≡ 512 * sectors
+image_long disk {sectors} size =
+    length-gather (shown_of disk).size (shown_of disk).content 0 (shown_of disk).size
+    (content_whole disk) (omega arith) ∙ ap (λ (n : ℕ). 512 * n) size
+
+-- what the disk agrees with its image agrees with
+pub image_agrees : (left : Content) (disk : SectorDisk) {sectors : ℕ}
+    → (shown_of disk).size ≡ sectors → AgreeBelow sectors left (shown_of disk).content
+    → AgreeBelow sectors left (sector_of (image_of disk))
+image_agrees left disk {sectors} size agrees = λ sector below.
+    sector_of-gather (shown_of disk).size (shown_of disk).content (content_whole disk) sector
+    (omega (arith, size, below)) ∙ agrees sector below
+
+-- lies that are equal, each for its disk
+pub same_lies : (lies : Lies) (over_data over_log : ℕ) → lies.data_disk ≡ over_data
+    → lies.log_disk ≡ over_log
+    → lies ≡ record { data_disk = over_data; log_disk = over_log }
+same_lies lies over_data over_log here there = rw (sym here, sym there) refl
+
+-- nothing has to be placed where nothing is recorded
+new_written : (bytes : ℕ) (disk : Disk) (recorder : DiskRecorder) → IsNew bytes disk recorder
+    → IsWritten recorder
+new_written bytes disk recorder new = λ closed on. absurd
+    (let recording = ap (λ (c : CoreState). has_no_close c.events) new.begun.core in cc)
+
+-- what a script's recording leaves
+pub is_recorded : (plan : ScriptValue) (text : List ℕ) (start last : DiskRun) (log : Stack)
+    (status : Status) (lies : Lies) (image : List ℕ) (picks : Option (List ℕ))
+    → bytes_of plan.log_size / 512 ≤ top_of plan.log_disk
+    → Starts plan start → RunsLines stack_answering plan.names plan.commands text start last
+    → RecorderFrame (recorder_view start.recorder) (recorder_view last.recorder)
+    → IsCounted status last.recorder
+    → ((stack_shown last.recorder.store.device).lies ≡ 0
+    → status ≡ status_of (core_of last.recorder).sector_bytes
+    (entries_of (store_of last.recorder.store)) last.recorder.end)
+    → log ≡ last.recorder.store.device
+    → lies ≡ record { data_disk = (stack_shown last.disk).lies; log_disk = (stack_shown log).lies }
+    → length image ≡ 512 * (shown_of (disk_of log)).size
+    → picks ≡ plan.ending
+    → AgreeBelow (shown_of (disk_of log)).size (left_on picks (disk_of log)) (sector_of image)
+    → ((stack_shown last.recorder.store.device).lies ≡ 0 → (left : Content)
+    → (stack_shown last.recorder.store.device).crash left
+    → ReplaysToWhatCouldBe (recorder_view last.recorder) (recorder_view last.recorder) left)
+    → (IsWritten start.recorder → last.recorder.end ≡ None
+    → has_no_close (core_of last.recorder).events ≡ false
+    → (stack_shown last.recorder.store.device).lies ≡ 0
+    → HasWholeLog (recorder_view last.recorder))
+    → IsRecorded plan text status lies image
+is_recorded plan text start last log status lies image picks room starts ran goes counted tells same
+    lied count ending agrees reopens whole =
+    let device = last.recorder.store.device in
+    let new = starts.log_disk in
+    let size : (stack_shown device).size ≡ top_of plan.log_disk =
+    goes.size ∙ new.begun.made.size ∙ stack_size plan.log_disk new.stack new.blank in
+    let place : (stack_shown device).place
+    ≡ record { origin = top_origin 0 plan.log_disk.layers; disk = plan.log_disk.sectors } =
+    goes.place ∙ new.begun.made.place ∙ stack_place plan.log_disk new.stack new.blank in
+    let bytes : (core_of last.recorder).sector_bytes ≡ bytes_of plan.log_size =
+    goes.sector_bytes ∙ ap (λ (c : CoreState). c.sector_bytes) new.begun.core in
+    let part = part_of_disk device in
+    let sectors : (shown_of (disk_of device)).size ≡ plan.log_disk.sectors =
+    sym part.disk ∙ ap (λ (p : Place). p.disk) place in
+    let here : AgreeBelow (shown_of (disk_of device)).size (left_on plan.ending (disk_of device))
+    (sector_of image) =
+    subst (λ (s : Stack). AgreeBelow (shown_of (disk_of s)).size (left_on plan.ending (disk_of s))
+    (sector_of image)) same
+    (subst (λ (o : Option (List ℕ)). AgreeBelow (shown_of (disk_of log)).size
+    (left_on o (disk_of log)) (sector_of image)) ending agrees) in
+    let agree : AgreeBelow plan.log_disk.sectors (left_on plan.ending (disk_of device))
+    (sector_of image) =
+    subst (λ (n : ℕ). AgreeBelow n (left_on plan.ending (disk_of device)) (sector_of image))
+    sectors here in
+    let seen =
+    part.crash (left_on plan.ending (disk_of device))
+    (may_leave plan.ending (disk_of device)) in
+    let told : lies
+    ≡ record {
+      data_disk = (stack_shown last.disk).lies;
+      log_disk = (stack_shown device).lies;
+    } =
+    subst (λ (s : Stack). lies
+    ≡ record { data_disk = (stack_shown last.disk).lies; log_disk = (stack_shown s).lies }) same
+    lied in
+    let honest : lies.log_disk ≡ 0 → (stack_shown device).lies ≡ 0 =
+    λ none. sym (ap (λ (l : Lies). l.log_disk) told) ∙ none in
+    record {
+      start = start;
+      starts = starts;
+      last = last;
+      ran = ran;
+      sector_bytes = bytes;
+      counted = counted;
+      tells =
+          λ none. subst (λ (n : ℕ). status
+          ≡ status_of n (entries_of (store_of last.recorder.store)) last.recorder.end) bytes
+          (tells (honest none));
+      lied = told;
+      honest = λ none.
+          let below = new.blank.over.can_lie none in
+          ap (λ (l : Lies). l.log_disk) told ∙ goes.honest (new.begun.made.can_lie ∙ below)
+          ∙ new.begun.made.honest below ∙ new.blank.over.lies;
+      size =
+          subst (λ (s : Stack). length image ≡ 512 * (shown_of (disk_of s)).size) same count
+          ∙ ap (λ (n : ℕ). 512 * n) sectors;
+      bytes = agree;
+      beginning = λ none.
+          let reopened = reopens (honest none) seen.0 seen.1 in
+          record {
+            some = reopened.some;
+            count = reopened.count;
+            least = reopened.least;
+            most = reopened.most;
+            log =
+                subst (λ (n : ℕ). IsLogOf (stack_shown device).size (seen_on plan.log_disk image) n
+                (take reopened.count (log_of (core_of last.recorder)))) (sym bytes)
+                (image_log plan device seen.0 image room size place agree seen.2
+                (subst (λ (n : ℕ). IsLogOf (stack_shown device).size seen.0 n
+                (take reopened.count (log_of (core_of last.recorder)))) bytes reopened.log));
+            acknowledged = reopened.acknowledged;
+            possible = reopened.possible;
+          };
+      whole = λ none closed on.
+          subst (λ (n : ℕ). IsLogOf n (seen_on plan.log_disk image) (bytes_of plan.log_size)
+          (log_of (core_of last.recorder))) size
+          (image_log plan device seen.0 image room size place agree seen.2
+          (subst (λ (n : ℕ). IsLogOf (stack_shown device).size seen.0 n
+          (log_of (core_of last.recorder))) bytes
+          ((whole (new_written (bytes_of plan.log_size) plan.log_disk start.recorder new) on closed
+          (honest none)).crash seen.0 seen.1)));
+    }

@@ -1,0 +1,148 @@
+-- What recording a script on two disks in memory, each under its layers, comes to.
+-- Any crate above may cite it.
+use Rattle.std.specs.Prelude.{◌≡◌, ℕ, ◌*◌, ◌+◌, ◌<◌, false, List, [], length, replicate, Option}
+use Rattle.std.specs.Prelude.{None, Some}
+use Rattle.std.specs.Io.KnownBytes.{Keeps}
+use Rattle.bio.specs.declared.outcome.Status.{Status}
+use Rattle.bio.specs.Lawful.{has_no_close}
+use Rattle.bio.specs.Sizes.{bytes_of}
+use Rattle.bio.specs.Content.{AgreeBelow, Content, moved, sector_of}
+use Rattle.sector_disk.specs.declared.disk.SectorDisk.{SectorDisk}
+use Rattle.sector_disk.specs.Candidates.{left_by}
+use Rattle.sector_disk.specs.DiskView.{cache_of, shown_of}
+use Rattle.sector_disk.specs.Sizes.{Begins}
+use Rattle.log_format.specs.Entries.{sectors_per}
+use Rattle.log_format.specs.LogOf.{IsLogOf, status_of}
+use Rattle.layer_table.specs.declared.stack.Stack.{Stack}
+use Rattle.layer_table.specs.Layers.{disk_of, layers_of, layers_under, on_stack, stack_shown}
+use Rattle.layer_table.specs.Layers.{AreOver}
+use Rattle.table_line.specs.LayerOrder.{some_drops, top_origin}
+use Rattle.log_store.specs.Fields.{store_of}
+use Rattle.log_store.specs.Store.{entries_of}
+use Rattle.script_reader.specs.Plans.{ScriptValue}
+use Rattle.recorder.specs.declared.recorder.Recorder.{Recorder}
+use Rattle.recorder.specs.RecorderView.{log_of}
+use Rattle.recorder.specs.CrashReplay.{ReplaysToWhatCouldBe}
+use Rattle.recorder.specs.Fields.{core_of, recorder_view}
+use Rattle.run_error.specs.declared.run_error.RunError.{RunError}
+use Rattle.script_runner.specs.NewRecorder.{IsNewOn, IsUnmadeOn}
+use Rattle.script_runner.specs.declared.recording.Lies.{Lies}
+use Rattle.run_error.specs.Errors.{IsFileError}
+use Rattle.script_reader.specs.Plans.{Disk, top_of}
+use Rattle.script_runner.specs.declared.running.Running.{Running}
+use Rattle.layer_table.specs.StackMessages.{StackAnswers}
+use Rattle.script_runner.specs.Lines.{answering, Answering}
+use Rattle.script_runner.specs.Runs.{EndsRun, RunsLines}
+
+-- a recorder over a disk in memory, under its layers
+abbrev pub DiskRecorder : Type 0
+DiskRecorder = Recorder Stack on_stack
+
+-- a script's run over two disks in memory, each under its layers
+abbrev pub DiskRun : Type 0
+DiskRun = Running Stack Stack on_stack on_stack
+
+-- what stacks answer to messages
+abbrev pub stack_answering : Answering Stack Stack
+stack_answering = answering StackAnswers StackAnswers
+
+-- a disk's sectors, each of them zeroes
+abbrev pub zeroes : Content
+zeroes sector = replicate 512 0
+
+-- What a script says of a disk stands: over a disk of zeroes its layers, the first of them lowest,
+-- each loaded at moment 0 and not called yet.
+pub record IsStackOf (disk : Disk) (stack : Stack) : Type 0 where
+  pub blank : Begins disk.sectors zeroes (shown_of (disk_of stack))
+  pub layers : layers_of stack ≡ layers_under disk.layers 0 []
+  pub over : AreOver disk.layers (shown_of (disk_of stack)) (stack_shown stack)
+
+-- Nothing is recorded yet, and a log of no entries, with sectors of so many bytes, was made on the
+-- top of a disk of zeroes and its layers.
+pub record IsNew (bytes : ℕ) (disk : Disk) (recorder : DiskRecorder) : Type 0 where
+  pub stack : Stack
+  pub blank : IsStackOf disk stack
+  pub begun : IsNewOn bytes stack recorder
+
+-- No log with sectors of so many bytes could be made on the top of a disk of zeroes and its layers.
+pub record IsUnmade (bytes : ℕ) (disk : Disk) (fault : RunError) : Type 0 where
+  pub stack : Stack
+  pub blank : IsStackOf disk stack
+  pub refused : IsUnmadeOn on_stack bytes stack fault
+
+-- A script's run before its first line, at moment 0: on a data disk of
+-- zeroes and a new log, both of the sizes and under the layers that
+-- the script names, the log with sectors of the size that it names.
+pub record Starts (plan : ScriptValue) (run : DiskRun) : Type 0 where
+  pub data_disk : IsStackOf plan.data_disk run.disk
+  pub log_disk : IsNew (bytes_of plan.log_size) plan.log_disk run.recorder
+  pub none : run.requests.items ≡ []
+  pub moment : run.moment ≡ 0
+
+-- what is on a disk: its content; or where its power failed, what these picks leave
+abbrev pub left_on : Option (List ℕ) → SectorDisk → Content
+left_on None disk = (shown_of disk).content
+left_on (Some picks) disk = left_by (cache_of disk) picks
+
+-- The status tells how many entries are placed, the highest sector of 512 bytes that they use (0
+-- where there are none), and the cause that ended logging.
+pub record IsCounted (status : Status) (recorder : DiskRecorder) : Type 0 where
+  pub entries : status.entries ≡ recorder.store.placed
+  pub end : status.end ≡ recorder.end
+  pub none : recorder.store.placed ≡ 0 → status.sector ≡ 0
+  pub last : 0 < recorder.store.placed
+      → status.sector + 1 ≡ recorder.store.next * sectors_per (core_of recorder).sector_bytes
+
+-- what the bytes of a disk say at the place of the top of
+-- its layers, counted from the top's first sector
+abbrev pub seen_on : Disk → List ℕ → Content
+seen_on disk image = moved (top_origin 0 disk.layers) (sector_of image)
+
+-- A script was recorded: its lines ran and printed this, the log has come so far, so many calls
+-- were dropped and told as done, and the bytes are those of the log's disk; where the script ends
+-- by a crash, those that its picks leave.
+pub record IsRecorded (plan : ScriptValue) (text : List ℕ) (status : Status) (lies : Lies)
+    (image : List ℕ) : Type 0 where
+  pub start : DiskRun
+  pub starts : Starts plan start
+  pub last : DiskRun
+  pub ran : RunsLines stack_answering plan.names plan.commands text start last
+  -- the recorder counts in the log's sectors, which are of the size that the script names
+  pub sector_bytes : (core_of last.recorder).sector_bytes ≡ bytes_of plan.log_size
+  pub counted : IsCounted status last.recorder
+  pub lied : lies ≡ record {
+    data_disk = (stack_shown last.disk).lies;
+    log_disk = (stack_shown last.recorder.store.device).lies;
+  }
+  pub size : length image ≡ 512 * plan.log_disk.sectors
+  pub bytes : AgreeBelow plan.log_disk.sectors
+      (left_on plan.ending (disk_of last.recorder.store.device)) (sector_of image)
+  -- where none of the log's layers may drop writes, none of them lied
+  pub honest : some_drops plan.log_disk.layers ≡ false → lies.log_disk ≡ 0
+  -- unless the log's device lied, the status is that of what is placed
+  pub tells : lies.log_disk ≡ 0
+      → status ≡ status_of (bytes_of plan.log_size)
+      (entries_of (store_of last.recorder.store)) last.recorder.end
+  -- unless it lied, the bytes have a log, as seen through its layers, which is a beginning of the
+  -- completion list of the recorder's events with all that is settled and all that is acknowledged;
+  -- each beginning of it replays to what the recorded device could hold
+  pub beginning : lies.log_disk ≡ 0 →
+      ReplaysToWhatCouldBe (recorder_view last.recorder) (recorder_view last.recorder)
+      (seen_on plan.log_disk image)
+  -- where the script closed and logging goes on, it is the whole list
+  pub whole : lies.log_disk ≡ 0 → has_no_close (core_of last.recorder).events ≡ false
+      → last.recorder.end ≡ None →
+      IsLogOf (top_of plan.log_disk) (seen_on plan.log_disk image) (bytes_of plan.log_size)
+      (log_of (core_of last.recorder))
+
+-- Why recording a script, which was read from a text, fails: there is
+-- no memory, or the output can't be written; no log could be made,
+-- and nothing was printed; or its run ends before its last line.
+pub data FailsOnDisks (text : List ℕ) (plan : ScriptValue)
+    (before after : Option (List ℕ)) : RunError → Type 0 where
+  file : (fault : RunError) → IsFileError fault → FailsOnDisks text plan before after fault
+  unmade : (fault : RunError) → IsUnmade (bytes_of plan.log_size) plan.log_disk fault
+      → Keeps before after → FailsOnDisks text plan before after fault
+  run : (start : DiskRun) (fault : RunError) → Starts plan start
+      → EndsRun stack_answering text plan before after start fault
+      → FailsOnDisks text plan before after fault

@@ -1,0 +1,34 @@
+-- Which events the requests of a script's run stand for.
+-- Any crate above may cite it.
+use Rattle.std.specs.Prelude.{◌≡◌, ℕ, List, [], ◌∷◌, Some, slice_get}
+use Rattle.bio.specs.declared.event.CoreEvent.TheVariants as core_events
+use Rattle.bio.specs.declared.request.Bio.{Bio}
+use Rattle.blockdev.specs.declared.device.BlockDev.{Ghosts}
+use Rattle.script_reader.specs.declared.command.Command.{Command}
+use Rattle.script_reader.specs.declared.command.Command.TheVariants as commands
+use Rattle.script_reader.specs.declared.command.Submission.{Submission}
+use Rattle.script_runner.specs.declared.request.Request.{Request}
+use Rattle.script_runner.specs.declared.request.Request.TheVariants as requests
+use Rattle.script_runner.specs.declared.running.Running.{Running}
+use Rattle.script_runner.specs.Submissions.{bio_of}
+use Rattle.recorder.specs.Fields.{core_of}
+
+-- each request that the recorder follows stands in its events at its id, as it was asked
+abbrev pub IsFollowed : {D L : Type 0} {d : Ghosts D} {l : Ghosts L} → Running D L d l → Type 0
+IsFollowed run =
+    (place : ℕ) (bio : Bio) (id : ℕ)
+    → slice_get run.requests.items place ≡ Some (requests.Asked bio (Some id))
+    → slice_get (core_of run.recorder).events id ≡ Some (core_events.Submit bio)
+
+-- what became of a line that submits: the request that it
+-- says was asked; or there was no memory for it
+abbrev pub StandsFor : Submission → Request → Type 0
+StandsFor submission (requests.Asked bio id) = bio ≡ bio_of submission
+StandsFor submission requests.NotAsked = Unit {0}
+
+-- what the lines submit, in their order
+abbrev pub submissions_of : List Command → List Submission
+submissions_of [] = []
+submissions_of (commands.Submit submission ∷ body) = submission ∷ submissions_of body
+submissions_of (commands.Complete request ∷ body) = submissions_of body
+submissions_of (commands.Step step ∷ body) = submissions_of body

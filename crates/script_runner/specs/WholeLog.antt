@@ -1,0 +1,14 @@
+-- Where recording is closed, a script's run leaves its log whole.
+-- Any crate above may cite it.
+use Rattle.std.specs.Prelude.{◌≡◌, false, None, length}
+use Rattle.blockdev.specs.declared.device.BlockDev.{Ghosts}
+use Rattle.bio.specs.Lawful.{has_no_close}
+use Rattle.recorder.specs.declared.recorder.Recorder.{Recorder}
+use Rattle.recorder.specs.RecorderView.{log_of}
+use Rattle.recorder.specs.Fields.{core_of}
+
+-- where recording is closed and logging goes on, all of the completion list is placed
+abbrev pub IsWritten : {L : Type 0} {l : Ghosts L} → Recorder L l → Type 0
+IsWritten recorder =
+    has_no_close (core_of recorder).events ≡ false → recorder.end ≡ None
+    → recorder.store.placed ≡ length (log_of (core_of recorder))

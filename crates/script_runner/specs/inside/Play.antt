@@ -1,0 +1,65 @@
+-- What playing a script comes to, on any data device and a new log on any other device.
+-- Its own crate alone cites it.
+use Rattle.std.specs.Prelude.{◌≡◌, ℕ, Bool, true, List, [], Option}
+use Rattle.std.specs.List.{list_all}
+use Rattle.std.specs.Io.KnownBytes.{Appends, Keeps}
+use Rattle.blockdev.specs.declared.device.BlockDev.{Ghosts}
+use Rattle.script_reader.specs.Plans.{Disk, ScriptValue}
+use Rattle.layer_table.specs.declared.stack.Stack.{Stack}
+use Rattle.recorder.specs.declared.recorder.Recorder.{Recorder}
+use Rattle.run_error.specs.declared.run_error.RunError.{RunError}
+use Rattle.run_error.specs.Errors.{IsFileError}
+use Rattle.script_runner.specs.declared.running.Running.{Running}
+use Rattle.script_runner.specs.NewRecorder.{IsNewOn}
+use Rattle.script_runner.specs.Lines.{Answering}
+use Rattle.layer_table.specs.Layers.{on_stack}
+use Rattle.script_runner.specs.DiskRun.{IsStackOf}
+use Rattle.script_runner.specs.Runs.{EndsRun, RunsLines}
+use Rattle.script_runner.specs.Submissions.{is_asked}
+
+-- A script's run before its first line, at moment 0: on this data device, and on a new log on this
+-- device, with sectors of so many bytes.
+pub record StartsOn {D L : Type 0} {d : Ghosts D} {l : Ghosts L} (bytes : ℕ) (disk : D) (log : L)
+    (run : Running D L d l) : Type 0 where
+  pub disk_is : run.disk ≡ disk
+  pub begun : IsNewOn bytes log run.recorder
+  pub none : run.requests.items ≡ []
+  pub moment : run.moment ≡ 0
+
+-- The same, on a data disk of zeroes under its layers.
+pub record StartsBeside {L : Type 0} {l : Ghosts L} (bytes : ℕ) (data_disk : Disk) (log : L)
+    (run : Running Stack L on_stack l) : Type 0 where
+  pub stack : IsStackOf data_disk run.disk
+  pub begun : IsNewOn bytes log run.recorder
+  pub none : run.requests.items ≡ []
+  pub moment : run.moment ≡ 0
+
+-- A script was played from such a start: its lines ran, what they print was added to what a writer
+-- holds, and it left this recorder and so many calls of the data device that were dropped and told
+-- as done; where it is said to have found memory, each request was asked.
+pub record IsPlayed {D L : Type 0} {d : Ghosts D} {l : Ghosts L} (m : Answering D L)
+    (plan : ScriptValue) (Start : Running D L d l → Type 0) (before after : Option (List ℕ))
+    (recorder : Recorder L l) (lies : ℕ) (ample : Bool) : Type 0 where
+  pub start : Running D L d l
+  pub starts : Start start
+  pub last : Running D L d l
+  pub text : List ℕ
+  pub ran : RunsLines m plan.names plan.commands text start last
+  pub printed : Appends before after text
+  pub left : recorder ≡ last.recorder
+  pub lied : lies ≡ (d.shown last.disk).lies
+  pub asked : ample ≡ true → list_all is_asked last.requests.items ≡ true
+
+-- Why playing a script, which was read from a text, fails: there is no
+-- memory, or the output can't be written; no log could be made, and nothing
+-- was printed; or its run from such a start ends before its last line.
+pub data FailsPlaying {D L : Type 0} {d : Ghosts D} {l : Ghosts L} (m : Answering D L)
+    (text : List ℕ) (plan : ScriptValue) (Unmade : RunError → Type 0)
+    (Start : Running D L d l → Type 0) (before after : Option (List ℕ)) : RunError → Type 0 where
+  file : (fault : RunError) → IsFileError fault
+      → FailsPlaying m text plan Unmade Start before after fault
+  unmade : (fault : RunError) → Unmade fault → Keeps before after
+      → FailsPlaying m text plan Unmade Start before after fault
+  run : (start : Running D L d l) (fault : RunError) → Start start
+      → EndsRun m text plan before after start fault
+      → FailsPlaying m text plan Unmade Start before after fault

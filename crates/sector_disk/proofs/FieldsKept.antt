@@ -1,0 +1,593 @@
+-- What holds of a disk's fields holds after each call.
+-- Its own crate alone cites it, for theorems of many of its files.
+use Rattle.std.proofs.Common.{◌≡◌, ℕ, suc, zero, ◌+◌, ◌-◌, ◌/◌, ◌<◌, ◌≤◌, ◌&&◌, Bool, true, false}
+use Rattle.std.proofs.Common.{Some, None, List, [], ◌∷◌, ◌++◌, length, take, drop, replicate, refl}
+use Rattle.std.proofs.Common.{ap, subst, sym, ◌∙◌, inl, inr, arith}
+use Rattle.std.proofs.lemmas.Bool.{and_parts, cases_lt, eq-eqb, eqb-true, le-leb, leb-true, lt-ltb}
+use Rattle.std.proofs.lemmas.List.{get_or-drop, get_or-replicate, get_or-take, length-replicate}
+use Rattle.std.proofs.lemmas.Option.{slice_get_past, unwrap_or-slice_get}
+use Rattle.std.proofs.Math.ListN.{get_or}
+use Rattle.std.specs.Prelude.{◌⊎◌, Option, not, nat_le, nat_lt, slice_get, unwrap_or}
+use Rattle.bio.specs.Content.{Content, over, sector_of}
+use Rattle.bio.specs.ContentLaws.{over-after, over-before, over-in}
+use Rattle.bio.specs.PlaceLaws.{length-snoc, slice_get-append_front, slice_get-append_here}
+use Rattle.sector_disk.specs.declared.call.Call.{Call}
+use Rattle.sector_disk.specs.declared.call.Change.{Change}
+use Rattle.sector_disk.specs.declared.call.Change.TheVariants.{Write, Discard}
+use Rattle.sector_disk.specs.Candidates.{Cache, Puts, Step, cache_after, candidates_after}
+use Rattle.sector_disk.specs.inside.CallTable.{IsFilled, count_of}
+use Rattle.sector_disk.specs.inside.Storage.{AreWithin, ArePlaced, IsKept, IsPlaced, back}
+use Rattle.sector_disk.specs.inside.Storage.{before_at, before_in, cache_of, change_values}
+use Rattle.sector_disk.specs.inside.Storage.{content_at, flushed_if, is_chain, is_open, is_plain}
+use Rattle.sector_disk.specs.inside.Storage.{is_table, past_of, place_of, step_after, steps_of}
+use Rattle.sector_disk.specs.inside.Storage.{value_at, value_in, values_of}
+use Rattle.sector_disk.proofs.Chains.{chain-within}
+
+-- equal functions
+pub same_content : (c d : Content) → ((s : ℕ) → c s ≡ d s) → c ≡ d
+same_content c d same = λ i s. same s i
+
+-- a table with a place for each sector is one
+pub whole_table : (n : ℕ) → is_table n n ≡ true
+whole_table zero = refl
+whole_table (suc n) = eq-eqb (suc n) (suc n) refl
+
+-- a table is empty or has a place for each sector
+pub table_cases : (sectors n : ℕ) → is_table sectors n ≡ true → (n ≡ 0) ⊎ (n ≡ sectors)
+table_cases sectors zero is = inl refl
+table_cases sectors (suc n) is = inr (eqb-true (suc n) sectors is)
+
+-- a sector behind a table has the first call's place, and so has each sector of a new table
+pub place_past : (places : List ℕ) (sector : ℕ) → length places ≤ sector
+    → place_of places sector ≡ 0
+place_past places sector past =
+    ap (λ (o : Option ℕ). unwrap_or o 0) (slice_get_past places sector past)
+
+pub first_place : (n sector : ℕ) → place_of (replicate n 0) sector ≡ 0
+first_place n sector = elim (cases_lt sector n) [
+  | inl within ↦ unwrap_or-slice_get (replicate n 0) sector 0 ∙ get_or-replicate n sector 0 0 within
+  | inr past ↦
+      place_past (replicate n 0) sector (let size = length-replicate {A = ℕ} n 0 in omega arith)
+]
+
+-- so a new table has the places that none has
+new_place : (n : ℕ) (none table : List ℕ) → length none ≡ 0 → table ≡ replicate n 0 → (sector : ℕ)
+    → place_of none sector ≡ place_of table sector
+new_place n none table empty zeroes sector =
+    place_past none sector (omega arith)
+    ∙ sym (ap (λ (xs : List ℕ). place_of xs sector) zeroes ∙ first_place n sector)
+
+-- and the content stays
+pub start_opened : (n : ℕ) (calls : List Call) (none table : List ℕ) → length none ≡ 0
+    → table ≡ replicate n 0 → content_at calls none ≡ content_at calls table
+start_opened n calls none table empty zeroes =
+    same_content (content_at calls none) (content_at calls table)
+    (λ s. ap (λ (p : ℕ). value_at calls p s) (new_place n none table empty zeroes s))
+
+-- what holds of the fields holds when the tables are made
+pub kept_opened : (sectors : ℕ) (calls : List Call) (newest base places others : List ℕ)
+    (begun synced : ℕ) (flushed : Bool)
+    → IsKept sectors calls newest base begun synced flushed → length newest ≡ 0
+    → places ≡ replicate sectors 0 → others ≡ replicate sectors 0
+    → IsKept sectors calls places others begun synced flushed
+kept_opened sectors calls newest base places others begun synced flushed kept empty zeroes
+    others_zeroes = record {
+      some = kept.some;
+      few = kept.few;
+      table =
+          ap (is_table sectors) (ap length zeroes ∙ length-replicate sectors 0)
+          ∙ whole_table sectors;
+      base_length = ap length (others_zeroes ∙ sym zeroes);
+      begun_within = kept.begun_within;
+      synced_some = kept.synced_some;
+      synced_within = kept.synced_within;
+      synced_now = kept.synced_now;
+      base_within = record {
+        each = λ s. let h = kept.base_within.each s in
+            let is = ap (λ (xs : List ℕ). place_of xs s) others_zeroes ∙ first_place sectors s in
+            omega arith;
+      };
+      placed =
+          let Start : Content → Type 0 =
+          λ start. ArePlaced calls synced sectors places
+          (cache_after start (past_of calls begun flushed)) in
+          subst Start (start_opened sectors calls base others (kept.base_length ∙ empty)
+          others_zeroes)
+          (record {
+            each = λ sector h.
+                let now = (cache_of calls base begun flushed).now sector in
+                let may = (cache_of calls base begun flushed).may sector in
+                let Placed : ℕ → Type 0 = λ place. IsPlaced calls synced sector place now may in
+                subst Placed (new_place sectors newest places empty zeroes sector)
+                (kept.placed.each sector h);
+          });
+    }
+
+-- calls that were there stay as they were when one is added:
+-- their values, what came before, whether they are open
+call-kept : (calls : List Call) (call : Call) (place : ℕ) → place < length calls
+    → slice_get (calls ++ call ∷ []) place ≡ slice_get calls place
+call-kept calls call place h = slice_get-append_front calls (call ∷ []) place h
+
+pub value-kept : (calls : List Call) (call : Call) (place sector : ℕ) → place < length calls
+    → value_at (calls ++ call ∷ []) place sector ≡ value_at calls place sector
+value-kept calls call place sector h =
+    ap (λ (o : Option Call). value_in o sector) (call-kept calls call place h)
+
+before-kept : (calls : List Call) (call : Call) (place sector : ℕ) → place < length calls
+    → before_at (calls ++ call ∷ []) place sector ≡ before_at calls place sector
+before-kept calls call place sector h =
+    ap (λ (o : Option Call). before_in o sector) (call-kept calls call place h)
+
+open-kept : (calls : List Call) (call : Call) (synced place : ℕ) → place < length calls
+    → is_open (calls ++ call ∷ []) synced place ≡ is_open calls synced place
+open-kept calls call synced place h =
+    ap (λ (o : Option Call). nat_le synced place && is_plain o) (call-kept calls call place h)
+
+within-kept : (calls : List Call) (call : Call) (place : ℕ) → place < length calls
+    → nat_lt place (length (calls ++ call ∷ [])) ≡ nat_lt place (length calls)
+within-kept calls call place h =
+    lt-ltb place (length (calls ++ call ∷ [])) (let more = length-snoc calls call in omega arith)
+    ∙ sym (lt-ltb place (length calls) h)
+
+-- so a chain stays a chain
+chain-kept : (calls : List Call) (call : Call) (synced sector n place : ℕ)
+    → is_chain calls synced sector n place ≡ true
+    → is_chain (calls ++ call ∷ []) synced sector n place ≡ true
+chain-kept calls call synced sector zero place e = e
+chain-kept calls call synced sector (suc zero) place e =
+    let within = chain-within calls synced sector 1 place e in
+    ap (λ b. b && not (is_open (calls ++ call ∷ []) synced place))
+    (within-kept calls call place within)
+    ∙ ap (λ b. nat_lt place (length calls) && not b) (open-kept calls call synced place within) ∙ e
+chain-kept calls call synced sector (suc (suc n)) place e =
+    let within = chain-within calls synced sector (suc (suc n)) place e in
+    let all = calls ++ call ∷ [] in
+    let next : is_chain all synced sector (suc n) (before_at all place sector)
+    ≡ is_chain calls synced sector (suc n) (before_at calls place sector) =
+    ap (is_chain all synced sector (suc n)) (before-kept calls call place sector within)
+    ∙ chain-kept calls call synced sector (suc n) (before_at calls place sector) (rest e)
+    ∙ sym (rest e) in
+    ap (λ b. b && (is_open all synced place
+    && is_chain all synced sector (suc n) (before_at all place sector)))
+    (within-kept calls call place within)
+    ∙ ap (λ b. nat_lt place (length calls)
+    && (b && is_chain all synced sector (suc n) (before_at all place sector)))
+    (open-kept calls call synced place within)
+    ∙ ap (λ b. nat_lt place (length calls) && (is_open calls synced place && b)) next
+    ∙ e
+  where
+    rest : is_chain calls synced sector (suc (suc n)) place ≡ true
+        → is_chain calls synced sector (suc n) (before_at calls place sector) ≡ true
+    rest e =
+        (and_parts (is_open calls synced place)
+        (is_chain calls synced sector (suc n) (before_at calls place sector))
+        (and_parts (nat_lt place (length calls))
+        (is_open calls synced place
+        && is_chain calls synced sector (suc n) (before_at calls place sector)) e).1).1
+
+-- with the same values
+back-kept : (calls : List Call) (call : Call) (synced sector n place : ℕ)
+    → is_chain calls synced sector n place ≡ true
+    → back (calls ++ call ∷ []) sector n place ≡ back calls sector n place
+back-kept calls call synced sector zero place e = refl
+back-kept calls call synced sector (suc zero) place e =
+    ap (λ (v : List ℕ). v ∷ [])
+    (value-kept calls call place sector (chain-within calls synced sector 1 place e))
+back-kept calls call synced sector (suc (suc n)) place e =
+    let within = chain-within calls synced sector (suc (suc n)) place e in
+    let all = calls ++ call ∷ [] in
+    ap (λ (p : ℕ). back all sector (suc n) p ++ value_at all place sector ∷ [])
+    (before-kept calls call place sector within)
+    ∙ ap (λ (xs : List (List ℕ)). xs ++ value_at all place sector ∷ [])
+    (back-kept calls call synced sector (suc n) (before_at calls place sector) (rest e))
+    ∙ ap (λ (v : List ℕ). back calls sector (suc n) (before_at calls place sector) ++ v ∷ [])
+    (value-kept calls call place sector within)
+  where
+    rest : is_chain calls synced sector (suc (suc n)) place ≡ true
+        → is_chain calls synced sector (suc n) (before_at calls place sector) ≡ true
+    rest e =
+        (and_parts (is_open calls synced place)
+        (is_chain calls synced sector (suc n) (before_at calls place sector))
+        (and_parts (nat_lt place (length calls))
+        (is_open calls synced place
+        && is_chain calls synced sector (suc n) (before_at calls place sector)) e).1).1
+
+-- a sector that the new call leaves alone stays placed
+pub placed-kept : (calls : List Call) (call : Call) (synced sector place : ℕ) (now : List ℕ)
+    (may : List (List ℕ))
+    → IsPlaced calls synced sector place now may
+    → IsPlaced (calls ++ call ∷ []) synced sector place now may
+placed-kept calls call synced sector place now may placed = record {
+  value =
+      value-kept calls call place sector
+      (chain-within calls synced sector (length may) place placed.chain) ∙ placed.value;
+  values = back-kept calls call synced sector (length may) place placed.chain ∙ placed.values;
+  chain = chain-kept calls call synced sector (length may) place placed.chain;
+  few = let h = placed.few in let more = length-snoc calls call in omega arith;
+}
+
+-- the steps of the calls that were there stay
+steps-kept : (calls : List Call) (call : Call) (begun n : ℕ) → begun + n ≤ length calls
+    → steps_of (calls ++ call ∷ []) begun n ≡ steps_of calls begun n
+steps-kept calls call begun zero h = refl
+steps-kept calls call begun (suc n) h =
+    ap (λ (o : Option Call). step_after o (steps_of (calls ++ call ∷ []) begun n))
+    (call-kept calls call (begun + n) (omega arith))
+    ∙ ap (step_after (slice_get calls (begun + n))) (steps-kept calls call begun n (omega arith))
+
+-- and the new one's comes first
+pub past-put : (calls : List Call) (call : Call) (begun : ℕ) → begun ≤ length calls
+    → past_of (calls ++ call ∷ []) begun false
+    ≡ Puts (values_of call) call.fua ∷ past_of calls begun call.after_flush
+past-put calls call begun h =
+    let n = length calls - begun in
+    let more = length-snoc calls call in
+    let count : length (calls ++ call ∷ []) - begun ≡ suc n = omega arith in
+    let last : begun + n ≡ length calls = omega arith in
+    ap (steps_of (calls ++ call ∷ []) begun) count
+    ∙ ap (λ (p : ℕ). step_after (slice_get (calls ++ call ∷ []) p)
+    (steps_of (calls ++ call ∷ []) begun n)) last
+    ∙ ap (λ (o : Option Call). step_after o (steps_of (calls ++ call ∷ []) begun n))
+    (slice_get-append_here calls call [])
+    ∙ ap (λ (steps : List Step). Puts (values_of call) call.fua ∷ flushed_if call.after_flush steps)
+    (steps-kept calls call begun n (omega arith))
+
+-- the start stays
+pub start-put : (calls : List Call) (call : Call) (base : List ℕ) → AreWithin calls base
+    → content_at (calls ++ call ∷ []) base ≡ content_at calls base
+start-put calls call base within =
+    same_content (content_at (calls ++ call ∷ []) base) (content_at calls base)
+    (λ s. value-kept calls call (place_of base s) s (within.each s))
+
+-- the value of a call within its range, and none outside
+values-in : (call : Call) (sector : ℕ) → call.first ≤ sector
+    → sector < call.first + count_of call.change
+    → (value : List ℕ) × (values_of call sector ≡ Some value)
+values-in call sector low high = at call.change high
+  where
+    within : (count : ℕ) (value : ℕ → List ℕ) → sector < call.first + count
+        → (v : List ℕ) × (over call.first count value sector ≡ Some v)
+    within count value less =
+        let place : sector ≡ call.first + (sector - call.first) = omega arith in (
+          value (sector - call.first),
+          ap (over call.first count value) place
+              ∙ over-in call.first count value (sector - call.first) (omega arith),
+        )
+
+    at : (change : Change) → sector < call.first + count_of change
+        → (value : List ℕ) × (change_values call.first change sector ≡ Some value)
+    at (Write bytes) less = within (length bytes.items / 512) (sector_of bytes.items) less
+    at (Discard count) less = within count (λ _. replicate 512 0) less
+
+values-out : (call : Call) (sector : ℕ)
+    → (sector < call.first) ⊎ (call.first + count_of call.change ≤ sector)
+    → values_of call sector ≡ None
+values-out call sector outside = at call.change outside
+  where
+    without : (count : ℕ) (value : ℕ → List ℕ)
+        → (sector < call.first) ⊎ (call.first + count ≤ sector)
+        → over call.first count value sector ≡ None
+    without count value side = elim side [
+      | inl before ↦ over-before call.first count value sector before
+      | inr after ↦ over-after call.first count value sector after
+    ]
+
+    at : (change : Change) → (sector < call.first) ⊎ (call.first + count_of change ≤ sector)
+        → change_values call.first change sector ≡ None
+    at (Write bytes) side = without (length bytes.items / 512) (sector_of bytes.items) side
+    at (Discard count) side = without count (λ _. replicate 512 0) side
+
+-- the new call stands last
+here : (calls : List Call) (call : Call) → slice_get (calls ++ call ∷ []) (length calls) ≡ Some call
+here calls call = slice_get-append_here calls call []
+
+-- a chain grows by an open call
+chain-more : (calls : List Call) (synced sector n place before : ℕ) → place < length calls
+    → is_open calls synced place ≡ true
+    → before_at calls place sector ≡ before → is_chain calls synced sector n before ≡ true
+    → is_chain calls synced sector (suc n) place ≡ true
+chain-more calls synced sector zero place before within opens is e =
+    let never : ⊥ = cc in absurd never
+chain-more calls synced sector (suc n) place before within opens is e =
+    ap (λ b. b && (is_open calls synced place
+    && is_chain calls synced sector (suc n) (before_at calls place sector)))
+    (lt-ltb place (length calls) within)
+    ∙ ap (λ b. b && is_chain calls synced sector (suc n) (before_at calls place sector)) opens
+    ∙ ap (is_chain calls synced sector (suc n)) is ∙ e
+
+-- a durable call is a chain by itself
+pub chain-alone : (calls : List Call) (synced sector place : ℕ) → place < length calls
+    → is_open calls synced place ≡ false
+    → is_chain calls synced sector 1 place ≡ true
+chain-alone calls synced sector place within closed =
+    ap (λ b. b && not (is_open calls synced place)) (lt-ltb place (length calls) within)
+    ∙ ap not closed
+
+-- a sector of the new call is placed at it
+placed-new : (calls : List Call) (call : Call) (synced sector before : ℕ) (now value : List ℕ)
+    (may : List (List ℕ))
+    → IsPlaced calls synced sector before now may → synced ≤ length calls
+    → values_of call sector ≡ Some value → before_in (Some call) sector ≡ before
+    → IsPlaced (calls ++ call ∷ []) synced sector (length calls) value
+    (candidates_after (Some value) call.fua may)
+placed-new calls call synced sector before now value may placed low is came = at call.fua refl
+  where
+    all : List Call
+    all = calls ++ call ∷ []
+
+    there : length calls < length (calls ++ call ∷ [])
+    there = let more = length-snoc calls call in omega arith
+
+    value_is : value_at (calls ++ call ∷ []) (length calls) sector ≡ value
+    value_is =
+        ap (λ (o : Option Call). value_in o sector) (here calls call)
+        ∙ ap (λ (o : Option (List ℕ)). unwrap_or o (replicate 512 0)) is
+
+    open_is : (fua : Bool) → call.fua ≡ fua
+        → is_open (calls ++ call ∷ []) synced (length calls) ≡ not fua
+    open_is fua e =
+        ap (λ (o : Option Call). nat_le synced (length calls) && is_plain o) (here calls call)
+        ∙ ap (λ b. b && not call.fua) (le-leb synced (length calls) low)
+        ∙ ap not e
+
+    at : (fua : Bool) → call.fua ≡ fua
+        → IsPlaced (calls ++ call ∷ []) synced sector (length calls) value
+        (candidates_after (Some value) fua may)
+    at true e = record {
+      value = value_is;
+      values = ap (λ (v : List ℕ). v ∷ []) value_is;
+      chain = chain-alone (calls ++ call ∷ []) synced sector (length calls) there (open_is true e);
+      few = let h = there in omega arith;
+    }
+    at false e =
+        let many = length-snoc may value in
+        let kept = placed-kept calls call synced sector before now may placed in
+        let before_is : before_at (calls ++ call ∷ []) (length calls) sector ≡ before =
+        ap (λ (o : Option Call). before_in o sector) (here calls call) ∙ came in
+        record {
+          value = value_is;
+          values =
+              ap (λ (n : ℕ). back (calls ++ call ∷ []) sector n (length calls)) many
+              ∙ ap (λ (p : ℕ). back (calls ++ call ∷ []) sector (length may) p
+              ++ value_at (calls ++ call ∷ []) (length calls) sector ∷ []) before_is
+              ∙ ap (λ (xs : List (List ℕ)). xs
+              ++ value_at (calls ++ call ∷ []) (length calls) sector ∷ []) kept.values
+              ∙ ap (λ (v : List ℕ). may ++ v ∷ []) value_is;
+          chain =
+              ap (λ (n : ℕ). is_chain (calls ++ call ∷ []) synced sector n (length calls)) many
+              ∙ chain-more (calls ++ call ∷ []) synced sector (length may)
+              (length calls) before there (open_is false e) before_is kept.chain;
+          few = let h = placed.few in let more = length-snoc calls call in omega arith;
+        }
+
+-- what came before the new call at one of its sectors is the sector's place
+came-before : (newest before : List ℕ) (first count sector : ℕ)
+    → before ≡ take count (drop first newest) → first ≤ sector → sector < first + count
+    → unwrap_or (slice_get before (sector - first)) 0 ≡ place_of newest sector
+came-before newest before first count sector is low high =
+    let index = sector - first in
+    let place : first + index ≡ sector = omega arith in
+    unwrap_or-slice_get before index 0
+    ∙ ap (λ (xs : List ℕ). get_or xs index 0) is
+    ∙ get_or-take count (drop first newest) index 0 (omega arith)
+    ∙ get_or-drop first newest index 0
+    ∙ ap (λ (p : ℕ). get_or newest p 0) place
+    ∙ sym (unwrap_or-slice_get newest sector 0)
+
+-- the cache after the new call
+cache-put : (calls : List Call) (call : Call) (base : List ℕ) (begun : ℕ) (flushed : Bool)
+    → begun ≤ length calls → AreWithin calls base
+    → call.after_flush ≡ flushed
+    → cache_of (calls ++ call ∷ []) base begun false
+    ≡ cache_after (content_at calls base)
+    (Puts (values_of call) call.fua ∷ past_of calls begun flushed)
+cache-put calls call base begun flushed within base_within after =
+    ap (λ (start : Content). cache_after start (past_of (calls ++ call ∷ []) begun false))
+    (start-put calls call base base_within)
+    ∙ ap (cache_after (content_at calls base)) (past-put calls call begun within)
+    ∙ ap (λ b. cache_after (content_at calls base)
+    (Puts (values_of call) call.fua ∷ past_of calls begun b)) after
+
+-- what holds of the fields holds when a call is added
+pub kept-put : (sectors : ℕ) (calls : List Call) (newest filled base : List ℕ) (begun synced : ℕ)
+    (flushed : Bool) (call : Call)
+    → IsKept sectors calls newest base begun synced flushed → length newest ≡ sectors
+    → call.after_flush ≡ flushed
+    → call.before.items ≡ take (count_of call.change) (drop call.first newest)
+    → IsFilled call.first (count_of call.change) (length calls) newest filled
+    → IsKept sectors (calls ++ call ∷ []) filled base begun synced false
+kept-put sectors calls newest filled base begun synced flushed call kept opened after before fills =
+    let more = length-snoc calls call in
+    record {
+      some = kept.some;
+      few = kept.few;
+      table = ap (is_table sectors) (fills.size ∙ opened) ∙ whole_table sectors;
+      base_length = kept.base_length ∙ sym fills.size;
+      begun_within = let h = kept.begun_within in omega arith;
+      synced_some = kept.synced_some;
+      synced_within = let h = kept.synced_within in omega arith;
+      synced_now = λ is. cc;
+      base_within = record { each = λ s. let h = kept.base_within.each s in omega arith };
+      placed =
+          let Placed : Cache → Type 0 =
+          λ cache. ArePlaced (calls ++ call ∷ []) synced sectors filled cache in
+          subst Placed (sym (cache-put calls call base begun flushed kept.begun_within
+          kept.base_within after)) (record { each = each });
+    }
+  where
+    cache : Cache
+    cache = cache_of calls base begun flushed
+
+    each : (sector : ℕ) → sector < sectors
+        → IsPlaced (calls ++ call ∷ []) synced sector (place_of filled sector)
+        (unwrap_or (values_of call sector) ((cache_of calls base begun flushed).now sector))
+        (candidates_after (values_of call sector) call.fua
+        ((cache_of calls base begun flushed).may sector))
+    each sector h =
+        let old = kept.placed.each sector h in
+        let now = (cache_of calls base begun flushed).now sector in
+        let may = (cache_of calls base begun flushed).may sector in
+        let Placed : ℕ → Option (List ℕ) → Type 0 =
+        λ place o. IsPlaced (calls ++ call ∷ []) synced sector place (unwrap_or o now)
+        (candidates_after o call.fua may) in
+        let outside : (sector < call.first) ⊎ (call.first + count_of call.change ≤ sector) →
+        Placed (place_of filled sector) (values_of call sector) =
+        λ side.
+        let Place : ℕ → Type 0 = λ place. Placed place (values_of call sector) in
+        let Value : Option (List ℕ) → Type 0 = λ o. Placed (place_of newest sector) o in
+        subst Place (sym (fills.outside sector side)) (
+        subst Value (sym (values-out call sector side))
+        (placed-kept calls call synced sector (place_of newest sector) now may old)
+        ) in
+        elim (cases_lt sector call.first) [
+          | inl low ↦ outside (inl low)
+          | inr from ↦ elim (cases_lt sector (call.first + count_of call.change)) [
+            | inl high ↦
+                let value = values-in call sector from high in
+                let Place : ℕ → Type 0 = λ place. Placed place (values_of call sector) in
+                let Value : Option (List ℕ) → Type 0 = λ o. Placed (length calls) o in
+                subst Place (sym (fills.within sector from high)) (
+                subst Value (sym value.1) (
+                placed-new calls call synced sector
+                (place_of newest sector) now value.0 may old kept.synced_within value.1
+                (came-before newest call.before.items call.first
+                (count_of call.change) sector before from high)
+                )
+                )
+            | inr after_it ↦ outside (inr after_it)
+          ]
+        ]
+
+-- the same, for calls that are these
+pub kept_added : (sectors : ℕ) (calls all : List Call) (newest filled base : List ℕ)
+    (begun synced count : ℕ) (flushed : Bool) (call : Call)
+    → all ≡ calls ++ call ∷ [] → IsKept sectors calls newest base begun synced flushed
+    → length newest ≡ sectors → call.after_flush ≡ flushed
+    → count ≡ count_of call.change → call.before.items ≡ take count (drop call.first newest)
+    → IsFilled call.first count (length calls) newest filled
+    → IsKept sectors all filled base begun synced false
+kept_added sectors calls all newest filled base begun synced count flushed call added kept opened
+    after counted before fills =
+    let Kept : List Call → Type 0 = λ cs. IsKept sectors cs filled base begun synced false in
+    let Filled : ℕ → Type 0 = λ n. IsFilled call.first n (length calls) newest filled in
+    subst Kept (sym added) (
+    kept-put sectors calls newest filled base begun synced flushed call kept opened after
+    (before ∙ ap (λ (n : ℕ). take n (drop call.first newest)) counted) (subst Filled counted fills)
+    )
+
+pub past_added : (calls all : List Call) (call : Call) (begun : ℕ) → all ≡ calls ++ call ∷ []
+    → begun ≤ length calls
+    → past_of all begun false
+    ≡ Puts (values_of call) call.fua ∷ past_of calls begun call.after_flush
+past_added calls all call begun added within =
+    ap (λ (cs : List Call). past_of cs begun false) added ∙ past-put calls call begun within
+
+pub start_added : (calls all : List Call) (call : Call) (base : List ℕ) → all ≡ calls ++ call ∷ []
+    → AreWithin calls base
+    → content_at all base ≡ content_at calls base
+start_added calls all call base added within =
+    ap (λ (cs : List Call). content_at cs base) added ∙ start-put calls call base within
+
+-- a sector of durable newest call is placed with its value alone
+placed-alone : (calls : List Call) (synced sector place : ℕ) → place < length calls
+    → is_open calls synced place ≡ false
+    → IsPlaced calls synced sector place (value_at calls place sector)
+    (value_at calls place sector ∷ [])
+placed-alone calls synced sector place within closed = record {
+  value = refl;
+  values = refl;
+  chain = chain-alone calls synced sector place within closed;
+  few = omega arith;
+}
+
+-- after a flush no call is open
+all-closed : (calls : List Call) (place : ℕ) → place < length calls
+    → is_open calls (length calls) place ≡ false
+all-closed calls place within =
+    ap (λ b. b && is_plain (slice_get calls place)) (above (nat_le (length calls) place) refl)
+  where
+    above : (b : Bool) → nat_le (length calls) place ≡ b → b ≡ false
+    above true e = absurd (let low = leb-true (length calls) place e in omega arith)
+    above false e = refl
+
+-- what holds of the fields holds after a flush
+pub kept_flushed : (sectors : ℕ) (calls : List Call) (newest base : List ℕ) (begun synced : ℕ)
+    (flushed : Bool)
+    → IsKept sectors calls newest base begun synced flushed
+    → IsKept sectors calls newest base begun (length calls) true
+kept_flushed sectors calls newest base begun synced flushed kept = record {
+  some = kept.some;
+  few = kept.few;
+  table = kept.table;
+  base_length = kept.base_length;
+  begun_within = kept.begun_within;
+  synced_some = let h = kept.synced_some in let most = kept.synced_within in omega arith;
+  synced_within = omega arith;
+  synced_now = λ is. refl;
+  base_within = kept.base_within;
+  placed = record { each = λ sector h. each flushed sector (kept.placed.each sector h) };
+}
+  where
+    each : (b : Bool) (sector : ℕ)
+        → IsPlaced calls synced sector (place_of newest sector)
+        ((cache_of calls base begun b).now sector) ((cache_of calls base begun b).may sector)
+        → IsPlaced calls (length calls) sector (place_of newest sector)
+        ((cache_of calls base begun true).now sector) ((cache_of calls base begun true).may sector)
+    each b sector old =
+        let place = place_of newest sector in
+        let within =
+        chain-within calls synced sector
+        (length ((cache_of calls base begun b).may sector)) place old.chain in
+        let Placed : List ℕ → Type 0 =
+        λ value. IsPlaced calls (length calls) sector place value (value ∷ []) in
+        subst Placed (old.value ∙ same b)
+        (placed-alone calls (length calls) sector place within (all-closed calls place within))
+      where
+        same : (b : Bool) → (cache_of calls base begun b).now sector
+            ≡ (cache_of calls base begun true).now sector
+        same true = refl
+        same false = refl
+
+-- the same, for a count of the calls
+pub kept_synced : (sectors : ℕ) (calls : List Call) (newest base : List ℕ) (begun synced count : ℕ)
+    (flushed : Bool)
+    → IsKept sectors calls newest base begun synced flushed → count ≡ length calls
+    → IsKept sectors calls newest base begun count true
+kept_synced sectors calls newest base begun synced count flushed kept is =
+    let Kept : ℕ → Type 0 = λ n. IsKept sectors calls newest base begun n true in
+    subst Kept (sym is) (kept_flushed sectors calls newest base begun synced flushed kept)
+
+-- after a crash, when the past begins anew with these places
+pub kept_begun : (sectors : ℕ) (calls : List Call) (places : List ℕ) → 0 < sectors
+    → sectors ≤ 1048576 → is_table sectors (length places) ≡ true
+    → AreWithin calls places
+    → IsKept sectors calls places places (length calls) (length calls) false
+kept_begun sectors calls places some few table within = record {
+  some = some;
+  few = few;
+  table = table;
+  base_length = refl;
+  begun_within = omega arith;
+  synced_some = let first = within.each 0 in omega arith;
+  synced_within = omega arith;
+  synced_now = λ is. refl;
+  base_within = within;
+  placed =
+      let none : length calls - length calls ≡ 0 = omega arith in
+      let Placed : ℕ → Type 0 =
+      λ n. ArePlaced calls (length calls) sectors places
+      (cache_after (content_at calls places) (steps_of calls (length calls) n)) in
+      subst Placed (sym none) (record {
+        each = λ sector h.
+            let place = place_of places sector in
+            placed-alone calls (length calls) sector place (within.each sector)
+            (all-closed calls place (within.each sector));
+      });
+}
+
+-- no call came since the past began
+pub past_begun : (calls : List Call) → past_of calls (length calls) false ≡ []
+past_begun calls =
+    let none : length calls - length calls ≡ 0 = omega arith in
+    ap (steps_of calls (length calls)) none

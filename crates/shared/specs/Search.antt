@@ -1,0 +1,16 @@
+-- What one who waits for an entry finds in the log.
+-- Any crate above may cite it.
+use Rattle.std.specs.Prelude.{◌≡◌, ◌≤◌, Err, None, Ok, Option, Result, Some, ℕ}
+use Rattle.bio.specs.declared.outcome.End.{End}
+use Rattle.lock_state.specs.History.{first_cause}
+use Rattle.lock_state.specs.PlacedItems.{IsNoneFrom, IsSettledAt, Log}
+use Rattle.lock_state.specs.declared.note.Receipt.{Receipt}
+
+-- An item of this id that is settled at this number or a later one; where there is none the store's
+-- end, or else the cause by which those who wait were let go; and nothing where logging goes on.
+abbrev pub Finds : Log → ℕ → ℕ → Option (Result Receipt End) → Type 0
+Finds log id from (Some (Ok receipt)) =
+    (receipt.id ≡ id) × ((from ≤ receipt.number) × IsSettledAt log id receipt.number)
+Finds log id from (Some (Err cause)) =
+    IsNoneFrom log id from × (first_cause log.end log.released ≡ Some cause)
+Finds log id from None = IsNoneFrom log id from × (first_cause log.end log.released ≡ None)

@@ -142,7 +142,8 @@ class Specs:
         whole = found.group(1) + found.group(2)
         model = re.search(rf"^impl(?:<[^>]*>)? Model for {kind}\b.*?\n}}$", text, re.M | re.S)
         value = model and re.search(r"ghost Value = \{ (.*?) \};", model.group(0))
-        whole = re.sub(r"\n    ghost [^\n]*", "", whole)
+        # (a ghost field ends at the next line that stands as far to the left, or at the end)
+        whole = re.sub(r"\n    ghost [^\n]*(?:\n {5,}[^\n]*)*", "", whole)
         if value:
             whole = whole.replace("pub ", f"// Contracts see it as: {value.group(1)}\npub ", 1)
         one = Definition(crate, os.path.relpath(path, root), kind, whole, "rust")

@@ -3,7 +3,6 @@
 ghost use Rattle.std.specs.Prelude.{◌≡◌, ◌<◌, IfErr, IfOk, length, map};
 ghost use Rattle.lock_state.specs.PlacedItems.{ground_of};
 ghost use Rattle.seat_runner.specs.Tallies.{joined};
-ghost use Rattle.bio.specs.declared.outcome.End.TheVariants as ends;
 ghost use Rattle.script_reader.specs.RunPlans.{IsRunPlan};
 ghost use Rattle.layer_table.specs.Layers.{disk_of, stack_shown};
 ghost use Rattle.run_error.specs.declared.run_error.RunError.TheVariants.{LoggingEnded};

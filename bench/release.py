@@ -64,7 +64,8 @@ def off():
     stands = dict(line.split(" ", 1) for line in built.splitlines() if " " in line)
     if stands.get("sources") != sum_of_sources():
         yield f"{BUILT}: the sources are others by now"
-    if stands.get("toolchain") != said("rt", "version"):
+    # The kits of one logic build the same program: what counts is the logic's sum, the last word.
+    if stands.get("toolchain", "").split()[-1:] != said("rt", "version").split()[-1:]:
         yield f"{BUILT}: the toolchain is another"
     if stands.get("program") != program_in(packed):
         yield f"{PACKED}: it isn't the program that BUILT names"

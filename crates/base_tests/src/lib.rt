@@ -1,4 +1,4 @@
-//! Tests of `refusals`, `words`, `bio`, `judge`, `world` and `chains`,
+//! Tests of `refusals`, `text_words`, `bio`, `judge`, `world` and `chains`,
 //! through what these make public. They stand apart from the crates that
 //! they test, so that these aren't proved a second time with their tests.
 #![tactic(auto)]

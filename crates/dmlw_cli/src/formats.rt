@@ -37,8 +37,8 @@ stands, and a layer's table line, whose words one or more spaces part.
 Sizes and places are in sectors of 512 bytes. An id is 1 to 16 of `a` to `z` and `0` to `9`, and is submitted once. A script without `close`
 ends as it stands, and that is no fault: what wasn't written to the log by then isn't in it.
 
-With `flush` the data disk is flushed and then written, where the flush succeeded; a flush makes sure what ended before it. With `fua` the write is
-sure at its own end. `meta` is a note in the log. A mark waits for nothing, and has no `c`; a log keeps the first 479 bytes of its text, and one with
+With `flush` the data disk is flushed and then written, where the flush succeeded; a flush makes durable what ended before it. With `fua` the write is
+durable at its own end. `meta` is a note in the log. A mark waits for nothing, and has no `c`; a log keeps the first 479 bytes of its text, and one with
 sectors of 4,096 bytes the first 4,063. With such sectors each request begins and ends at a multiple of 8 sectors, else it is refused as 28 Unaligned at its line;
 a layer over the log has at least 8.
 
@@ -53,7 +53,7 @@ A script of `run` is a text of the same kind. Its head is that of a script of `r
 | `s<k> mark <text>` | seat k puts a mark of this text into the log | as above |
 
 Each seat is a thread, which does what its lines say, in their order, at moment 0; it goes on when a line's request is done, and after a write with `fua` and a
-mark when the log has made their entry sure, or logging has ended. One thread more writes the log. When all seats are through, recording is closed. The order of two seats' requests is left
+mark when their entry is durable in the log, or logging has ended. One thread more writes the log. When all seats are through, recording is closed. The order of two seats' requests is left
 open.
 
 A table line is `0 <length> <target> ..`, with a length of 1 to 1,048,576 sectors. The word behind the target is any word, and the offset is where the
@@ -85,7 +85,7 @@ takes is refused as 6 BadMessage at its line, a listed block that is added as 7 
 | Command | Prints |
 |---|---|
 | `record` | at `c`: `<id> ok` or `<id> failed`; `<id> failed` at a submission that found no memory, and `mark failed` at such a mark; at `r`: `read <first>+<count> ok ` and the first byte of each sector as two digits, joined, or `read <first>+<count> failed`; at the end the status, with ` logging_disabled` behind it where logging ended before its time, and `lies <data> <log>` where a layer has lied: how often those of the data disk did, and those of the log's |
-| `run` | for each seat, in their order: `seat <k>: <n> done <n> logged <n> failed <n> not logged <n> refused`, how many of its lines were answered so; `logged` are the writes with `fua` and the marks whose entry is sure, `not logged` those for which logging ended first. Then the status and the lies as at `record` |
+| `run` | for each seat, in their order: `seat <k>: <n> done <n> logged <n> failed <n> not logged <n> refused`, how many of its lines were answered so; `logged` are the writes with `fua` and the marks whose entry is durable, `not logged` those for which logging ended first. Then the status and the lies as at `record` |
 | `list` | `super version 1 entries <n> sectorsize <S>`, then a line of each entry: `<number> @<log sector>`, and `mark <text>`, `discard <sector>+<sectors>`, `flush` or `write <sector>+<sectors>`, the last two with ` flush` (of a write), ` fua`, ` meta` where set |
 | `status` | `<entries> <sector>`: how many entries the log counts, and the highest sector of 512 bytes that they use; `0 0` of an empty log |
 | `replay` | `replayed <n>`: how many entries of the log were applied to the image FIRST. Then the image is written as OUT |
@@ -138,6 +138,7 @@ A fault is one line on standard error: `dmlw: <number> <name>`, or `dmlw: line <
 |---|---|---|
 | 2 | Memory | there is no memory; of a `close`, with its line |
 | 3, 4, 5 | PastEnd, TooLong, NotWhole | a request past the disk's end, of over 2,048 sectors, of none |
+| 6, 7, 8 | BadMessage, AlreadyBad, NotBad | a message that no layer takes; a block that is listed already, and is added; a block that isn't listed, and is removed |
 | 9, 10, 11 | UnknownTarget, WrongCount, BadNumber | a table line's target, number of words, or word in a number's place |
 | 12, 29 | OutOfRange, BadFeature | a table line's number, or a layer past the end of what stands beneath it; a flakey layer's feature |
 | 13, 14, 15 | BadMagic, BadVersion, BadSectorSize | the image isn't a log, or is of another version, or has log sectors that aren't 512, 1024, 2048 or 4096 bytes |
@@ -153,7 +154,7 @@ A fault is one line on standard error: `dmlw: <number> <name>`, or `dmlw: line <
 | 31 | BadId | an id that is submitted twice, or ended where it isn't open |
 | 32 | File | a file or the output can't be read or written; a script that is too long; an image that isn't 512 to 536,870,912 bytes in whole sectors; a log that is its own script; an image that is its own log |
 | 33 | PastEntries | a replay of more entries than the log counts |
-| 34 | BadMoment | a moment past the last event, or an image of another size than the data disk |
+| 34 | BadMoment | a moment past the last event, or past the Stop, or an image of another size than the data disk |
 | 37 | Foreign | what a run's seats or its log hold isn't what its history has of them |
 | 38 | NoThread | the thread that writes a run's log can't be started; nothing was run |
 
@@ -166,6 +167,6 @@ The word `--explain`, in any place after the program's name, changes no other li
 each begin with two spaces: of a script's line the line itself, its number, the usual cause where it is seen (a carriage return, a byte order
 mark, a tab, an upper case letter), or the first word that doesn't fit, or what its place asks for, and the form that the line is to have; of a
 log how many entries it has, or which comes next; of an image its size; of a file its name and the system's reason; where `judge` says no the
-line of the event that rules the sector out. At status 0 it says where a script has no `close`. Their wording may change; the other lines' doesn't. A file of that very name is
+line of the event that rules the sector out; of a run of `path` the script's line of each step. At status 0 it says where a script has no `close`. Their wording may change; the other lines' doesn't. A file of that very name is
 given as `./--explain`.
 "#;

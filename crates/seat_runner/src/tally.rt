@@ -14,7 +14,7 @@ pub enum Outcome {
     Logged,
     /// The device failed it, or there was no memory.
     Failed,
-    /// Logging ended before its entry was made sure.
+    /// Logging ended before its entry was durable.
     NotLogged,
     /// It was refused.
     Refused,

@@ -8,7 +8,7 @@ use std::sync::Wait;
 use std::thread::Threads;
 use test_devices::Folder;
 
-// A write that a flush makes sure.
+// A write that a flush makes durable.
 const FLUSHED: &str = "data 16\nlog 32\nw a 5 1 41\nc a\nf b\nc b\nclose\n";
 
 // A write, and one of two sectors with a flush and FUA.
@@ -75,7 +75,7 @@ pub fn run<H: Threads + Wait + Sync>(
     targets::run(rt, alloc, report)
 }
 
-/// The log of a write that a flush makes sure.
+/// The log of a write that a flush makes durable.
 pub fn plain_log<H: Threads + Wait + Sync>(rt: &H, alloc: Global) -> Result<Vec<u8>, AllocError> {
     log_of(rt, alloc, FLUSHED)
 }

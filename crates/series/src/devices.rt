@@ -8,10 +8,10 @@ use std::sync::Wait;
 use std::thread::Threads;
 use test_devices::Folder;
 
-// The lines of a run: a write that a flush makes sure, and the close.
+// The lines of a run: a write that a flush makes durable, and the close.
 const EVENTS: &str = "w a 5 1 41\nc a\nf b\nc b\nclose\n";
 
-// The entries of its log as they are listed, in the order in which they became sure.
+// The entries of its log as they are listed, in the order in which they became durable.
 const ENTRIES: [&str; 3] = [
     "0 @1 write 5+1\n",
     "1 @3 flush\n",
@@ -35,9 +35,9 @@ const STATUSES: [&str; 8] = [
 enum Ending {
     // As it stands.
     Plain,
-    // By a loss of power: each sector holds what is sure.
+    // By a loss of power: each sector holds what is durable.
     Crash,
-    // So too, but each sector that isn't sure holds the first value written to it since.
+    // So too, but each sector that isn't durable holds the first value written to it since.
     Picked,
 }
 

@@ -14,8 +14,8 @@ pub enum Answer {
     Logged(Receipt),
     /// The device failed it, or there was no memory.
     Failed(DevError),
-    /// A write with FUA: it succeeded, and logging ended by this cause before its entry was made
-    /// sure. The entry may stand in the log.
+    /// A write with FUA: it succeeded, and logging ended by this cause before its entry was
+    /// durable. The entry may stand in the log.
     NotLogged(End),
     /// It may not be sent to the device: nothing was recorded, and the device wasn't called.
     Refused(BadBio),
@@ -26,7 +26,7 @@ pub enum Answer {
 pub enum MarkAnswer {
     /// Its entry stands in each log that a crash leaves.
     Logged(Receipt),
-    /// Logging ended by this cause before its entry was made sure. The entry may stand in the log.
+    /// Logging ended by this cause before its entry was durable. The entry may stand in the log.
     NotLogged(End),
     /// It isn't recorded.
     Refused(MarkRefusal),

@@ -1,7 +1,7 @@
 #!/usr/bin/env python3
 """Counts how many entries' bodies the built program holds at once, while it reads logs of 250, 500 and 1,000 writes of 60 KiB.
 
-usage: bench/bodies.py              (builds the program where needed, by ./dmlw)
+usage: bench/bodies.py [PROGRAM]    (without PROGRAM it builds the program where needed, by ./dmlw)
 
 A small C library that is built here (it needs `cc`) stands before the program's `malloc`, `realloc` and `free`: it counts the blocks of a body's size that are held, and
 the most at one time. `list` and `status` hold none, since they read no data. A disk keeps each write for itself, as `replay`'s and `copy`'s target do: so these
@@ -12,7 +12,7 @@ import subprocess
 import sys
 import tempfile
 
-from logs import log_of
+from logs import SECTOR, writes
 from measure import build
 
 SECTORS = 120
@@ -75,36 +75,33 @@ def most_held(program, library, folder, words):
     """The most blocks of a body's size that a run of the program holds at one time."""
     with open(f"{folder}/held", "wb") as it:
         it.write(bytes(16))
-    how = dict(os.environ, LD_PRELOAD=library, HELD_FILE=f"{folder}/held", HELD_SIZE=str(512 * SECTORS))
+    how = dict(os.environ, LD_PRELOAD=library, HELD_FILE=f"{folder}/held", HELD_SIZE=str(SECTOR * SECTORS))
     subprocess.run([program, *words], cwd=folder, env=how, check=True, stdout=subprocess.DEVNULL)
     with open(f"{folder}/held", "rb") as it:
         return int.from_bytes(it.read()[8:], "little")
 
 
 def main():
-    program, differ = build(), 0
+    program, differ = sys.argv[1] if sys.argv[1:] else build(), 0
     with tempfile.TemporaryDirectory() as folder:
         with open(f"{folder}/held.c", "w") as it:
             it.write(SOURCE)
         subprocess.run(["cc", "-O2", "-shared", "-fPIC", "-o", f"{folder}/held.so", f"{folder}/held.c"], check=True)
-        with open(f"{folder}/first", "wb") as it:
-            it.write(bytes(512 * 1024))
-        print("writes  command   bodies at once  of them the disk's")
-        for writes in (250, 500, 1000):
-            log = log_of([(8 * number % 512, SECTORS) for number in range(writes)])
-            with open(f"{folder}/log", "wb") as it:
-                it.write(log)
-            sectors = str(min(1 << 20, 8 * (writes + 2) * (1 + SECTORS // 8)))
+        print("writes  command   bodies at once   of them the target's")
+        for count in (250, 500, 1000):
+            for name, data in ("log", writes((count + 1) * (1 + SECTORS) * SECTOR, count + 1, SECTORS)), ("first", bytes(count * SECTORS * SECTOR)):
+                with open(f"{folder}/{name}", "wb") as it:
+                    it.write(data)
             for words, kept in (
                 (["list", "log"], 0),
                 (["status", "log"], 0),
-                (["replay", "log", "first", "out", f"entries:{writes}"], writes),
-                (["copy", "log", "out", sectors], writes),
+                (["replay", "log", "first", "out", f"entries:{count}"], count),
+                (["copy", "log", "out", str(8 * (count + 2) * (1 + SECTORS // 8))], count),
             ):
                 most = most_held(program, f"{folder}/held.so", folder, words)
                 allowed = kept + 1 if kept else 0
                 differ += most > allowed
-                print(f"{writes:6}  {words[0]:8} {most:15}  {kept}{'' if most <= allowed else '   too many'}")
+                print(f"{count:6}  {words[0]:8} {most:15}   {kept}{'' if most <= allowed else '   too many'}")
     sys.exit(differ > 0)
 
 

@@ -1,6 +1,7 @@
 //! The system's files.
-//! The search alone proves it.
-ghost use Rattle.std.specs.Prelude.{◌≡◌, ◌≤◌, IfOk, None, is_some, length, vec_len};
+//! Its theorems are in proofs/host_files/.
+ghost use Rattle.std.specs.Prelude.{◌≡◌, ◌≤◌, ◌++◌, [], IfOk, IfSome, None, OnOk, Some, drop};
+ghost use Rattle.std.specs.Prelude.{is_some, length, take, vec_len};
 
 use crate::files::{FileError, FileFailure, Files};
 use crate::pieces::{PIECE, used_sectors, write_sectors};
@@ -114,19 +115,33 @@ fn read_file<R: std::rt::Files>(
     Ok(Ok(bytes))
 }
 
-// Appends what a reader has left, which is at most so many bytes. The kit's `read_to_end` and
-// `io::copy` set the room for each piece to zero before they read it.
-fn append_rest<B: BufRead>(reader: &mut B, most: u64, bytes: &mut Vec<u8>) -> io::Result<()> {
+// Appends what a reader has left, of at most so many bytes. The kit's `read_to_end` and `io::copy`
+// set the room for each piece to zero before they read it.
+fn append_rest<B: BufRead>(reader: &mut B, most: u64, bytes: &mut Vec<u8>) -> io::Result<()>
+    ensures { OnOk result (IfSome (B.remaining reader.old) (λ rest. length rest ≤ most
+        → bytes.new.items ≡ bytes.old.items ++ rest)) }
+{
     for _ in 0..most {
-        let piece = reader.fill_buf()?;
-        if piece.is_empty() {
+        if append_piece(reader, bytes)? == 0 {
             break;
         }
-        let count = piece.len();
-        bytes.extend_from_slice(piece)?;
-        reader.consume(count);
     }
     Ok(())
+}
+
+// Appends the next bytes that a reader has, and says how many: none only at the end.
+fn append_piece<B: BufRead>(reader: &mut B, bytes: &mut Vec<u8>) -> io::Result<usize>
+    ensures moved { IfOk result (λ count. IfSome (B.remaining reader.old) (λ rest.
+        (count ≤ length rest) × (bytes.new.items ≡ bytes.old.items ++ take count rest)
+        × (B.remaining reader.new ≡ Some (drop count rest)))) }
+    ensures end { IfOk result
+        (λ count. IfSome (B.remaining reader.old) (λ rest. count ≡ 0 → rest ≡ [])) }
+{
+    let piece = reader.fill_buf()?;
+    let count = piece.len();
+    bytes.extend_from_slice(piece)?;
+    reader.consume(count);
+    Ok(count)
 }
 
 // Writes the image of a disk to the file of a name. The

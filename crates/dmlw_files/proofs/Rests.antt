@@ -1,5 +1,4 @@
 -- How what a reader has left comes to stand behind bytes, piece by piece.
--- The proofs of `append_rest` (src/host_files.rt) cite it.
 -- Its own crate alone cites it, for the theorems of src/host_files.rt.
 use Rattle.std.proofs.Common.{◌≡◌, ℕ, ◌+◌, ◌≤◌, ◌<◌, List, [], ◌++◌, length, take, drop, Option, Some}
 use Rattle.std.proofs.Common.{None, refl, sym, ap, ◌∙◌, subst, arith, append_assoc, append-nil}

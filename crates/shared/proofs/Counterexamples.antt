@@ -345,6 +345,35 @@ current_unreleased current =
     let none : None ≡ Some Full = ap (λ (status : Status). status.end) is ∙ known in
     absurd (cc none)
 
+-- where a receipt's entry wasn't counted once the log had ended
+current_early : IsCurrent 512 (ending ∷ []) (Some Full) None (record { id = 0; number = 0 } ∷ [])
+    (record { entries = 0; sector = 0; end = Some Full } ∷ []) → ⊥
+current_early current =
+    let log = current.written in
+    let cause = first_cause log.end log.released in
+    let same = one_stays log.placed current.stays (current.told 0 _ refl) in
+    let ended : (log.end ≡ Some Full → ⊥) → ⊥ =
+    λ other. (
+    let none : None ≡ Some Full = sym current.let_go ∙ current.ends 0 _ refl Full refl other in
+    absurd (cc none)
+    ) in
+    let known : cause ≡ Some Full =
+    ap (λ (end : Option End). first_cause end log.released)
+    (full_of log.end ended current.end_stays) in
+    let is : record { entries = 0; sector = 0; end = Some Full }
+    ≡ status_of 512 (entries_in log.placed) cause =
+    current.latest (record {
+      fit = one_fits log.placed cause same;
+      follows = record { entries = omega arith; end = λ other was. known ∙ was };
+    }) in
+    true≢false (ap (λ (status : Status). status.entries == 0)
+    (is ∙ ap (λ (placed : List Item). status_of 512 (entries_in placed) cause) same))
+  where
+    full_of : (end : Option End) → ((end ≡ Some Full → ⊥) → ⊥)
+        → ((first : End) → end ≡ Some first → Some Full ≡ Some first) → end ≡ Some Full
+    full_of None known stays = absurd (known (λ none. absurd (cc none)))
+    full_of (Some first) known stays = sym (stays first refl)
+
 -- and where an end was posted that is no cause
 current_causeless : IsCurrent 512 [] None None []
     (record { entries = 0; sector = 0; end = Some Full } ∷ []) → ⊥

@@ -4,8 +4,7 @@
 //! A status is one number in one shared word, so a reader never sees half of one. What is proved of
 //! readers is said of lists: each reader has seen a beginning of what the writer posted, and a look
 //! makes that beginning longer or leaves it, and answers its last status. So no reader sees a
-//! status go back. No call waits, and none takes memory but those that make the board and its
-//! readers.
+//! status go back. No call waits, and none takes memory but the one that makes the board.
 #![tactic(auto)]
 
 ghost use Rattle.std.specs.Prelude.{◌≡◌, List, [], ◌∷◌, ◌++◌, Option, MatchBool};
@@ -197,8 +196,9 @@ impl<N: Names> Board<N> {
         writer.last = status;
     }
 
-    /// The status that was posted last. What the reader has seen by then begins with all that it
-    /// had seen before, and never goes back.
+    /// A status that was posted, and none older than any that this reader has had: the last of what
+    /// it has seen by then, which begins with all that it had seen before, and never goes back. That
+    /// none was posted since no clause says.
     pub fn read(&self, mine: &mut StatusSeat<N>) -> Status
         ensures later { MayFollow (last_of mine.old) result }
         ensures begins { Begins mine.old mine.new }

@@ -14,7 +14,7 @@ use Rattle.bio.specs.declared.outcome.End.TheVariants.{Full}
 use Rattle.bio.specs.declared.request.BadBio.{BadBio}
 use Rattle.bio.specs.declared.request.Bio.{Bio}
 use Rattle.bio.specs.declared.request.Bio.TheVariants as bios
-use Rattle.board.specs.Posts.{opening}
+use Rattle.board.specs.Posts.{IsFit, opening}
 use Rattle.log_format.specs.Entries.{end_mark}
 use Rattle.log_format.specs.LogOf.{IsLogOf, status_of}
 use Rattle.pending.specs.Prefixes.{entries_of}
@@ -27,6 +27,7 @@ use Rattle.lock_state.specs.declared.note.Receipt.{Receipt}
 use Rattle.lock_state.specs.Close.{IsOwn, IsShort}
 use Rattle.lock_state.specs.Comparison.{BeginsTaken, Fails, IsServed, Names}
 use Rattle.lock_state.specs.History.{Part, Queue, begun, ended, first_cause, new_part, noted}
+use Rattle.lock_state.specs.History.{told_also}
 use Rattle.lock_state.specs.PlacedItems.{Stay, entries_in}
 use Rattle.shared.specs.Answers.{Answered, Marked}
 use Rattle.shared.specs.Close.{Agrees, Differs, IfBusy, IfForeign, IsReceipt, LeavesLog}
@@ -105,6 +106,11 @@ logged_plain : (receipt : Receipt) (new : Part)
     → Answered (new_part 0) plain (Logged receipt) new → ⊥
 logged_plain receipt new answered = true≢false (sym answered.0)
 
+-- and not of one that the device failed
+logged_failed : Answered (new_part 0) fua (Logged (record { id = 0; number = 7 }))
+    (after fua false) → ⊥
+logged_failed answered = true≢false (sym (ap (λ (part : Part). ended_ok part.own) answered.1.1))
+
 -- a request that the device failed is noted, as one that failed
 failed_unnoted : Answered (new_part 0) plain (Failed Io) (new_part 0) → ⊥
 failed_unnoted answered = elim answered [
@@ -127,12 +133,37 @@ failed_ok answered = elim answered [
   ]
 ]
 
+-- but a read isn't
+failed_read : Answered (new_part 0) (bios.Read 0 1) (Failed Io) (after (bios.Read 0 1) false) → ⊥
+failed_read answered = elim answered [
+  | inl none ↦ true≢false (sym (ap (λ (part : Part). length part.own == 0) none.0))
+  | inr tracked ↦ true≢false (sym tracked.0)
+]
+
 -- a cause that is answered is one that the seat was told, and of a write with FUA alone
 cause_untold : Answered (new_part 0) fua (NotLogged Full) (after fua true) → ⊥
 cause_untold answered = true≢false (sym (ap (λ (part : Part). part.told.full) answered.1.1))
 
 cause_plain : (cause : End) (new : Part) → Answered (new_part 0) plain (NotLogged cause) new → ⊥
 cause_plain cause new answered = true≢false (sym answered.0)
+
+-- a write that wasn't logged is noted, as one that ended Ok
+unlogged_unnoted : Answered (new_part 0) fua (NotLogged Full) (told_also (new_part 0) Full) → ⊥
+unlogged_unnoted answered = elim answered.1.2 [
+  | inl passed ↦ true≢false (ap (λ (part : Part). length part.passed == 0) answered.1.1
+      ∙ ap (λ (part : Part). length part.passed == 0) passed.1)
+  | inr recorded ↦ true≢false (ap (λ (part : Part). length part.own == 0) answered.1.1
+      ∙ ap (λ (part : Part). length part.own == 0) recorded.1.1)
+]
+
+unlogged_failed : Answered (new_part 0) fua (NotLogged Full)
+    (told_also (after fua false) Full) → ⊥
+unlogged_failed answered = elim answered.1.2 [
+  | inl passed ↦ true≢false (ap (λ (part : Part). length part.own == 2) answered.1.1
+      ∙ ap (λ (part : Part). length part.own == 2) passed.1)
+  | inr recorded ↦ true≢false (sym (ap (λ (part : Part). ended_ok part.own) answered.1.1
+      ∙ ap (λ (part : Part). ended_ok part.own) recorded.1.1))
+]
 
 -- a good request isn't refused
 refused : (bio : Bio) (bad : BadBio) (old new : Part) → Answered old bio (Refused bad) new → ⊥
@@ -141,6 +172,16 @@ refused bio bad old new answered = answered
 -- a mark that wasn't logged is answered by a cause that the seat was told
 mark_untold : Marked (new_part 0) (1 ∷ []) (marks.NotLogged Full) marked → ⊥
 mark_untold answered = true≢false (sym (ap (λ (part : Part). part.told.full) answered.1))
+
+-- and it is noted
+mark_unnoted : Marked (new_part 0) (1 ∷ []) (marks.NotLogged Full) (told_also (new_part 0) Full)
+    → ⊥
+mark_unnoted answered = elim answered.2 [
+  | inl passed ↦ true≢false (ap (λ (part : Part). length part.passed == 0) answered.1
+      ∙ ap (λ (part : Part). length part.passed == 0) passed.1)
+  | inr recorded ↦ true≢false (ap (λ (part : Part). length part.own == 0) answered.1
+      ∙ ap (λ (part : Part). length part.own == 0) recorded.1)
+]
 
 -- one that is refused isn't noted, and a good text isn't refused
 mark_noted : Marked (new_part 0) (1 ∷ []) (marks.Refused Memory) marked → ⊥
@@ -228,6 +269,28 @@ posted_back posted =
     let entries = goes.entries in
     absurd (omega arith)
 
+-- where a log had ended by no cause, it had none before
+none_of : (end : Option End) → ((first : End) → end ≡ Some first → None ≡ Some first) → end ≡ None
+none_of None stays = refl
+none_of (Some first) stays = absurd (let is = stays first refl in cc)
+
+-- a log of some items that is a beginning of one item has that
+one_stays : (placed : List Item) → Stay placed (ending ∷ []) → 0 < length placed
+    → placed ≡ ending ∷ []
+one_stays [] stays some = absurd (omega arith)
+one_stays (x ∷ []) stays some = let there = stays 0 x refl in cc
+one_stays (x ∷ y ∷ ys) stays some = absurd (let there = stays 1 y refl in cc)
+
+-- the status of that log fits the board
+one_fits : (placed : List Item) (cause : Option End) → placed ≡ ending ∷ []
+    → IsFit (status_of 512 (entries_in placed) cause)
+one_fits placed cause same = record {
+  entries = subst (λ (placed : List Item). (status_of 512 (entries_in placed) cause).entries
+      ≤ 1048576) (sym same) (omega arith);
+  sector = subst (λ (placed : List Item). (status_of 512 (entries_in placed) cause).sector
+      ≤ 1048576) (sym same) (omega arith);
+}
+
 -- what is up to date where a receipt's entry isn't placed, and where it wasn't posted, whether an
 -- end was or not
 current_missing : IsCurrent 512 [] None None (record { id = 0; number = 0 } ∷ [])
@@ -252,27 +315,74 @@ current_unposted released current =
     let is : record { entries = 0; sector = 0; end = released }
     ≡ status_of 512 (entries_in log.placed) cause =
     current.latest (record {
-      fit = record {
-        entries = subst (λ (placed : List Item). (status_of 512 (entries_in placed) cause).entries
-            ≤ 1048576) (sym same) (omega arith);
-        sector = subst (λ (placed : List Item). (status_of 512 (entries_in placed) cause).sector
-            ≤ 1048576) (sym same) (omega arith);
+      fit = one_fits log.placed cause same;
+      follows = record { entries = omega arith; end = λ other was. known ∙ was };
+    }) in
+    true≢false (ap (λ (status : Status). status.entries == 0)
+    (is ∙ ap (λ (placed : List Item). status_of 512 (entries_in placed) cause) same))
+
+-- where those who waited were let go, and that wasn't posted
+current_unreleased : IsCurrent 512 (ending ∷ []) None (Some Full) []
+    (record { entries = 1; sector = 1; end = None } ∷ []) → ⊥
+current_unreleased current =
+    let log = current.written in
+    let cause = first_cause log.end log.released in
+    let prefix = current.counted 0 _ refl in
+    let same = one_stays log.placed current.stays prefix.within in
+    let known : cause ≡ Some Full =
+    ap (λ (end : Option End). first_cause end log.released) (none_of log.end current.end_stays)
+    ∙ current.let_go in
+    let is : record { entries = 1; sector = 1; end = None }
+    ≡ status_of 512 (entries_in log.placed) cause =
+    current.latest (record {
+      fit = one_fits log.placed cause same;
+      follows = record {
+        entries = subst (λ (placed : List Item). 1
+            ≤ (status_of 512 (entries_in placed) cause).entries) (sym same) (omega arith);
+        end = λ other was. absurd (cc was);
       };
+    }) in
+    let none : None ≡ Some Full = ap (λ (status : Status). status.end) is ∙ known in
+    absurd (cc none)
+
+-- where a receipt's entry wasn't counted once the log had ended
+current_early : IsCurrent 512 (ending ∷ []) (Some Full) None (record { id = 0; number = 0 } ∷ [])
+    (record { entries = 0; sector = 0; end = Some Full } ∷ []) → ⊥
+current_early current =
+    let log = current.written in
+    let cause = first_cause log.end log.released in
+    let same = one_stays log.placed current.stays (current.told 0 _ refl) in
+    let ended : (log.end ≡ Some Full → ⊥) → ⊥ =
+    λ other. (
+    let none : None ≡ Some Full = sym current.let_go ∙ current.ends 0 _ refl Full refl other in
+    absurd (cc none)
+    ) in
+    let known : cause ≡ Some Full =
+    ap (λ (end : Option End). first_cause end log.released)
+    (full_of log.end ended current.end_stays) in
+    let is : record { entries = 0; sector = 0; end = Some Full }
+    ≡ status_of 512 (entries_in log.placed) cause =
+    current.latest (record {
+      fit = one_fits log.placed cause same;
       follows = record { entries = omega arith; end = λ other was. known ∙ was };
     }) in
     true≢false (ap (λ (status : Status). status.entries == 0)
     (is ∙ ap (λ (placed : List Item). status_of 512 (entries_in placed) cause) same))
   where
-    none_of : (end : Option End) → ((first : End) → end ≡ Some first → None ≡ Some first)
-        → end ≡ None
-    none_of None stays = refl
-    none_of (Some first) stays = absurd (let is = stays first refl in cc)
+    full_of : (end : Option End) → ((end ≡ Some Full → ⊥) → ⊥)
+        → ((first : End) → end ≡ Some first → Some Full ≡ Some first) → end ≡ Some Full
+    full_of None known stays = absurd (known (λ none. absurd (cc none)))
+    full_of (Some first) known stays = sym (stays first refl)
 
-    one_stays : (placed : List Item) → Stay placed (ending ∷ []) → 0 < length placed
-        → placed ≡ ending ∷ []
-    one_stays [] stays some = absurd (omega arith)
-    one_stays (x ∷ []) stays some = let there = stays 0 x refl in cc
-    one_stays (x ∷ y ∷ ys) stays some = absurd (let there = stays 1 y refl in cc)
+-- and where an end was posted that is no cause
+current_causeless : IsCurrent 512 [] None None []
+    (record { entries = 0; sector = 0; end = Some Full } ∷ []) → ⊥
+current_causeless current =
+    let ended : current.written.end ≡ Some Full → ⊥ =
+    λ is. let end = current.end_stays Full is in absurd (cc end) in
+    let told = current.ends 0 _ refl Full refl ended in
+    let none : None ≡ Some Full = sym current.let_go ∙ told in
+    absurd (cc none)
 
 -- a recorder that lacks a seat, and one of which a seat has had a call
 seat_missing : AreNewSeats 1 [] → ⊥

@@ -2,7 +2,7 @@
 -- Nothing cites it: it is checked with its crate.
 use Rattle.std.proofs.Common.{◌≡◌, ◌==◌, ◌<◌, ℕ, zero, suc, Bool, true, false, List, [], ◌∷◌}
 use Rattle.std.proofs.Common.{length}
-use Rattle.std.proofs.Common.{None, Ok, Err, Some, inl, inr, refl, ap, subst, ◌∙◌, true≢false}
+use Rattle.std.proofs.Common.{None, Ok, Err, Some, inl, inr, refl, ap, subst, sym, ◌∙◌, true≢false}
 use Rattle.std.proofs.Common.{arith}
 use Rattle.std.specs.Prelude.{is_some}
 use Rattle.bio.specs.declared.event.CoreEvent.TheVariants as events
@@ -10,25 +10,26 @@ use Rattle.bio.specs.declared.outcome.End.TheVariants.{Device, Full}
 use Rattle.bio.specs.declared.request.Bio.{Bio}
 use Rattle.bio.specs.declared.request.Bio.TheVariants as bios
 use Rattle.bio.specs.declared.outcome.Status.{Status}
-use Rattle.board.specs.Posts.{opening}
+use Rattle.board.specs.Posts.{MayPost, opening}
 use Rattle.log_format.specs.Entries.{entry_of}
 use Rattle.lock_state.specs.declared.note.Item.{Item}
 use Rattle.lock_state.specs.declared.note.Receipt.{Receipt}
 use Rattle.lock_state.specs.Comparison.{Each}
 use Rattle.lock_state.specs.History.{Part, Queue, begun, ended, ended_by, finished, new_part, noted}
-use Rattle.lock_state.specs.History.{recorded_by}
+use Rattle.lock_state.specs.History.{after_taking, in_hand, recorded_by}
 use Rattle.lock_state.specs.PlacedItems.{Log}
-use Rattle.pending.specs.CoreState.{sized_state}
+use Rattle.pending.specs.CoreState.{next_item, sized_state}
 use Rattle.shared.specs.Answers.{Answered, AnswersPassed, Marked}
 use Rattle.shared.specs.Admission.{Enters, MarkEnters}
-use Rattle.shared.specs.Posts.{IsCurrent, IsOfPrefix, KeepsCauses, TellsCause}
+use Rattle.shared.specs.Posts.{IsCurrent, IsLatest, IsOfPrefix, KeepsCauses, PostsNext, TellsCause}
 use Rattle.shared.specs.Search.{Finds}
 use Rattle.shared.specs.NextItem.{FindsNext}
 use Rattle.shared.specs.declared.answer.Answer.TheVariants.{Done, Logged, NotLogged}
 use Rattle.shared.specs.declared.answer.MarkAnswer.TheVariants as marks
 use Rattle.shared.specs.declared.calls.Entered.TheVariants.{Recorded, Unrecorded}
 use Rattle.shared.specs.declared.marks.EnteredMark.TheVariants as entered
-use Rattle.shared.specs.declared.writing.Next.TheVariants.{Finished, Stopped}
+use Rattle.shared.specs.declared.writing.Next.TheVariants.{Finished, NoRoom, Stopped}
+use Rattle.shared.specs.declared.writing.Next.TheVariants as nexts
 
 abbrev plain : Bio
 plain = bios.Write 1 [] false false false
@@ -96,9 +97,31 @@ closed = finished fresh
 first_enters : Enters fresh 0 plain (Recorded 0) (recorded_by fresh (Some 0) (events.Submit plain))
 first_enters = (refl, (refl, refl))
 
+-- and has no other place, and no other seat's number
+other_place : Enters fresh 0 plain (Recorded 1) (recorded_by fresh (Some 0) (events.Submit plain))
+    → ⊥
+other_place enters = let place = enters.1.0 in absurd (omega arith)
+
+other_seat : Enters fresh 0 plain (Recorded 0) (recorded_by fresh (Some 1) (events.Submit plain))
+    → ⊥
+other_seat enters = let by = ap (λ (queue : Queue). queue.by) enters.1.1 in absurd (cc by)
+
 -- and isn't passed while recording goes on
 none_passed : Enters fresh 0 plain (Unrecorded None) fresh → ⊥
 none_passed enters = true≢false enters.0
+
+-- nor is one behind a stop passed without its cause
+stop_dropped : Enters stopped 0 plain (Unrecorded None) stopped → ⊥
+stop_dropped enters = let stop = enters.1.0 in absurd (cc stop)
+
+-- a mark has the next place, and waits behind what had been taken
+first_mark : MarkEnters fresh 0 (1 ∷ []) (entered.Recorded 0 0)
+    (recorded_by fresh (Some 0) (events.Mark (1 ∷ [])))
+first_mark = (refl, (refl, (refl, refl)))
+
+late_mark : MarkEnters fresh 0 (1 ∷ []) (entered.Recorded 0 7)
+    (recorded_by fresh (Some 0) (events.Mark (1 ∷ []))) → ⊥
+late_mark enters = let taken = enters.1.1.0 in absurd (omega arith)
 
 -- a mark behind a stop is told its cause, and no other
 stopped_mark : MarkEnters stopped 0 (1 ∷ []) (entered.Stopped Full) stopped
@@ -124,6 +147,32 @@ stop_finished finds = let none = finds.1.0 in absurd (cc none)
 -- nor before the end mark of a close is taken
 close_finished : FindsNext closed (Some Finished) closed None → ⊥
 close_finished finds = true≢false (ap is_some finds.1.1.1.0)
+
+-- the end mark is taken, into the writer's hand; and then it is finished
+mark_taken : FindsNext closed (Some nexts.Item) (after_taking closed)
+    (in_hand (next_item closed.core))
+mark_taken = (refl, (refl, refl))
+
+mark_untaken : FindsNext closed (Some nexts.Item) closed (in_hand (next_item closed.core)) → ⊥
+mark_untaken finds =
+    let taken = ap (λ (queue : Queue). queue.core.taken) finds.1.0 in absurd (omega arith)
+
+mark_dropped : FindsNext closed (Some nexts.Item) (after_taking closed) None → ⊥
+mark_dropped finds = true≢false (sym (ap is_some finds.1.1))
+
+all_finished : FindsNext (after_taking closed) (Some Finished) (after_taking closed) None
+all_finished = (refl, (refl, (omega arith, (refl, (refl, refl)))))
+
+-- it doesn't wait then, nor takes an item for which there is no room, nor is told another cause
+close_awaited : FindsNext (after_taking closed) None (after_taking closed) None → ⊥
+close_awaited finds = true≢false (sym finds.0)
+
+no_room_taken : FindsNext closed (Some NoRoom) (after_taking closed) None → ⊥
+no_room_taken finds =
+    let taken = ap (λ (queue : Queue). queue.core.taken) finds.0 in absurd (omega arith)
+
+other_stop : FindsNext stopped (Some (Stopped Device)) stopped None → ⊥
+other_stop finds = let cause = finds.0 in absurd (cc cause)
 
 -- the item of a flush, whose entry takes one sector of the log
 abbrev flushed : ℕ → Item
@@ -173,12 +222,29 @@ second_found = (
 second_awaited : Finds both_placed 1 0 None → ⊥
 second_awaited finds = finds.0 1 (flushed 1) (omega arith) (omega arith) refl refl
 
+-- it isn't found where it is placed alone, nor below the number from which it is looked for
+second_placed : Finds (record both_placed { settled = 1 }) 1 0 (Some (Ok (told_of 1))) → ⊥
+second_placed finds =
+    let settled = finds.1.1 in
+    let within = settled.within in
+    absurd (omega arith)
+
+second_early : Finds both_placed 1 2 (Some (Ok (told_of 1))) → ⊥
+second_early finds = let from = finds.1.0 in absurd (omega arith)
+
 -- a third one isn't; whoever waits for it is told the first cause, and no other
 abbrev both_ended : Log
 both_ended = record both_placed { end = Some Full; released = Some Device }
 
 other_cause : Finds both_ended 2 0 (Some (Err Device)) → ⊥
 other_cause finds = let cause = finds.1 in absurd (cc cause)
+
+-- and doesn't wait on, though who waits for the second one has its receipt
+third_awaited : Finds both_ended 2 0 None → ⊥
+third_awaited finds = let cause = finds.1 in absurd (cc cause)
+
+second_ended : Finds both_ended 1 0 (Some (Err Full)) → ⊥
+second_ended finds = finds.0 1 (flushed 1) (omega arith) (omega arith) refl refl
 
 -- a posted end is why the store ended, or else why those who waited were let go; there is no other
 abbrev full : Status
@@ -203,12 +269,43 @@ end_forgotten keeps = let is = keeps.end Full refl in absurd (cc is)
 release_forgotten : KeepsCauses both_ended (record both_ended { released = None }) → ⊥
 release_forgotten keeps = let is = keeps.released Device refl in absurd (cc is)
 
+-- the status of both items, which may be posted on the board of an empty log
+abbrev both : Status
+both = record { entries = 2; sector = 2; end = None }
+
+both_may : MayPost (opening ∷ []) both
+both_may = record {
+  fit = record { entries = omega arith; sector = omega arith };
+  follows = record { entries = omega arith; end = λ cause is. absurd (cc is) };
+}
+
+-- so it is posted, and then it is the last one; and what goes back isn't
+both_posted : PostsNext (opening ∷ []) both (opening ∷ both ∷ [])
+both_posted = inl (both_may, refl)
+
+both_dropped : PostsNext (opening ∷ []) both (opening ∷ []) → ⊥
+both_dropped (inl (may, posted)) =
+    true≢false (ap (λ (statuses : List Status). length statuses == 1) posted)
+both_dropped (inr (refused, same)) = refused both_may
+
+both_unposted : IsLatest 512 both_placed (opening ∷ []) → ⊥
+both_unposted latest =
+    true≢false (ap (λ (status : Status). status.entries == 0) (latest both_may))
+
+posted_back : (new : List Status) → PostsNext (both ∷ []) opening new → new ≡ both ∷ []
+posted_back new (inl (may, posted)) =
+    let follows = may.follows in
+    let entries = follows.entries in
+    absurd (omega arith)
+posted_back new (inr (refused, same)) = same
+
 -- What was posted of it is up to date, where both receipts were told.
 two_current : IsCurrent 512 two None None (told_of 0 ∷ told_of 1 ∷ [])
     (opening ∷ record { entries = 2; sector = 2; end = None } ∷ [])
 two_current = record {
   written = both_placed;
   stays = λ number item there. there;
+  counted = counted;
   end_stays = λ cause is. is;
   let_go = refl;
   ends = ends;
@@ -216,6 +313,15 @@ two_current = record {
   latest = λ may. refl;
 }
   where
+    counted : Each (IsOfPrefix 512 two)
+        (opening ∷ record { entries = 2; sector = 2; end = None } ∷ [])
+    counted zero status there =
+        let is : opening ≡ status = cc in subst (IsOfPrefix 512 two) is none_posted
+    counted (suc zero) status there =
+        let is : both ≡ status = cc in
+        subst (IsOfPrefix 512 two) is (record { within = omega arith; sector = refl })
+    counted (suc (suc k)) status there = absurd (cc there)
+
     ends : Each (TellsCause None None)
         (opening ∷ record { entries = 2; sector = 2; end = None } ∷ [])
     ends zero status there cause is other =

@@ -10,7 +10,8 @@ pub enum Answer {
     Done,
     /// A read: the bytes of its sectors.
     Read(Vec<u8>),
-    /// A write with FUA: it succeeded, and its entry stands in each log that a crash leaves.
+    /// A write with FUA: it succeeded, and the receipt is of its entry. That stands in each log that
+    /// a crash leaves, as a close finds to which the receipt is handed.
     Logged(Receipt),
     /// The device failed it, or there was no memory.
     Failed(DevError),
@@ -24,7 +25,8 @@ pub enum Answer {
 /// What became of a mark.
 #[derive(Clone, Copy, Debug, PartialEq, Eq)]
 pub enum MarkAnswer {
-    /// Its entry stands in each log that a crash leaves.
+    /// The receipt is of its entry. That stands in each log that a crash leaves, as a close finds to
+    /// which the receipt is handed.
     Logged(Receipt),
     /// Logging ended by this cause before its entry was durable. The entry may stand in the log.
     NotLogged(End),

@@ -40,8 +40,8 @@ pub struct Closed<D: Drop, L: Drop> {
     pub log: L,
     /// How far the log came.
     pub status: Status,
-    /// Why logging ended: the cause of the first Stop, else
-    /// that of the log itself. None where all was written.
+    /// Why logging ended: the cause of the first Stop, else that of the
+    /// log itself. Where it is None, a close that is Ok has written all.
     pub end: Option<End>,
     /// The core, with the history (`Core::events`).
     pub core: Core,
@@ -168,6 +168,22 @@ impl<D: BlockDev + Drop, L: BlockDev + Drop, R: Run + Names> Shared<D, L, R> {
             [])) }
         ensures foreign_stands { IfErr result
             (λ e. IfForeign e (λ f. StandsOn R.log (L.shown f.closed.log))) }
+        ensures foreign_crash { IfErr result (λ e. IfForeign e (λ f.
+            (L.shown f.closed.log).lies ≡ 0 → (left : Content)
+            → (L.shown f.closed.log).crash left →
+            LeavesBeginning R.sector_bytes (L.shown f.closed.log).size f.closed.settled
+            (entries_in f.closed.placed.items) left)) }
+        ensures foreign_status { IfErr result (λ e. IfForeign e (λ f.
+            f.closed.status ≡ status_of R.sector_bytes
+            (entries_in f.closed.placed.items) f.closed.end)) }
+        ensures foreign_holds { IfErr result (λ e. IfForeign e (λ f.
+            (D.shown f.closed.device).lies ≡ 0
+            → Holds (D.shown f.closed.device).content f.closed.done.items)) }
+        ensures foreign_end { IfErr result (λ e. IfForeign e (λ f.
+            f.closed.end ≡ first_cause f.closed.stop f.closed.store_end)) }
+        ensures foreign_hazard { IfErr result (λ e. IfForeign e (λ f. f.closed.hazard ≡ None)) }
+        ensures foreign_taken { IfErr result (λ e. IfForeign e (λ f.
+            f.closed.taken ≡ f.closed.core.state.taken)) }
         ensures foreign_posted { IfErr result
             (λ e. IfForeign e (λ f. ArePosted R.sector_bytes f.closed.placed.items f.posts)) }
         ensures foreign_ends { IfErr result

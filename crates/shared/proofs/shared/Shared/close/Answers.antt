@@ -35,6 +35,7 @@ returns-then-agrees-clause-current g c =
     record {
       written = c.in-Ok.held.log;
       stays = c.finish-closed.ensures.stay;
+      counted = c.in-Ok.ensures.posted.each;
       end_stays = c.finish-closed.ensures.end_stays;
       let_go = sym c.released-released.ensures;
       ends = c.in-Ok.ensures.ends;

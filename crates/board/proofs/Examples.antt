@@ -1,0 +1,113 @@
+-- Statuses that may follow one another, and some that may not; and what they are as numbers.
+-- Nothing cites it: it is checked with its crate.
+use Rattle.std.proofs.Common.{◌≡◌, Bool, true, false, true≢false, List, [], ◌∷◌, Some, None, refl}
+use Rattle.std.proofs.Common.{ap, arith, ◌==◌}
+use Rattle.bio.specs.declared.outcome.End.TheVariants.{Full, Device, Memory}
+use Rattle.bio.specs.declared.outcome.Status.{Status}
+use Rattle.board.specs.Posts.{opening, last_of, IsFit, MayFollow, MayPost, IsRising, Begins, word_of}
+use Rattle.board.specs.PostLaws.{rises_more, opening_rises}
+
+-- the status of a log of one entry, of two, and of two once the log was found full
+abbrev one : Status
+one = record { entries = 1; sector = 2; end = None }
+
+abbrev two : Status
+two = record { entries = 2; sector = 4; end = None }
+
+abbrev full : Status
+full = record { entries = 2; sector = 4; end = Some Full }
+
+-- more entries may follow, and an end
+two_follows : MayFollow one two
+two_follows = record { entries = omega arith; end = λ cause is. absurd (cc is) }
+
+full_follows : MayFollow two full
+full_follows = record { entries = omega arith; end = λ cause is. absurd (cc is) }
+
+-- but fewer entries may not, and an end neither goes nor becomes another
+one_back : MayFollow two one → ⊥
+one_back follows = let entries = follows.entries in absurd (omega arith)
+
+end_gone : MayFollow full two → ⊥
+end_gone follows = let end = follows.end Full refl in absurd (cc end)
+
+end_changed : MayFollow full (record full { end = Some Device }) → ⊥
+end_changed follows = let end = follows.end Full refl in absurd (cc end)
+
+-- the board has room for a log of the most sectors
+abbrev most : Status
+most = record { entries = 1048576; sector = 1048576; end = None }
+
+most_fit : IsFit most
+most_fit = record { entries = omega arith; sector = omega arith }
+
+-- and not for one entry or one sector more
+more_entries : IsFit (record most { entries = 1048577 }) → ⊥
+more_entries fit = let entries = fit.entries in absurd (omega arith)
+
+more_sectors : IsFit (record most { sector = 1048577 }) → ⊥
+more_sectors fit = let sector = fit.sector in absurd (omega arith)
+
+-- what may be posted follows the last status, and not the first alone
+two_posted : MayPost (opening ∷ one ∷ []) two
+two_posted = record {
+  fit = record { entries = omega arith; sector = omega arith };
+  follows = two_follows;
+}
+
+one_posted : MayPost (opening ∷ two ∷ []) one → ⊥
+one_posted may = one_back may.follows
+
+more_posted : MayPost (opening ∷ []) (record most { sector = 1048577 }) → ⊥
+more_posted may = more_sectors may.fit
+
+last_posted : last_of (opening ∷ two ∷ full ∷ []) ≡ full
+last_posted = refl
+
+-- statuses of which none goes back
+three_rise : IsRising (opening ∷ one ∷ two ∷ [])
+three_rise =
+    rises_more (opening ∷ one ∷ []) two
+    (rises_more (opening ∷ []) one opening_rises
+    (record { entries = omega arith; sector = omega arith })
+    (record { entries = omega arith; end = λ cause is. absurd (cc is) }))
+    (record { entries = omega arith; sector = omega arith }) two_follows
+
+-- and some of which one does, though the last goes back behind none
+back_between : IsRising (two ∷ one ∷ two ∷ []) → ⊥
+back_between rising = one_back (rising.rises 0 1 two one (omega arith) refl refl)
+
+unfit : IsRising (record most { entries = 1048577 } ∷ []) → ⊥
+unfit rising = more_entries (rising.fit 0 _ refl)
+
+-- the first of a list, and whether it has two
+abbrev first_of : List Status → Status
+first_of [] = opening
+first_of (status ∷ others) = status
+
+abbrev has_two : List Status → Bool
+has_two (status ∷ next ∷ others) = true
+has_two others = false
+
+-- a list begins with its first statuses, and not with another, nor with more than it has
+one_begins : Begins (one ∷ []) (one ∷ two ∷ [])
+one_begins = record { rest = two ∷ []; is = refl }
+
+two_begins : Begins (two ∷ []) (one ∷ two ∷ []) → ⊥
+two_begins begins = true≢false (ap (λ (xs : List Status). (first_of xs).entries == 2) begins.is)
+
+longer_begins : Begins (one ∷ two ∷ []) (one ∷ []) → ⊥
+longer_begins begins = true≢false (ap has_two begins.is)
+
+-- a status as a number: 3 entries, 4 sectors, and each end
+plain_word : word_of (record { entries = 3; sector = 4; end = None }) ≡ 201326720
+plain_word = refl
+
+full_word : word_of (record { entries = 3; sector = 4; end = Some Full }) ≡ 201326738
+full_word = refl
+
+device_word : word_of (record { entries = 3; sector = 4; end = Some Device }) ≡ 201326739
+device_word = refl
+
+memory_word : word_of (record { entries = 3; sector = 4; end = Some Memory }) ≡ 201326740
+memory_word = refl

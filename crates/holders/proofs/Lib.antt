@@ -1,3 +1,4 @@
 -- The lemmas of `holders`; the proof of a function stands in the folder of its source file.
 pub mod Lists
 pub mod Moves
+pub mod Examples

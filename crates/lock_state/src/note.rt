@@ -52,8 +52,9 @@ pub enum Unplaced {
     Ended(End),
 }
 
-/// Says that the entry of this request or mark stands in each log that a crash leaves, as the entry
-/// of this number, counted from 0.
+/// What a call is told by: the entry of this request or mark is settled, as the entry of this
+/// number, counted from 0. So each log that a crash leaves has it, where the log's device told no
+/// lie.
 #[derive(Clone, Copy, Debug, PartialEq, Eq)]
 pub struct Receipt {
     pub id: Id,

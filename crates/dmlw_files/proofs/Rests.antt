@@ -4,8 +4,9 @@ use Rattle.std.proofs.Common.{◌≡◌, ℕ, ◌+◌, ◌≤◌, ◌<◌, List,
 use Rattle.std.proofs.Common.{None, refl, sym, ap, ◌∙◌, subst, arith, append_assoc, append-nil}
 use Rattle.std.proofs.Common.{length-append}
 use Rattle.std.specs.Prelude.{IfSome}
-use Rattle.std.proofs.lemmas.List.{length-take-le, take-append-drop, take_all}
-use Rattle.std.proofs.Math.Seq.{take-append_seam}
+use Rattle.std.specs.Io.KnownBytes.{Consumes}
+use Rattle.std.proofs.lemmas.List.{length-take-le, take-append-drop, take_all, take_at}
+use Rattle.std.proofs.Math.Seq.{drop-append_seam, take-append-add, take-append_seam}
 
 -- Of what a reader had left a front stands behind the bytes that were
 -- there, and is no shorter than so many turns.
@@ -19,6 +20,39 @@ abbrev pub AppendsPiece : Option (List ℕ) → Option (List ℕ) → List ℕ �
 AppendsPiece old new bytes next count =
     IfSome old (λ rest. (count ≤ length rest) × (next ≡ bytes ++ take count rest)
     × (new ≡ Some (drop count rest)))
+
+-- What a read gave stands where room was made behind the bytes; what it didn't fill is cut off.
+pub appended_piece : (old new : Option (List ℕ)) (bytes front read tail next : List ℕ)
+    (start count whole : ℕ) → length bytes ≡ start → front ≡ bytes → count ≤ length read
+    → whole ≡ start + length read
+    → next ≡ take (start + count) (take whole ((front ++ read) ++ tail))
+    → Consumes old new (take count read) → AppendsPiece old new bytes next count
+appended_piece None new bytes front read tail next start count whole at same few fits is eaten =
+    tt
+appended_piece (Some rest) None bytes front read tail next start count whole at same few fits is
+    eaten = absurd eaten
+appended_piece (Some rest) (Some left) bytes front read tail next start count whole at same few
+    fits is eaten =
+    let taken = length-take-le count read few in
+    let all = take_at (bytes ++ read) tail whole
+    (length-append bytes read ∙ ap (λ n. n + length read) at ∙ sym fits) in
+    let given = ap (take count) eaten ∙ take_at (take count read) left count taken in
+    let behind = ap (λ n. drop n (take count read ++ left)) (sym taken)
+    ∙ drop-append_seam (take count read) left in (
+      omega (arith, ap length eaten, length-append (take count read) left, taken),
+      is ∙ ap (λ xs. take (start + count) (take whole ((xs ++ read) ++ tail))) same
+          ∙ ap (take (start + count)) all
+          ∙ ap (λ n. take (n + count) (bytes ++ read)) (sym at)
+          ∙ take-append-add bytes read count ∙ ap (λ xs. bytes ++ xs) (sym given),
+      ap Some (sym (ap (drop count) eaten ∙ behind)),
+    )
+
+-- what stood before the room still stands there
+pub front_kept : (bytes zeroes : List ℕ) (start room : ℕ) → length bytes ≡ start
+    → take start (take (start + room) bytes ++ zeroes) ≡ bytes
+front_kept bytes zeroes start room at =
+    ap (λ xs. take start (xs ++ zeroes)) (take_all (start + room) bytes (omega (arith, at)))
+    ∙ take_at bytes zeroes start at
 
 pub appended_none : (old : Option (List ℕ)) (from : List ℕ) → IsAppended old old from from 0
 appended_none None from = tt

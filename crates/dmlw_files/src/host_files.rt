@@ -10,15 +10,15 @@ use blockdev::BlockDev;
 use sector_disk::SectorDisk;
 use std::alloc::Global;
 use std::fs::{File, OpenFile, OpenOptions, Permissions};
-use std::io::{BufRead, BufReader, Read};
+use std::io::Read;
 use std::os::unix::fs::MetadataExt;
 use std::{fs, io};
 
 // How many names are tried for the file beside a log.
 const MAX_BESIDE: u32 = 1000;
 
-// How many bytes of a file are read at a time: few enough to stay in the processor's first cache.
-const READ_BYTES: usize = 16_384;
+// How many bytes of a file are read at a time: few enough to stay in a cache of the processor.
+const READ_BYTES: usize = 65_536;
 
 /// The system's files. No clause knows what they hold.
 ///
@@ -106,19 +106,19 @@ fn read_file<R: std::rt::Files>(
     let length = file.metadata()?.len();
     // One byte more than the limit says a file that is too long.
     let most = limit.saturating_add(1);
-    let mut bytes = Vec::with_capacity(alloc, length.min(most) as usize)?;
-    let mut reader = BufReader::with_capacity(alloc, READ_BYTES, file.take(most))?;
-    append_rest(&mut reader, most, &mut bytes)?;
+    // The piece that finds the end has room too.
+    let room = (length.min(most) as usize).saturating_add(READ_BYTES);
+    let mut bytes = Vec::with_capacity(alloc, room)?;
+    append_rest(&mut file.take(most), most, &mut bytes)?;
     if bytes.len() as u64 > limit {
         return Ok(Err(length));
     }
     Ok(Ok(bytes))
 }
 
-// Appends what a reader has left, of at most so many bytes. The kit's `read_to_end` and `io::copy`
-// set the room for each piece to zero before they read it.
-fn append_rest<B: BufRead>(reader: &mut B, most: u64, bytes: &mut Vec<u8>) -> io::Result<()>
-    ensures { OnOk result (IfSome (B.remaining reader.old) (λ rest. length rest ≤ most
+// Appends what a reader has left, of at most so many bytes.
+fn append_rest<R: Read>(reader: &mut R, most: u64, bytes: &mut Vec<u8>) -> io::Result<()>
+    ensures { OnOk result (IfSome (R.remaining reader.old) (λ rest. length rest ≤ most
         → bytes.new.items ≡ bytes.old.items ++ rest)) }
 {
     for _ in 0..most {
@@ -129,18 +129,21 @@ fn append_rest<B: BufRead>(reader: &mut B, most: u64, bytes: &mut Vec<u8>) -> io
     Ok(())
 }
 
-// Appends the next bytes that a reader has, and says how many: none only at the end.
-fn append_piece<B: BufRead>(reader: &mut B, bytes: &mut Vec<u8>) -> io::Result<usize>
-    ensures moved { IfOk result (λ count. IfSome (B.remaining reader.old) (λ rest.
+// Appends the next bytes that a reader has, and says how many: none only at the end. The kit's
+// `Read` fills what is set already, so the room for a piece is set to zero first; that way the
+// piece goes from the file to its place at once.
+fn append_piece<R: Read>(reader: &mut R, bytes: &mut Vec<u8>) -> io::Result<usize>
+    ensures moved { IfOk result (λ count. IfSome (R.remaining reader.old) (λ rest.
         (count ≤ length rest) × (bytes.new.items ≡ bytes.old.items ++ take count rest)
-        × (B.remaining reader.new ≡ Some (drop count rest)))) }
+        × (R.remaining reader.new ≡ Some (drop count rest)))) }
     ensures end { IfOk result
-        (λ count. IfSome (B.remaining reader.old) (λ rest. count ≡ 0 → rest ≡ [])) }
+        (λ count. IfSome (R.remaining reader.old) (λ rest. count ≡ 0 → rest ≡ [])) }
 {
-    let piece = reader.fill_buf()?;
-    let count = piece.len();
-    bytes.extend_from_slice(piece)?;
-    reader.consume(count);
+    let start = bytes.len();
+    bytes.resize(start + READ_BYTES, 0)?;
+    let (_, room) = bytes.split_at_mut(start);
+    let count = reader.read(room)?;
+    bytes.truncate(start + count);
     Ok(count)
 }
 

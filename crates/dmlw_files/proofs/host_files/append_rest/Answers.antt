@@ -4,7 +4,7 @@ use Rattle.dmlw_files.proofs.Rests.{appended_all, appended_end, appended_more, a
 use Rattle.dmlw_files.proofs.host_files.append_rest.Goals as goal
 
 pub loop-init : goal.loop-init
-loop-init g c = appended_none (g.B.Read.remaining c.args.reader.now) c.args.bytes.now.items
+loop-init g c = appended_none (g.R.Read.remaining c.args.reader.now) c.args.bytes.now.items
 
 pub loop-preserved : goal.loop-preserved
 loop-preserved g c =

@@ -4,5 +4,5 @@ use Rattle.dmlw_files.proofs.host_files.append_rest.Given as goal
 
 abbrev pub invariant-loop : goal.invariant-loop
 invariant-loop g l =
-    IsAppended (g.B.Read.remaining l.initial.reader) (g.B.Read.remaining l.reader)
+    IsAppended (g.R.Read.remaining l.initial.reader) (g.R.Read.remaining l.reader)
     l.initial.bytes.items l.bytes.items l.counter

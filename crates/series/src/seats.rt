@@ -1,5 +1,5 @@
-// Four seats that write and mark at once, with a fuse on
-// the log: what each is told, and what the log lists.
+// Four seats that write and mark at once, with a fuse on the log: what each is told, and what the
+// log lists. And a seat whose thousands of writes each wait for the log.
 use crate::asking::{Told, ask, folder_of};
 use crate::report::Report;
 use std::alloc::{AllocError, Global};
@@ -13,7 +13,10 @@ const WRITES: u64 = 100;
 // The longest fuse.
 const MOST_CALLS: u64 = 20;
 
-/// Runs the seats with each fuse, and reports the number of runs.
+// How often the seat that is alone writes, and marks.
+const TURNS: u64 = 2_500;
+
+/// Runs the seats with each fuse, and one that is alone, and reports the number of runs.
 pub fn run<H: Threads + Wait + Sync>(
     rt: &H,
     alloc: Global,
@@ -25,6 +28,8 @@ pub fn run<H: Threads + Wait + Sync>(
         run_fuse(rt, alloc, calls, report)?;
         runs = runs.saturating_add(1);
     }
+    run_alone(rt, alloc, report)?;
+    runs = runs.saturating_add(1);
     let differ = report.differ().saturating_sub(before);
     let line = format!(in alloc; "seats: {runs} runs, {differ} differ")?;
     report.line(line.as_str())
@@ -68,6 +73,32 @@ fn run_fuse<H: Threads + Wait + Sync>(
         )?;
     }
     Ok(())
+}
+
+// Runs a seat that writes with FUA and marks, again and again. Each entry is the next one that the
+// writer takes, so it may be durable before the seat looks for it, or after.
+fn run_alone<H: Threads + Wait + Sync>(
+    rt: &H,
+    alloc: Global,
+    report: &mut Report,
+) -> Result<(), AllocError> {
+    let script = script_alone(alloc)?;
+    let mut folder = folder_of(alloc, script.as_str())?;
+    let told = ask(rt, alloc, "run script log", &mut folder)?;
+    let wanted = "seat 0: 0 done 5000 logged 0 failed 0 not logged 0 refused\n5001 7501\n";
+    if !told.is(0, wanted, "") {
+        report.differs("one seat, writes with FUA and marks", &told, wanted)?;
+    }
+    Ok(())
+}
+
+// The script of that seat.
+fn script_alone(alloc: Global) -> Result<String, AllocError> {
+    let mut text = String::from_str(alloc, "data 16\nlog 7503\nseats 1\n")?;
+    for _turn in 0..TURNS {
+        text.push_str("s0 w 5 1 41 fua\ns0 mark here\n")?;
+    }
+    Ok(text)
 }
 
 // The script: each seat writes a hundred sectors of its

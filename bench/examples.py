@@ -1,7 +1,7 @@
 #!/usr/bin/env python3
 """examples: runs the commands that README.md and docs/USING.md show, as they stand there, and compares what they print with what the pages say.
 
-  examples.py [PROGRAM]      PROGRAM: the built program, else crates/dmlw/out/dmlw
+  examples.py [PROGRAM]      PROGRAM: the built program, else the one that ./dmlw runs
 
 A command is a word list in backticks, or a line of an indented block, that begins with ./dmlw, truncate, printf, awk or examples/. What it prints stands behind the word `prints`: in
 the next indented block, or in backticks, a line each. The commands of a page run one after another in one folder. Ends with status 1 where a text differs.
@@ -9,8 +9,10 @@ Needs nothing but Python 3.
 """
 import os, pathlib, re, shutil, subprocess, sys, tempfile
 
+from measure import build
+
 ROOT = pathlib.Path(__file__).resolve().parent.parent
-PROGRAM = os.path.realpath(sys.argv[1]) if len(sys.argv) > 1 else str(ROOT / "crates/dmlw/out/dmlw")
+PROGRAM = os.path.realpath(sys.argv[1]) if len(sys.argv) > 1 else build()
 PAGES = ("README.md", "docs/USING.md")
 IS_COMMAND = re.compile(r"^(\./dmlw|truncate|printf|awk|examples/\S+\.sh) \S")
 # What needs devices, a log of the reader's own, or all proofs.

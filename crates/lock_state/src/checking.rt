@@ -6,7 +6,7 @@ ghost use Rattle.log_format.specs.Entries.{is_sector_size};
 ghost use Rattle.pending.specs.CoreState.{items_of};
 ghost use Rattle.lock_state.specs.Comparison.{AreCauses, BeginsTaken, Each, Fails, IsItem, IsList};
 ghost use Rattle.lock_state.specs.Comparison.{IsServed, listed, stop_cause_at};
-ghost use Rattle.lock_state.specs.History.{end_place, stop_of};
+ghost use Rattle.lock_state.specs.History.{FoundEnd, stop_of};
 
 use crate::compare::{are_causes, are_passed, is_list_of};
 use crate::entry_of::is_entry_of;
@@ -32,13 +32,12 @@ impl<R: Run> QueueState<R> {
         )
     }
 
-    /// Whether the seat's passed calls found where recording ended.
+    /// Whether the seat's passed calls found where recording ended, and by which Stop.
     pub fn has_passed(&self, seat: &SeatPart<R>) -> bool
-        ensures { MatchBool result
-            (Each (λ place. end_place self.now.core.events ≡ Some place) seat.now.passed)
-            (Fails (λ place. end_place self.now.core.events ≡ Some place) seat.now.passed) }
+        ensures { MatchBool result (Each (FoundEnd self.now.core.events) seat.now.passed)
+            (Fails (FoundEnd self.now.core.events) seat.now.passed) }
     {
-        are_passed(&self.end, seat.passed.as_slice())
+        are_passed(&self.end, self.recorded_stop(), seat.passed.as_slice())
     }
 
     /// Whether each cause that the seat was told is that of the first stop, or this one.

@@ -4,9 +4,11 @@ ghost use Rattle.std.specs.Prelude.{◌≡◌, ◌≢◌, ◌⊎◌, ◌&&◌, M
 ghost use Rattle.std.specs.Prelude.{length};
 ghost use Rattle.bio.specs.declared.request.Bio.TheVariants.{Discard, Flush, Read, Write};
 ghost use Rattle.lock_state.specs.Comparison.{AreCauses, Each, Fails, MayBeTold, Names, is_of, of};
-ghost use Rattle.lock_state.specs.History.{own_at};
+ghost use Rattle.lock_state.specs.History.{Found, own_at};
 
-use crate::note::{Item, Own, Receipt, Told};
+use crate::log::Receipt;
+use crate::note::{Item, Own, PassedCall, Told};
+use crate::run::Run;
 use bio::{Bio, CoreEvent, End, Id};
 
 // Whether the request is this write.
@@ -162,13 +164,20 @@ fn is_end(end: &Option<Id>, place: Id) -> bool
     }
 }
 
-/// Whether each passed call found that recording had ended at this place.
-pub fn are_passed(end: &Option<Id>, passed: &[Id]) -> bool
-    ensures { MatchBool result (Each (λ place. end.now ≡ Some place) passed.now)
-        (Fails (λ place. end.now ≡ Some place) passed.now) }
+// Whether a passed call found that recording had ended at this place, by this Stop.
+fn has_found(end: &Option<Id>, stop: Option<End>, call: &PassedCall) -> bool
+    ensures { MatchBool result (Found end.now stop call.now) (Found end.now stop call.now → ⊥) }
 {
-    for place in passed {
-        if !is_end(end, *place) {
+    is_end(end, call.place) && stop == call.stop
+}
+
+/// Whether each passed call found that recording had ended at this place, by this Stop.
+pub fn are_passed(end: &Option<Id>, stop: Option<End>, passed: &[PassedCall]) -> bool
+    ensures { MatchBool result (Each (Found end.now stop) passed.now)
+        (Fails (Found end.now stop) passed.now) }
+{
+    for call in passed {
+        if !has_found(end, stop, call) {
             return false;
         }
     }
@@ -208,21 +217,21 @@ fn are_all(one: bool, two: bool, three: bool) -> bool
 }
 
 /// Whether a receipt names a settled item of its id.
-pub fn names(placed: &[Item], settled: u64, receipt: &Receipt) -> bool
+pub fn names<R: Run>(placed: &[Item], settled: u64, receipt: &Receipt<R>) -> bool
     ensures { MatchBool result (Names placed.now settled receipt.now)
         (Names placed.now settled receipt.now → ⊥) }
 {
-    if receipt.number >= settled {
+    if receipt.number() >= settled {
         return false;
     }
-    match placed.get(receipt.number as usize) {
+    match placed.get(receipt.number() as usize) {
         None => false,
-        Some(item) => item.id == receipt.id,
+        Some(item) => item.id == receipt.id(),
     }
 }
 
 /// Whether each receipt names a settled item of its id.
-pub fn are_named(placed: &[Item], settled: u64, receipts: &[Receipt]) -> bool
+pub fn are_named<R: Run>(placed: &[Item], settled: u64, receipts: &[Receipt<R>]) -> bool
     ensures { MatchBool result (Each (Names placed.now settled) receipts.now)
         (Fails (Names placed.now settled) receipts.now) }
 {

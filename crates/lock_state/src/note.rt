@@ -26,6 +26,14 @@ pub struct Done {
     pub ok: bool,
 }
 
+/// A call that was passed to the device unrecorded: where recording had ended, and the cause of the
+/// Stop by which it had; none if a Close ended it.
+#[derive(Clone, Copy, Debug, PartialEq, Eq)]
+pub struct PassedCall {
+    pub place: Id,
+    pub stop: Option<End>,
+}
+
 /// The causes that a seat was told as those by which logging ended.
 #[derive(Clone, Copy, Debug, PartialEq, Eq)]
 pub struct Told {
@@ -50,13 +58,4 @@ pub enum Unplaced {
     NoRoom,
     /// Logging has ended, by this cause.
     Ended(End),
-}
-
-/// What a call is told by: the entry of this request or mark is settled, as the entry of this
-/// number, counted from 0. So each log that a crash leaves has it, where the log's device told no
-/// lie.
-#[derive(Clone, Copy, Debug, PartialEq, Eq)]
-pub struct Receipt {
-    pub id: Id,
-    pub number: u64,
 }

@@ -4,7 +4,7 @@ ghost use Rattle.std.specs.Prelude.{◌≡◌, ◌==◌, None, is_none, length, 
 ghost use Rattle.lock_state.specs.History.{new_part, told_also, with_calls};
 ghost use Rattle.lock_state.specs.PlacedItems.{settles_hand};
 
-use crate::note::{Item, Own, Told};
+use crate::note::{Item, Own, PassedCall, Told};
 use crate::run::Run;
 use bio::{End, Id};
 use holders::Holder;
@@ -14,13 +14,13 @@ use std::mem::swap;
 use std::sync::ledger::Share;
 
 /// A seat's part: its number, its recorded events with their places,
-/// the places at which its passed calls found that recording had ended,
+/// where its passed calls found that recording had ended,
 /// the causes that it was told, and its request that is under way.
 #[derive(Drop)]
 pub struct SeatPart<R: Run> {
     pub(crate) number: u64,
     pub(crate) own: Vec<Own>,
-    pub(crate) passed: Vec<Id>,
+    pub(crate) passed: Vec<PassedCall>,
     pub(crate) told: Told,
     pub(crate) under_way: Option<Id>,
     pub(crate) share: Share<R>,

@@ -31,5 +31,6 @@ impl Run for Brand {
       place = record { origin = 0; disk = 0 };
       can_lie = false;
       lies = 0;
+      faults = 0;
     } };
 }

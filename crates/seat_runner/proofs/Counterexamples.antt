@@ -22,7 +22,7 @@ use Rattle.script_reader.specs.declared.seat_call.Call.TheVariants.{Mark, Submit
 use Rattle.script_reader.specs.declared.seat_call.SeatCall.{SeatCall}
 use Rattle.script_reader.specs.Plans.{top_of}
 use Rattle.script_reader.specs.RunPlans.{RunPlan}
-use Rattle.lock_state.specs.declared.note.Receipt.{Receipt}
+use Rattle.lock_state.specs.Comparison.{Receipt}
 use Rattle.lock_state.specs.Calls.{Holds}
 use Rattle.lock_state.specs.Comparison.{Each}
 use Rattle.lock_state.specs.History.{Part, first_cause, named, new_part, owned}

@@ -14,7 +14,7 @@ use Rattle.script_reader.specs.RunPlans.{RunPlan}
 use Rattle.layer_table.specs.declared.stack.Stack.{Stack}
 use Rattle.layer_table.specs.Layers.{disk_of, stack_shown}
 use Rattle.layer_table.specs.StackLaws.{part_of_disk}
-use Rattle.lock_state.specs.declared.note.Receipt.{Receipt}
+use Rattle.lock_state.specs.Comparison.{Receipt}
 use Rattle.lock_state.specs.History.{Part}
 use Rattle.lock_state.specs.PlacedItems.{Ground, StandsOn, ground_of}
 use Rattle.log_format.specs.declared.entry.Entry.{Entry}

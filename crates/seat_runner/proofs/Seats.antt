@@ -14,7 +14,7 @@ use Rattle.script_reader.specs.declared.seat_call.Call.{Call}
 use Rattle.script_reader.specs.declared.seat_call.Call.TheVariants.{Mark, Submit}
 use Rattle.script_reader.specs.declared.seat_call.SeatCall.{SeatCall}
 use Rattle.script_reader.specs.Lines.{is_line_byte, is_line_text}
-use Rattle.lock_state.specs.declared.note.Receipt.{Receipt}
+use Rattle.lock_state.specs.Comparison.{Receipt}
 use Rattle.lock_state.specs.History.{Part, new_part, one_if}
 use Rattle.seat_runner.specs.declared.tally.Outcome.{Outcome}
 use Rattle.seat_runner.specs.declared.tally.Outcome.TheVariants.{Done, Failed, Logged, NotLogged}

@@ -2,7 +2,7 @@
 -- Any crate above may cite it.
 use Rattle.std.specs.Prelude.{ℕ, ◌+◌, ◌<◌, ◌-◌, ◌^◌, Bool, true, false, List, [], ◌∷◌, ◌++◌, Option}
 use Rattle.std.specs.Prelude.{None, Some}
-use Rattle.lock_state.specs.declared.note.Receipt.{Receipt}
+use Rattle.lock_state.specs.Comparison.{Receipt}
 use Rattle.lock_state.specs.History.{one_if}
 use Rattle.seat_runner.specs.declared.tally.Outcome.{Outcome}
 use Rattle.seat_runner.specs.declared.tally.Outcome.TheVariants.{Done, Failed, Logged, NotLogged}

@@ -23,7 +23,7 @@ use Rattle.bio.specs.Content.{Content}
 use Rattle.lock_state.specs.declared.note.Done.{Done}
 use Rattle.lock_state.specs.declared.note.Item.{Item}
 use Rattle.lock_state.specs.declared.note.Own.{Own}
-use Rattle.lock_state.specs.declared.note.Receipt.{Receipt}
+use Rattle.lock_state.specs.Comparison.{Receipt}
 use Rattle.lock_state.specs.Close.{IsOwn, IsShort}
 use Rattle.lock_state.specs.Comparison.{BeginsTaken, Fails, IsServed, Names}
 use Rattle.lock_state.specs.History.{Part, Queue, begun, ended, first_cause, new_part, noted}

@@ -13,7 +13,7 @@ use Rattle.bio.specs.declared.outcome.Status.{Status}
 use Rattle.board.specs.Posts.{MayPost, opening}
 use Rattle.log_format.specs.Entries.{entry_of}
 use Rattle.lock_state.specs.declared.note.Item.{Item}
-use Rattle.lock_state.specs.declared.note.Receipt.{Receipt}
+use Rattle.lock_state.specs.Comparison.{Receipt}
 use Rattle.lock_state.specs.Comparison.{Each}
 use Rattle.lock_state.specs.History.{Part, Queue, begun, ended, ended_by, finished, new_part, noted}
 use Rattle.lock_state.specs.History.{after_taking, in_hand, recorded_by}

@@ -14,12 +14,12 @@ use Rattle.shared.specs.declared.marks.EnteredMark.TheVariants as marks
 -- a request is recorded and under way, or it is passed
 abbrev pub EnteredBy : Part → Bio → Entered → Part → Type 0
 EnteredBy old bio (Recorded id) new = new ≡ begun old id bio
-EnteredBy old bio (Unrecorded stop) new = Passed old new
+EnteredBy old bio (Unrecorded stop) new = Passed old stop new
 
 -- a mark is recorded, or it is passed
 abbrev pub MarkEnteredBy : Part → List ℕ → EnteredMark → Part → Type 0
 MarkEnteredBy old text (marks.Recorded id taken) new = new ≡ noted old id (Mark text)
-MarkEnteredBy old text (marks.Stopped cause) new = Passed old new
+MarkEnteredBy old text (marks.Stopped cause) new = Passed old (Some cause) new
 
 -- a request of this seat is the queue's next event; or recording had ended, by the stop that stands
 -- in the history, if one does, and nothing changes

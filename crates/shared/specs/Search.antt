@@ -4,7 +4,7 @@ use Rattle.std.specs.Prelude.{◌≡◌, ◌≤◌, Err, None, Ok, Option, Resul
 use Rattle.bio.specs.declared.outcome.End.{End}
 use Rattle.lock_state.specs.History.{first_cause}
 use Rattle.lock_state.specs.PlacedItems.{IsNoneFrom, IsSettledAt, Log}
-use Rattle.lock_state.specs.declared.note.Receipt.{Receipt}
+use Rattle.lock_state.specs.Comparison.{Receipt}
 
 -- An item of this id that is settled at this number or a later one; where there is none the store's
 -- end, or else the cause by which those who wait were let go; and nothing where logging goes on.

@@ -1,18 +1,19 @@
 // What the calls of a seat answer.
 // The search alone proves it.
 use bio::{BadBio, DevError, End};
-use lock_state::Receipt;
+use refusals::Refusal;
+use thiserror::Error;
 
-/// What became of a request.
+/// What became of a request. `C` is the `Receipt` of its recorder.
 #[derive(Debug, Drop)]
-pub enum Answer {
+pub enum Answer<C> {
     /// It succeeded.
     Done,
     /// A read: the bytes of its sectors.
     Read(Vec<u8>),
     /// A write with FUA: it succeeded, and the receipt is of its entry. That stands in each log that
     /// a crash leaves, as a close finds to which the receipt is handed.
-    Logged(Receipt),
+    Logged(C),
     /// The device failed it, or there was no memory.
     Failed(DevError),
     /// A write with FUA: it succeeded, and logging ended by this cause before its entry was
@@ -22,12 +23,12 @@ pub enum Answer {
     Refused(BadBio),
 }
 
-/// What became of a mark.
-#[derive(Clone, Copy, Debug, PartialEq, Eq)]
-pub enum MarkAnswer {
+/// What became of a mark. `C` is the `Receipt` of its recorder.
+#[derive(Debug, Drop)]
+pub enum MarkAnswer<C> {
     /// The receipt is of its entry. That stands in each log that a crash leaves, as a close finds to
     /// which the receipt is handed.
-    Logged(Receipt),
+    Logged(C),
     /// Logging ended by this cause before its entry was durable. The entry may stand in the log.
     NotLogged(End),
     /// It isn't recorded.
@@ -35,12 +36,30 @@ pub enum MarkAnswer {
 }
 
 /// Why a mark isn't recorded.
-#[derive(Clone, Copy, Debug, PartialEq, Eq)]
+#[derive(Clone, Copy, Debug, PartialEq, Eq, Error)]
 pub enum MarkRefusal {
     /// Its text has a zero byte.
+    #[error("a zero byte in a mark's text")]
     BadText,
     /// There was no memory.
+    #[error("no memory")]
     Memory,
-    /// Recording was closed.
+    /// Recording was closed, and no Stop had ended it before.
+    #[error("recording was closed")]
     AfterClose,
+}
+
+impl From<MarkRefusal> for Refusal {
+    ghost use Rattle.std.specs.Prelude.{◌≡◌};
+    ghost use Rattle.shared.specs.Answers.{refusal_of_mark};
+
+    ghost from_gives = { λ error refusal. refusal ≡ refusal_of_mark error };
+
+    fn from(error: MarkRefusal) -> Refusal {
+        match error {
+            MarkRefusal::BadText => Refusal::BadText,
+            MarkRefusal::Memory => Refusal::Memory,
+            MarkRefusal::AfterClose => Refusal::AfterClose,
+        }
+    }
 }

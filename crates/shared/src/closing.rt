@@ -1,20 +1,21 @@
 // The close of a recorder: what it compares, and what it hands back.
 // Its clauses are written in specs/Close and specs/Posts; its theorems in proofs/closing/.
 ghost use Rattle.std.specs.Prelude.{◌≡◌, ◌<◌, ◌≤◌, List, [], length, IfErr, IfOk};
-ghost use Rattle.std.specs.Prelude.{MatchBool, None, Some, true, false};
+ghost use Rattle.std.specs.Prelude.{MatchBool, None, Some, is_some, true, false};
 ghost use Rattle.bio.specs.Lawful.{has_no_close};
 ghost use Rattle.log_format.specs.LogOf.{status_of};
 ghost use Rattle.bio.specs.Content.{Content};
 ghost use Rattle.bio.specs.declared.outcome.End.{End as Cause};
+ghost use Rattle.bio.specs.declared.outcome.End.TheVariants.{Full};
 ghost use Rattle.lock_state.specs.Calls.{Holds};
-ghost use Rattle.lock_state.specs.declared.note.Receipt.{Receipt as Naming};
-ghost use Rattle.lock_state.specs.Close.{IsShort};
-ghost use Rattle.lock_state.specs.Comparison.{BeginsTaken, Each};
-ghost use Rattle.lock_state.specs.History.{Part, first_cause, named, owned};
+ghost use Rattle.lock_state.specs.Close.{HasNoRoom, IsShort, StopsWithLog};
+ghost use Rattle.lock_state.specs.Comparison.{BeginsTaken, Each, Receipt as Naming};
+ghost use Rattle.lock_state.specs.History.{KeepsCause, Part, first_cause, named, owned};
 ghost use Rattle.lock_state.specs.LegalHistory.{LegalHistory};
-ghost use Rattle.lock_state.specs.PlacedItems.{LeavesBeginning, StandsOn, Stay, entries_in};
+ghost use Rattle.lock_state.specs.PlacedItems.{HasCause, LeavesBeginning, StandsOn, Stay};
+ghost use Rattle.lock_state.specs.PlacedItems.{entries_in};
 ghost use Rattle.shared.specs.Close.{Agrees, Differs, IfBusy, IfForeign, IsReceipt, LeavesLog};
-ghost use Rattle.shared.specs.Posts.{ArePosted, IsCurrent, IsLatest, TellsCause};
+ghost use Rattle.shared.specs.Posts.{ArePosted, IsCurrent, IsLatest, TellsCause, end_before};
 
 use crate::desk::Desk;
 use crate::log_desk::LogDesk;
@@ -71,6 +72,10 @@ pub struct Ending<D: Drop, L: Drop, R: Run + Names> {
     pub posts: Posts<R>,
     /// Why those who waited for the log were let go, where they were.
     pub released: Option<End>,
+    /// How many items the writer had placed. The close placed the others.
+    pub written: u64,
+    /// Why logging had ended before the close wrote, if it had.
+    pub found: Option<End>,
 }
 
 /// What is handed back where recording wasn't closed: all that was handed in.
@@ -79,7 +84,7 @@ pub struct Open<D: BlockDev + Drop, L: BlockDev + Drop, R: Run + Names> {
     pub recorder: Shared<D, L, R>,
     pub seats: Vec<Seat<R>>,
     pub writer: WriterSeat<R>,
-    pub receipts: Vec<Receipt>,
+    pub receipts: Vec<Receipt<R>>,
 }
 
 /// What is handed back where what was handed in isn't the recorder's own: the recorder, taken
@@ -92,7 +97,7 @@ pub struct Strangers<D: Drop, L: Drop, R: Run + Names> {
     pub released: Option<End>,
     pub seats: Vec<Seat<R>>,
     pub writer: WriterSeat<R>,
-    pub receipts: Vec<Receipt>,
+    pub receipts: Vec<Receipt<R>>,
 }
 
 /// Why a recorder wasn't closed, with what is handed back.
@@ -113,7 +118,7 @@ impl<D: BlockDev + Drop, L: BlockDev + Drop, R: Run + Names> Shared<D, L, R> {
         self,
         seats: Vec<Seat<R>>,
         writer: WriterSeat<R>,
-        receipts: Vec<Receipt>,
+        receipts: Vec<Receipt<R>>,
     ) -> Result<Ending<D, L, R>, Unclosed<Open<D, L, R>, Strangers<D, L, R>>>
         ensures agrees { IfOk result
             (λ c. Agrees (record {
@@ -150,11 +155,23 @@ impl<D: BlockDev + Drop, L: BlockDev + Drop, R: Run + Names> Shared<D, L, R> {
             → Holds (D.shown c.closed.device).content c.closed.done.items) }
         ensures end { IfOk result
             (λ c. c.closed.end ≡ first_cause c.closed.stop c.closed.store_end) }
+        ensures size { IfOk result (λ c. c.closed.core.state.sector_bytes ≡ R.sector_bytes) }
+        ensures stop { IfOk result (λ c. KeepsCause c.closed.core.state c.closed.stop) }
+        ensures device_size { IfOk result (λ c. (D.shown c.closed.device).size ≡ R.sectors) }
         ensures hazard { IfOk result (λ c. c.closed.hazard ≡ None) }
         ensures taken { IfOk result (λ c. c.closed.taken ≡ c.closed.core.state.taken) }
         ensures posted { IfOk result (λ c. ArePosted R.sector_bytes c.closed.placed.items c.posts) }
         ensures current { IfOk result (λ c. IsCurrent R.sector_bytes
-            c.closed.placed.items c.closed.store_end c.released receipts.items c.posts) }
+            c.closed.placed.items c.written (end_before c.found c.closed.store_end) c.released
+            receipts.items c.posts) }
+        ensures ended { IfOk result (λ c. (cause : Cause) → c.found ≡ Some cause
+            → (c.closed.end ≡ Some cause) × (c.written ≡ length c.closed.placed.items)) }
+        ensures drained { IfOk result (λ c. c.found ≡ None
+            → StopsWithLog c.closed.stop c.closed.store_end) }
+        ensures full { IfOk result (λ c. c.found ≡ None → c.closed.store_end ≡ Some Full
+            → HasNoRoom R.sector_bytes R.log.size c.closed.core.state c.closed.placed.items) }
+        ensures causes { IfOk result (λ c.
+            HasCause L.does R.log (L.shown c.closed.log).faults c.closed.store_end) }
         ensures ends { IfOk result
             (λ c. Each (TellsCause c.closed.store_end c.released) c.posts) }
         ensures foreign { IfErr result
@@ -181,6 +198,21 @@ impl<D: BlockDev + Drop, L: BlockDev + Drop, R: Run + Names> Shared<D, L, R> {
             → Holds (D.shown f.closed.device).content f.closed.done.items)) }
         ensures foreign_end { IfErr result (λ e. IfForeign e (λ f.
             f.closed.end ≡ first_cause f.closed.stop f.closed.store_end)) }
+        ensures foreign_size { IfErr result
+            (λ e. IfForeign e (λ f. f.closed.core.state.sector_bytes ≡ R.sector_bytes)) }
+        ensures foreign_stop { IfErr result
+            (λ e. IfForeign e (λ f. KeepsCause f.closed.core.state f.closed.stop)) }
+        ensures foreign_device_size { IfErr result
+            (λ e. IfForeign e (λ f. (D.shown f.closed.device).size ≡ R.sectors)) }
+        ensures foreign_latest { IfErr result (λ e. IfForeign e (λ f. IsLatest R.sector_bytes
+            (record {
+              placed = f.closed.placed.items;
+              settled = f.closed.settled;
+              end = f.closed.store_end;
+              released = f.released;
+            }) f.posts)) }
+        ensures foreign_causes { IfErr result (λ e. IfForeign e (λ f.
+            HasCause L.does R.log (L.shown f.closed.log).faults f.closed.store_end)) }
         ensures foreign_hazard { IfErr result (λ e. IfForeign e (λ f. f.closed.hazard ≡ None)) }
         ensures foreign_taken { IfErr result (λ e. IfForeign e (λ f.
             f.closed.taken ≡ f.closed.core.state.taken)) }
@@ -222,6 +254,8 @@ impl<D: BlockDev + Drop, L: BlockDev + Drop, R: Run + Names> Shared<D, L, R> {
         queue.audit(&mut seats);
         let notes = notes.as_mut_slice();
         let released = log.released();
+        let written = log.placed().len() as u64;
+        let found = queue.stop_cause().or(log.end());
         let agrees = agree(
             &queue,
             &log,
@@ -236,6 +270,8 @@ impl<D: BlockDev + Drop, L: BlockDev + Drop, R: Run + Names> Shared<D, L, R> {
                 closed,
                 posts,
                 released,
+                written,
+                found,
             });
         }
         Err(Unclosed::Foreign(Strangers {
@@ -311,7 +347,7 @@ fn agree<D: BlockDev + Drop, L: BlockDev + Drop, R: Run>(
     device: &DataState<D, R>,
     notes: &mut [Seen],
     seats: &[Seat<R>],
-    receipts: &[Receipt],
+    receipts: &[Receipt<R>],
 ) -> bool
     requires { length queue.now.core.events ≤ length notes.old }
     ensures agrees { MatchBool result
@@ -353,6 +389,14 @@ fn finish<D: BlockDev + Drop, L: BlockDev + Drop, R: Run>(
         result.placed.items result.settled result.store_end result.done.items seats receipts }
     ensures stay { Stay log.placed result.placed.items }
     ensures end_stays { (cause : Cause) → log.end ≡ Some cause → result.store_end ≡ Some cause }
+    ensures ended { is_some (first_cause queue.stop log.end) ≡ true
+        → (result.placed.items ≡ log.placed) × (result.store_end ≡ log.end)
+        × (result.stop ≡ queue.stop) }
+    ensures drained { queue.stop ≡ None → log.end ≡ None
+        → StopsWithLog result.stop result.store_end }
+    ensures full { queue.stop ≡ None → log.end ≡ None → result.store_end ≡ Some Full
+        → HasNoRoom R.sector_bytes R.log.size result.core.state result.placed.items }
+    ensures causes { HasCause L.does R.log (L.shown result.log).faults result.store_end }
     ensures same { (result.core.state.events ≡ queue.core.events) × (result.by.items ≡ queue.by) }
     ensures crash { (L.shown result.log).lies ≡ 0 → (left : Content)
         → (L.shown result.log).crash left →
@@ -364,6 +408,9 @@ fn finish<D: BlockDev + Drop, L: BlockDev + Drop, R: Run>(
     ensures holds { (D.shown result.device).lies ≡ 0
         → Holds (D.shown result.device).content result.done.items }
     ensures end { result.end ≡ first_cause result.stop result.store_end }
+    ensures size { result.core.state.sector_bytes ≡ R.sector_bytes }
+    ensures stop { KeepsCause result.core.state result.stop }
+    ensures device_size { (D.shown result.device).size ≡ R.sectors }
     ensures hazard { result.hazard ≡ None }
     ensures taken { result.taken ≡ result.core.state.taken }
 {
@@ -383,6 +430,7 @@ fn take_apart<D: BlockDev + Drop, L: BlockDev + Drop, R: Run>(
         ≡ queue }
     ensures placed { (result.placed.items ≡ log.placed) × (result.settled ≡ log.settled) }
     ensures store_end { result.store_end ≡ log.end }
+    ensures causes { HasCause L.does R.log (L.shown result.log).faults result.store_end }
     ensures calls { result.done.items ≡ device.calls }
     ensures legal { LegalHistory R.sector_bytes R.sectors result.core.state.events result.by.items
         [] }
@@ -396,6 +444,9 @@ fn take_apart<D: BlockDev + Drop, L: BlockDev + Drop, R: Run>(
     ensures holds { (D.shown result.device).lies ≡ 0
         → Holds (D.shown result.device).content result.done.items }
     ensures end { result.end ≡ first_cause result.stop result.store_end }
+    ensures size { result.core.state.sector_bytes ≡ R.sector_bytes }
+    ensures stop { KeepsCause result.core.state result.stop }
+    ensures device_size { (D.shown result.device).size ≡ R.sectors }
     ensures hazard { result.hazard ≡ None }
     ensures taken { result.taken ≡ result.core.state.taken }
 {

@@ -8,8 +8,9 @@
 #![tactic(auto)]
 
 pub use answer::{Answer, MarkAnswer, MarkRefusal};
-pub use board::StatusSeat;
+pub use board::{Names, StatusSeat};
 pub use closing::{Closed, Ending, Open, Strangers, Unclosed};
+pub use lock_state::{Done, Item, Receipt, Run, Seat};
 pub use posts::Posts;
 pub use seat::WriterSeat;
 pub use shared::{Shared, Started};

@@ -206,6 +206,10 @@ fn late_calls(alloc: Global, first: u64) -> Result<Vec<Call>, AllocError>
             byte,
             fua: true,
         },
+        Call::Read {
+            first: first + 1,
+            byte,
+        },
         Call::Mark { byte },
     ]?)
 }
@@ -257,7 +261,7 @@ fn readback<H: Threads + Wait + Clock + Print + Sync + Send + Copy + Drop>(
     };
     let wanted = Tally {
         refused: 1,
-        ..tally(OWN + 3, 0, OWN + 1)
+        ..tally(OWN + 3, 0, OWN + 2)
     };
     let have_answered = have_answers(rt, played.tallies.as_slice(), &wanted);
     let closed = played.closed;

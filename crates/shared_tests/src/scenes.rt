@@ -179,6 +179,31 @@ fn a_write_is_answered_while_a_mark_is_made_sure(rt: HostRuntime) -> Result<(), 
     Ok(())
 }
 
+// The super block of one seat's write with FUA, until another's write was answered.
+#[test]
+fn a_write_is_answered_while_a_fua_write_is_made_sure(rt: HostRuntime) -> Result<(), Fail> {
+    let scene = Scene {
+        held: Held::Log,
+        sector: 0,
+        passes: 1,
+        calls: (
+            Call::Write {
+                first: 2,
+                byte: 1,
+                fua: true,
+            },
+            Call::Write {
+                first: 1,
+                byte: 1,
+                fua: false,
+            },
+        ),
+        tallies: (tally(0, 1, 0), tally(1, 0, 0)),
+    };
+    assert!(rt; gated(&rt, rt.alloc(), scene)?);
+    Ok(())
+}
+
 // The device's write of one seat, until another's mark was answered.
 #[test]
 fn a_mark_is_answered_while_the_device_writes(rt: HostRuntime) -> Result<(), Fail> {

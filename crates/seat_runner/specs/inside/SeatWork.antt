@@ -7,7 +7,7 @@ use Rattle.script_reader.specs.declared.seat_call.Call.{Call}
 use Rattle.script_reader.specs.declared.seat_call.SeatCall.{SeatCall}
 use Rattle.script_reader.specs.Plans.{top_of}
 use Rattle.script_reader.specs.RunPlans.{call_answer, FitsLine, RunPlan}
-use Rattle.lock_state.specs.declared.note.Receipt.{Receipt}
+use Rattle.lock_state.specs.Comparison.{Receipt}
 use Rattle.lock_state.specs.History.{Part, new_part}
 use Rattle.seat_runner.specs.declared.tally.Outcome.{Outcome}
 use Rattle.seat_runner.specs.declared.tally.Tally.{Tally}

@@ -3,4 +3,4 @@ use Rattle.lock_state.specs.Comparison.{EachTo, Names}
 use Rattle.lock_state.proofs.compare.are_named.Given as goal
 
 abbrev pub invariant-loop-receipt : goal.invariant-loop-receipt
-invariant-loop-receipt l = EachTo (Names l.placed l.settled) l.receipt-index l.receipts
+invariant-loop-receipt g l = EachTo (Names l.placed l.settled) l.receipt-index l.receipts

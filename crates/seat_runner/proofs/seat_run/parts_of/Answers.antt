@@ -1,6 +1,6 @@
 -- Answers to the goals of `parts_of` (src/seat_run.rt) that the search leaves.
 use Rattle.std.proofs.Common.{List, ◌++◌, ap, ◌∙◌}
-use Rattle.lock_state.specs.declared.note.Receipt.{Receipt}
+use Rattle.lock_state.specs.Comparison.{Receipt}
 use Rattle.seat_runner.specs.inside.SeatWork.{Player}
 use Rattle.seat_runner.proofs.Runs.{joined_next, mapped_next}
 use Rattle.seat_runner.proofs.seat_run.parts_of.Goals as goal

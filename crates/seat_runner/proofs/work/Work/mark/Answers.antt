@@ -1,6 +1,6 @@
 -- Answers to the goals of `Work::mark` (src/work.rt) that the search leaves.
 use Rattle.std.proofs.Common.{List, ap, ◌∙◌}
-use Rattle.lock_state.specs.declared.note.Receipt.{Receipt}
+use Rattle.lock_state.specs.Comparison.{Receipt}
 use Rattle.seat_runner.specs.Tallies.{and_kept}
 use Rattle.seat_runner.proofs.Seats.{line_is_text, makes_mark}
 use Rattle.seat_runner.proofs.work.Work.mark.Goals as goal

@@ -2,7 +2,7 @@
 use Rattle.std.proofs.Common.{◌≡◌, List, Ok, ap, subst, sym, ◌∙◌}
 use Rattle.bio.specs.Check.{check_sized_answer}
 use Rattle.bio.specs.declared.request.Bio.{Bio}
-use Rattle.lock_state.specs.declared.note.Receipt.{Receipt}
+use Rattle.lock_state.specs.Comparison.{Receipt}
 use Rattle.seat_runner.specs.Tallies.{and_kept}
 use Rattle.shared.specs.Answers.{Answered}
 use Rattle.seat_runner.proofs.Seats.{makes_request}

@@ -2,6 +2,7 @@
 pub mod Calls
 pub mod Close
 pub mod Comparison
+pub mod FirstStop
 pub mod History
 pub mod LegalHistory
 pub mod PlacedItems

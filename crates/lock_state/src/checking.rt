@@ -45,7 +45,7 @@ impl<R: Run> QueueState<R> {
         ensures { MatchBool result (AreCauses seat.now.told self.now.stop end)
             (AreCauses seat.now.told self.now.stop end → ⊥) }
     {
-        are_causes(&seat.told, self.stop, end)
+        are_causes(&seat.told, self.stop.cause(), end)
     }
 
     // How many bytes a sector of the log has.

@@ -14,8 +14,9 @@ pub use log::{LogParts, LogState, Receipt};
 pub use note::{Done, Item, Own, PassedCall, Told, Unplaced, Unrecorded};
 pub use part::{Seat, SeatPart, WriterPart};
 pub use queue::{QueueParts, QueueState};
-pub use run::Run;
+pub use run::{Run, Stops};
 pub use served::{Seen, is_served};
+pub use stop::{FirstStop, ShownStop, StopPart};
 
 mod checking;
 mod closing;
@@ -28,3 +29,4 @@ mod part;
 mod queue;
 mod run;
 mod served;
+mod stop;

@@ -1,11 +1,11 @@
 // What names one shared recorder.
 // Its clauses are written in specs/PlacedItems; the search alone proves it.
 use holders::Whose;
-use std::marker::Brand;
+use std::marker::{Brand, PhantomData};
 use std::sync::ledger::Ledger;
 
 /// Names one shared recorder: the ledger of its seats, the table on which its queue and seats
-/// agree, how many sectors of 512 bytes its recorded device has, how many bytes a sector of its log
+/// agree, that on which its queue and log agree about the first stop, how many sectors of 512 bytes its recorded device has, how many bytes a sector of its log
 /// has, and what its log's device was before the log was begun. So a seat of another recorder is
 /// refused by its type.
 pub trait Run: Ledger + Whose {
@@ -17,10 +17,26 @@ pub trait Run: Ledger + Whose {
     ghost sector_bytes: { ℕ };
 
     ghost log: { Ground };
+
+    ghost use Rattle.atomic_table.specs.Seated.{TableId};
+
+    ghost stops: { TableId };
+}
+
+/// Names the table on which the queue and the log of a recorder agree about the first stop.
+pub struct Stops<R: Run> {
+    run: PhantomData<R>,
+}
+
+impl<R: Run> Whose for Stops<R> {
+    ghost table = { R.stops };
 }
 
 impl Run for Brand {
     ghost use Rattle.std.specs.Prelude.{false};
+    ghost use Rattle.holders.specs.Rules.{no_table};
+
+    ghost stops = { no_table };
 
     ghost sectors = { 0 };
 

@@ -14,7 +14,7 @@ use Rattle.bio.specs.declared.outcome.End.TheVariants.{Full}
 use Rattle.bio.specs.declared.request.BadBio.{BadBio}
 use Rattle.bio.specs.declared.request.Bio.{Bio}
 use Rattle.bio.specs.declared.request.Bio.TheVariants as bios
-use Rattle.board.specs.Posts.{IsFit, opening}
+use Rattle.board.specs.Posts.{MayPost, opening}
 use Rattle.log_format.specs.Entries.{end_mark}
 use Rattle.log_format.specs.LogOf.{IsLogOf, status_of}
 use Rattle.pending.specs.Prefixes.{entries_of}
@@ -72,14 +72,14 @@ first_place (own ∷ others) = own.place
 done_unnoted : Answered (new_part 0) plain done (new_part 0) → ⊥
 done_unnoted answered = elim answered.1 [
   | inl recorded ↦ true≢false (ap (λ (part : Part). length part.own == 0) recorded.1.1.1)
-  | inr passed ↦ true≢false (ap (λ (part : Part). length part.passed == 0) passed.1)
+  | inr passed ↦ true≢false (ap (λ (part : Part). length part.passed == 0) passed.1.1)
 ]
 
 -- as one that ended Ok
 done_failed : Answered (new_part 0) plain done (after plain false) → ⊥
 done_failed answered = elim answered.1 [
   | inl recorded ↦ true≢false (sym (ap (λ (part : Part). ended_ok part.own) recorded.1.1.1))
-  | inr passed ↦ true≢false (ap (λ (part : Part). length part.own == 2) passed.1)
+  | inr passed ↦ true≢false (ap (λ (part : Part). length part.own == 2) passed.1.1)
 ]
 
 -- a read isn't just done
@@ -119,7 +119,7 @@ failed_unnoted answered = elim answered [
     | inr memory ↦ absurd (cc)
   ]
   | inr tracked ↦ elim tracked.1 [
-    | inl passed ↦ true≢false (ap (λ (part : Part). length part.passed == 0) passed.1)
+    | inl passed ↦ true≢false (ap (λ (part : Part). length part.passed == 0) passed.1.1)
     | inr recorded ↦ true≢false (ap (λ (part : Part). length part.own == 0) recorded.1.1)
   ]
 ]
@@ -128,7 +128,7 @@ failed_ok : Answered (new_part 0) plain (Failed Io) (after plain true) → ⊥
 failed_ok answered = elim answered [
   | inl none ↦ true≢false (ap (λ (part : Part). length part.own == 2) none.0)
   | inr tracked ↦ elim tracked.1 [
-    | inl passed ↦ true≢false (ap (λ (part : Part). length part.own == 2) passed.1)
+    | inl passed ↦ true≢false (ap (λ (part : Part). length part.own == 2) passed.1.1)
     | inr recorded ↦ true≢false (ap (λ (part : Part). ended_ok part.own) recorded.1.1)
   ]
 ]
@@ -269,120 +269,42 @@ posted_back posted =
     let entries = goes.entries in
     absurd (omega arith)
 
--- where a log had ended by no cause, it had none before
-none_of : (end : Option End) → ((first : End) → end ≡ Some first → None ≡ Some first) → end ≡ None
-none_of None stays = refl
-none_of (Some first) stays = absurd (let is = stays first refl in cc)
+-- what is up to date where a receipt's entry isn't placed
+current_missing : (written : ℕ) → IsCurrent 512 [] written None None
+    (record { id = 0; number = 0 } ∷ []) (opening ∷ []) → ⊥
+current_missing written current =
+    let within = current.within in
+    let told = current.told 0 _ refl in
+    absurd (omega arith)
 
--- a log of some items that is a beginning of one item has that
-one_stays : (placed : List Item) → Stay placed (ending ∷ []) → 0 < length placed
-    → placed ≡ ending ∷ []
-one_stays [] stays some = absurd (omega arith)
-one_stays (x ∷ []) stays some = let there = stays 0 x refl in cc
-one_stays (x ∷ y ∷ ys) stays some = absurd (let there = stays 1 y refl in cc)
-
--- the status of that log fits the board
-one_fits : (placed : List Item) (cause : Option End) → placed ≡ ending ∷ []
-    → IsFit (status_of 512 (entries_in placed) cause)
-one_fits placed cause same = record {
-  entries = subst (λ (placed : List Item). (status_of 512 (entries_in placed) cause).entries
-      ≤ 1048576) (sym same) (omega arith);
-  sector = subst (λ (placed : List Item). (status_of 512 (entries_in placed) cause).sector
-      ≤ 1048576) (sym same) (omega arith);
+-- where the writer's entry wasn't posted
+abbrev one_fits : MayPost (opening ∷ []) (record { entries = 1; sector = 1; end = None })
+one_fits = record {
+  fit = record { entries = omega arith; sector = omega arith };
+  follows = record { entries = omega arith; end = λ cause is. absurd (cc is) };
 }
 
--- what is up to date where a receipt's entry isn't placed, and where it wasn't posted, whether an
--- end was or not
-current_missing : IsCurrent 512 [] None None (record { id = 0; number = 0 } ∷ [])
-    (opening ∷ []) → ⊥
-current_missing current =
-    none_stays current.written.placed current.stays (current.told 0 _ refl)
-  where
-    none_stays : (placed : List Item) → Stay placed [] → 0 < length placed → ⊥
-    none_stays [] stays some = absurd (omega arith)
-    none_stays (x ∷ xs) stays some = absurd (let there = stays 0 x refl in cc)
-
-current_unposted : (released : Option End) → IsCurrent 512 (ending ∷ []) None released
-    (record { id = 0; number = 0 } ∷ [])
-    (record { entries = 0; sector = 0; end = released } ∷ []) → ⊥
-current_unposted released current =
-    let log = current.written in
-    let cause = first_cause log.end log.released in
-    let same = one_stays log.placed current.stays (current.told 0 _ refl) in
-    let known : cause ≡ released =
-    ap (λ (end : Option End). first_cause end log.released) (none_of log.end current.end_stays)
-    ∙ current.let_go in
-    let is : record { entries = 0; sector = 0; end = released }
-    ≡ status_of 512 (entries_in log.placed) cause =
-    current.latest (record {
-      fit = one_fits log.placed cause same;
-      follows = record { entries = omega arith; end = λ other was. known ∙ was };
-    }) in
-    true≢false (ap (λ (status : Status). status.entries == 0)
-    (is ∙ ap (λ (placed : List Item). status_of 512 (entries_in placed) cause) same))
+current_unposted : IsCurrent 512 (ending ∷ []) 1 None None [] (opening ∷ []) → ⊥
+current_unposted current =
+    true≢false (ap (λ (status : Status). status.entries == 0) (current.latest one_fits))
 
 -- where those who waited were let go, and that wasn't posted
-current_unreleased : IsCurrent 512 (ending ∷ []) None (Some Full) []
-    (record { entries = 1; sector = 1; end = None } ∷ []) → ⊥
-current_unreleased current =
-    let log = current.written in
-    let cause = first_cause log.end log.released in
-    let prefix = current.counted 0 _ refl in
-    let same = one_stays log.placed current.stays prefix.within in
-    let known : cause ≡ Some Full =
-    ap (λ (end : Option End). first_cause end log.released) (none_of log.end current.end_stays)
-    ∙ current.let_go in
-    let is : record { entries = 1; sector = 1; end = None }
-    ≡ status_of 512 (entries_in log.placed) cause =
-    current.latest (record {
-      fit = one_fits log.placed cause same;
-      follows = record {
-        entries = subst (λ (placed : List Item). 1
-            ≤ (status_of 512 (entries_in placed) cause).entries) (sym same) (omega arith);
-        end = λ other was. absurd (cc was);
-      };
-    }) in
-    let none : None ≡ Some Full = ap (λ (status : Status). status.end) is ∙ known in
-    absurd (cc none)
+abbrev full_fits : MayPost (opening ∷ []) (record { entries = 1; sector = 1; end = Some Full })
+full_fits = record {
+  fit = record { entries = omega arith; sector = omega arith };
+  follows = record { entries = omega arith; end = λ cause is. absurd (cc is) };
+}
 
--- where a receipt's entry wasn't counted once the log had ended
-current_early : IsCurrent 512 (ending ∷ []) (Some Full) None (record { id = 0; number = 0 } ∷ [])
-    (record { entries = 0; sector = 0; end = Some Full } ∷ []) → ⊥
-current_early current =
-    let log = current.written in
-    let cause = first_cause log.end log.released in
-    let same = one_stays log.placed current.stays (current.told 0 _ refl) in
-    let ended : (log.end ≡ Some Full → ⊥) → ⊥ =
-    λ other. (
-    let none : None ≡ Some Full = sym current.let_go ∙ current.ends 0 _ refl Full refl other in
-    absurd (cc none)
-    ) in
-    let known : cause ≡ Some Full =
-    ap (λ (end : Option End). first_cause end log.released)
-    (full_of log.end ended current.end_stays) in
-    let is : record { entries = 0; sector = 0; end = Some Full }
-    ≡ status_of 512 (entries_in log.placed) cause =
-    current.latest (record {
-      fit = one_fits log.placed cause same;
-      follows = record { entries = omega arith; end = λ other was. known ∙ was };
-    }) in
-    true≢false (ap (λ (status : Status). status.entries == 0)
-    (is ∙ ap (λ (placed : List Item). status_of 512 (entries_in placed) cause) same))
-  where
-    full_of : (end : Option End) → ((end ≡ Some Full → ⊥) → ⊥)
-        → ((first : End) → end ≡ Some first → Some Full ≡ Some first) → end ≡ Some Full
-    full_of None known stays = absurd (known (λ none. absurd (cc none)))
-    full_of (Some first) known stays = sym (stays first refl)
+current_unreleased : IsCurrent 512 (ending ∷ []) 1 None (Some Full) [] (opening ∷ []) → ⊥
+current_unreleased current =
+    true≢false (ap (λ (status : Status). status.entries == 0) (current.latest full_fits))
 
 -- and where an end was posted that is no cause
-current_causeless : IsCurrent 512 [] None None []
+current_causeless : IsCurrent 512 [] 0 None None []
     (record { entries = 0; sector = 0; end = Some Full } ∷ []) → ⊥
 current_causeless current =
-    let ended : current.written.end ≡ Some Full → ⊥ =
-    λ is. let end = current.end_stays Full is in absurd (cc end) in
-    let told = current.ends 0 _ refl Full refl ended in
-    let none : None ≡ Some Full = sym current.let_go ∙ told in
-    absurd (cc none)
+    let told = current.ends 0 _ refl Full refl (λ is. absurd (cc is)) in
+    absurd (cc told)
 
 -- a recorder that lacks a seat, and one of which a seat has had a call
 seat_missing : AreNewSeats 1 [] → ⊥

@@ -1,11 +1,13 @@
 -- Worked answers: some that hold, and some that don't.
 -- Nothing cites it: it is checked with its crate.
 use Rattle.std.proofs.Common.{◌≡◌, ◌==◌, ◌<◌, ℕ, zero, suc, Bool, true, false, List, [], ◌∷◌}
-use Rattle.std.proofs.Common.{length}
+use Rattle.std.proofs.Common.{Option, length}
+use Rattle.std.specs.Prelude.{map}
 use Rattle.std.proofs.Common.{None, Ok, Err, Some, inl, inr, refl, ap, subst, sym, ◌∙◌, true≢false}
 use Rattle.std.proofs.Common.{arith}
 use Rattle.std.specs.Prelude.{is_some}
 use Rattle.bio.specs.declared.event.CoreEvent.TheVariants as events
+use Rattle.bio.specs.declared.outcome.End.{End}
 use Rattle.bio.specs.declared.outcome.End.TheVariants.{Device, Full}
 use Rattle.bio.specs.declared.request.Bio.{Bio}
 use Rattle.bio.specs.declared.request.Bio.TheVariants as bios
@@ -16,10 +18,10 @@ use Rattle.lock_state.specs.declared.note.Item.{Item}
 use Rattle.lock_state.specs.Comparison.{Receipt}
 use Rattle.lock_state.specs.Comparison.{Each}
 use Rattle.lock_state.specs.History.{Part, Queue, begun, ended, ended_by, finished, new_part, noted}
-use Rattle.lock_state.specs.History.{after_taking, in_hand, recorded_by}
+use Rattle.lock_state.specs.History.{after_taking, in_hand, passed_at, recorded_by}
 use Rattle.lock_state.specs.PlacedItems.{Log}
 use Rattle.pending.specs.CoreState.{next_item, sized_state}
-use Rattle.shared.specs.Answers.{Answered, AnswersPassed, Marked}
+use Rattle.shared.specs.Answers.{Answered, Marked}
 use Rattle.shared.specs.Admission.{Enters, MarkEnters}
 use Rattle.shared.specs.Posts.{IsCurrent, IsLatest, IsOfPrefix, KeepsCauses, PostsNext, TellsCause}
 use Rattle.shared.specs.Search.{Finds}
@@ -49,7 +51,7 @@ plain_done = (refl, inl (refl, (0, (1, refl))))
 fua_not_done : Answered (new_part 0) fua Done (after fua true) → ⊥
 fua_not_done answered = elim answered.1 [
   | inl recorded ↦ true≢false recorded.0
-  | inr passed ↦ true≢false (ap (λ (part : Part). length part.own == 2) passed.1)
+  | inr passed ↦ true≢false (ap (λ (part : Part). length part.own == 2) passed.1.1)
 ]
 
 -- it is answered by a receipt with its own id
@@ -66,22 +68,28 @@ mark_missing : Marked (new_part 0) (1 ∷ []) (marks.Logged (record { id = 3; nu
     (new_part 0) → ⊥
 mark_missing answered = true≢false (ap (λ (part : Part). length part.own == 0) answered)
 
--- behind a stop a write is done, and one with FUA is told the cause
-passed_plain : AnswersPassed (Some Full) plain Done
-passed_plain = inr refl
+-- after a Stop a passed write is done
+abbrev passed_full : Part
+passed_full = passed_at (new_part 0) 4 (Some Full)
 
-passed_fua : AnswersPassed (Some Full) fua (NotLogged Full)
-passed_fua = (refl, refl)
+passed_plain : Answered (new_part 0) plain Done passed_full
+passed_plain = (refl, inr (Some Full, (4, refl), inr refl))
 
--- it isn't done, nor told another cause
-passed_fua_done : AnswersPassed (Some Full) fua Done → ⊥
-passed_fua_done answers = elim answers [
-  | inl none ↦ absurd (cc none)
-  | inr other ↦ true≢false other
+-- but one with FUA isn't: it is answered by the Stop's cause
+abbrev stops : Part → List (Option End)
+stops part = map (λ call. call.stop) part.passed
+
+passed_fua_done : Answered (new_part 0) fua Done passed_full → ⊥
+passed_fua_done answered = elim answered.1 [
+  | inl recorded ↦ true≢false recorded.0
+  | inr passed ↦ elim passed.2 [
+    | inl none ↦ (
+        let stop : Some Full ∷ [] ≡ passed.0 ∷ [] = ap stops passed.1.1 in
+        absurd (cc (none, stop))
+        )
+    | inr plain ↦ true≢false plain
+  ]
 ]
-
-passed_other : AnswersPassed (Some Full) fua (NotLogged Device) → ⊥
-passed_other answers = let cause = answers.0 in absurd (cc cause)
 
 -- a queue of no events, one whose logging ended, and one that was closed
 abbrev fresh : Queue
@@ -134,7 +142,7 @@ other_mark enters = let cause = enters.1.0 in absurd (cc cause)
 nothing_next : FindsNext fresh None fresh None
 nothing_next = (refl, (refl, (omega arith, (refl, (refl, refl)))))
 
-stop_next : FindsNext stopped (Some (Stopped Full)) stopped None
+stop_next : FindsNext stopped (Some Stopped) stopped None
 stop_next = (refl, (refl, (refl, refl)))
 
 -- it isn't finished while recording goes on, nor where a stop ended it
@@ -163,7 +171,7 @@ mark_dropped finds = true≢false (sym (ap is_some finds.1.1))
 all_finished : FindsNext (after_taking closed) (Some Finished) (after_taking closed) None
 all_finished = (refl, (refl, (omega arith, (refl, (refl, refl)))))
 
--- it doesn't wait then, nor takes an item for which there is no room, nor is told another cause
+-- it doesn't wait then, nor takes an item for which there is no room, nor is stopped by no Stop
 close_awaited : FindsNext (after_taking closed) None (after_taking closed) None → ⊥
 close_awaited finds = true≢false (sym finds.0)
 
@@ -171,8 +179,8 @@ no_room_taken : FindsNext closed (Some NoRoom) (after_taking closed) None → �
 no_room_taken finds =
     let taken = ap (λ (queue : Queue). queue.core.taken) finds.0 in absurd (omega arith)
 
-other_stop : FindsNext stopped (Some (Stopped Device)) stopped None → ⊥
-other_stop finds = let cause = finds.0 in absurd (cc cause)
+no_stop : FindsNext fresh (Some Stopped) fresh None → ⊥
+no_stop finds = true≢false (sym finds.0)
 
 -- the item of a flush, whose entry takes one sector of the log
 abbrev flushed : ℕ → Item
@@ -300,14 +308,11 @@ posted_back new (inl (may, posted)) =
 posted_back new (inr (refused, same)) = same
 
 -- What was posted of it is up to date, where both receipts were told.
-two_current : IsCurrent 512 two None None (told_of 0 ∷ told_of 1 ∷ [])
+two_current : IsCurrent 512 two 2 None None (told_of 0 ∷ told_of 1 ∷ [])
     (opening ∷ record { entries = 2; sector = 2; end = None } ∷ [])
 two_current = record {
-  written = both_placed;
-  stays = λ number item there. there;
+  within = omega arith;
   counted = counted;
-  end_stays = λ cause is. is;
-  let_go = refl;
   ends = ends;
   told = told;
   latest = λ may. refl;

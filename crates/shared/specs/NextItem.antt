@@ -23,13 +23,13 @@ AllTaken old new hand =
     (old.stop ≡ None) × ((length (items_of old.core) ≤ old.core.taken) × GivesNone old new hand)
 
 -- What the writer finds with nothing in hand: the next item, which it takes; no memory to take it;
--- and where none is given a stop, with its cause; that recording is closed; or nothing yet.
+-- and if none is given, that logging stopped; that recording is closed; or nothing yet.
 abbrev pub FindsNext : Queue → Option Next → Queue → Option Placing → Type 0
 FindsNext old (Some Item) new hand =
     (is_some (next_item old.core) ≡ true)
     × ((new ≡ after_taking old) × (hand ≡ in_hand (next_item old.core)))
 FindsNext old (Some NoRoom) new hand = (new ≡ old) × (hand ≡ None)
-FindsNext old (Some (Stopped cause)) new hand = (old.stop ≡ Some cause) × GivesNone old new hand
+FindsNext old (Some Stopped) new hand = (is_some old.stop ≡ true) × GivesNone old new hand
 FindsNext old (Some Finished) new hand =
     (has_no_close old.core.events ≡ false) × AllTaken old new hand
 FindsNext old None new hand = (has_no_close old.core.events ≡ true) × AllTaken old new hand

@@ -170,6 +170,8 @@ impl<D: BlockDev + Drop, L: BlockDev + Drop, R: Run + Names> Shared<D, L, R> {
             → StopsWithLog c.closed.stop c.closed.store_end) }
         ensures full { IfOk result (λ c. c.found ≡ None → c.closed.store_end ≡ Some Full
             → HasNoRoom R.sector_bytes R.log.size c.closed.core.state c.closed.placed.items) }
+        ensures released { IfOk result (λ c. (cause : Cause) → c.released ≡ Some cause
+            → c.closed.stop ≡ Some cause) }
         ensures causes { IfOk result (λ c.
             HasCause L.does R.log (L.shown c.closed.log).faults c.closed.store_end) }
         ensures ends { IfOk result
@@ -211,6 +213,8 @@ impl<D: BlockDev + Drop, L: BlockDev + Drop, R: Run + Names> Shared<D, L, R> {
               end = f.closed.store_end;
               released = f.released;
             }) f.posts)) }
+        ensures foreign_released { IfErr result (λ e. IfForeign e (λ f. (cause : Cause)
+            → f.released ≡ Some cause → f.closed.stop ≡ Some cause)) }
         ensures foreign_causes { IfErr result (λ e. IfForeign e (λ f.
             HasCause L.does R.log (L.shown f.closed.log).faults f.closed.store_end)) }
         ensures foreign_hazard { IfErr result (λ e. IfForeign e (λ f. f.closed.hazard ≡ None)) }
@@ -232,7 +236,7 @@ impl<D: BlockDev + Drop, L: BlockDev + Drop, R: Run + Names> Shared<D, L, R> {
     {
         let Held {
             desk,
-            log,
+            mut log,
             posts,
             device,
         } = match self.leave_locks() {
@@ -253,9 +257,10 @@ impl<D: BlockDev + Drop, L: BlockDev + Drop, R: Run + Names> Shared<D, L, R> {
         let mut seats = seats;
         queue.audit(&mut seats);
         let notes = notes.as_mut_slice();
+        log.confirm_release(&mut queue);
         let released = log.released();
         let written = log.placed().len() as u64;
-        let found = queue.stop_cause().or(log.end());
+        let found = first_of(queue.stop_cause(), log.end());
         let agrees = agree(
             &queue,
             &log,
@@ -389,6 +394,7 @@ fn finish<D: BlockDev + Drop, L: BlockDev + Drop, R: Run>(
         result.placed.items result.settled result.store_end result.done.items seats receipts }
     ensures stay { Stay log.placed result.placed.items }
     ensures end_stays { (cause : Cause) → log.end ≡ Some cause → result.store_end ≡ Some cause }
+    ensures stop_stays { (cause : Cause) → queue.stop ≡ Some cause → result.stop ≡ Some cause }
     ensures ended { is_some (first_cause queue.stop log.end) ≡ true
         → (result.placed.items ≡ log.placed) × (result.store_end ≡ log.end)
         × (result.stop ≡ queue.stop) }
@@ -418,6 +424,13 @@ fn finish<D: BlockDev + Drop, L: BlockDev + Drop, R: Run>(
     let mut log = log;
     drain(&mut queue, &mut log);
     take_apart(queue, log, device)
+}
+
+// The cause of the first Stop, else that of the log itself.
+fn first_of(stop: Option<End>, end: Option<End>) -> Option<End>
+    ensures { result ≡ first_cause stop end }
+{
+    stop.or(end)
 }
 
 // What the locks guarded, part by part.
@@ -455,7 +468,7 @@ fn take_apart<D: BlockDev + Drop, L: BlockDev + Drop, R: Run>(
     let log = log.into_parts();
     let (device, done) = device.into_parts();
     let store_end = log.status.end;
-    let end = queue.stop.or(store_end);
+    let end = first_of(queue.stop, store_end);
     Closed {
         device,
         log: log.device,

@@ -6,14 +6,17 @@ use holders::Fresh;
 use std::alloc::{AllocError, Global};
 use std::sync::ledger::Blank;
 
-/// The ledger of a recorder's seats, the table on which its queue and seats agree, and the board of
-/// its status. They name the recorder: its seats are of its type alone.
+/// The ledger of a recorder's seats, the table on which its queue and seats agree, that on which its
+/// queue and log agree about the first stop, and the board of its status. They name the recorder: a
+/// seat of another one has another type.
 #[derive(Drop)]
 pub struct Unnamed {
     /// The ledger, which has a part for each seat.
     pub ledger: Blank,
-    /// The table.
+    /// The table of the queue and the seats.
     pub table: Fresh,
+    /// The table of the queue and the log.
+    pub stops: Fresh,
     /// The board.
     pub board: board::Blank,
 }
@@ -27,6 +30,7 @@ impl Unnamed {
         Ok(Unnamed {
             ledger: Blank::new(seats),
             table: Fresh::new(alloc)?,
+            stops: Fresh::new(alloc)?,
             board: board::Blank::new(alloc)?,
         })
     }

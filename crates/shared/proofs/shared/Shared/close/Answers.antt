@@ -1,9 +1,14 @@
 -- Answers to the goals of `Shared::close` (src/shared.rt) that the search leaves.
-use Rattle.std.proofs.Common.{List, ◌∙◌, subst, sym}
+use Rattle.std.proofs.Common.{◌≡◌, ℕ, List, Option, length, ◌∙◌, ap, subst, sym}
+use Rattle.bio.specs.declared.outcome.End.{End}
+use Rattle.lock_state.specs.Comparison.{Each}
+use Rattle.lock_state.specs.History.{Queue}
+use Rattle.lock_state.specs.PlacedItems.{Log}
 use Rattle.lock_state.specs.declared.note.Item.{Item}
 use Rattle.shared.proofs.ClosedLog.{agrees_of, differs_apart, differs_of, receipts_there}
-use Rattle.shared.proofs.PostedStatus.{posted_stays, told_within}
-use Rattle.shared.specs.Posts.{ArePosted}
+use Rattle.shared.proofs.PostedStatus.{current_of, ended_of, found_of, none_of_both, posted_stays}
+use Rattle.shared.proofs.PostedStatus.{told_within}
+use Rattle.shared.specs.Posts.{ArePosted, IsCurrent, IsLatest, IsOfPrefix, TellsCause, end_before}
 use Rattle.shared.proofs.shared.Shared.close.Goals as goal
 
 pub returns-then-agrees-clause-agrees : goal.returns-then-agrees-clause-agrees
@@ -24,34 +29,20 @@ returns-then-agrees-clause-log g c lies =
 
 pub returns-then-agrees-clause-posted : goal.returns-then-agrees-clause-posted
 returns-then-agrees-clause-posted g c =
-    posted_stays _ _ _ _ c.finish-closed.ensures.stay c.in-Ok.ensures.posted
-
-pub returns-then-agrees-clause-current : goal.returns-then-agrees-clause-current
-returns-then-agrees-clause-current g c =
-    let before =
-    agrees_of _ _ _ _ _ _ _ _ _
-    (c.as_slice.ensures.value
-    ∙ c.audit.ensures.same.1) c.as_slice-2.ensures.value c.if-agrees.ensures.agrees in
-    record {
-      written = c.in-Ok.held.log;
-      stays = c.finish-closed.ensures.stay;
-      counted = c.in-Ok.ensures.posted.each;
-      end_stays = c.finish-closed.ensures.end_stays;
-      let_go = sym c.released-released.ensures;
-      ends = c.in-Ok.ensures.ends;
-      told = told_within _ _ _ before.named;
-      latest = c.in-Ok.ensures.latest;
-    }
+    posted_stays _ _ _ _ c.finish-closed.ensures.stay
+    (subst (λ (log : Log). ArePosted g.R.Run.sector_bytes log.placed c.in-Ok.held.posts)
+    (sym c.confirm_release.ensures.same.0) c.in-Ok.ensures.posted)
 
 pub returns-clause-foreign_posted : goal.returns-clause-foreign_posted
 returns-clause-foreign_posted g c =
     subst (λ (items : List Item). ArePosted g.R.Run.sector_bytes items c.in-Ok.held.posts)
-    (sym c.take_apart.ensures.placed.0) c.in-Ok.ensures.posted
+    (sym (c.take_apart.ensures.placed.0 ∙ ap (λ (log : Log). log.placed)
+    c.confirm_release.ensures.same.0)) c.in-Ok.ensures.posted
 
 pub returns-clause-foreign : goal.returns-clause-foreign
 returns-clause-foreign g c =
     let a = c.take_apart.ensures in
-    differs_apart _ c.in-Ok.held.log _ _ _ _ _ _ _ _ _ _
+    differs_apart _ c.confirm_release.new.self _ _ _ _ _ _ _ _ _ _
     (record {
       same_queue = a.queue;
       same_placed = a.placed.0;
@@ -65,12 +56,76 @@ returns-clause-foreign g c =
 
 pub returns-then-agrees-clause-ends : goal.returns-then-agrees-clause-ends
 returns-then-agrees-clause-ends g c k status there cause is other =
-    c.released-released.ensures
+    let log = c.confirm_release.ensures.same.0 in
+    c.released-released.ensures ∙ ap (λ (log : Log). log.released) log
     ∙ c.in-Ok.ensures.ends k status there cause is
-    (λ end. other (c.finish-closed.ensures.end_stays cause end))
+    (λ end. other (c.finish-closed.ensures.end_stays cause (ap (λ (log : Log). log.end) log ∙ end)))
 
 pub returns-clause-foreign_ends : goal.returns-clause-foreign_ends
 returns-clause-foreign_ends g c k status there cause is other =
-    c.released-released.ensures
+    let log = c.confirm_release.ensures.same.0 in
+    c.released-released.ensures ∙ ap (λ (log : Log). log.released) log
     ∙ c.in-Ok.ensures.ends k status there cause is
-    (λ end. other (c.take_apart.ensures.store_end ∙ end))
+    (λ end. other (c.take_apart.ensures.store_end ∙ ap (λ (log : Log). log.end) log ∙ end))
+
+pub returns-then-agrees-clause-released : goal.returns-then-agrees-clause-released
+returns-then-agrees-clause-released g c cause is =
+    let same = c.confirm_release.ensures.same in
+    c.finish-closed.ensures.stop_stays cause
+    (ap (λ (q : Queue). q.stop) same.1
+    ∙ c.confirm_release.ensures.released cause
+    (ap (λ (log : Log). log.released) (sym same.0) ∙ sym c.released-released.ensures ∙ is))
+
+pub returns-clause-foreign_released : goal.returns-clause-foreign_released
+returns-clause-foreign_released g c cause is =
+    let same = c.confirm_release.ensures.same in
+    ap (λ (q : Queue). q.stop) (c.take_apart.ensures.queue ∙ same.1)
+    ∙ c.confirm_release.ensures.released cause
+    (ap (λ (log : Log). log.released) (sym same.0) ∙ sym c.released-released.ensures ∙ is)
+
+pub returns-then-agrees-clause-drained : goal.returns-then-agrees-clause-drained
+returns-then-agrees-clause-drained g c none =
+    let on =
+    none_of_both c.confirm_release.new.queue.stop c.confirm_release.new.self.end
+    _ (found_of _ _ _ _ _ c.first_of-found.ensures c.stop_cause.ensures c.end.ensures) none in
+    c.finish-closed.ensures.drained on.0 on.1
+
+pub returns-then-agrees-clause-full : goal.returns-then-agrees-clause-full
+returns-then-agrees-clause-full g c none =
+    let on =
+    none_of_both c.confirm_release.new.queue.stop c.confirm_release.new.self.end
+    _ (found_of _ _ _ _ _ c.first_of-found.ensures c.stop_cause.ensures c.end.ensures) none in
+    c.finish-closed.ensures.full on.0 on.1
+
+pub returns-then-agrees-clause-ended : goal.returns-then-agrees-clause-ended
+returns-then-agrees-clause-ended g c =
+    ended_of _ _ _ _ _ _ _
+    (found_of _ _ _ _ _ c.first_of-found.ensures c.stop_cause.ensures c.end.ensures)
+    c.placed.ensures.items c.finish-closed.ensures.end c.finish-closed.ensures.ended
+
+pub returns-then-agrees-clause-current : goal.returns-then-agrees-clause-current
+returns-then-agrees-clause-current g c =
+    let before =
+    agrees_of _ _ _ _ _ _ _ _ _
+    (c.as_slice.ensures.value
+    ∙ c.audit.ensures.same.1) c.as_slice-2.ensures.value c.if-agrees.ensures.agrees in
+    let bytes = g.R.Run.sector_bytes in
+    let log = c.confirm_release.new.self in
+    let closed = c.finish-closed.result in
+    let same : c.in-Ok.held.log ≡ log = sym c.confirm_release.ensures.same.0 in
+    let current =
+    current_of bytes log closed.placed.items c.confirm_release.new.queue.stop
+    c.first_of-found.result closed.store_end
+    c.args.receipts.items c.in-Ok.held.posts c.finish-closed.ensures.stay
+    (subst (λ (l : Log). Each (IsOfPrefix bytes l.placed) c.in-Ok.held.posts) same
+    c.in-Ok.ensures.posted.each)
+    (subst (λ (l : Log). Each (TellsCause l.end l.released) c.in-Ok.held.posts) same
+    c.in-Ok.ensures.ends)
+    (told_within _ _ _ before.named)
+    (subst (λ (l : Log). IsLatest bytes l c.in-Ok.held.posts) same c.in-Ok.ensures.latest)
+    (found_of _ _ _ _ _ c.first_of-found.ensures c.stop_cause.ensures c.end.ensures)
+    (λ ended. (c.finish-closed.ensures.ended ended).1) in
+    subst (λ (x : ℕ × Option End). IsCurrent bytes closed.placed.items x.0
+    (end_before c.first_of-found.result closed.store_end) x.1 c.args.receipts.items
+    c.in-Ok.held.posts)
+    (λ i. (sym (ap length c.placed.ensures.items) i, sym c.released-released.ensures i)) current

@@ -196,7 +196,8 @@ kept_more (first ∷ comes) came =
     ∙ kept_behind (and_kept [] first.receipt) (receipts_of comes) came.receipt
 
 -- a seat's request was answered
-pub makes_request : (submission : Submission) (inside old : Player) (part : Part) (answer : Answer)
+pub makes_request : (submission : Submission) (inside old : Player) (part : Part)
+    (answer : Answer Receipt)
     (outcome : Outcome) (given : Option Receipt) (receipts : List Receipt)
     → inside ≡ old → Answered inside.part (bio_of submission) answer part
     → outcome ≡ outcome_of answer → given ≡ receipt_in answer
@@ -221,7 +222,8 @@ makes_request submission inside old part answer outcome given receipts same answ
     }
 
 -- and so was its mark
-pub makes_mark : (text : List ℕ) (inside old : Player) (part : Part) (answer : MarkAnswer)
+pub makes_mark : (text : List ℕ) (inside old : Player) (part : Part)
+    (answer : MarkAnswer Receipt)
     (outcome : Outcome) (given : Option Receipt) (receipts : List Receipt)
     → inside ≡ old → Marked inside.part text answer part → outcome ≡ mark_outcome answer
     → given ≡ mark_receipt_in answer → receipts ≡ and_kept inside.receipts given

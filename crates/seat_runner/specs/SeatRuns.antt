@@ -15,13 +15,13 @@ use Rattle.script_reader.specs.declared.seat_call.SeatCall.{SeatCall}
 use Rattle.script_reader.specs.Plans.{top_of}
 use Rattle.script_reader.specs.RunPlans.{RunPlan}
 use Rattle.layer_table.specs.declared.stack.Stack.{Stack}
-use Rattle.layer_table.specs.Layers.{disk_of, stack_shown}
+use Rattle.layer_table.specs.Layers.{disk_of, stack_does, stack_shown}
 use Rattle.lock_state.specs.Comparison.{Receipt}
 use Rattle.lock_state.specs.Calls.{Holds}
 use Rattle.lock_state.specs.Comparison.{Each}
-use Rattle.lock_state.specs.History.{Part, first_cause, named, new_part, owned}
+use Rattle.lock_state.specs.History.{KeepsCause, Part, first_cause, named, new_part, owned}
 use Rattle.lock_state.specs.LegalHistory.{LegalHistory}
-use Rattle.lock_state.specs.PlacedItems.{Ground, StandsOn, entries_in, ground_of}
+use Rattle.lock_state.specs.PlacedItems.{Ground, HasCause, StandsOn, entries_in, ground_of}
 use Rattle.log_format.specs.LogOf.{status_of}
 use Rattle.log_store.specs.Calls.{HasFaulted}
 use Rattle.run_error.specs.declared.run_error.RunError.{RunError}
@@ -46,10 +46,10 @@ use Rattle.table_line.specs.LayerOrder.{some_drops}
 -- it so, and the seat's list has what goes with that answer
 abbrev pub IsMade : Part → Call → Came → Part → Type 0
 IsMade old (Submit submission) came new =
-    (answer : Answer) × Answered old (bio_of submission) answer new
+    (answer : Answer Receipt) × Answered old (bio_of submission) answer new
     × (came ≡ record { outcome = outcome_of answer; receipt = receipt_in answer })
 IsMade old (Mark text) came new =
-    (answer : MarkAnswer) × Marked old text answer new
+    (answer : MarkAnswer Receipt) × Marked old text answer new
     × (came ≡ record { outcome = mark_outcome answer; receipt = mark_receipt_in answer })
 
 -- a seat made these calls one after the other, which came to these
@@ -111,7 +111,14 @@ pub record IsClosed (ground : Ground) (bytes sectors : ℕ) (seats : List Part)
       LeavesLog bytes (stack_shown closed.log).size closed.settled closed.core.state closed.end left
   -- the log's device is the one that it was
   pub stands : StandsOn ground (stack_shown closed.log)
+  -- logging ended by the first Stop, which is the history's or came after the Close, else by the
+  -- end of the log itself
   pub end : closed.end ≡ first_cause closed.stop closed.store_end
+  pub stop : KeepsCause closed.core.state closed.stop
+  pub causes : HasCause stack_does ground (stack_shown closed.log).faults closed.store_end
+  -- the recorder is one of this log's sector size and of this device
+  pub sector_size : closed.core.state.sector_bytes ≡ bytes
+  pub device_size : (stack_shown closed.device).size ≡ sectors
   -- unless it lied, the recorded device has what was written to it
   pub holds : (stack_shown closed.device).lies ≡ 0
       → Holds (stack_shown closed.device).content closed.done.items

@@ -14,7 +14,7 @@ use Rattle.shared.specs.declared.answer.MarkAnswer.{MarkAnswer}
 use Rattle.shared.specs.declared.answer.MarkAnswer.TheVariants as marks
 
 -- what became of a request that was answered so; no line of a script reads
-abbrev pub outcome_of : Answer → Outcome
+abbrev pub outcome_of : Answer Receipt → Outcome
 outcome_of answers.Done = Done
 outcome_of (answers.Read bytes) = Done
 outcome_of (answers.Logged receipt) = Logged
@@ -23,13 +23,13 @@ outcome_of (answers.NotLogged cause) = NotLogged
 outcome_of (answers.Refused bad) = Refused
 
 -- what became of a mark that was answered so
-abbrev pub mark_outcome : MarkAnswer → Outcome
+abbrev pub mark_outcome : MarkAnswer Receipt → Outcome
 mark_outcome (marks.Logged receipt) = Logged
 mark_outcome (marks.NotLogged cause) = NotLogged
 mark_outcome (marks.Refused refusal) = Refused
 
 -- the receipt that a request was answered with, if there is one
-abbrev pub receipt_in : Answer → Option Receipt
+abbrev pub receipt_in : Answer Receipt → Option Receipt
 receipt_in answers.Done = None
 receipt_in (answers.Read bytes) = None
 receipt_in (answers.Logged receipt) = Some receipt
@@ -38,7 +38,7 @@ receipt_in (answers.NotLogged cause) = None
 receipt_in (answers.Refused bad) = None
 
 -- and that of a mark
-abbrev pub mark_receipt_in : MarkAnswer → Option Receipt
+abbrev pub mark_receipt_in : MarkAnswer Receipt → Option Receipt
 mark_receipt_in (marks.Logged receipt) = Some receipt
 mark_receipt_in (marks.NotLogged cause) = None
 mark_receipt_in (marks.Refused refusal) = None

@@ -79,7 +79,7 @@ fn run_on<R: Run + Names + Send + Sync, H: Threads + Wait + Sync>(
         × (unnamed.ledger.parts ≡ script.now.seats) }
     requires some { 0 < script.now.seats }
     requires script { IsRunPlan script.now }
-    requires table { unnamed.table ≡ R.table }
+    requires table { (unnamed.table ≡ R.table) × (unnamed.stops ≡ R.stops) }
     requires board { unnamed.board ≡ R.board }
     requires fits { FitsRecorder R.sector_bytes R.sectors script.now }
     requires device { IsStackOf script.now.data_disk device }
@@ -117,7 +117,7 @@ fn start<R: Run + Names>(
 ) -> Result<Started<Stack, Stack, R>, RunError>
     requires ledger { (unnamed.ledger.name ≡ R.name) × (unnamed.ledger.parts ≡ R.parts)
         × (unnamed.ledger.parts ≡ script.now.seats) }
-    requires table { unnamed.table ≡ R.table }
+    requires table { (unnamed.table ≡ R.table) × (unnamed.stops ≡ R.stops) }
     requires board { unnamed.board ≡ R.board }
     requires fits { FitsRecorder R.sector_bytes R.sectors script.now }
     requires device { IsStackOf script.now.data_disk device }
@@ -161,7 +161,7 @@ fn works_of<R: Run + Names>(
 struct Parts<R: Run + Names> {
     seats: Vec<Seat<R>>,
     tallies: Vec<Tally>,
-    receipts: Vec<Receipt>,
+    receipts: Vec<Receipt<R>>,
 }
 
 // The seats, their tallies in the same order, and all receipts.
@@ -179,7 +179,8 @@ fn parts_of<R: Run + Names>(alloc: Global, works: Vec<Work<R>>) -> Result<Parts<
     let mut receipts = Vec::new(alloc);
     for work in works {
         tallies.push(work.tally)?;
-        receipts.extend_from_slice(work.receipts.as_slice())?;
+        let mut given = work.receipts;
+        receipts.append(&mut given)?;
         seats.push(work.seat)?;
     }
     Ok(Parts {
@@ -194,7 +195,7 @@ fn close<R: Run + Names>(
     recorder: Shared<Stack, Stack, R>,
     writer: WriterSeat<R>,
     seats: Vec<Seat<R>>,
-    receipts: Vec<Receipt>,
+    receipts: Vec<Receipt<R>>,
 ) -> Result<Closed<Stack, Stack>, Refusal>
     requires { (length seats.items ≡ R.parts) × (0 < R.parts) }
     ensures closed { IfOk result
@@ -207,6 +208,8 @@ fn close<R: Run + Names>(
                 closed,
                 posts: _,
                 released: _,
+                written: _,
+                found: _,
             },
         ) => Ok(closed),
         Err(Unclosed::Busy(_)) => Err(Refusal::Busy),

@@ -3,6 +3,7 @@
 ghost use Rattle.std.specs.Prelude.{◌≡◌, ◌+◌, ◌-◌, ◌^◌, ◌<◌, ◌≤◌};
 ghost use Rattle.seat_runner.specs.Tallies.{HasRoom, counted, mark_outcome, no_calls, outcome_of};
 
+use lock_state::{Receipt, Run};
 use shared::{Answer, MarkAnswer};
 
 /// What became of a call.
@@ -32,7 +33,7 @@ pub struct Tally {
 
 impl Outcome {
     // That of a request which was answered so.
-    pub(crate) fn of_request(answer: &Answer) -> Outcome
+    pub(crate) fn of_request<R: Run>(answer: &Answer<Receipt<R>>) -> Outcome
         ensures { result ≡ outcome_of answer.now }
     {
         match answer {
@@ -45,7 +46,7 @@ impl Outcome {
     }
 
     // That of a mark which was answered so.
-    pub(crate) fn of_mark(answer: &MarkAnswer) -> Outcome
+    pub(crate) fn of_mark<R: Run>(answer: &MarkAnswer<Receipt<R>>) -> Outcome
         ensures { result ≡ mark_outcome answer.now }
     {
         match answer {

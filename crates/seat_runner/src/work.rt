@@ -28,7 +28,7 @@ pub struct Work<R: Run + Names> {
     pub(crate) seat: Seat<R>,
     pub(crate) tally: Tally,
     // Those that its calls were answered with, in their order.
-    pub(crate) receipts: Vec<Receipt>,
+    pub(crate) receipts: Vec<Receipt<R>>,
     last: LastData,
 }
 
@@ -129,8 +129,9 @@ impl<R: Run + Names> Work<R> {
             return Outcome::Failed;
         };
         let answer = recorder.submit(rt, &mut self.seat, bio, Ms::new(0));
-        keep(&mut self.receipts, receipt_of(&answer));
-        Outcome::of_request(&answer)
+        let outcome = Outcome::of_request(&answer);
+        keep(&mut self.receipts, receipt_of(answer));
+        outcome
     }
 
     // Marks the log.
@@ -148,8 +149,9 @@ impl<R: Run + Names> Work<R> {
             return Outcome::Refused;
         }
         let answer = recorder.mark(rt, &mut self.seat, text);
-        keep(&mut self.receipts, mark_receipt(&answer));
-        Outcome::of_mark(&answer)
+        let outcome = Outcome::of_mark(&answer);
+        keep(&mut self.receipts, mark_receipt(answer));
+        outcome
     }
 }
 
@@ -161,7 +163,7 @@ fn is_own(line: &SeatCall, number: u64) -> bool
 }
 
 // Keeps a receipt, if there is one, for the close. There is room for it.
-fn keep(receipts: &mut Vec<Receipt>, receipt: Option<Receipt>)
+fn keep<R: Run>(receipts: &mut Vec<Receipt<R>>, receipt: Option<Receipt<R>>)
     requires { vec_len receipts.old < vec_capacity receipts.old }
     ensures { receipts.new.items ≡ and_kept receipts.old.items receipt }
 {
@@ -171,21 +173,21 @@ fn keep(receipts: &mut Vec<Receipt>, receipt: Option<Receipt>)
 }
 
 // The receipt of a request that was logged.
-fn receipt_of(answer: &Answer) -> Option<Receipt>
-    ensures { result ≡ receipt_in answer.now }
+fn receipt_of<R: Run>(answer: Answer<Receipt<R>>) -> Option<Receipt<R>>
+    ensures { result ≡ receipt_in answer }
 {
     match answer {
-        Answer::Logged(receipt) => Some(*receipt),
+        Answer::Logged(receipt) => Some(receipt),
         _ => None,
     }
 }
 
 // The receipt of a mark that was logged.
-fn mark_receipt(answer: &MarkAnswer) -> Option<Receipt>
-    ensures { result ≡ mark_receipt_in answer.now }
+fn mark_receipt<R: Run>(answer: MarkAnswer<Receipt<R>>) -> Option<Receipt<R>>
+    ensures { result ≡ mark_receipt_in answer }
 {
     match answer {
-        MarkAnswer::Logged(receipt) => Some(*receipt),
+        MarkAnswer::Logged(receipt) => Some(receipt),
         _ => None,
     }
 }

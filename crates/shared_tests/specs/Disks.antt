@@ -10,4 +10,5 @@ disk_ground sectors =
       place = record { origin = 0; disk = sectors };
       can_lie = false;
       lies = 0;
+      faults = 0;
     }

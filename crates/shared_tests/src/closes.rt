@@ -6,6 +6,7 @@ ghost use Rattle.shared_tests.specs.Disks.{disk_ground};
 use bio::{Bio, Bytes, End, Ms};
 use board::Names;
 use lock_state::{Run, Seat};
+use refusals::Refusal;
 use sector_disk::SectorDisk;
 use shared::{Answer, Ending, MarkAnswer, Shared, Started, Unclosed, Unnamed, WriterSeat};
 use std::alloc::{AllocError, Global};
@@ -23,7 +24,7 @@ fn start<R: Run + Names>(
 ) -> Result<Option<Started<SectorDisk, SectorDisk, R>>, AllocError>
     requires ledger { (unnamed.ledger.name ≡ R.name) × (unnamed.ledger.parts ≡ R.parts)
         × (unnamed.ledger.parts ≡ 1) }
-    requires table { unnamed.table ≡ R.table }
+    requires table { (unnamed.table ≡ R.table) × (unnamed.stops ≡ R.stops) }
     requires board { unnamed.board ≡ R.board }
     requires sectors { (R.sectors ≡ 16) × (R.log ≡ disk_ground 16) }
     requires sector_size { R.sector_bytes ≡ 512 }
@@ -33,11 +34,29 @@ fn start<R: Run + Names>(
     Ok(Shared::new(alloc, unnamed, device, log, 1, 1).ok())
 }
 
-// A write of one sector.
+// A write of one sector of sevens.
 fn write(alloc: Global, first: u64) -> Result<Bio, AllocError> {
+    write_of(alloc, first, 7)
+}
+
+// Whether a sector of sevens and then one of nines was read.
+fn has_read<C>(answer: &Answer<C>) -> bool {
+    match answer {
+        Answer::Read(bytes) => {
+            let (one, other) = bytes.as_slice().split_at(bytes.len() / 2);
+            one.len() == 512
+                && one.iter().all(|&byte| byte == 7)
+                && other.iter().all(|&byte| byte == 9)
+        }
+        _ => false,
+    }
+}
+
+// A write of one sector of this byte.
+fn write_of(alloc: Global, first: u64, byte: u8) -> Result<Bio, AllocError> {
     Ok(Bio::Write {
         first,
-        bytes: Bytes::from_vec(vec![in alloc; 7; 512]?),
+        bytes: Bytes::from_vec(vec![in alloc; byte; 512]?),
         flush: false,
         fua: false,
         meta: false,
@@ -53,7 +72,7 @@ fn unasked<R: Run + Names, H: Wait>(
 ) -> Result<bool, AllocError>
     requires ledger { (unnamed.ledger.name ≡ R.name) × (unnamed.ledger.parts ≡ R.parts)
         × (unnamed.ledger.parts ≡ 1) }
-    requires table { unnamed.table ≡ R.table }
+    requires table { (unnamed.table ≡ R.table) × (unnamed.stops ≡ R.stops) }
     requires board { unnamed.board ≡ R.board }
     requires sectors { (R.sectors ≡ 16) × (R.log ≡ disk_ground 16) }
     requires sector_size { R.sector_bytes ≡ 512 }
@@ -81,6 +100,8 @@ fn unasked<R: Run + Names, H: Wait>(
             closed,
             posts: _,
             released: _,
+            written: _,
+            found: _,
         },
     ) = back.recorder.close(back.seats, back.writer, back.receipts)
     else {
@@ -100,7 +121,7 @@ fn recorded<R: Run + Names, H: Wait>(
 ) -> Result<bool, AllocError>
     requires ledger { (unnamed.ledger.name ≡ R.name) × (unnamed.ledger.parts ≡ R.parts)
         × (unnamed.ledger.parts ≡ 1) }
-    requires table { unnamed.table ≡ R.table }
+    requires table { (unnamed.table ≡ R.table) × (unnamed.stops ≡ R.stops) }
     requires board { unnamed.board ≡ R.board }
     requires sectors { (R.sectors ≡ 16) × (R.log ≡ disk_ground 16) }
     requires sector_size { R.sector_bytes ≡ 512 }
@@ -120,7 +141,8 @@ fn recorded<R: Run + Names, H: Wait>(
     let before = recorder.status(&mut reader);
     let written = recorder.submit(rt, &mut seat, write(alloc, 1)?, Ms::new(0));
     let flushed = recorder.submit(rt, &mut seat, Bio::Flush, Ms::new(0));
-    let read = recorder.submit(rt, &mut seat, Bio::Read { first: 1, count: 1 }, Ms::new(0));
+    let other = recorder.submit(rt, &mut seat, write_of(alloc, 2, 9)?, Ms::new(0));
+    let read = recorder.submit(rt, &mut seat, Bio::Read { first: 1, count: 2 }, Ms::new(0));
     seats.push(seat)?;
     let is_asked = recorder.ask_close(rt).is_ok();
     recorder.write_loop(rt, &mut writer);
@@ -130,18 +152,21 @@ fn recorded<R: Run + Names, H: Wait>(
             closed,
             mut posts,
             released,
+            written: placed,
+            found,
         },
     ) = recorder.close(seats, writer, Vec::new(alloc))
     else {
         return Ok(false);
     };
     posts.agree(&mut reader);
-    let goes_on = closed.end.is_none() && released.is_none();
-    let is_written = closed.placed.len() == 3 && closed.settled == 3 && goes_on;
+    let goes_on = closed.end.is_none() && released.is_none() && found.is_none();
+    let is_written = closed.placed.len() == 4 && closed.settled == 4 && placed == 4 && goes_on;
     let is_posted = behind == closed.status && posts.last() == behind;
     let is_shown = before.entries == 0 && before.sector == 0 && is_posted;
     let are_done = matches!(written, Answer::Done) && matches!(flushed, Answer::Done);
-    Ok(are_done && matches!(read, Answer::Read(_)) && is_asked && is_written && is_shown)
+    let are_done = are_done && matches!(other, Answer::Done);
+    Ok(are_done && has_read(&read) && is_asked && is_written && is_shown)
 }
 
 // A recorder whose one seat made a write, and that was asked to close.
@@ -162,7 +187,7 @@ fn start_and_write<R: Run + Names, H: Wait>(
 ) -> Result<Option<Wrote<R>>, AllocError>
     requires ledger { (unnamed.ledger.name ≡ R.name) × (unnamed.ledger.parts ≡ R.parts)
         × (unnamed.ledger.parts ≡ 1) }
-    requires table { unnamed.table ≡ R.table }
+    requires table { (unnamed.table ≡ R.table) × (unnamed.stops ≡ R.stops) }
     requires board { unnamed.board ≡ R.board }
     requires sectors { (R.sectors ≡ 16) × (R.log ≡ disk_ground 16) }
     requires sector_size { R.sector_bytes ≡ 512 }
@@ -217,7 +242,7 @@ fn stopped<R: Run + Names, H: Wait>(
 ) -> Result<bool, AllocError>
     requires ledger { (unnamed.ledger.name ≡ R.name) × (unnamed.ledger.parts ≡ R.parts)
         × (unnamed.ledger.parts ≡ 1) }
-    requires table { unnamed.table ≡ R.table }
+    requires table { (unnamed.table ≡ R.table) × (unnamed.stops ≡ R.stops) }
     requires board { unnamed.board ≡ R.board }
     requires sectors { (R.sectors ≡ 16) × (R.log ≡ disk_ground 16) }
     requires sector_size { R.sector_bytes ≡ 512 }
@@ -260,13 +285,15 @@ fn foreign_seats<B: Run + Names, C: Run + Names, H: Wait>(
 ) -> Result<bool, AllocError>
     requires ledger { (unnamed.ledger.name ≡ B.name) × (unnamed.ledger.parts ≡ B.parts)
         × (unnamed.ledger.parts ≡ 1) }
-    requires table { (unnamed.table ≡ B.table) × (unnamed.board ≡ B.board) }
+    requires table { (unnamed.table ≡ B.table) × (unnamed.stops ≡ B.stops)
+        × (unnamed.board ≡ B.board) }
     requires sectors { (B.sectors ≡ 16) × (C.sectors ≡ 16) }
     requires logs { (B.log ≡ disk_ground 16) × (C.log ≡ disk_ground 16) }
     requires sector_size { (B.sector_bytes ≡ 512) × (C.sector_bytes ≡ 512) }
     requires other_ledger { (other.ledger.name ≡ C.name) × (other.ledger.parts ≡ C.parts)
         × (other.ledger.parts ≡ 1) }
-    requires other_table { (other.table ≡ C.table) × (other.board ≡ C.board) }
+    requires other_table { (other.table ≡ C.table) × (other.stops ≡ C.stops)
+        × (other.board ≡ C.board) }
 {
     let Some(mut one) = start_and_write::<B, H>(rt, alloc, unnamed, 1)? else {
         return Ok(false);
@@ -301,6 +328,44 @@ fn a_write_behind_a_stop_is_told_its_cause(rt: HostRuntime) -> Result<(), Fail> 
     let alloc = rt.alloc();
     let unnamed = Unnamed::new(alloc, 1)?;
     assert!(rt; stopped::<Brand, HostRuntime>(&rt, alloc, unnamed)?);
+    Ok(())
+}
+
+// A seat's calls once recording was closed: a write with FUA is done, and a mark is refused by 36.
+fn closed<R: Run + Names, H: Wait>(
+    rt: &H,
+    alloc: Global,
+    unnamed: Unnamed,
+) -> Result<bool, AllocError>
+    requires ledger { (unnamed.ledger.name ≡ R.name) × (unnamed.ledger.parts ≡ R.parts)
+        × (unnamed.ledger.parts ≡ 1) }
+    requires table { (unnamed.table ≡ R.table) × (unnamed.stops ≡ R.stops) }
+    requires board { unnamed.board ≡ R.board }
+    requires sectors { (R.sectors ≡ 16) × (R.log ≡ disk_ground 16) }
+    requires sector_size { R.sector_bytes ≡ 512 }
+{
+    let Some(mut wrote) = start_and_write::<R, H>(rt, alloc, unnamed, 1)? else {
+        return Ok(false);
+    };
+    let sure = Bio::Write {
+        first: 1,
+        bytes: Bytes::from_vec(vec![in alloc; 7; 512]?),
+        flush: false,
+        fua: true,
+        meta: false,
+    };
+    let done = wrote.recorder.submit(rt, &mut wrote.seat, sure, Ms::new(0));
+    let MarkAnswer::Refused(refusal) = wrote.recorder.mark(rt, &mut wrote.seat, &[120]) else {
+        return Ok(false);
+    };
+    Ok(matches!(done, Answer::Done) && Refusal::from(refusal).number() == 36)
+}
+
+#[test]
+fn a_mark_after_a_close_is_refused(rt: HostRuntime) -> Result<(), Fail> {
+    let alloc = rt.alloc();
+    let unnamed = Unnamed::new(alloc, 1)?;
+    assert!(rt; closed::<Brand, HostRuntime>(&rt, alloc, unnamed)?);
     Ok(())
 }
 

@@ -4,9 +4,9 @@ ghost use Rattle.std.specs.Prelude.{◌<◌, ◌≤◌};
 use crate::play::{Played, Table};
 use crate::scenes::{open_disk, stage, tally};
 use crate::work::{Call, Tally};
-use bio::{End, Ms, Status};
+use bio::{End, Id, Ms, Status};
 use blockdev::BlockDev;
-use lock_state::{Item, Receipt};
+use lock_state::Item;
 use log_reader::LogReader;
 use sector_disk::SectorDisk;
 use std::alloc::{AllocError, Global};
@@ -66,15 +66,16 @@ fn have_seen(rt: &impl Print, seen: &[Status], last: &Status) -> bool {
 }
 
 // Whether this receipt is that of the mark with this byte.
-fn is_marks(receipt: Receipt, placed: &[Item], byte: u8) -> bool {
-    match placed.get(receipt.number as usize) {
-        Some(item) => { item.id == receipt.id && item.entry.body.as_slice() == [byte].as_slice() }
+fn is_marks(receipt: (Id, u64), placed: &[Item], byte: u8) -> bool {
+    let (id, number) = receipt;
+    match placed.get(number as usize) {
+        Some(item) => { item.id == id && item.entry.body.as_slice() == [byte].as_slice() }
         None => false,
     }
 }
 
 // Whether there is a receipt for each seat's mark, and each names its own item.
-fn are_named(rt: &impl Print, receipts: &[Receipt], placed: &[Item]) -> bool {
+fn are_named(rt: &impl Print, receipts: &[(Id, u64)], placed: &[Item]) -> bool {
     if receipts.len() != 4 {
         return holds(rt, false, "four receipts");
     }
@@ -165,8 +166,8 @@ fn four_seats_find_a_log_full(rt: HostRuntime) -> Result<(), Fail> {
 }
 
 // The calls of a seat that writes each of its sectors, reads it back at once, and then flushes.
-// Once it was asked to close it writes its first sector again and reads that back, writes its
-// second one with FUA, and marks.
+// Once it was asked to close it writes its first sector again, its second one with FUA, discards its
+// third one and reads each back, and marks.
 fn writes_read_back(alloc: Global, seat: u64) -> Result<Table, AllocError>
     requires { seat < 4 }
 {
@@ -209,6 +210,11 @@ fn late_calls(alloc: Global, first: u64) -> Result<Vec<Call>, AllocError>
         Call::Read {
             first: first + 1,
             byte,
+        },
+        Call::Discard { first: first + 2 },
+        Call::Read {
+            first: first + 2,
+            byte: 0,
         },
         Call::Mark { byte },
     ]?)
@@ -261,7 +267,7 @@ fn readback<H: Threads + Wait + Clock + Print + Sync + Send + Copy + Drop>(
     };
     let wanted = Tally {
         refused: 1,
-        ..tally(OWN + 3, 0, OWN + 2)
+        ..tally(OWN + 4, 0, OWN + 3)
     };
     let have_answered = have_answers(rt, played.tallies.as_slice(), &wanted);
     let closed = played.closed;

@@ -16,7 +16,7 @@ use std::test::*;
 // How many sectors each disk has.
 const SECTORS: u64 = 16;
 
-// A device that keeps the moment at which its last write or flush began.
+// A device that keeps the moment at which its last call began.
 #[derive(Drop)]
 struct Timed<D: BlockDev + Drop> {
     lower: D,
@@ -44,6 +44,7 @@ impl<D: BlockDev + Drop> BlockDev for Timed<D> {
     }
 
     fn read(&mut self, now: Ms, first: u64, buffer: &mut [u8]) -> Result<Ms, DevError> {
+        self.last = now;
         self.lower.read(now, first, buffer)
     }
 
@@ -53,6 +54,7 @@ impl<D: BlockDev + Drop> BlockDev for Timed<D> {
     }
 
     fn discard(&mut self, now: Ms, first: u64, count: u64) -> Result<Ms, DevError> {
+        self.last = now;
         self.lower.discard(now, first, count)
     }
 
@@ -72,16 +74,18 @@ impl<D: BlockDev + Drop> BlockDev for Timed<D> {
     ghost lawful = { λ device. D.lawful device.lower };
 }
 
-// A request of a seat begins at the moment that it was submitted at.
+// A seat's request begins at the moment at which it was submitted, also once recording was closed
+// (`late`).
 fn is_handed_on<R: Run + Names, H: Wait>(
     rt: &H,
     alloc: Global,
     unnamed: Unnamed,
     bio: Bio,
+    late: bool,
 ) -> Result<bool, AllocError>
     requires ledger { (unnamed.ledger.name ≡ R.name) × (unnamed.ledger.parts ≡ R.parts)
         × (unnamed.ledger.parts ≡ 1) }
-    requires table { unnamed.table ≡ R.table }
+    requires table { (unnamed.table ≡ R.table) × (unnamed.stops ≡ R.stops) }
     requires board { unnamed.board ≡ R.board }
     requires sectors { (R.sectors ≡ 16) × (R.log ≡ disk_ground 16) }
     requires sector_size { R.sector_bytes ≡ 512 }
@@ -101,41 +105,53 @@ fn is_handed_on<R: Run + Names, H: Wait>(
     let Some(mut seat) = seats.pop() else {
         return Ok(false);
     };
+    let is_asked_first = !late || recorder.ask_close(rt).is_ok();
     let answer = recorder.submit(rt, &mut seat, bio, Ms::new(5));
     seats.push(seat)?;
-    let is_asked = recorder.ask_close(rt).is_ok();
+    let is_asked = is_asked_first && recorder.ask_close(rt).is_ok();
     let Ok(
         Ending {
             closed,
             posts: _,
             released: _,
+            written: _,
+            found: _,
         },
     ) = recorder.close(seats, writer, Vec::new(alloc))
     else {
         return Ok(false);
     };
-    Ok(matches!(answer, Answer::Done) && is_asked && closed.device.last == Ms::new(5))
+    let is_answered = matches!(answer, Answer::Done | Answer::Read(_));
+    Ok(is_answered && is_asked && closed.device.last == Ms::new(5))
+}
+
+// The same of a new recorder.
+fn begins_at_its_moment<H: Wait>(
+    rt: &H,
+    alloc: Global,
+    bio: Bio,
+    late: bool,
+) -> Result<bool, AllocError> {
+    let unnamed = Unnamed::new(alloc, 1)?;
+    is_handed_on::<Brand, H>(rt, alloc, unnamed, bio, late)
 }
 
 #[test]
-fn a_flush_begins_at_its_moment(rt: HostRuntime) -> Result<(), Fail> {
+fn a_request_begins_at_its_moment(rt: HostRuntime) -> Result<(), Fail> {
     let alloc = rt.alloc();
-    let unnamed = Unnamed::new(alloc, 1)?;
-    assert!(rt; is_handed_on::<Brand, HostRuntime>(&rt, alloc, unnamed, Bio::Flush)?);
-    Ok(())
-}
-
-#[test]
-fn a_write_begins_at_its_moment(rt: HostRuntime) -> Result<(), Fail> {
-    let alloc = rt.alloc();
-    let unnamed = Unnamed::new(alloc, 1)?;
-    let write = Bio::Write {
-        first: 1,
-        bytes: Bytes::from_vec(vec![in alloc; 7; 512]?),
-        flush: false,
-        fua: false,
-        meta: false,
-    };
-    assert!(rt; is_handed_on::<Brand, HostRuntime>(&rt, alloc, unnamed, write)?);
+    for late in [false, true] {
+        let bytes = Bytes::from_vec(vec![in alloc; 7; 512]?);
+        let write = Bio::Write {
+            first: 1,
+            bytes,
+            flush: false,
+            fua: false,
+            meta: false,
+        };
+        assert!(rt; begins_at_its_moment(&rt, alloc, write, late)?);
+        assert!(rt; begins_at_its_moment(&rt, alloc, Bio::Flush, late)?);
+        assert!(rt; begins_at_its_moment(&rt, alloc, Bio::Discard { first: 1, count: 2 }, late)?);
+        assert!(rt; begins_at_its_moment(&rt, alloc, Bio::Read { first: 1, count: 2 }, late)?);
+    }
     Ok(())
 }

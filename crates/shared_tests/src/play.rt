@@ -5,7 +5,7 @@ ghost use Rattle.lock_state.specs.PlacedItems.{ground_of};
 
 use crate::gate::Sign;
 use crate::work::{Call, Player, Tally, Work};
-use bio::{End, Status};
+use bio::{End, Id, Status};
 use blockdev::BlockDev;
 use board::Names;
 use lock_state::{Receipt, Run, Seat};
@@ -60,7 +60,8 @@ pub struct Played<D: Drop, L: Drop> {
     pub seen: Vec<Status>,
     /// Whether no reader saw a status go back.
     pub rises: bool,
-    pub receipts: Vec<Receipt>,
+    /// The id and the number of each receipt.
+    pub receipts: Vec<(Id, u64)>,
     pub closed: Closed<D, L>,
     /// Why those who waited were let go, where they were.
     pub released: Option<End>,
@@ -219,7 +220,7 @@ fn watches_of<R: Run + Names>(
 #[derive(Drop)]
 struct Parts<R: Run + Names> {
     seats: Vec<Seat<R>>,
-    receipts: Vec<Receipt>,
+    receipts: Vec<Receipt<R>>,
     tallies: Vec<Tally>,
     let_go: bool,
 }
@@ -235,10 +236,10 @@ fn parts_of<R: Run + Names>(alloc: Global, works: Vec<Work<R>>) -> Result<Parts<
         let Player {
             seat,
             tally,
-            receipts: own,
+            receipts: mut own,
         } = work.player;
         tallies.push(tally)?;
-        receipts.extend_from_slice(own.as_slice())?;
+        receipts.append(&mut own)?;
         seats.push(seat)?;
     }
     Ok(Parts {
@@ -247,6 +248,15 @@ fn parts_of<R: Run + Names>(alloc: Global, works: Vec<Work<R>>) -> Result<Parts<
         tallies,
         let_go,
     })
+}
+
+// The id and the number of each receipt.
+fn names_of<R: Run>(alloc: Global, receipts: &[Receipt<R>]) -> Result<Vec<(Id, u64)>, AllocError> {
+    let mut names = Vec::new(alloc);
+    for receipt in receipts {
+        names.push((receipt.id(), receipt.number()))?;
+    }
+    Ok(names)
 }
 
 // Each reader looks once more. What they saw last, and whether none saw a status go back.
@@ -287,7 +297,7 @@ pub fn play<
     requires readers { readers ≤ 64 }
     requires ledger { (unnamed.ledger.name ≡ R.name) × (unnamed.ledger.parts ≡ R.parts)
         × (unnamed.ledger.parts ≡ count) }
-    requires table { unnamed.table ≡ R.table }
+    requires table { (unnamed.table ≡ R.table) × (unnamed.stops ≡ R.stops) }
     requires board { unnamed.board ≡ R.board }
     requires sectors { (D.shown device).size ≡ R.sectors }
     requires log { R.log ≡ ground_of (L.shown log) }
@@ -315,12 +325,14 @@ pub fn play<
         let_go,
     } = parts_of(alloc, works)?;
     let (seen, rises) = last_looks(alloc, &recorder, watches)?;
-    let kept = Vec::from_slice(alloc, receipts.as_slice())?;
+    let kept = names_of(alloc, receipts.as_slice())?;
     let Ok(
         Ending {
             closed,
             posts: _,
             released,
+            written: _,
+            found: _,
         },
     ) = recorder.close(seats, writer, receipts)
     else {

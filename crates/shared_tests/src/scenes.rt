@@ -89,6 +89,8 @@ struct Scene {
     passes: u64,
     calls: (Call, Call),
     tallies: (Tally, Tally),
+    // The log's status in the end.
+    status: Status,
 }
 
 // The calls of both seats. The second one's waits for this sign.
@@ -133,7 +135,17 @@ fn gated<H: Threads + Wait + Clock + Print + Sync + Send + Copy + Drop>(
         played.let_go,
         "the call was held until the other was answered",
     );
-    Ok(are_answered(rt, played.tallies.as_slice(), scene.tallies) && is_let_go)
+    let is_status = is_same(rt, &played.closed.status, &scene.status, "a scene's status");
+    Ok(are_answered(rt, played.tallies.as_slice(), scene.tallies) && is_let_go && is_status)
+}
+
+// A log that goes on, with this number of entries up to this sector.
+fn goes_on(entries: u64, sector: u64) -> Status {
+    Status {
+        entries,
+        sector,
+        end: None,
+    }
 }
 
 // The log's first write after its creation, which is a
@@ -153,6 +165,54 @@ fn a_write_is_answered_while_the_log_is_written(rt: HostRuntime) -> Result<(), F
             },
         ),
         tallies: (tally(1, 0, 0), tally(1, 0, 0)),
+        status: goes_on(3, 4),
+    };
+    assert!(rt; gated(&rt, rt.alloc(), scene)?);
+    Ok(())
+}
+
+// A Stop while the log is written: the entry that the writer had taken is still written.
+#[test]
+fn a_taken_entry_is_written_after_a_stop(rt: HostRuntime) -> Result<(), Fail> {
+    let scene = Scene {
+        held: Held::Log,
+        sector: 1,
+        passes: 0,
+        calls: (Call::Flush, Call::GiveUp),
+        tallies: (tally(1, 0, 0), tally(1, 0, 0)),
+        status: Status {
+            end: Some(End::Memory),
+            ..goes_on(1, 1)
+        },
+    };
+    assert!(rt; gated(&rt, rt.alloc(), scene)?);
+    Ok(())
+}
+
+// A close is asked for while the device holds a request, which is open: it is busy, and recording
+// goes on.
+#[test]
+fn a_close_is_busy_while_a_request_is_open(rt: HostRuntime) -> Result<(), Fail> {
+    let scene = Scene {
+        held: Held::Device,
+        sector: 1,
+        passes: 0,
+        calls: (
+            Call::Write {
+                first: 1,
+                byte: 1,
+                fua: false,
+            },
+            Call::AskClose,
+        ),
+        tallies: (
+            tally(1, 0, 0),
+            Tally {
+                refused: 1,
+                ..tally(0, 0, 0)
+            },
+        ),
+        status: goes_on(2, 3),
     };
     assert!(rt; gated(&rt, rt.alloc(), scene)?);
     Ok(())
@@ -174,6 +234,7 @@ fn a_write_is_answered_while_a_mark_is_made_sure(rt: HostRuntime) -> Result<(), 
             },
         ),
         tallies: (tally(0, 1, 0), tally(1, 0, 0)),
+        status: goes_on(3, 4),
     };
     assert!(rt; gated(&rt, rt.alloc(), scene)?);
     Ok(())
@@ -199,6 +260,7 @@ fn a_write_is_answered_while_a_fua_write_is_made_sure(rt: HostRuntime) -> Result
             },
         ),
         tallies: (tally(0, 1, 0), tally(1, 0, 0)),
+        status: goes_on(3, 5),
     };
     assert!(rt; gated(&rt, rt.alloc(), scene)?);
     Ok(())
@@ -220,6 +282,7 @@ fn a_mark_is_answered_while_the_device_writes(rt: HostRuntime) -> Result<(), Fai
             Call::Mark { byte: 1 },
         ),
         tallies: (tally(1, 0, 0), tally(0, 1, 0)),
+        status: goes_on(3, 4),
     };
     assert!(rt; gated(&rt, rt.alloc(), scene)?);
     Ok(())

@@ -4,6 +4,7 @@ use bio::{Bio, Bytes, Ms};
 use blockdev::BlockDev;
 use board::Names;
 use lock_state::{Receipt, Run, Seat};
+use pending::CloseError;
 use shared::{Answer, MarkAnswer, Shared};
 use std::alloc::{AllocError, Global};
 use std::sync::Wait;
@@ -15,7 +16,12 @@ pub enum Call {
     Write { first: u64, byte: u8, fua: bool },
     Read { first: u64, byte: u8 },
     Flush,
+    Discard { first: u64 },
     Mark { byte: u8 },
+    /// Asks to close: done, or refused as busy.
+    AskClose,
+    /// Ends logging for want of memory: done.
+    GiveUp,
 }
 
 /// How many calls had which answer.
@@ -53,7 +59,7 @@ fn count(number: &mut u64) {
 pub struct Player<R: Run + Names> {
     pub seat: Seat<R>,
     pub tally: Tally,
-    pub receipts: Vec<Receipt>,
+    pub receipts: Vec<Receipt<R>>,
 }
 
 /// A seat with its calls.
@@ -124,10 +130,22 @@ impl<R: Run + Names> Player<R> {
         recorder: &Shared<D, L, R>,
         call: Call,
     ) {
-        if let Call::Mark { byte } = call {
-            let answer = recorder.mark(rt, &mut self.seat, &[byte]);
-            self.count_mark(answer);
-            return;
+        match call {
+            Call::Mark { byte } => {
+                let answer = recorder.mark(rt, &mut self.seat, &[byte]);
+                self.count_mark(answer);
+                return;
+            }
+            Call::AskClose => {
+                self.count_asked(recorder.ask_close(rt));
+                return;
+            }
+            Call::GiveUp => {
+                recorder.give_up(rt);
+                count(&mut self.tally.done);
+                return;
+            }
+            _ => {}
         }
         let Ok(bio) = bio_of(alloc, call) else {
             count(&mut self.tally.failed);
@@ -137,8 +155,17 @@ impl<R: Run + Names> Player<R> {
         self.count_answer(call, answer);
     }
 
+    // Counts what became of a close that was asked for.
+    fn count_asked(&mut self, asked: Result<(), CloseError>) {
+        match asked {
+            Ok(()) => count(&mut self.tally.done),
+            Err(CloseError::Busy) => count(&mut self.tally.refused),
+            Err(CloseError::Memory) => count(&mut self.tally.failed),
+        }
+    }
+
     // Counts what became of a mark.
-    fn count_mark(&mut self, answer: MarkAnswer) {
+    fn count_mark(&mut self, answer: MarkAnswer<Receipt<R>>) {
         match answer {
             MarkAnswer::Logged(receipt) => {
                 count(&mut self.tally.logged);
@@ -150,7 +177,7 @@ impl<R: Run + Names> Player<R> {
     }
 
     // Counts what became of a request.
-    fn count_answer(&mut self, call: Call, answer: Answer) {
+    fn count_answer(&mut self, call: Call, answer: Answer<Receipt<R>>) {
         match answer {
             Answer::Done => count(&mut self.tally.done),
             Answer::Read(bytes) => {
@@ -177,7 +204,7 @@ fn is_filled(bytes: &[u8], call: Call) -> bool {
     }
 }
 
-// The request of a call; of a mark, a flush.
+// The request of a call; a flush for a call that is none.
 fn bio_of(alloc: Global, call: Call) -> Result<Bio, AllocError> {
     Ok(match call {
         Call::Write { first, byte, fua } => Bio::Write {
@@ -188,6 +215,7 @@ fn bio_of(alloc: Global, call: Call) -> Result<Bio, AllocError> {
             meta: false,
         },
         Call::Read { first, .. } => Bio::Read { first, count: 1 },
-        Call::Flush | Call::Mark { .. } => Bio::Flush,
+        Call::Discard { first } => Bio::Discard { first, count: 1 },
+        Call::Flush | Call::Mark { .. } | Call::AskClose | Call::GiveUp => Bio::Flush,
     })
 }

@@ -1,6 +1,6 @@
 //! Two seats record requests through the values behind the locks, what was queued is placed, and
 //! all is compared at the end.
-ghost use Rattle.std.specs.Prelude.{◌≡◌};
+ghost use Rattle.std.specs.Prelude.{◌≡◌, None};
 ghost use Rattle.bio.specs.Sizes.{bytes_of};
 ghost use Rattle.lock_state.specs.PlacedItems.{ground_of};
 ghost use Rattle.log_store.specs.Fields.{store_of};
@@ -159,23 +159,25 @@ fn two_seats_record<R: Run>(
     rt: &impl Print,
     alloc: Global,
     blank: Blank,
-    fresh: Fresh,
+    fresh: (Fresh, Fresh),
     size: SectorSize,
     store: LogStore<SectorDisk>,
     device: SectorDisk,
 ) -> Result<bool, AllocError>
     requires ledger { (blank.name ≡ R.name) × (blank.parts ≡ R.parts) × (blank.parts ≡ 2) }
-    requires holders { fresh ≡ R.table }
+    requires holders { (fresh.0 ≡ R.table) × (fresh.1 ≡ R.stops) }
     requires size { bytes_of size ≡ R.sector_bytes }
     requires sectors { R.sectors ≡ 64 }
     requires store { ((store_of store).sector_bytes ≡ R.sector_bytes)
         × (R.log ≡ ground_of (store_of store).device) }
-    requires empty { (store_of store).placed ≡ 0 }
+    requires empty { ((store_of store).placed ≡ 0) × ((store_of store).end ≡ None) }
     requires device { (shown_of device).size ≡ 64 }
 {
     let mut log = LogState::new(alloc, store);
     let mut data_state = DataState::<SectorDisk, R>::new(alloc, device);
-    let (mut queue, mut seats) = QueueState::<R>::start(alloc, blank, fresh, size, 2)?;
+    let (table, stops) = fresh;
+    let (mut queue, mut seats, _) =
+        QueueState::<R>::start(alloc, blank, table, stops, size, 2)?;
     let (Some(mut one), Some(mut other)) = (seats.pop(), seats.pop()) else {
         return Ok(false);
     };
@@ -202,7 +204,7 @@ fn two_seats_record<R: Run>(
 // The same, by a new recorder.
 fn two_seats(rt: &impl Print, alloc: Global, size: SectorSize) -> Result<bool, AllocError> {
     let blank = Blank::new(2);
-    let fresh = Fresh::new(alloc)?;
+    let fresh = (Fresh::new(alloc)?, Fresh::new(alloc)?);
     let device = SectorDisk::new(alloc, SECTORS)?;
     let Ok(store) = LogStore::create_sized(SectorDisk::new(alloc, LOG_SECTORS)?, size) else {
         return Ok(false);

@@ -19,9 +19,9 @@ loop-work-preserved-in_ok-push-2 g c =
       mapped_next (λ (p : Player). p.tally) players player c.loop-work.tallies.items
           c.push.new.self.items _ c.in_ok-push.ensures.items before.3
           (ap (λ (p : Player). p.tally) view),
-      c.in_ok-extend_from_slice.ensures.items
+      c.in_ok-append.ensures.items
           ∙ ap (λ (receipts : List Receipt). c.loop-work.receipts.items ++ receipts)
-          (c.as_slice.ensures.value ∙ ap (λ (p : Player). p.receipts) view)
+          (ap (λ (p : Player). p.receipts) view)
           ∙ joined_next players player c.loop-work.receipts.items before.4,
     )
 
@@ -39,8 +39,8 @@ loop-work-preserved g c =
       mapped_next (λ (p : Player). p.tally) players player c.loop-work.tallies.items
           c.push.new.self.items _ c.in_ok-push.ensures.items before.3
           (ap (λ (p : Player). p.tally) view),
-      c.in_ok-extend_from_slice.ensures.items
+      c.in_ok-append.ensures.items
           ∙ ap (λ (receipts : List Receipt). c.loop-work.receipts.items ++ receipts)
-          (c.as_slice.ensures.value ∙ ap (λ (p : Player). p.receipts) view)
+          (ap (λ (p : Player). p.receipts) view)
           ∙ joined_next players player c.loop-work.receipts.items before.4,
     )

@@ -16,6 +16,7 @@ ghosts-run_on-R-Run g a = record {
   sectors = top_of a.script.now.data_disk;
   sector_bytes = bytes_of a.script.now.log_size;
   log = ground_of (stack_shown a.log);
+  stops = a.unnamed.stops;
 }
 
 abbrev pub ghosts-run_on-R-Names : goal.ghosts-run_on-R-Names

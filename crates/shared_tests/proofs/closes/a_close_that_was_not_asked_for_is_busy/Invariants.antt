@@ -10,7 +10,12 @@ abbrev pub ghosts-unasked-R-Whose : goal.ghosts-unasked-R-Whose
 ghosts-unasked-R-Whose g a = record { table = a.unnamed.table }
 
 abbrev pub ghosts-unasked-R-Run : goal.ghosts-unasked-R-Run
-ghosts-unasked-R-Run g a = record { sectors = 16; sector_bytes = 512; log = disk_ground 16 }
+ghosts-unasked-R-Run g a = record {
+  sectors = 16;
+  sector_bytes = 512;
+  log = disk_ground 16;
+  stops = a.unnamed.stops;
+}
 
 abbrev pub ghosts-unasked-R-Names : goal.ghosts-unasked-R-Names
 ghosts-unasked-R-Names g a = record { board = a.unnamed.board }

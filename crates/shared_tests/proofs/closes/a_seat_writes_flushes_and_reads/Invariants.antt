@@ -10,7 +10,12 @@ abbrev pub ghosts-recorded-R-Whose : goal.ghosts-recorded-R-Whose
 ghosts-recorded-R-Whose g a = record { table = a.unnamed.table }
 
 abbrev pub ghosts-recorded-R-Run : goal.ghosts-recorded-R-Run
-ghosts-recorded-R-Run g a = record { sectors = 16; sector_bytes = 512; log = disk_ground 16 }
+ghosts-recorded-R-Run g a = record {
+  sectors = 16;
+  sector_bytes = 512;
+  log = disk_ground 16;
+  stops = a.unnamed.stops;
+}
 
 abbrev pub ghosts-recorded-R-Names : goal.ghosts-recorded-R-Names
 ghosts-recorded-R-Names g a = record { board = a.unnamed.board }

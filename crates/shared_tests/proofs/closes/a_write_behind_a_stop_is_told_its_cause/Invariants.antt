@@ -10,7 +10,12 @@ abbrev pub ghosts-stopped-R-Whose : goal.ghosts-stopped-R-Whose
 ghosts-stopped-R-Whose g a = record { table = a.unnamed.table }
 
 abbrev pub ghosts-stopped-R-Run : goal.ghosts-stopped-R-Run
-ghosts-stopped-R-Run g a = record { sectors = 16; sector_bytes = 512; log = disk_ground 16 }
+ghosts-stopped-R-Run g a = record {
+  sectors = 16;
+  sector_bytes = 512;
+  log = disk_ground 16;
+  stops = a.unnamed.stops;
+}
 
 abbrev pub ghosts-stopped-R-Names : goal.ghosts-stopped-R-Names
 ghosts-stopped-R-Names g a = record { board = a.unnamed.board }

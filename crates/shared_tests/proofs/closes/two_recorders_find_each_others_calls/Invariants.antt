@@ -10,7 +10,12 @@ abbrev pub ghosts-foreign_seats-B-Whose : goal.ghosts-foreign_seats-B-Whose
 ghosts-foreign_seats-B-Whose g a = record { table = a.unnamed.table }
 
 abbrev pub ghosts-foreign_seats-B-Run : goal.ghosts-foreign_seats-B-Run
-ghosts-foreign_seats-B-Run g a = record { sectors = 16; sector_bytes = 512; log = disk_ground 16 }
+ghosts-foreign_seats-B-Run g a = record {
+  sectors = 16;
+  sector_bytes = 512;
+  log = disk_ground 16;
+  stops = a.unnamed.stops;
+}
 
 abbrev pub ghosts-foreign_seats-B-Names : goal.ghosts-foreign_seats-B-Names
 ghosts-foreign_seats-B-Names g a = record { board = a.unnamed.board }
@@ -23,7 +28,12 @@ abbrev pub ghosts-foreign_seats-C-Whose : goal.ghosts-foreign_seats-C-Whose
 ghosts-foreign_seats-C-Whose g a = record { table = a.other.table }
 
 abbrev pub ghosts-foreign_seats-C-Run : goal.ghosts-foreign_seats-C-Run
-ghosts-foreign_seats-C-Run g a = record { sectors = 16; sector_bytes = 512; log = disk_ground 16 }
+ghosts-foreign_seats-C-Run g a = record {
+  sectors = 16;
+  sector_bytes = 512;
+  log = disk_ground 16;
+  stops = a.other.stops;
+}
 
 abbrev pub ghosts-foreign_seats-C-Names : goal.ghosts-foreign_seats-C-Names
 ghosts-foreign_seats-C-Names g a = record { board = a.other.board }

@@ -14,6 +14,7 @@ ghosts-play-R-Run g a = record {
   sectors = (shown_of a.device.lower).size;
   sector_bytes = 512;
   log = ground_of (shown_of a.log.lower);
+  stops = a.unnamed.stops;
 }
 
 abbrev pub ghosts-play-R-Names : goal.ghosts-play-R-Names

@@ -8,7 +8,7 @@ abbrev pub ghosts-two_seats_record-R-Ledger : goal.ghosts-two_seats_record-R-Led
 ghosts-two_seats_record-R-Ledger g a = record { name = a.blank.name; parts = a.blank.parts }
 
 abbrev pub ghosts-two_seats_record-R-Whose : goal.ghosts-two_seats_record-R-Whose
-ghosts-two_seats_record-R-Whose g a = record { table = a.fresh }
+ghosts-two_seats_record-R-Whose g a = record { table = a.fresh.0 }
 
 abbrev pub ghosts-two_seats_record-R-Run : goal.ghosts-two_seats_record-R-Run
 ghosts-two_seats_record-R-Run g a =
@@ -16,4 +16,5 @@ ghosts-two_seats_record-R-Run g a =
       sectors = 64;
       sector_bytes = bytes_of a.size;
       log = ground_of (store_of a.store).device;
+      stops = a.fresh.1;
     }

@@ -1,6 +1,6 @@
--- What holds at the turns of `a_flush_begins_at_its_moment`.
+-- What holds at the turns of `begins_at_its_moment`.
 use Rattle.shared_tests.specs.Disks.{disk_ground}
-use Rattle.shared_tests.proofs.moments.a_flush_begins_at_its_moment.Given as goal
+use Rattle.shared_tests.proofs.moments.begins_at_its_moment.Given as goal
 
 abbrev pub ghosts-is_handed_on-R-Ledger : goal.ghosts-is_handed_on-R-Ledger
 ghosts-is_handed_on-R-Ledger g a =
@@ -10,7 +10,12 @@ abbrev pub ghosts-is_handed_on-R-Whose : goal.ghosts-is_handed_on-R-Whose
 ghosts-is_handed_on-R-Whose g a = record { table = a.unnamed.table }
 
 abbrev pub ghosts-is_handed_on-R-Run : goal.ghosts-is_handed_on-R-Run
-ghosts-is_handed_on-R-Run g a = record { sectors = 16; sector_bytes = 512; log = disk_ground 16 }
+ghosts-is_handed_on-R-Run g a = record {
+  sectors = 16;
+  sector_bytes = 512;
+  log = disk_ground 16;
+  stops = a.unnamed.stops;
+}
 
 abbrev pub ghosts-is_handed_on-R-Names : goal.ghosts-is_handed_on-R-Names
 ghosts-is_handed_on-R-Names g a = record { board = a.unnamed.board }

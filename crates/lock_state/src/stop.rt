@@ -1,5 +1,5 @@
 // The first stop, and how the writer shows it to the log.
-// Its clauses are written in specs/FirstStop; its theorems in proofs/stop/.
+// Its clauses are written in specs/FirstStop and specs/History; the search alone proves it.
 ghost use Rattle.std.specs.Prelude.{◌≡◌, ◌⊎◌, false, true, None, Some, IfSome};
 ghost use Rattle.lock_state.specs.History.{first_cause};
 ghost use Rattle.lock_state.specs.FirstStop.{end_number};

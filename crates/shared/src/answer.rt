@@ -1,5 +1,5 @@
 // What the calls of a seat answer.
-// The search alone proves it.
+// Its clauses are written in specs/Answers; the search alone proves it.
 use bio::{BadBio, DevError, End};
 use refusals::Refusal;
 use thiserror::Error;

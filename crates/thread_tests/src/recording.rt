@@ -176,8 +176,7 @@ fn two_seats_record<R: Run>(
     let mut log = LogState::new(alloc, store);
     let mut data_state = DataState::<SectorDisk, R>::new(alloc, device);
     let (table, stops) = fresh;
-    let (mut queue, mut seats, _) =
-        QueueState::<R>::start(alloc, blank, table, stops, size, 2)?;
+    let (mut queue, mut seats, _) = QueueState::<R>::start(alloc, blank, table, stops, size, 2)?;
     let (Some(mut one), Some(mut other)) = (seats.pop(), seats.pop()) else {
         return Ok(false);
     };

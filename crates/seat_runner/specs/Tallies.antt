@@ -29,7 +29,7 @@ mark_outcome (marks.NotLogged cause) = NotLogged
 mark_outcome (marks.Refused refusal) = Refused
 
 -- the receipt that a request was answered with, if there is one
-abbrev pub receipt_in : Answer Receipt → Option Receipt
+abbrev pub receipt_in : {C : Type 0} → Answer C → Option C
 receipt_in answers.Done = None
 receipt_in (answers.Read bytes) = None
 receipt_in (answers.Logged receipt) = Some receipt
@@ -38,7 +38,7 @@ receipt_in (answers.NotLogged cause) = None
 receipt_in (answers.Refused bad) = None
 
 -- and that of a mark
-abbrev pub mark_receipt_in : MarkAnswer Receipt → Option Receipt
+abbrev pub mark_receipt_in : {C : Type 0} → MarkAnswer C → Option C
 mark_receipt_in (marks.Logged receipt) = Some receipt
 mark_receipt_in (marks.NotLogged cause) = None
 mark_receipt_in (marks.Refused refusal) = None

@@ -173,17 +173,22 @@ fn keep<R: Run>(receipts: &mut Vec<Receipt<R>>, receipt: Option<Receipt<R>>)
 }
 
 // The receipt of a request that was logged.
-fn receipt_of<R: Run>(answer: Answer<Receipt<R>>) -> Option<Receipt<R>>
+fn receipt_of<C: Drop>(answer: Answer<C>) -> Option<C>
     ensures { result ≡ receipt_in answer }
 {
     match answer {
         Answer::Logged(receipt) => Some(receipt),
-        _ => None,
+        Answer::Done => None,
+        Answer::Read(bytes) => {
+            drop(bytes);
+            None
+        }
+        Answer::Failed(_) | Answer::NotLogged(_) | Answer::Refused(_) => None,
     }
 }
 
 // The receipt of a mark that was logged.
-fn mark_receipt<R: Run>(answer: MarkAnswer<Receipt<R>>) -> Option<Receipt<R>>
+fn mark_receipt<C: Drop>(answer: MarkAnswer<C>) -> Option<C>
     ensures { result ≡ mark_receipt_in answer }
 {
     match answer {

@@ -13,8 +13,8 @@ returns g c =
     record {
       made =
           makes_mark c.args.text.now _ c.args.self.now c.mark-answer.new.seat c.mark-answer.result
-          c.of_mark.result c.mark_receipt.result
+          c.of_mark-outcome.result c.mark_receipt.result
           c.keep.new.receipts.items c.self.view_is
           (c.mark-answer.ensures.marked (line_is_text c.args.text.now c.requires))
-          c.of_mark.ensures c.mark_receipt.ensures kept;
+          c.of_mark-outcome.ensures c.mark_receipt.ensures kept;
     }

@@ -25,7 +25,7 @@ returns g c =
     record {
       made =
           makes_request c.args.submission _ c.args.self.now c.submit-answer.new.seat
-          c.submit-answer.result c.of_request.result c.receipt_of.result
-          c.keep.new.receipts.items c.self.view_is answered c.of_request.ensures
+          c.submit-answer.result c.of_request-outcome.result c.receipt_of.result
+          c.keep.new.receipts.items c.self.view_is answered c.of_request-outcome.ensures
           c.receipt_of.ensures kept;
     }

@@ -3,6 +3,7 @@ pub mod PlaceTests
 pub mod LinkChains
 pub mod Rows
 pub mod Prefix
+pub mod Stopped
 pub mod Counts
 pub mod OneStep
 pub mod WaitingSteps

@@ -12,6 +12,7 @@ pub use fuse::{Fuse, FuseGate};
 pub use gate::{Gate, Kind, Verdict};
 pub use gated::Gated;
 pub use linear::Linear;
+pub use table_line::Feature;
 
 mod delay;
 mod error_dev;

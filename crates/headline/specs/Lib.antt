@@ -5,5 +5,6 @@ pub use Rattle.pending.specs.Prefixes
 pub use Rattle.recorder.specs.Fields
 pub use Rattle.replay.specs.Replays
 pub use Rattle.bio.specs.Content
+pub mod Refusals
 pub mod Headline
 pub mod ReopenedLog

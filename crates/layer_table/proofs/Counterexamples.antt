@@ -215,6 +215,9 @@ part = record {
   within = omega arith;
   content = λ sector. refl;
   crash = λ left may. (all 0, λ sector. refl, λ sector. sym (may (2 + sector)));
+  moment = refl;
+  since = λ moment left may. (all 0, λ sector. refl, λ sector. sym (may (2 + sector)));
+  only = λ moment seen may. (all 0, λ sector. refl, may);
 }
 
 part_disk : IsPartOf still (record top { place = record { origin = 2; disk = 9 } }) → ⊥
@@ -235,6 +238,27 @@ unfolding still top Either Zeroes all
 part_crash is =
     let seen = is.crash (all 2) (inr (λ sector. refl)) in
     let same = one_value 0 2 (sym (seen.1 0) ∙ seen.2 0) in
+    omega arith
+
+-- another clock
+part_moment : IsPartOf still (record top { moment = 2 }) → ⊥
+unfolding still top
+part_moment is = let same = is.moment in omega arith
+
+-- what a crash at some moment may have left of the disk, it didn't leave of its part
+part_since : IsPartOf (record still { since = λ moment. Either }) top → ⊥
+unfolding still top Either Zeroes all
+part_since is =
+    let seen = is.since 0 (all 2) (inr (λ sector. refl)) in
+    let same = one_value 0 2 (sym (seen.1 0) ∙ seen.2 0) in
+    omega arith
+
+-- a crash may have left of the part what it didn't leave of the disk
+part_only : IsPartOf still (record top { since = λ moment. Either }) → ⊥
+unfolding still top Either Zeroes all
+part_only is =
+    let left = is.only 0 (all 2) (inr (λ sector. refl)) in
+    let same = one_value 2 0 (left.2 0 ∙ left.1 2) in
     omega arith
 
 -- ---- what becomes of a call at a layer

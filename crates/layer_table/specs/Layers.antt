@@ -190,14 +190,25 @@ pub record IsPartlyUnder (specs : List LayerSpec) (load : ℕ) (old back : Stack
   pub refused : ((stack_shown back).size < next.offset + next.length)
       ⊎ (length (layers_of back) ≡ 4)
 
--- What shows w is a part of the disk that shows v: the sectors at its place. Whatever a crash
--- leaves of the disk, is left of it too, as seen from there.
+-- What shows w is a part of the disk that shows v: the sectors at its place. What a crash now, or a
+-- crash since any reading of the disk's clock, may leave of it is the part of what it may leave of
+-- the disk.
 pub record IsPartOf (v w : View) : Type 0 where
   pub disk : w.place.disk ≡ v.size
   pub within : w.place.origin + w.size ≤ v.size
   pub content : (sector : ℕ) → w.content sector ≡ v.content (w.place.origin + sector)
   pub crash : (left : Content) → v.crash left
       → (seen : Content) × w.crash seen
+      × ((sector : ℕ) → seen sector ≡ left (w.place.origin + sector))
+  -- the two clocks read the same
+  pub moment : w.moment ≡ v.moment
+  -- a crash since a reading, inside a call too: each content that it may have left of the disk has a
+  -- part that it may have left, and there are no others
+  pub since : (moment : ℕ) (left : Content) → v.since moment left
+      → (seen : Content) × w.since moment seen
+      × ((sector : ℕ) → seen sector ≡ left (w.place.origin + sector))
+  pub only : (moment : ℕ) (seen : Content) → w.since moment seen
+      → (left : Content) × v.since moment left
       × ((sector : ℕ) → seen sector ≡ left (w.place.origin + sector))
 
 -- ---- what calls do

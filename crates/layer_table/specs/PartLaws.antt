@@ -20,6 +20,9 @@ disk_part disk = record {
   within = omega arith;
   content = λ sector. ap (shown_of disk).content (omega arith);
   crash = λ left may. (left, may, λ sector. ap left (omega arith));
+  moment = refl;
+  since = λ moment left may. (left, may, λ sector. ap left (omega arith));
+  only = λ moment left may. (left, may, λ sector. ap left (omega arith));
 }
 
 -- a range of a part is a part
@@ -35,6 +38,19 @@ window_part v w offset length fits is = record {
         (below.0, below.1, λ sector. refl),
         λ sector. below.2 (offset + sector) ∙ ap left (omega arith),
       );
+  moment = is.moment;
+  since = λ moment left may.
+      let below = is.since moment left may in (
+        moved offset below.0,
+        (below.0, below.1, λ sector. refl),
+        λ sector. below.2 (offset + sector) ∙ ap left (omega arith),
+      );
+  only = λ moment seen may.
+      let below = is.only moment may.0 may.1 in (
+        below.0,
+        below.1,
+        λ sector. may.2 sector ∙ (below.2 (offset + sector) ∙ ap below.0 (omega arith)),
+      );
 }
 
 -- what stands in a slot is a part where what is beneath is one
@@ -47,10 +63,26 @@ part_with {D} {g} disk below (slots.Dusted layer) =
     window_part (disk layer.lower.lower)
     (g.shown layer.lower.lower) layer.lower.offset layer.lower.length layer.lower.fits
     (below layer.lower.lower) in
-    record { disk = is.disk; within = is.within; content = is.content; crash = is.crash }
+    record {
+      disk = is.disk;
+      within = is.within;
+      content = is.content;
+      crash = is.crash;
+      moment = is.moment;
+      since = is.since;
+      only = is.only;
+    }
 part_with {D} {g} disk below (slots.Decided layer) =
     let is =
     window_part (disk layer.lower.lower)
     (g.shown layer.lower.lower) layer.lower.offset layer.lower.length layer.lower.fits
     (below layer.lower.lower) in
-    record { disk = is.disk; within = is.within; content = is.content; crash = is.crash }
+    record {
+      disk = is.disk;
+      within = is.within;
+      content = is.content;
+      crash = is.crash;
+      moment = is.moment;
+      since = is.since;
+      only = is.only;
+    }

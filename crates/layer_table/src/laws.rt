@@ -29,8 +29,8 @@ pub fn stacks_show_their_layers()
         → IsSeenAs (layers_over (layers_of stack) (shown_of (disk_of stack))) (stack_shown stack) }
 {}
 
-/// A stack is a part of the disk beneath it: what it shows stands there from its origin on, and
-/// what a crash leaves of the disk, seen from there, a crash may leave of the stack.
+/// A stack is a part of the disk beneath it: it shows the disk from its origin on, and what a crash
+/// may have left of it, inside a call too, is the part of what it may have left of the disk.
 pub fn stacks_are_parts_of_their_disks()
     ensures { (stack : Stack) → IsPartOf (shown_of (disk_of stack)) (stack_shown stack) }
 {}

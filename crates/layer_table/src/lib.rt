@@ -9,7 +9,7 @@
 pub use any_gate::AnyGate;
 pub use slot::Slot;
 pub use stack::Stack;
-pub use table_line::{LayerSpec, TableError, Target, parse_line};
+pub use table_line::{Feature, LayerSpec, TableError, Target, parse_line};
 
 mod any_gate;
 pub mod laws;

@@ -9,5 +9,6 @@ pub use Rattle.bio.specs.Content
 pub mod Resize
 pub mod Refusals
 pub mod Copies
+pub mod CopyCalls
 pub mod ResizeLaws
 pub mod inside

@@ -16,7 +16,7 @@ counts old call now (Ok end) new = new ≡ old + 1
 counts old call now (Err error) new = ⊥
 
 -- one read, and then the target failed
-stopped : ReadsToStop counts 0 1 (replays.Target devices.Io)
+stopped : ReadsToStop counts ⊥ 0 1 (replays.Target devices.Io)
 unfolding counts
 stopped = (
   1,
@@ -29,7 +29,7 @@ stopped = (
 )
 
 -- the log's device didn't fail
-refused_device : ReadsToStop counts 0 1 (replays.Log reads.Device) → ⊥
+refused_device : ReadsToStop counts (Unit {0}) 0 1 (replays.Log reads.Device) → ⊥
 unfolding counts
 refused_device (most, done) = by_calls 0 done.calls done.turn
   where
@@ -37,3 +37,15 @@ refused_device (most, done) = by_calls 0 done.calls done.turn
     by_calls old [] turn = turn
     by_calls old (call ∷ calls) (inl refused) = refused
     by_calls old (call ∷ calls) (inr (mid, ends, turn)) = by_calls mid calls turn
+
+-- there was memory for an entry that has a fault, and for one that has none there may be none
+refused_memory : ReadsToStop counts ⊥ 0 1 (replays.Log reads.Memory) → ⊥
+unfolding counts
+refused_memory (inl (most, done)) = by_calls 0 done.calls done.turn
+  where
+    by_calls : (old : ℕ) (calls : List Call) → DoesInTurn counts 0 calls old (Err devices.Memory) 1
+        → ⊥
+    by_calls old [] turn = turn
+    by_calls old (call ∷ calls) (inl refused) = refused
+    by_calls old (call ∷ calls) (inr (mid, ends, turn)) = by_calls mid calls turn
+refused_memory (inr lacks) = lacks.0

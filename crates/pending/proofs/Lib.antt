@@ -30,3 +30,9 @@ pub mod Words
 pub mod Possibles
 pub mod OrderedRows
 pub mod Counterexamples
+pub mod PlainHeld
+pub mod PlainReplays
+pub mod PlainQueues
+pub mod PlainMoments
+pub mod PlainOnly
+pub mod PlainBytes

@@ -146,7 +146,7 @@ durable-of events moment sector id within inside kept =
     }
 
 -- the entry of what is queued before a moment stands among those queued by then
-stands-before : (size : ℕ) (events : List CoreEvent) (moment id event : ℕ) → moment ≤ length events
+pub stands-before : (size : ℕ) (events : List CoreEvent) (moment id event : ℕ) → moment ≤ length events
     → queue_event log_writes_order events id ≡ Some event → event < moment
     → (k : ℕ) × (slice_get (completion_list (dm_log_writes size) events) k
     ≡ Some (id, entry_at size (slice_get (take moment events) id)))
@@ -172,13 +172,13 @@ stands-before size events moment id event within queued less =
 
 -- What an item of the first so many is: queued by a moment's next event at the latest, and
 -- submitted before the moment.
-record IsItemBy (size : ℕ) (events : List CoreEvent) (moment : ℕ) (item : Item) : Type 0 where
-  event : ℕ
-  queued : queue_event log_writes_order events item.0 ≡ Some event
-  entry : item.1 ≡ entry_at size (slice_get events item.0)
-  by_then : event ≤ moment
+pub record IsItemBy (size : ℕ) (events : List CoreEvent) (moment : ℕ) (item : Item) : Type 0 where
+  pub event : ℕ
+  pub queued : queue_event log_writes_order events item.0 ≡ Some event
+  pub entry : item.1 ≡ entry_at size (slice_get events item.0)
+  pub by_then : event ≤ moment
 
-item-by : (size : ℕ) (events : List CoreEvent) (moment k : ℕ) (item : Item)
+pub item-by : (size : ℕ) (events : List CoreEvent) (moment k : ℕ) (item : Item)
     → is_well_formed events ≡ true
     → slice_get (completion_list (dm_log_writes size) events) k ≡ Some item
     → k < length (completion_list (dm_log_writes size) (take (suc moment) events))

@@ -83,7 +83,7 @@ need-recorded events end bio place (AtFua id ok last is earlier submitted has ch
     })
 
 -- and the other way round
-recorded-need : (events : List CoreEvent) (end : ℕ) (bio : Bio) (place : ℕ)
+pub recorded-need : (events : List CoreEvent) (end : ℕ) (bio : Bio) (place : ℕ)
     → log_writes_order events end (Some (Submit bio)) place (slice_get events place) ≡ true
     → IsNeed events end bio place
 recorded-need events end bio place h =

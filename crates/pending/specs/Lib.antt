@@ -9,8 +9,10 @@ pub use Rattle.log_format.specs.Replay
 pub use Rattle.bio.specs.Content
 pub mod QueueEvent
 pub mod Moments
+pub mod Plain
 pub mod Chains
 pub mod CompletionList
+pub mod PlainLists
 pub mod Prefixes
 pub mod Results
 pub mod CoreState

@@ -1,0 +1,270 @@
+-- The plain words of what a device could hold are those of the contracts.
+-- Its own crate alone cites it, for the theorems of src/plain.rt.
+use Rattle.std.proofs.Common.{◌≡◌, ℕ, ◌+◌, ◌-◌, ◌/◌, ◌<◌, ◌≤◌, Bool, true, false, ◌&&◌, ◌||◌}
+use Rattle.std.proofs.Common.{Option, Some, None, List, length, replicate, refl, ap, sym, ◌∙◌, inl, inr, arith}
+use Rattle.std.proofs.lemmas.Bool.{and_parts}
+use Rattle.std.specs.Prelude.{slice_get}
+use Rattle.bio.specs.declared.request.Bio.{Bio}
+use Rattle.bio.specs.declared.request.Bio.TheVariants.{Write, Flush, Discard, Read}
+use Rattle.bio.specs.declared.event.CoreEvent.{CoreEvent}
+use Rattle.bio.specs.declared.event.CoreEvent.TheVariants.{Submit, Complete, Mark, Stop, Close}
+use Rattle.bio.specs.Content.{Content, over, sector_of}
+use Rattle.bio.specs.ContentLaws.{over-in, over_cases}
+use Rattle.bio.specs.PlaceLaws.{any_below-at, any_below-some, bool_cases, option_cases, or_cases, or_second}
+use Rattle.bio.specs.PlaceLaws.{slice_get-within}
+use Rattle.bio.specs.PossibleLaws.{covered_value, value_covers}
+use Rattle.bio.specs.RequestLaws.{is_before-end}
+use Rattle.bio.specs.EventLaws.{well_formed-end}
+use Rattle.bio.specs.Events.{end_of, is_before, is_flush_submit, submits}
+use Rattle.bio.specs.Lawful.{is_well_formed}
+use Rattle.bio.specs.Requests.{has_fua}
+use Rattle.bio.specs.Possible.{Possible, covers_at, ended_ok, has_kept, is_durable, is_flushed, is_kept}
+use Rattle.bio.specs.Possible.{is_replaced, is_success, is_success_at, values_at, values_of}
+use Rattle.pending.specs.Plain.{CouldHold, Durable, Ends, Flushed, Kept, Puts, Submits}
+use Rattle.pending.proofs.Ends.{ends-there, flush_submit-some}
+
+-- two tests that hold
+pub and_holds : (a b : Bool) → a ≡ true → b ≡ true → (a && b) ≡ true
+and_holds a b ha hb = ap (λ x. x && b) ha ∙ hb
+
+-- what a range has for a sector
+over-has : (first count : ℕ) (value : ℕ → List ℕ) (sector : ℕ) (v : List ℕ)
+    → over first count value sector ≡ Some v
+    → (first ≤ sector) × (sector < first + count) × (v ≡ value (sector - first))
+over-has first count value sector v e = elim (over_cases first count value sector) [
+  | inl within ↦
+      let is = within.2 in
+      let less = within.1 in
+      let same : over first count value sector ≡ Some (value within.0) =
+      ap (over first count value) is ∙ over-in first count value within.0 less in
+      let k : within.0 ≡ sector - first = omega arith in
+      let v_is : v ≡ value within.0 = cc in (omega arith, omega arith, v_is ∙ ap value k)
+  | inr none ↦ absurd (let contra : None ≡ Some v = sym none ∙ e in cc)
+]
+
+has-over : (first count : ℕ) (value : ℕ → List ℕ) (sector : ℕ) → first ≤ sector
+    → sector < first + count → over first count value sector ≡ Some (value (sector - first))
+has-over first count value sector low high =
+    ap (over first count value) (omega arith)
+    ∙ over-in first count value (sector - first) (omega arith)
+
+-- a request puts the value that it has for a sector
+pub puts-values : (bio : Bio) (sector : ℕ) (value : List ℕ) → values_of bio sector ≡ Some value
+    → Puts bio sector value
+puts-values (Write first bytes flush fua meta) sector value e =
+    over-has first (length bytes / 512) (sector_of bytes) sector value e
+puts-values Flush sector value e = cc
+puts-values (Discard first count) sector value e =
+    over-has first count (λ _. replicate 512 0) sector value e
+puts-values (Read first count) sector value e = cc
+
+pub values-puts : (bio : Bio) (sector : ℕ) (value : List ℕ) → Puts bio sector value
+    → values_of bio sector ≡ Some value
+values-puts (Write first bytes flush fua meta) sector value puts =
+    has-over first (length bytes / 512) (sector_of bytes) sector puts.0 puts.1
+    ∙ ap (λ v. Some v) (sym puts.2)
+values-puts Flush sector value puts = absurd puts
+values-puts (Discard first count) sector value puts =
+    has-over first count (λ _. replicate 512 0) sector puts.0 puts.1 ∙ ap (λ v. Some v) (sym puts.2)
+values-puts (Read first count) sector value puts = absurd puts
+
+-- the same of what an event submits
+pub event-puts : (there : Option CoreEvent) (sector : ℕ) (value : List ℕ)
+    → values_at there sector ≡ Some value
+    → (bio : Bio) × (there ≡ Some (Submit bio)) × Puts bio sector value
+event-puts (Some (Submit bio)) sector value e = (bio, refl, puts-values bio sector value e)
+event-puts (Some (Complete id ok)) sector value e = cc
+event-puts (Some (Mark text)) sector value e = cc
+event-puts (Some (Stop cause)) sector value e = cc
+event-puts (Some Close) sector value e = cc
+event-puts None sector value e = cc
+
+pub puts-event : (events : List CoreEvent) (id : ℕ) (bio : Bio) (sector : ℕ) (value : List ℕ)
+    → Submits events id bio → Puts bio sector value
+    → values_at (slice_get events id) sector ≡ Some value
+puts-event events id bio sector value is puts =
+    ap (λ e. values_at e sector) is ∙ values-puts bio sector value puts
+
+-- what an event submits that passes a test
+submits-some : (test : Bio → Bool) (there : Option CoreEvent) → submits test there ≡ true
+    → (bio : Bio) × (there ≡ Some (Submit bio)) × (test bio ≡ true)
+submits-some test (Some (Submit bio)) h = (bio, refl, h)
+submits-some test (Some (Complete id ok)) h = cc
+submits-some test (Some (Mark text)) h = cc
+submits-some test (Some (Stop cause)) h = cc
+submits-some test (Some Close) h = cc
+submits-some test None h = cc
+
+-- an end with success
+ok-ends : (events : List CoreEvent) (id : ℕ) → ended_ok events id ≡ true
+    → (end : ℕ) × (end_of events id ≡ Some end) × Ends events id end true
+ok-ends events id ok = elim (option_cases (end_of events id)) [
+  | inl none ↦
+      absurd (let contra : false ≡ true = sym (ap (is_success_at events) none) ∙ ok in cc)
+  | inr some ↦
+      let there = ends-there events id some.0 some.1 in
+      let is = there.2.1 in
+      let success : there.2.0 ≡ true =
+      sym (ap is_success is) ∙ (sym (ap (is_success_at events) some.1) ∙ ok) in
+      (some.0, some.1, is ∙ ap (λ b. Some (Complete id b)) success)
+]
+
+ends-ok : (events : List CoreEvent) (id end : ℕ) → is_well_formed events ≡ true
+    → Ends events id end true → ended_ok events id ≡ true
+ends-ok events id end well_formed ends =
+    let ended = well_formed-end events end id true well_formed ends in
+    ap (is_success_at events) ended.ends ∙ ap is_success ends
+
+-- a flush
+flushed-after : (events : List CoreEvent) (id end : ℕ) → end_of events id ≡ Some end
+    → is_flushed events id ≡ true → Flushed events end
+flushed-after events id end ends flushed =
+    let test : ℕ → Bool = λ flush. is_flush_submit (slice_get events flush)
+    && (ended_ok events flush && is_before events id flush) in
+    let found = any_below-some test (length events) flushed in
+    let outer =
+    and_parts (is_flush_submit (slice_get events found.0))
+    (ended_ok events found.0 && is_before events id found.0) found.2 in
+    let inner = and_parts (ended_ok events found.0) (is_before events id found.0) outer.1 in
+    let flush = flush_submit-some (slice_get events found.0) outer.0 in
+    let ok = ok-ends events found.0 inner.0 in
+    let before = (is_before-end events id found.0).0 inner.1 in
+    let before_is = before.1 in
+    let less = before.2 in
+    let same : before.0 ≡ end = cc in
+    record {
+      id = found.0;
+      bio = flush.0;
+      end = ok.0;
+      flush = (flush.1, flush.2);
+      after = omega arith;
+      ended = ok.2;
+    }
+
+after-flushed : (events : List CoreEvent) (id end : ℕ) → is_well_formed events ≡ true
+    → end_of events id ≡ Some end
+    → Flushed events end → is_flushed events id ≡ true
+after-flushed events id end well_formed ends flushed =
+    let test : ℕ → Bool = λ flush. is_flush_submit (slice_get events flush)
+    && (ended_ok events flush && is_before events id flush) in
+    any_below-at test (length events) flushed.id
+    (slice_get-within events flushed.id (Submit flushed.bio) flushed.flush.0)
+    (and_holds (is_flush_submit (slice_get events flushed.id))
+    (ended_ok events flushed.id && is_before events id flushed.id)
+    (ap is_flush_submit flushed.flush.0 ∙ flushed.flush.1)
+    (and_holds (ended_ok events flushed.id) (is_before events id flushed.id)
+    (ends-ok events flushed.id flushed.end well_formed flushed.ended)
+    ((is_before-end events id flushed.id).1 (end, ends, flushed.after))))
+
+-- what is durable
+pub durable-plain : (events : List CoreEvent) (id : ℕ) → is_well_formed events ≡ true
+    → is_durable events id ≡ true → Durable events id
+durable-plain events id well_formed durable =
+    let parts =
+    and_parts (ended_ok events id)
+    (submits has_fua (slice_get events id) || is_flushed events id) durable in
+    let ok = ok-ends events id parts.0 in
+    let ended = well_formed-end events ok.0 id true well_formed ok.2 in
+    record {
+      bio = ended.bio;
+      end = ok.0;
+      submitted = ended.submitted;
+      ended = ok.2;
+      sure = elim (or_cases (submits has_fua (slice_get events id)) (is_flushed events id) parts.1) [
+        | inl fua ↦ inl (sym (ap (submits has_fua) ended.submitted) ∙ fua)
+        | inr flushed ↦ inr (flushed-after events id ok.0 ok.1 flushed)
+      ];
+    }
+
+pub plain-durable : (events : List CoreEvent) (id : ℕ) → is_well_formed events ≡ true
+    → Durable events id → is_durable events id ≡ true
+plain-durable events id well_formed durable =
+    let ended = well_formed-end events durable.end id true well_formed durable.ended in
+    and_holds (ended_ok events id) (submits has_fua (slice_get events id) || is_flushed events id)
+    (ends-ok events id durable.end well_formed durable.ended) (elim durable.sure [
+      | inl fua ↦
+          ap (λ b. b || is_flushed events id) (ap (submits has_fua) durable.submitted ∙ fua)
+      | inr flushed ↦
+          or_second (submits has_fua (slice_get events id)) (is_flushed events id)
+          (after-flushed events id durable.end well_formed ended.ends flushed)
+    ])
+
+-- what is kept
+pub kept-plain : (events : List CoreEvent) (sector id : ℕ) → is_well_formed events ≡ true
+    → is_kept events sector id ≡ true → Kept events sector id
+kept-plain events sector id well_formed kept =
+    let parts = and_parts (is_durable events id) (covers_at sector (slice_get events id)) kept in
+    let value = covered_value (slice_get events id) sector parts.1 in
+    let puts = event-puts (slice_get events id) sector value.0 value.1 in
+    (durable-plain events id well_formed parts.0, puts.0, puts.1, (value.0, puts.2))
+
+pub plain-kept : (events : List CoreEvent) (sector id : ℕ) → is_well_formed events ≡ true
+    → Kept events sector id → is_kept events sector id ≡ true
+plain-kept events sector id well_formed kept =
+    and_holds (is_durable events id) (covers_at sector (slice_get events id))
+    (plain-durable events id well_formed kept.0)
+    (value_covers (slice_get events id) sector kept.3.0
+    (puts-event events id kept.1 sector kept.3.0 kept.2 kept.3.1))
+
+-- it stands among the events
+kept-within : (events : List CoreEvent) (sector id : ℕ) → Kept events sector id → id < length events
+kept-within events sector id kept = slice_get-within events id (Submit kept.1) kept.2
+
+-- what is possible could be held
+pub possible-plain : (events : List CoreEvent) (first now : Content)
+    → is_well_formed events ≡ true → Possible events first now → CouldHold events first now
+possible-plain events first now well_formed possible = λ sector. elim (possible sector) [
+  | inl stays ↦ inl (
+    stays.0,
+    λ id kept. absurd (
+        let contra : true ≡ false =
+        sym (any_below-at (is_kept events sector) (length events) id
+        (kept-within events sector id kept) (plain-kept events sector id well_formed kept)) ∙ stays.1 in cc),
+  )
+  | inr held ↦
+      let puts = event-puts (slice_get events held.0) sector (now sector) held.1 in
+      inr (
+        held.0,
+        puts.0,
+        puts.1,
+        puts.2,
+        λ later end ok kept ends less. absurd (
+            let contra : true ≡ false =
+            sym (any_below-at (λ k. is_kept events sector k && is_before events held.0 k)
+            (length events) later (kept-within events sector later kept)
+            (and_holds (is_kept events sector later) (is_before events held.0 later)
+            (plain-kept events sector later well_formed kept)
+            ((is_before-end events held.0 later).1
+            (end, (well_formed-end events end held.0 ok well_formed ends).ends, less)))) ∙ held.2 in cc),
+      )
+]
+
+-- and what could be held is possible
+pub plain-possible : (events : List CoreEvent) (first now : Content)
+    → is_well_formed events ≡ true → CouldHold events first now → Possible events first now
+plain-possible events first now well_formed could = λ sector. elim (could sector) [
+  | inl stays ↦ inl (
+    stays.0,
+    elim (bool_cases (has_kept events sector)) [
+      | inl some ↦
+          let found = any_below-some (is_kept events sector) (length events) some in
+          absurd (stays.1 found.0 (kept-plain events sector found.0 well_formed found.2))
+      | inr none ↦ none
+    ],
+  )
+  | inr held ↦ inr (
+    held.0,
+    puts-event events held.0 held.1 sector (now sector) held.2 held.3,
+    elim (bool_cases (is_replaced events sector held.0)) [
+      | inl some ↦
+          let found = any_below-some (λ k. is_kept events sector k && is_before events held.0 k)
+          (length events) some in
+          let parts = and_parts (is_kept events sector found.0) (is_before events held.0 found.0) found.2 in
+          let before = (is_before-end events held.0 found.0).0 parts.1 in
+          let there = ends-there events held.0 before.0 before.1 in
+          absurd (held.4 found.0 before.0 there.2.0
+          (kept-plain events sector found.0 well_formed parts.0) there.2.1 before.2)
+      | inr none ↦ none
+    ],
+  )
+]

@@ -1,0 +1,366 @@
+-- What is queued, in plain words.
+-- Its own crate alone cites it, for the theorems of src/plain.rt.
+use Rattle.std.proofs.Common.{◌≡◌, ℕ, zero, suc, ◌<◌, Bool, true, false, not, ◌&&◌, ◌||◌, Option, Some, None, List}
+use Rattle.std.proofs.Common.{[], ◌∷◌, length, refl, ap, sym, subst, ◌∙◌, inl, inr, arith}
+use Rattle.std.proofs.Math.Nat.{eq-or-lt_of_le}
+use Rattle.std.proofs.lemmas.Bool.{and_parts, cases_lt, le-ltb, lt-ltb, ltb-true}
+use Rattle.std.specs.Prelude.{◌⊎◌, slice_get, nat_lt, option_map, if◌then◌else◌}
+use Rattle.bio.specs.declared.request.Bio.{Bio}
+use Rattle.bio.specs.declared.outcome.End.{End}
+use Rattle.bio.specs.declared.event.CoreEvent.{CoreEvent}
+use Rattle.bio.specs.declared.event.CoreEvent.TheVariants.{Submit, Complete, Mark, Stop, Close}
+use Rattle.bio.specs.PlaceLaws.{bool_cases, first_below-found, first_below-none, option_cases, slice_get-within}
+use Rattle.bio.specs.PossibleLaws.{covered_value, value_covers}
+use Rattle.bio.specs.RequestLaws.{overlaps-common}
+use Rattle.bio.specs.EventLaws.{well_formed-end}
+use Rattle.bio.specs.Events.{end_of, first_place, is_stop}
+use Rattle.bio.specs.Lawful.{is_well_formed}
+use Rattle.bio.specs.Requests.{covers, has_flush, has_fua, overlaps}
+use Rattle.pending.specs.Chains as old
+use Rattle.pending.specs.QueueEvent.{first_need, log_writes_order, queue_event, queue_of, unless_stopped}
+use Rattle.pending.specs.CompletionList.{IsQueued, IsQueuedBefore, Item, completion_list, dm_log_writes, entry_at, own_end}
+use Rattle.pending.specs.PlainLists.{ids_of}
+use Rattle.pending.specs.Plain.{AClose, AMark, AtClose, AtEnd, AtFlush, AtFua, Chain, Covers, Direct}
+use Rattle.pending.specs.Plain.{GoesOn, IsCompletionList, Later, Need, Overlap, Queued, Queues, Submits, Through}
+use Rattle.pending.proofs.Ends.{ends-there, own-queue_event, plain-queue_event}
+use Rattle.pending.proofs.Order.{listed-queued, listed-sorted, queued-listed, unstopped}
+use Rattle.pending.proofs.PlainHeld.{and_holds, puts-values, values-puts}
+use Rattle.pending.proofs.Words.{first-need-queues, need-recorded, recorded-need}
+
+-- what covers a sector puts a value there
+covers-plain : (bio : Bio) (sector : ℕ) → covers bio sector ≡ true → Covers bio sector
+covers-plain bio sector covered =
+    let value = covered_value (Some (Submit bio)) sector covered in
+    (value.0, puts-values bio sector value.0 value.1)
+
+plain-covers : (bio : Bio) (sector : ℕ) → Covers bio sector → covers bio sector ≡ true
+plain-covers bio sector puts =
+    value_covers (Some (Submit bio)) sector puts.0 (values-puts bio sector puts.0 puts.1)
+
+overlap-plain : (a b : Bio) → overlaps a b ≡ true → Overlap a b
+overlap-plain a b h =
+    let common = (overlaps-common a b).0 h in
+    (common.0, covers-plain a common.0 common.1, covers-plain b common.0 common.2)
+
+plain-overlap : (a b : Bio) → Overlap a b → overlaps a b ≡ true
+plain-overlap a b common =
+    (overlaps-common a b).1
+    (common.0, plain-covers a common.0 common.1, plain-covers b common.0 common.2)
+
+not_true : (b : Bool) → not b ≡ true → b ≡ false
+not_true true e = cc
+not_true false e = refl
+
+-- chains
+chain-plain : (events : List CoreEvent) (last : Bio) (place end : ℕ) (bio : Bio)
+    → old.Chain events last place end bio → Chain events last place end bio
+chain-plain events last place end bio (old.Direct _ _ overlap) =
+    Direct end bio (overlap-plain bio last overlap)
+chain-plain events last place end bio (old.Through _ _ later id next ended rises within meets rest) =
+    Through end bio id later ended.ok next ended.submitted
+    (not_true (has_flush next || has_fua next) ended.plain) ended.ends rises within
+    (overlap-plain bio next meets) (chain-plain events last place later next rest)
+
+plain-chain : (events : List CoreEvent) (last : Bio) (place end : ℕ) (bio : Bio)
+    → is_well_formed events ≡ true
+    → Chain events last place end bio → old.Chain events last place end bio
+plain-chain events last place end bio well_formed (Direct _ _ overlap) =
+    old.Direct end bio (plain-overlap bio last overlap)
+plain-chain events last place end bio well_formed
+    (Through _ _ id later ok next submitted plain ends rises within meets rest) =
+    old.Through end bio later id next (record {
+      ok = ok;
+      ends = ends;
+      earlier = (well_formed-end events later id ok well_formed ends).earlier;
+      submitted = submitted;
+      plain = ap not plain;
+    }) rises within (plain-overlap bio next meets)
+    (plain-chain events last place later next well_formed rest)
+
+-- needs
+need-plain : (events : List CoreEvent) (end : ℕ) (bio : Bio) (place : ℕ)
+    → old.IsNeed events end bio place → Need events end bio place
+need-plain events end bio place (old.AtClose is) = AtClose is
+need-plain events end bio place (old.AtFlush id ok last is earlier submitted has rises) =
+    AtFlush id ok last is submitted has rises
+need-plain events end bio place (old.AtFua id ok last is earlier submitted has chain) =
+    AtFua id ok last is submitted has (chain-plain events last place end bio chain)
+
+plain-need : (events : List CoreEvent) (end : ℕ) (bio : Bio) (place : ℕ)
+    → is_well_formed events ≡ true → Need events end bio place → old.IsNeed events end bio place
+plain-need events end bio place well_formed (AtClose is) = old.AtClose is
+plain-need events end bio place well_formed (AtFlush id ok last is submitted has rises) =
+    old.AtFlush id ok last is (well_formed-end events place id ok well_formed is).earlier submitted
+    has rises
+plain-need events end bio place well_formed (AtFua id ok last is submitted has chain) =
+    old.AtFua id ok last is (well_formed-end events place id ok well_formed is).earlier submitted
+    has (plain-chain events last place end bio well_formed chain)
+
+-- an event that needs something is no Stop, and stands among the events
+need-within : (events : List CoreEvent) (end : ℕ) (bio : Bio) (place : ℕ)
+    → Need events end bio place
+    → (place < length events) × (is_stop (slice_get events place) ≡ false)
+need-within events end bio place (AtClose is) =
+    (slice_get-within events place Close is, ap is_stop is)
+need-within events end bio place (AtFlush id ok last is submitted has rises) =
+    (slice_get-within events place (Complete id ok) is, ap is_stop is)
+need-within events end bio place (AtFua id ok last is submitted has chain) =
+    (slice_get-within events place (Complete id ok) is, ap is_stop is)
+
+-- where logging goes on
+by_stop : (stop queued : Option ℕ) (p : ℕ) → unless_stopped stop queued ≡ Some p
+    → (stop ≡ None) ⊎ ((s : ℕ) × (stop ≡ Some s) × (p < s))
+by_stop None queued p e = inl refl
+by_stop (Some s) None p e = cc
+by_stop (Some s) (Some q) p e = elim (cases_lt q s) [
+  | inl less ↦
+      let same : q ≡ p =
+      let is : Some q ≡ Some p =
+      sym (ap (λ b. if b then Some q else None) (lt-ltb q s less)) ∙ e in cc in
+      inr (s, refl, omega arith)
+  | inr above ↦ absurd (
+      let contra : None ≡ Some p = sym (ap (λ b. if b then Some q else None) (le-ltb q s above)) ∙ e in cc)
+]
+
+pub stop-some : (there : Option CoreEvent) → is_stop there ≡ true
+    → (cause : End) × (there ≡ Some (Stop cause))
+stop-some (Some (Stop cause)) h = (cause, refl)
+stop-some (Some (Submit bio)) h = cc
+stop-some (Some (Complete id ok)) h = cc
+stop-some (Some (Mark text)) h = cc
+stop-some (Some Close) h = cc
+stop-some None h = cc
+
+goes_on-plain : (events : List CoreEvent) (queued : Option ℕ) (p : ℕ)
+    → unless_stopped (first_place is_stop events) queued ≡ Some p → GoesOn events p
+goes_on-plain events queued p e = λ k cause less is.
+    let within = slice_get-within events k (Stop cause) is in
+    let here : is_stop (slice_get events k) ≡ true = ap is_stop is in
+    elim (by_stop (first_place is_stop events) queued p e) [
+      | inl none ↦
+          let no = first_below-none (λ place. is_stop (slice_get events place))
+          (length events) none k within in
+          let contra : true ≡ false = sym here ∙ no in cc
+      | inr some ↦
+          let found = first_below-found (λ place. is_stop (slice_get events place))
+          (length events) some.0 some.1 in
+          let before = some.2 in
+          let no = found.before k (omega arith) in
+          let contra : true ≡ false = sym here ∙ no in cc
+    ]
+
+plain-goes_on : (events : List CoreEvent) (p : ℕ) → is_stop (slice_get events p) ≡ false
+    → GoesOn events p → unless_stopped (first_place is_stop events) (Some p) ≡ Some p
+plain-goes_on events p other goes = elim (option_cases (first_place is_stop events)) [
+  | inl none ↦ ap (λ s. unless_stopped s (Some p)) none
+  | inr some ↦
+      let found = first_below-found (λ place. is_stop (slice_get events place))
+      (length events) some.0 some.1 in
+      let less : p < some.0 = elim (cases_lt p some.0) [
+        | inl less ↦ less
+        | inr above ↦ elim (eq-or-lt_of_le above) [
+          | inl same ↦ absurd (
+              let contra : true ≡ false =
+              sym found.here ∙ (ap (λ k. is_stop (slice_get events k)) same ∙ other) in cc)
+          | inr more ↦
+              let stop = stop-some (slice_get events some.0) found.here in
+              absurd (goes some.0 stop.0 more stop.1)
+        ]
+      ] in
+      ap (λ s. unless_stopped s (Some p)) some.1
+      ∙ ap (λ b. if b then Some p else None) (lt-ltb p some.0 less)
+]
+
+or_false : (a b : Bool) → (a || b) ≡ false → (a ≡ false) × (b ≡ false)
+or_false true b e = cc
+or_false false b e = (refl, e)
+
+-- what is queued in the plain words has the queue event
+pub plain-queued : (events : List CoreEvent) (id end place : ℕ) → is_well_formed events ≡ true
+    → Queues events id end place → GoesOn events place
+    → IsQueued log_writes_order events id place end
+plain-queued events id end place well_formed (AMark text is) goes =
+    record {
+      queues =
+          ap (λ there. unless_stopped (first_place is_stop events)
+          (queue_of log_writes_order events id there)) is
+          ∙ plain-goes_on events id (ap is_stop is) goes;
+      ends = ap (own_end events id) is;
+    }
+plain-queued events id end place well_formed (AClose is) goes =
+    record {
+      queues =
+          ap (λ there. unless_stopped (first_place is_stop events)
+          (queue_of log_writes_order events id there)) is
+          ∙ plain-goes_on events id (ap is_stop is) goes;
+      ends = ap (own_end events id) is;
+    }
+plain-queued events id end place well_formed (AtEnd _ bio ok is ends own) goes =
+    let ended = well_formed-end events end id ok well_formed ends in
+    record {
+      queues =
+          own-queue_event events id bio is own
+          ∙ ap (unless_stopped (first_place is_stop events)) ended.ends
+          ∙ plain-goes_on events end (ap is_stop ends) goes;
+      ends = ap (own_end events id) is ∙ ended.ends;
+    }
+plain-queued events id end place well_formed (Later _ _ bio ok is ends plain after need none) goes =
+    let ended = well_formed-end events end id ok well_formed ends in
+    let stands = need-within events end bio place need in
+    let no = or_false (has_flush bio) (has_fua bio) plain in
+    record {
+      queues =
+          first-need-queues events id end place bio is no.0 no.1 ended.ends (record {
+            within = stands.0;
+            after = after;
+            needs = plain-need events end bio place well_formed need;
+            first = λ k low high needed. none k low high (need-plain events end bio k needed);
+          })
+          ∙ plain-goes_on events place stands.1 goes;
+      ends = ap (own_end events id) is ∙ ended.ends;
+    }
+
+-- and what has the queue event is queued in the plain words
+submitted-plain : (events : List CoreEvent) (id end place : ℕ) (bio : Bio)
+    → is_well_formed events ≡ true → Submits events id bio
+    → IsQueued log_writes_order events id place end → Queues events id end place
+submitted-plain events id end place bio well_formed is queued =
+    let ends : end_of events id ≡ Some end = sym (ap (own_end events id) is) ∙ queued.ends in
+    let there = ends-there events id end ends in
+    elim (bool_cases (has_flush bio || has_fua bio)) [
+      | inl own ↦
+          let found =
+          unstopped (first_place is_stop events) (end_of events id) place
+          (sym (own-queue_event events id bio is own) ∙ queued.queues) in
+          let same : end ≡ place = let both : Some end ≡ Some place = sym ends ∙ found in cc in
+          subst (λ p. Queues events id end p) same (AtEnd end bio there.2.0 is there.2.1 own)
+      | inr plain ↦
+          let found =
+          unstopped (first_place is_stop events)
+          (first_need log_writes_order events id (Some end)) place
+          (sym (plain-queue_event events id end bio is plain ends) ∙ queued.queues) in
+          let first =
+          first_below-found (λ p. nat_lt end p
+          && log_writes_order events end (slice_get events id) p (slice_get events p))
+          (length events) place found in
+          let parts =
+          and_parts (nat_lt end place)
+          (log_writes_order events end (slice_get events id) place (slice_get events place))
+          first.here in
+          Later end place bio there.2.0 is there.2.1 plain (ltb-true end place parts.0)
+          (need-plain events end bio place (recorded-need events end bio place
+          (ap (λ e. log_writes_order events end e place (slice_get events place)) (sym is)
+          ∙ parts.1)))
+          (λ k low high need.
+          let needed =
+          ap (λ e. log_writes_order events end e k (slice_get events k)) is
+          ∙ need-recorded events end bio k (plain-need events end bio k well_formed need) in
+          let here =
+          and_holds (nat_lt end k)
+          (log_writes_order events end (slice_get events id) k (slice_get events k))
+          (lt-ltb end k low) needed in
+          let contra : true ≡ false = sym here ∙ first.before k high in
+          cc)
+    ]
+
+queues-plain : (events : List CoreEvent) (id end place : ℕ) (there : Option CoreEvent)
+    → is_well_formed events ≡ true → slice_get events id ≡ there
+    → IsQueued log_writes_order events id place end → Queues events id end place
+queues-plain events id end place (Some (Submit bio)) well_formed is queued =
+    submitted-plain events id end place bio well_formed is queued
+queues-plain events id end place (Some (Mark text)) well_formed is queued =
+    let ends : Some id ≡ Some end = sym (ap (own_end events id) is) ∙ queued.ends in
+    let found : Some id ≡ Some place =
+    sym (ap (queue_of log_writes_order events id) is)
+    ∙ unstopped (first_place is_stop events)
+    (queue_of log_writes_order events id (slice_get events id)) place queued.queues in
+    let e : id ≡ end = cc in
+    let p : id ≡ place = cc in
+    subst (λ x. Queues events id x place) e (subst (λ x. Queues events id id x) p (AMark text is))
+queues-plain events id end place (Some Close) well_formed is queued =
+    let ends : Some id ≡ Some end = sym (ap (own_end events id) is) ∙ queued.ends in
+    let found : Some id ≡ Some place =
+    sym (ap (queue_of log_writes_order events id) is)
+    ∙ unstopped (first_place is_stop events)
+    (queue_of log_writes_order events id (slice_get events id)) place queued.queues in
+    let e : id ≡ end = cc in
+    let p : id ≡ place = cc in
+    subst (λ x. Queues events id x place) e (subst (λ x. Queues events id id x) p (AClose is))
+queues-plain events id end place (Some (Complete ended ok)) well_formed is queued =
+    absurd (let contra : None ≡ Some end = sym (ap (own_end events id) is) ∙ queued.ends in cc)
+queues-plain events id end place (Some (Stop cause)) well_formed is queued =
+    absurd (let contra : None ≡ Some end = sym (ap (own_end events id) is) ∙ queued.ends in cc)
+queues-plain events id end place None well_formed is queued =
+    absurd (let contra : None ≡ Some end = sym (ap (own_end events id) is) ∙ queued.ends in cc)
+
+pub queued-plain : (events : List CoreEvent) (id end place : ℕ) → is_well_formed events ≡ true
+    → IsQueued log_writes_order events id place end → Queued events id end place
+queued-plain events id end place well_formed queued = (
+  queues-plain events id end place (slice_get events id) well_formed refl queued,
+  goes_on-plain events (queue_of log_writes_order events id (slice_get events id)) place queued.queues,
+)
+
+-- an id of the items is that of an item
+pub item-there : (items : List Item) (n id : ℕ) → slice_get (ids_of items) n ≡ Some id
+    → (item : Item) × (slice_get items n ≡ Some item) × (item.0 ≡ id)
+item-there [] n id is = cc
+item-there (item ∷ items) zero id is = (item, refl, (cc))
+item-there (item ∷ items) (suc n) id is = item-there items n id is
+
+pub there-item : (items : List Item) (n : ℕ) (item : Item) → slice_get items n ≡ Some item
+    → slice_get (ids_of items) n ≡ Some item.0
+there-item [] n item is = cc
+there-item (x ∷ items) zero item is = ap (option_map (λ i. i.0)) is
+there-item (x ∷ items) (suc n) item is = there-item items n item is
+
+-- the ids of the completion list are one in the plain words
+pub list-plain : (size : ℕ) (events : List CoreEvent) → is_well_formed events ≡ true
+    → IsCompletionList events (ids_of (completion_list (dm_log_writes size) events))
+list-plain size events well_formed =
+    let items = completion_list (dm_log_writes size) events in
+    record {
+      has = λ id end place queued.
+          let listed = queued-listed (dm_log_writes size) events id place
+          (plain-queued events id end place well_formed queued.0 queued.1).queues in
+          (listed.0, there-item items listed.0 (id, entry_at size (slice_get events id)) listed.1);
+      only = λ n id is.
+          let item = item-there items n id is in
+          let queued = (listed-queued (dm_log_writes size) events n item.0 well_formed item.1).1 in (
+            queued.1,
+            queued.0,
+            queued-plain events id queued.1 queued.0 well_formed
+                (subst (λ i. IsQueued log_writes_order events i queued.0 queued.1) item.2 queued.2),
+          );
+      sorted = λ m n a b end place other_end other_place less is_a is_b queued_a queued_b.
+          let x = item-there items m a is_a in
+          let y = item-there items n b is_b in
+          let order = listed-sorted (dm_log_writes size) events m n x.0 y.0 well_formed less x.1 y.1 in
+          sorted-of events x.0.0 y.0.0 a b end place other_end other_place x.2 y.2 order
+          (plain-queued events a end place well_formed queued_a.0 queued_a.1)
+          (plain-queued events b other_end other_place well_formed queued_b.0 queued_b.1);
+    }
+  where
+    sorted-of : (events : List CoreEvent) (x y a b end place other_end other_place : ℕ) → x ≡ a → y ≡ b
+        → IsQueuedBefore log_writes_order events x y
+        → IsQueued log_writes_order events a place end
+        → IsQueued log_writes_order events b other_place other_end
+        → (place < other_place) ⊎ ((place ≡ other_place) × (end < other_end))
+    sorted-of events x y a b end place other_end other_place xa yb order qa qb =
+        let fa = order.first_queued in
+        let fb = order.second_queued in
+        let pa : order.first_event ≡ place =
+        let both : Some order.first_event ≡ Some place =
+        sym fa.queues ∙ (ap (queue_event log_writes_order events) xa ∙ qa.queues) in cc in
+        let pb : order.second_event ≡ other_place =
+        let both : Some order.second_event ≡ Some other_place =
+        sym fb.queues ∙ (ap (queue_event log_writes_order events) yb ∙ qb.queues) in cc in
+        let ea : order.first_end ≡ end =
+        let both : Some order.first_end ≡ Some end =
+        sym fa.ends ∙ (ap (λ i. own_end events i (slice_get events i)) xa ∙ qa.ends) in cc in
+        let eb : order.second_end ≡ other_end =
+        let both : Some order.second_end ≡ Some other_end =
+        sym fb.ends ∙ (ap (λ i. own_end events i (slice_get events i)) yb ∙ qb.ends) in cc in
+        elim order.earlier [
+          | inl less ↦ inl (omega arith)
+          | inr same ↦ let one = same.0 in let less = same.1 in inr (omega arith, omega arith)
+        ]

@@ -106,7 +106,10 @@ pub trait Files {
 
     /// Whether both names are those of one file.
     fn is_same(&self, first: &str, second: &str) -> bool
-        ensures { first.now ≡ second.now → result ≡ true };
+        ensures named { first.now ≡ second.now → result ≡ true }
+        // It holds one thing, whichever name it is asked for by.
+        ensures held { result ≡ true
+            → contents self.now first.now ≡ contents self.now second.now };
 }
 
 // Files that are lent are files.

@@ -2,7 +2,7 @@
 //! one buffer, so that it is never in memory as a whole.
 //! Its clauses are in words of `bio` and `sector_disk`; its theorems in proofs/pieces/.
 ghost use Rattle.std.specs.Prelude.{◌≡◌, ◌≤◌, ◌<◌, ◌/◌, ◌%◌, ◌+◌, IfSome, OnOk, length, replicate};
-ghost use Rattle.std.specs.Prelude.{true, unwrap_or, ℕ};
+ghost use Rattle.std.specs.Prelude.{false, suc, true, unwrap_or, ℕ};
 ghost use Rattle.std.specs.Io.KnownBytes.{Appends};
 ghost use Rattle.bio.specs.Content.{gather, sector_of};
 ghost use Rattle.sector_disk.specs.DiskView.{shown_of};
@@ -38,7 +38,8 @@ fn read_piece(disk: &mut SectorDisk, first: u64, piece: &mut [u8])
 // Whether a sector of a piece is zeroes.
 fn is_zeroes(piece: &[u8], sector: usize) -> bool
     requires { sector < length piece.now / 512 }
-    ensures { result ≡ true → sector_of piece.now sector ≡ replicate 512 0 }
+    ensures zeroes { result ≡ true → sector_of piece.now sector ≡ replicate 512 0 }
+    ensures other { result ≡ false → sector_of piece.now sector ≡ replicate 512 0 → ⊥ }
 {
     let from = sector * SECTOR;
     &piece[from..from + SECTOR] == [0; SECTOR].as_slice()
@@ -49,6 +50,8 @@ fn used_of(piece: &[u8]) -> u64
     ensures within { result ≤ length piece.now / 512 }
     ensures zeroes { (sector : ℕ) → result ≤ sector → sector < length piece.now / 512
         → sector_of piece.now sector ≡ replicate 512 0 }
+    ensures last { (sector : ℕ) → result ≡ suc sector
+        → sector_of piece.now sector ≡ replicate 512 0 → ⊥ }
 {
     let sectors = piece.len() / SECTOR;
     for behind in 0..sectors {
@@ -71,14 +74,17 @@ fn used_upto(disk: &mut SectorDisk, first: u64, piece: &mut [u8]) -> Option<u64>
     ensures zeroes { (sector : ℕ) → unwrap_or result first ≤ sector
         → sector < first + length piece.old / 512 →
         (shown_of disk.old).content sector ≡ replicate 512 0 }
+    ensures last { IfSome result (λ used. (sector : ℕ) → used ≡ suc sector
+        → (shown_of disk.old).content sector ≡ replicate 512 0 → ⊥) }
     ensures size { (shown_of disk.new).size ≡ (shown_of disk.old).size }
     ensures content { (shown_of disk.new).content ≡ (shown_of disk.old).content }
 {
     read_piece(disk, first, piece);
-    match used_of(piece) {
-        0 => None,
-        used => Some(first + used),
+    let used = used_of(piece);
+    if used == 0 {
+        return None;
     }
+    Some(first + used)
 }
 
 /// How many sectors of a disk stand up to its last one that isn't zeroes.
@@ -87,6 +93,9 @@ pub(crate) fn used_sectors(disk: &mut SectorDisk, buffer: &mut [u8]) -> u64
     ensures within { result ≤ (shown_of disk.old).size }
     ensures zeroes { (sector : ℕ) → result ≤ sector → sector < (shown_of disk.old).size →
         (shown_of disk.old).content sector ≡ replicate 512 0 }
+    // No fewer do: the last of them isn't zeroes.
+    ensures last { (sector : ℕ) → result ≡ suc sector
+        → (shown_of disk.old).content sector ≡ replicate 512 0 → ⊥ }
     ensures size { (shown_of disk.new).size ≡ (shown_of disk.old).size }
     ensures content { (shown_of disk.new).content ≡ (shown_of disk.old).content }
 {

@@ -13,7 +13,7 @@ use Rattle.refusals.specs.declared.refusal.Refusal.TheVariants as refusals
 use Rattle.bio.specs.declared.event.CoreEvent.{CoreEvent}
 use Rattle.bio.specs.declared.event.CoreEvent.TheVariants as events
 use Rattle.bio.specs.declared.outcome.DevError.{DevError}
-use Rattle.bio.specs.declared.outcome.DevError.TheVariants.{Io}
+use Rattle.bio.specs.declared.outcome.DevError.TheVariants.{Io, Memory}
 use Rattle.bio.specs.declared.outcome.End.{End}
 use Rattle.bio.specs.declared.outcome.End.TheVariants as ends
 use Rattle.bio.specs.declared.outcome.Status.{Status}
@@ -52,6 +52,7 @@ use Rattle.script_reader.specs.Lines.{command_line}
 use Rattle.script_reader.specs.Plans.{Disk, ScriptValue, head_count, name_at, top_of}
 use Rattle.recorder.specs.declared.recorder.Recorder.{Recorder}
 use Rattle.recorder.specs.declared.reply.Reply.TheVariants as replies
+use Rattle.recorder.specs.declared.reply.Turn.TheVariants as turns
 use Rattle.recorder.specs.RecorderView.{log_of}
 use Rattle.recorder.specs.CrashReplay.{ReplaysToWhatCouldBe}
 use Rattle.recorder.specs.Fields.{core_of, recorder_view}
@@ -66,7 +67,8 @@ use Rattle.run_error.specs.Errors.{IsFileError}
 use Rattle.script_runner.specs.RequestEvents.{IsFollowed, StandsFor, submissions_of}
 use Rattle.script_runner.specs.HandOver.{HandsOver, ReadsSectors}
 use Rattle.script_runner.specs.Lines.{Answering, Asks, Does, EndsAsked, EndsRequest, HearsEnd}
-use Rattle.script_runner.specs.Lines.{PrintsMark, RefusesMessage, RunsLine, submission_text}
+use Rattle.script_runner.specs.Lines.{PrintsMark, RefusesMessage, RunsLine, is_memory_end}
+use Rattle.script_runner.specs.Lines.{is_refusal, is_starved, submission_text}
 use Rattle.script_runner.specs.DiskRun.{DiskRecorder, DiskRun, FailsOnDisks, IsCounted, IsRecorded}
 use Rattle.script_runner.specs.DiskRun.{IsStackOf, IsUnmade, Starts, file as disk_file, left_on}
 use Rattle.script_runner.specs.DiskRun.{run as disk_run, stack_answering, unmade}
@@ -91,77 +93,75 @@ failing old call now answer new = (answer ≡ Err Io) × (new ≡ suc old)
 
 -- a write with flush is a flush, and then the write; without it, the write alone, with its FUA
 hands_flushed : (bytes : List ℕ)
-    → HandsOver listing 5 (bios.Write 3 bytes true false false) true []
+    → HandsOver listing 5 (bios.Write 3 bytes true false false) (Ok 5) []
     (Flushes ∷ Writes 3 bytes false ∷ [])
-hands_flushed bytes = inr (Flushes ∷ [], (Ok 5, refl, (refl, refl)), (Ok 5, refl, (refl, refl)))
+hands_flushed bytes = inr (Flushes ∷ [], 5, (refl, refl), (refl, refl))
 
 hands_unflushed : (bytes : List ℕ)
-    → HandsOver listing 5 (bios.Write 3 bytes true false false) true []
+    → HandsOver listing 5 (bios.Write 3 bytes true false false) (Ok 5) []
     (Writes 3 bytes false ∷ []) → ⊥
-hands_unflushed bytes (inl failed) = let never = failed.0 in cc
+hands_unflushed bytes (inl failed) = let never = failed.1 in cc
 hands_unflushed bytes (inr both) =
     let same : Writes 3 bytes false ∷ [] ≡ Flushes ∷ Writes 3 bytes false ∷ [] =
-    both.2.2.1 ∙ ap (λ (mid : List Call). mid ++ Writes 3 bytes false ∷ []) both.1.2.1 in
+    both.3.1 ∙ ap (λ (mid : List Call). mid ++ Writes 3 bytes false ∷ []) both.2.1 in
     cc
 
 hands_after : (bytes : List ℕ)
-    → HandsOver listing 5 (bios.Write 3 bytes true false false) true []
+    → HandsOver listing 5 (bios.Write 3 bytes true false false) (Ok 5) []
     (Writes 3 bytes false ∷ Flushes ∷ []) → ⊥
-hands_after bytes (inl failed) = let never = failed.0 in cc
+hands_after bytes (inl failed) = let never = failed.1 in cc
 hands_after bytes (inr both) =
     let same : Writes 3 bytes false ∷ Flushes ∷ [] ≡ Flushes ∷ Writes 3 bytes false ∷ [] =
-    both.2.2.1 ∙ ap (λ (mid : List Call). mid ++ Writes 3 bytes false ∷ []) both.1.2.1 in
+    both.3.1 ∙ ap (λ (mid : List Call). mid ++ Writes 3 bytes false ∷ []) both.2.1 in
     cc
 
 hands_write : (bytes : List ℕ)
-    → HandsOver listing 5 (bios.Write 3 bytes false true false) true [] (Writes 3 bytes true ∷ [])
-hands_write bytes = (Ok 5, refl, (refl, refl))
+    → HandsOver listing 5 (bios.Write 3 bytes false true false) (Ok 5) []
+    (Writes 3 bytes true ∷ [])
+hands_write bytes = (refl, refl)
 
 hands_no_fua : (bytes : List ℕ)
-    → HandsOver listing 5 (bios.Write 3 bytes false true false) true []
+    → HandsOver listing 5 (bios.Write 3 bytes false true false) (Ok 5) []
     (Writes 3 bytes false ∷ []) → ⊥
 hands_no_fua bytes told =
-    let same : Writes 3 bytes false ∷ [] ≡ Writes 3 bytes true ∷ [] = told.2.1 in cc
-
--- an error is no success
-failed_ok : (answer : Result ℕ DevError) → answer ≡ Err Io → is_ok answer ≡ true → ⊥
-failed_ok (Ok end) is ok = cc
-failed_ok (Err error) is ok = cc
+    let same : Writes 3 bytes false ∷ [] ≡ Writes 3 bytes true ∷ [] = told.1 in cc
 
 -- where the flush fails the write isn't asked
 hands_failed : (bytes : List ℕ)
-    → HandsOver failing 5 (bios.Write 3 bytes true false false) false 0 1
-hands_failed bytes = inl (refl, (Err Io, refl, (refl, refl)))
+    → HandsOver failing 5 (bios.Write 3 bytes true false false) (Err Io) 0 1
+hands_failed bytes = inl (Io, refl, (refl, refl))
 
 hands_past : (bytes : List ℕ)
-    → HandsOver failing 5 (bios.Write 3 bytes true false false) false 0 2 → ⊥
-hands_past bytes (inl once) = let count = once.1.2.1 in omega arith
-hands_past bytes (inr both) =
-    let answer = both.1.2.0 in let ok = both.1.1 in failed_ok both.1.0 answer ok
+    → HandsOver failing 5 (bios.Write 3 bytes true false false) (Err Io) 0 2 → ⊥
+hands_past bytes (inl once) = let count = once.2.1 in omega arith
+hands_past bytes (inr both) = let never = both.2.0 in cc
 
 hands_told : (bytes : List ℕ)
-    → HandsOver failing 5 (bios.Write 3 bytes true false false) true 0 1 → ⊥
-hands_told bytes (inl once) = let never = once.0 in cc
-hands_told bytes (inr both) = failed_ok both.1.0 both.1.2.0 both.1.1
+    → HandsOver failing 5 (bios.Write 3 bytes true false false) (Ok 5) 0 1 → ⊥
+hands_told bytes (inl once) = let never = once.1 in cc
+hands_told bytes (inr both) = let never = both.2.0 in cc
 
--- a failure is no success, and a call has its moment
-hands_success : HandsOver failing 5 bios.Flush true 0 1 → ⊥
-hands_success told = failed_ok told.0 told.2.0 told.1
+-- a failure is no success, nor one for another cause; and a call has its moment
+hands_success : HandsOver failing 5 bios.Flush (Ok 5) 0 1 → ⊥
+hands_success told = let never = told.0 in cc
 
-hands_later : HandsOver timing 5 bios.Flush true 0 6 → ⊥
-hands_later told = let moment = told.2.1 in omega arith
+hands_starved : HandsOver failing 5 bios.Flush (Err Memory) 0 1 → ⊥
+hands_starved told = let never = told.0 in cc
+
+hands_later : HandsOver timing 5 bios.Flush (Ok 5) 0 6 → ⊥
+hands_later told = let moment = told.1 in omega arith
 
 -- the other kinds
-hands_flush : HandsOver listing 5 bios.Flush true [] (Flushes ∷ [])
-hands_flush = (Ok 5, refl, (refl, refl))
+hands_flush : HandsOver listing 5 bios.Flush (Ok 5) [] (Flushes ∷ [])
+hands_flush = (refl, refl)
 
-hands_discard : HandsOver listing 5 (bios.Discard 3 2) true [] (Discards 3 2 ∷ [])
-hands_discard = (Ok 5, refl, (refl, refl))
+hands_discard : HandsOver listing 5 (bios.Discard 3 2) (Ok 5) [] (Discards 3 2 ∷ [])
+hands_discard = (refl, refl)
 
-hands_no_discard : HandsOver listing 5 (bios.Discard 3 2) true [] [] → ⊥
-hands_no_discard told = let same : [] ≡ Discards 3 2 ∷ [] = told.2.1 in cc
+hands_no_discard : HandsOver listing 5 (bios.Discard 3 2) (Ok 5) [] [] → ⊥
+hands_no_discard told = let same : [] ≡ Discards 3 2 ∷ [] = told.1 in cc
 
-hands_read : HandsOver listing 5 (bios.Read 3 2) true [] (Flushes ∷ []) → ⊥
+hands_read : HandsOver listing 5 (bios.Read 3 2) (Ok 5) [] (Flushes ∷ []) → ⊥
 hands_read told = let same : Flushes ∷ [] ≡ [] = told.1 in cc
 
 -- a device of which sector 3 alone can be read, and is a 7
@@ -296,6 +296,27 @@ asks_other : {L : Type 0} {l : Ghosts L} (old new : Recorder L l) (id : Option �
     → Asks bios.Flush (requests.Asked (bios.Discard 3 2) id) old new → ⊥
 asks_other old new id asked = let kept = asked.0 in cc
 
+-- ---- memory
+
+-- a device that had no memory isn't one that failed, and a log that is full is no want of memory
+starved_memory : is_starved (Err Memory) ≡ true
+starved_memory = refl
+
+starved_failed : is_starved (Err Io) ≡ false
+starved_failed = refl
+
+ended_memory : is_memory_end (turns.Ended ends.Memory) ≡ true
+ended_memory = refl
+
+ended_full : is_memory_end (turns.Ended ends.Full) ≡ false
+ended_full = refl
+
+refused_mark : is_refusal (replies.Refused refusals.Memory) ≡ true
+refused_mark = refl
+
+passed_mark : is_refusal replies.Passed ≡ false
+passed_mark = refl
+
 -- ---- lines
 
 -- a submission leaves the data device as it is, and adds one request
@@ -318,12 +339,12 @@ complete_calls {D} {L} {d} {l} m names request id text old new asked never told 
     let ended =
     subst (λ (found : Option Request). EndsRequest found
     (name_at names request) text old new) asked told in
-    never ended.hands_over.0 ended.hands_over.2
+    never ended.answer ended.hands_over
 
 complete_line : {D L : Type 0} {d : Ghosts D} {l : Ghosts L} (bio : Bio) (id : Option ℕ)
     (name : ScriptId) (text : List ℕ) (old new : Running D L d l)
     → (told : EndsAsked bio id name text old new)
-    → (text ≡ outcome_line name told.ok) × (new.requests.items ≡ old.requests.items)
+    → (text ≡ outcome_line name (is_ok told.answer)) × (new.requests.items ≡ old.requests.items)
 complete_line bio id name text old new told = (told.prints, told.kept)
 
 -- and the recorder hears of a success only where the device answered one
@@ -334,17 +355,13 @@ complete_heard : {D L : Type 0} {d : Ghosts D} {l : Ghosts L} (id : ℕ) (name :
     → ((end : ℕ) → d.does old.disk Flushes old.moment (Ok end) new.disk → ⊥)
     → EndsAsked bios.Flush (Some id) name text old new → ⊥
 complete_heard {D} {L} {d} {l} id name text old new opened heard never told =
-    by_end told.ok told.hands_over told.hears
+    by_end told.answer told.hands_over told.hears
   where
-    by_answer : (answer : Result ℕ DevError) → is_ok answer ≡ true
-        → d.does old.disk Flushes old.moment answer new.disk → ⊥
-    by_answer (Ok end) ok does = never end does
-    by_answer (Err error) ok does = cc
-
-    by_end : (ok : Bool) → HandsOver d.does old.moment bios.Flush ok old.disk new.disk
-        → HearsEnd (Some id) ok old.recorder new.recorder → ⊥
-    by_end true handed hears = by_answer handed.0 handed.1 handed.2
-    by_end false handed hears =
+    by_end : (answer : Result ℕ DevError)
+        → HandsOver d.does old.moment bios.Flush answer old.disk new.disk
+        → HearsEnd (Some id) (is_ok answer) old.recorder new.recorder → ⊥
+    by_end (Ok end) handed hears = never end handed
+    by_end (Err error) handed hears =
         let before = (core_of old.recorder).events in
         let both = sym heard ∙ (hears.1.recorded opened).1 in
         let same : Some (events.Complete id true) ≡ Some (events.Complete id false) =
@@ -819,22 +836,28 @@ stop_close = refl
 
 -- a run that asked of a flush, and whose log is full, rehearses its script
 rehearsed_full : (plan : ScriptValue) (start last : DiskRun) (text : List ℕ) → Starts plan start
-    → RunsLines stack_answering plan.names plan.commands text start last
+    → RunsLines stack_answering plan.names plan.commands text start last → last.short ≡ false
     → last.requests.items ≡ requests.Asked bios.Flush None ∷ []
     → (core_of last.recorder).events ≡ events.Stop ends.Full ∷ []
     → IsRehearsed plan (events.Stop ends.Full ∷ [])
-rehearsed_full plan start last text starts ran asked stopped = record {
+rehearsed_full plan start last text starts ran short asked stopped = record {
   start = start;
   starts = starts;
   text = text;
   last = last;
   ran = ran;
   recorded = sym stopped;
+  short = short;
   asked = ap (list_all is_asked) asked;
   ample = refl;
 }
 
--- one of which a request failed doesn't, nor one that ended for want of memory
+-- one in which a line came short doesn't, nor one of which
+-- a request failed, nor one that ended for want of memory
+rehearsed_short : (plan : ScriptValue) (es : List CoreEvent) → (told : IsRehearsed plan es)
+    → told.last.short ≡ true → ⊥
+rehearsed_short plan es told short = let same : true ≡ false = sym short ∙ told.short in cc
+
 rehearsed_failed : (plan : ScriptValue) (es : List CoreEvent) → (told : IsRehearsed plan es)
     → told.last.requests.items ≡ requests.Asked bios.Flush None ∷ requests.NotAsked ∷ [] → ⊥
 rehearsed_failed plan es told failed =

@@ -224,7 +224,7 @@ ended_within {D} {L} {d} {l} sectors None name text old new does within = absurd
 ended_within {D} {L} {d} {l} sectors (Some requests.NotAsked) name text old new does within =
     subst (λ (r : Recorder L l). AreWithin sectors (core_of r).events) (sym does.1) within
 ended_within {D} {L} {d} {l} sectors (Some (requests.Asked bio id)) name text old new does within =
-    heard_within {l = l} sectors id does.ok old.recorder new.recorder does.hears within
+    heard_within {l = l} sectors id (is_ok does.answer) old.recorder new.recorder does.hears within
 
 -- a line that names no request
 step_within : {D L : Type 0} {d : Ghosts D} {l : Ghosts L} (m : Answering D L) (sectors : ℕ)

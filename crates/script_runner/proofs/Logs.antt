@@ -2,7 +2,7 @@
 -- Its own crate alone cites it, for the theorems of src/laws.rt.
 use Rattle.std.proofs.Common.{List, [], ◌∷◌, ◌≡◌, ◌∙◌, ap, length, ℕ, Bool, Option, Some, None, inl}
 use Rattle.std.proofs.Common.{inr, subst, sym}
-use Rattle.std.specs.Prelude.{slice_get}
+use Rattle.std.specs.Prelude.{is_ok, slice_get}
 use Rattle.bio.specs.declared.request.Bio.{Bio}
 use Rattle.refusals.specs.declared.refusal.Refusal.TheVariants as refusals
 use Rattle.script_reader.specs.declared.command.Command.TheVariants as commands
@@ -78,7 +78,7 @@ found_written {D} {L} {d} {l} None name text old new does written = absurd does
 found_written {D} {L} {d} {l} (Some requests.NotAsked) name text old new does written =
     subst (λ (r : Recorder L l). IsWritten r) (sym does.1) written
 found_written {D} {L} {d} {l} (Some (requests.Asked bio id)) name text old new does written =
-    ended_written {l = l} id does.ok old.recorder new.recorder does.hears written
+    ended_written {l = l} id (is_ok does.answer) old.recorder new.recorder does.hears written
 
 -- so does what leaves the core and the log as they are
 moment_written : {L : Type 0} {l : Ghosts L} (old new : Recorder L l) → core_of new ≡ core_of old

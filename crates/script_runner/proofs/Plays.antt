@@ -40,7 +40,7 @@ played_from m plan Start Other before after recorder lies ample follows played =
   printed = played.printed;
   left = played.left;
   lied = played.lied;
-  asked = played.asked;
+  found = played.found;
 }
 
 -- and so does a failure
@@ -97,6 +97,7 @@ on_beside bytes disk stack log is now starts = record {
   begun = starts.begun;
   none = starts.none;
   moment = starts.moment;
+  short = starts.short;
 }
 
 -- a start beside a log's stack is one on two disks
@@ -108,6 +109,7 @@ beside_starts plan log is now starts = record {
   log_disk = record { stack = log; blank = is; begun = starts.begun };
   none = starts.none;
   moment = starts.moment;
+  short = starts.short;
 }
 
 -- and a failure on it is one on two disks

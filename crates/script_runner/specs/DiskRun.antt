@@ -78,6 +78,7 @@ pub record Starts (plan : ScriptValue) (run : DiskRun) : Type 0 where
   pub log_disk : IsNew (bytes_of plan.log_size) plan.log_disk run.recorder
   pub none : run.requests.items ≡ []
   pub moment : run.moment ≡ 0
+  pub short : run.short ≡ false
 
 -- what is on a disk: its content; or where its power failed, what these picks leave
 abbrev pub left_on : Option (List ℕ) → SectorDisk → Content

@@ -1,7 +1,7 @@
 -- What handing a request over to the data device comes to.
 -- Any crate above may cite it.
-use Rattle.std.specs.Prelude.{List, Option, ◌≡◌, ◌⊎◌, ℕ, Bool, true, false, Result, is_ok, Some}
-use Rattle.std.specs.Prelude.{None, Ok, Err, ◌*◌, length}
+use Rattle.std.specs.Prelude.{List, Option, ◌≡◌, ◌⊎◌, ℕ, true, false, Result, Some, None, Ok, Err}
+use Rattle.std.specs.Prelude.{◌*◌, length}
 use Rattle.bio.specs.declared.outcome.DevError.{DevError}
 use Rattle.bio.specs.declared.request.Bio.{Bio}
 use Rattle.bio.specs.declared.request.Bio.TheVariants as bios
@@ -12,28 +12,23 @@ use Rattle.blockdev.specs.Calls.{Call, Discards, Flushes, Writes, Reads}
 abbrev pub Deeds : Type 0 → Type 1
 Deeds D = D → Call → ℕ → Result ℕ DevError → D → Type 0
 
--- the device did this call at this moment; it succeeded, or it didn't
-abbrev pub DoesCall : {D : Type 0} → Deeds D → ℕ → Call → Bool → D → D → Type 0
-DoesCall does now call ok old new =
-    (answer : Result ℕ DevError) × (is_ok answer ≡ ok) × does old call now answer new
+-- a flush, and then a call, where the flush succeeded; the answer is that of the last of them
+abbrev pub FlushesFirst : {D : Type 0} → Deeds D → ℕ → Call → Result ℕ DevError → D → D → Type 0
+FlushesFirst {D} does now call answer old new =
+    ((error : DevError) × (answer ≡ Err error) × does old Flushes now answer new)
+    ⊎ ((mid : D) × (end : ℕ) × does old Flushes now (Ok end) mid × does mid call now answer new)
 
--- a flush, and then a call, where the flush succeeded
-abbrev pub FlushesFirst : {D : Type 0} → Deeds D → ℕ → Call → Bool → D → D → Type 0
-FlushesFirst {D} does now call ok old new =
-    ((ok ≡ false) × DoesCall does now Flushes false old new)
-    ⊎ ((mid : D) × DoesCall does now Flushes true old mid × DoesCall does now call ok mid new)
-
--- A request is handed over at this moment, and succeeds or doesn't: a write with flush as a flush,
--- and then the write where the flush succeeded.
-abbrev pub HandsOver : {D : Type 0} → Deeds D → ℕ → Bio → Bool → D → D → Type 0
-HandsOver does now (bios.Write first bytes true fua meta) ok old new =
-    FlushesFirst does now (Writes first bytes fua) ok old new
-HandsOver does now (bios.Write first bytes false fua meta) ok old new =
-    DoesCall does now (Writes first bytes fua) ok old new
-HandsOver does now bios.Flush ok old new = DoesCall does now Flushes ok old new
-HandsOver does now (bios.Discard first count) ok old new =
-    DoesCall does now (Discards first count) ok old new
-HandsOver does now (bios.Read first count) ok old new = (ok ≡ true) × (new ≡ old)
+-- A request is handed over at this moment, and the device gives this answer: a write with flush is
+-- handed over as a flush, and then as the write where the flush succeeded.
+abbrev pub HandsOver : {D : Type 0} → Deeds D → ℕ → Bio → Result ℕ DevError → D → D → Type 0
+HandsOver does now (bios.Write first bytes true fua meta) answer old new =
+    FlushesFirst does now (Writes first bytes fua) answer old new
+HandsOver does now (bios.Write first bytes false fua meta) answer old new =
+    does old (Writes first bytes fua) now answer new
+HandsOver does now bios.Flush answer old new = does old Flushes now answer new
+HandsOver does now (bios.Discard first count) answer old new =
+    does old (Discards first count) now answer new
+HandsOver does now (bios.Read first count) answer old new = (answer ≡ Ok now) × (new ≡ old)
 
 -- So many sectors were read from the device at this moment: these bytes. Or nothing was: there was
 -- no memory for them, and the device wasn't called; or its read failed.

@@ -2,11 +2,17 @@
 -- (old) to the run after it (new), and what it prints.
 -- Any crate above may cite it.
 use Rattle.recorder.specs.declared.reply.Turn.{Turn}
+use Rattle.recorder.specs.declared.reply.Turn.TheVariants as turns
 use Rattle.std.specs.Prelude.{◌≡◌, ◌⊎◌, ℕ, ◌<◌, Bool, true, false, List, [], ◌∷◌, ◌++◌, Option}
-use Rattle.std.specs.Prelude.{Some, None, Result, Ok, Err, length, slice_get, if◌then◌else◌}
+use Rattle.std.specs.Prelude.{Some, None, Result, Ok, Err, is_ok, length, slice_get}
+use Rattle.std.specs.Prelude.{◌||◌, ◌&&◌, not, if◌then◌else◌}
+use Rattle.std.specs.List.{list_all}
 use Rattle.std.specs.Io.KnownBytes.{Appends, Keeps}
 use Rattle.bio.specs.declared.request.Bio.{Bio}
+use Rattle.bio.specs.declared.outcome.DevError.{DevError}
+use Rattle.bio.specs.declared.outcome.DevError.TheVariants as errors
 use Rattle.bio.specs.declared.outcome.End.{End}
+use Rattle.bio.specs.declared.outcome.End.TheVariants as ends
 use Rattle.bio.specs.Requests.{has_data}
 use Rattle.blockdev.specs.declared.device.BlockDev.{Ghosts}
 use Rattle.blockdev.specs.declared.message.MessageError.{MessageError}
@@ -25,7 +31,7 @@ use Rattle.script_reader.specs.Plans.{HasLineText}
 use Rattle.recorder.specs.declared.recorder.Recorder.{Recorder}
 use Rattle.recorder.specs.declared.reply.Reply.{Reply}
 use Rattle.recorder.specs.declared.reply.Reply.TheVariants as replies
-use Rattle.recorder.specs.Calls.{Turns, Closes, Completes, Drains, Marks, Submits}
+use Rattle.recorder.specs.Calls.{Turns, Closes, Completes, Drains, Marks, Submits, last_turn}
 use Rattle.recorder.specs.Growth.{RecorderFrame}
 use Rattle.recorder.specs.Fields.{core_of, recorder_view}
 use Rattle.log_store.specs.Calls.{Same}
@@ -37,13 +43,39 @@ use Rattle.script_runner.specs.declared.step_error.StepError.{StepError}
 use Rattle.script_runner.specs.declared.step_error.StepError.TheVariants.{AtLine, Whole}
 use Rattle.run_error.specs.Errors.{IsFileError}
 use Rattle.script_runner.specs.HandOver.{ReadsSectors, HandsOver}
-use Rattle.script_runner.specs.Submissions.{bio_of}
+use Rattle.script_runner.specs.Submissions.{bio_of, is_asked}
 use Rattle.script_runner.specs.Texts.{mark_failed, read_line, outcome_line}
 
 -- what the recorder answers to a submission that it doesn't refuse
 abbrev pub reply_of : Option ℕ → Reply
 reply_of (Some id) = replies.Tracked id
 reply_of None = replies.Passed
+
+-- ---- memory
+
+-- Each line says whether memory ran out in it for what the lines ask for (`short`): from then on
+-- the run is short. A request that there was no memory to submit is kept as one that wasn't asked.
+
+-- the data device's answer to a call is that it had no memory
+abbrev pub is_starved : Result ℕ DevError → Bool
+is_starved (Err errors.Memory) = true
+is_starved _ = false
+
+-- logging has ended for want of memory, says a turn
+abbrev pub is_memory_end : Turn → Bool
+is_memory_end (turns.Ended ends.Memory) = true
+is_memory_end _ = false
+
+-- the recorder refused what it was asked, says its reply
+abbrev pub is_refusal : Reply → Bool
+is_refusal (replies.Refused refusal) = true
+is_refusal _ = false
+
+-- all that the lines asked for found memory
+abbrev pub is_ample : {D L : Type 0} {d : Ghosts D} {l : Ghosts L} → Running D L d l → Bool
+is_ample run = not run.short && list_all is_asked run.requests.items
+
+-- ---- lines
 
 -- The recorder is asked of a request: it follows it by an id, or passes it. Or there is no memory:
 -- for the request's bytes, and the recorder isn't asked; or the recorder has none.
@@ -64,6 +96,7 @@ pub record SubmitsNext {D L : Type 0} {d : Ghosts D} {l : Ghosts L} (names : Lis
   pub request : Request
   pub asks : Asks bio request old.recorder new.recorder
   pub kept : new.requests.items ≡ old.requests.items ++ request ∷ []
+  pub short : new.short ≡ old.short
   pub prints : text ≡ submission_text (name_at names (length old.requests.items)) request
 
 -- how the recorder hears of the end of a request that it follows by this id, or passed
@@ -72,15 +105,16 @@ abbrev pub HearsEnd : {L : Type 0} {l : Ghosts L} → Option ℕ → Bool → Re
 HearsEnd (Some id) ok old new = (reply : Reply) × Completes id ok reply old new
 HearsEnd None ok old new = new ≡ old
 
--- A request that was asked is handed over to the data
--- device, and ends with that result, which is printed.
+-- A request that was asked is handed over to the data device, and ends
+-- with that result, which is printed. Memory may run out in the device.
 pub record EndsAsked {D L : Type 0} {d : Ghosts D} {l : Ghosts L} (bio : Bio) (id : Option ℕ)
     (name : ScriptId) (text : List ℕ) (old new : Running D L d l) : Type 0 where
-  pub ok : Bool
-  pub hands_over : HandsOver d.does old.moment bio ok old.disk new.disk
-  pub hears : HearsEnd id ok old.recorder new.recorder
+  pub answer : Result ℕ DevError
+  pub hands_over : HandsOver d.does old.moment bio answer old.disk new.disk
+  pub hears : HearsEnd id (is_ok answer) old.recorder new.recorder
   pub kept : new.requests.items ≡ old.requests.items
-  pub prints : text ≡ outcome_line name ok
+  pub short : new.short ≡ (old.short || is_starved answer)
+  pub prints : text ≡ outcome_line name (is_ok answer)
 
 -- A line leaves the data device and the requests as they are, and prints nothing.
 pub record KeepsData {D L : Type 0} {d : Ghosts D} {l : Ghosts L} (text : List ℕ)
@@ -94,10 +128,11 @@ abbrev pub EndsRequest : {D L : Type 0} {d : Ghosts D} {l : Ghosts L} → Option
     → List ℕ → Running D L d l → Running D L d l → Type 0
 EndsRequest (Some (requests.Asked bio id)) name text old new = EndsAsked bio id name text old new
 EndsRequest (Some requests.NotAsked) name text old new =
-    KeepsData text old new × (new.recorder ≡ old.recorder)
+    KeepsData text old new × (new.recorder ≡ old.recorder) × (new.short ≡ old.short)
 EndsRequest None name text old new = ⊥
 
--- A line ends recording, and the log is written to its end, or logging ends.
+-- A line ends recording, and the log is written to its end,
+-- or logging ends, perhaps since memory runs out.
 pub record EndsRecording {D L : Type 0} {d : Ghosts D} {l : Ghosts L} (text : List ℕ)
     (old new : Running D L d l) : Type 0 where
   pub keeps : KeepsData text old new
@@ -105,22 +140,26 @@ pub record EndsRecording {D L : Type 0} {d : Ghosts D} {l : Ghosts L} (text : Li
   pub closes : Closes replies.Closed old.recorder closed
   pub answer : Result Unit End
   pub drains : Drains answer closed new.recorder
+  pub short : new.short ≡ (old.short || is_memory_end (last_turn answer))
 
--- A line reads from the data device; the recorder isn't asked.
+-- A line reads from the data device; the recorder isn't asked. A read
+-- that finds no memory leaves no mark on the run: it prints that it failed.
 pub record ReadsData {D L : Type 0} {d : Ghosts D} {l : Ghosts L} (first count : ℕ) (text : List ℕ)
     (old new : Running D L d l) : Type 0 where
   pub log : new.recorder ≡ old.recorder
   pub kept : new.requests.items ≡ old.requests.items
+  pub short : new.short ≡ old.short
   pub bytes : Option (List ℕ)
   pub reads : ReadsSectors d.does old.moment first count bytes old.disk new.disk
   pub prints : text ≡ read_line first count bytes
 
--- A line gives the writer a turn.
+-- A line gives the writer a turn, in which memory may run out.
 pub record GivesTurn {D L : Type 0} {d : Ghosts D} {l : Ghosts L} (text : List ℕ)
     (old new : Running D L d l) : Type 0 where
   pub keeps : KeepsData text old new
   pub turn : Turn
   pub turns : Turns turn old.recorder new.recorder
+  pub short : new.short ≡ (old.short || is_memory_end turn)
 
 -- what the line of a mark prints by the recorder's reply: nothing where the mark is queued or
 -- passed; and that it failed where there is no memory for it, which is the only refusal
@@ -140,14 +179,17 @@ pub record SetsMoment {D L : Type 0} {d : Ghosts D} {l : Ghosts L} (moment : ℕ
   pub store : Same (recorder_view old.recorder).store (recorder_view new.recorder).store
   pub device : new.recorder.store.device ≡ old.recorder.store.device
   pub log_moment : new.recorder.store.moment ≡ moment
+  pub short : new.short ≡ old.short
 
 -- A line tells the recorder of a mark; the data device isn't called.
+-- A mark is refused for want of memory alone.
 pub record TellsMark {D L : Type 0} {d : Ghosts D} {l : Ghosts L} (mark text : List ℕ)
     (old new : Running D L d l) : Type 0 where
   pub device : new.disk ≡ old.disk
   pub kept : new.requests.items ≡ old.requests.items
   pub reply : Reply
   pub marks : Marks mark reply old.recorder new.recorder
+  pub short : new.short ≡ (old.short || is_refusal reply)
   pub prints : PrintsMark reply text
 
 -- What the devices of a run answer to messages: whether a device, before a message to this layer
@@ -168,6 +210,7 @@ pub record TellsData {D L : Type 0} {d : Ghosts D} {l : Ghosts L} (m : Answering
     (asked text : List ℕ) (old new : Running D L d l) : Type 0 where
   pub log : new.recorder ≡ old.recorder
   pub kept : new.requests.items ≡ old.requests.items
+  pub short : new.short ≡ old.short
   pub takes : m.data_device old.disk layer asked (Ok tt) new.disk
   pub unchanged : Unchanged (d.shown old.disk) (d.shown new.disk)
   pub prints : text ≡ []
@@ -177,6 +220,7 @@ pub record TellsData {D L : Type 0} {d : Ghosts D} {l : Ghosts L} (m : Answering
 pub record TellsLog {D L : Type 0} {d : Ghosts D} {l : Ghosts L} (m : Answering D L) (layer : ℕ)
     (asked text : List ℕ) (old new : Running D L d l) : Type 0 where
   pub keeps : KeepsData text old new
+  pub short : new.short ≡ old.short
   pub takes : m.log_device old.recorder.store.device layer asked (Ok tt) new.recorder.store.device
   pub unchanged : Unchanged (l.shown old.recorder.store.device) (l.shown new.recorder.store.device)
   pub core : core_of new.recorder ≡ core_of old.recorder

@@ -1,12 +1,13 @@
 -- What rehearsing a script comes to: it runs on two disks in memory as a recording does, and only
 -- the recorder's events are kept.
 -- Any crate above may cite it.
-use Rattle.std.specs.Prelude.{◌≡◌, ℕ, Bool, true, false, List, None}
+use Rattle.std.specs.Prelude.{◌≡◌, ◌⊎◌, ℕ, Bool, true, false, List, None}
 use Rattle.std.specs.List.{list_all, list_any}
 use Rattle.bio.specs.declared.event.CoreEvent.{CoreEvent}
 use Rattle.bio.specs.declared.event.CoreEvent.TheVariants as core_events
 use Rattle.bio.specs.declared.outcome.End.TheVariants as ends
 use Rattle.script_reader.specs.Plans.{ScriptValue}
+use Rattle.run_error.specs.Errors.{memory_error}
 use Rattle.run_error.specs.declared.run_error.RunError.{RunError}
 use Rattle.script_runner.specs.DiskRun.{stack_answering, DiskRun, FailsOnDisks, Starts}
 use Rattle.script_runner.specs.Runs.{RunsLines}
@@ -18,8 +19,8 @@ abbrev pub is_memory_stop : CoreEvent → Bool
 is_memory_stop (core_events.Stop ends.Memory) = true
 is_memory_stop _ = false
 
--- A script was rehearsed: its lines ran, whatever they print, and these are the recorder's events.
--- No request failed for want of memory as it was submitted, and logging didn't end for that.
+-- A script was rehearsed: its lines ran, whatever they print, and these are
+-- the recorder's events. Memory didn't run out on the way.
 pub record IsRehearsed (plan : ScriptValue) (events : List CoreEvent) : Type 0 where
   pub start : DiskRun
   pub starts : Starts plan start
@@ -27,12 +28,26 @@ pub record IsRehearsed (plan : ScriptValue) (events : List CoreEvent) : Type 0 w
   pub last : DiskRun
   pub ran : RunsLines stack_answering plan.names plan.commands text start last
   pub recorded : events ≡ (core_of last.recorder).events
+  -- no line ran out of memory for a call of the data device, for a mark or for the log
+  pub short : last.short ≡ false
   -- the recorder was asked of each request that the lines submit
   pub asked : list_all is_asked last.requests.items ≡ true
   -- no Stop says that there was no memory
   pub ample : list_any is_memory_stop events ≡ false
 
+-- A script's lines ran, whatever they print, and memory ran out on the way:
+-- in a line, for a request as it was submitted, or so that logging ended.
+pub record CameShort (plan : ScriptValue) : Type 0 where
+  pub start : DiskRun
+  pub starts : Starts plan start
+  pub text : List ℕ
+  pub last : DiskRun
+  pub ran : RunsLines stack_answering plan.names plan.commands text start last
+  pub short : (last.short ≡ true) ⊎ ((list_all is_asked last.requests.items ≡ false)
+      ⊎ (list_any is_memory_stop (core_of last.recorder).events ≡ true))
+
 -- rehearsing a script, which was read from a text, fails as recording it does, with a writer of
--- which nothing is known; a run that finds no memory fails for that, where a recording may go on
+-- which nothing is known; and where its lines ran but came short, with Memory, at no line
 abbrev pub FailsRehearsal : List ℕ → ScriptValue → RunError → Type 0
-FailsRehearsal text plan fault = FailsOnDisks text plan None None fault
+FailsRehearsal text plan fault =
+    FailsOnDisks text plan None None fault ⊎ (CameShort plan × (fault ≡ memory_error))

@@ -1,9 +1,9 @@
 //! Hands a script's request over to the data device.
 //! Its clauses are written in specs/HandOver; its theorems in proofs/handing/.
-ghost use Rattle.std.specs.Prelude.{◌≡◌, ◌*◌, IfSome, Ok, option_map, IsTrue, is_ok, length, true};
+ghost use Rattle.std.specs.Prelude.{◌≡◌, ◌*◌, IfSome, Ok, option_map, IsTrue, is_ok, length};
 ghost use Rattle.bio.specs.Check.{check_answer, range_answer};
 ghost use Rattle.blockdev.specs.Calls.{Flushes, IsByteRange, Writes};
-ghost use Rattle.script_runner.specs.HandOver.{DoesCall, HandsOver, ReadsSectors};
+ghost use Rattle.script_runner.specs.HandOver.{HandsOver, ReadsSectors};
 
 use bio::{Bio, DevError, Ms, SECTOR_BYTES};
 use blockdev::BlockDev;
@@ -16,7 +16,7 @@ const SECTOR: usize = SECTOR_BYTES as usize;
 // flush succeeded. Answers as the device did to the last call.
 pub(crate) fn do_request<D: BlockDev>(device: &mut D, now: Ms, bio: &Bio) -> Result<Ms, DevError>
     requires { IsTrue (is_ok (check_answer bio.now (D.shown device.old).size)) }
-    ensures does { HandsOver D.does now bio.now (is_ok result) device.old device.new }
+    ensures does { HandsOver D.does now bio.now result device.old device.new }
     ensures size { (D.shown device.new).size ≡ (D.shown device.old).size }
 {
     match bio {
@@ -44,7 +44,7 @@ pub(crate) fn do_request<D: BlockDev>(device: &mut D, now: Ms, bio: &Bio) -> Res
 
 // Flushes a device, and answers as it did.
 fn flush<D: BlockDev>(device: &mut D, now: Ms) -> Result<Ms, DevError>
-    ensures does { DoesCall D.does now Flushes (is_ok result) device.old device.new }
+    ensures does { D.does device.old Flushes now result device.new }
     ensures size { (D.shown device.new).size ≡ (D.shown device.old).size }
 {
     device.flush(now)
@@ -59,8 +59,7 @@ fn write<D: BlockDev>(
     fua: bool,
 ) -> Result<Ms, DevError>
     requires { IsByteRange (D.shown device.old).size first (length bytes.now) }
-    ensures does { DoesCall D.does now (Writes first bytes.now fua)
-        (is_ok result) device.old device.new }
+    ensures does { D.does device.old (Writes first bytes.now fua) now result device.new }
     ensures size { (D.shown device.new).size ≡ (D.shown device.old).size }
 {
     device.write(now, first, bytes, fua)

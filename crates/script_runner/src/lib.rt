@@ -27,4 +27,5 @@ mod rehearsing;
 mod request;
 mod run_script;
 mod running;
+mod shortage;
 mod step_error;

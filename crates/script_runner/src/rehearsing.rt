@@ -1,6 +1,6 @@
 //! Runs a script for its events alone: `events_of_run` is what a judge asks for.
 //! Its clauses are written in specs/Rehearsals; its theorems in proofs/rehearsing/.
-ghost use Rattle.std.specs.Prelude.{◌≡◌, ◌&&◌, IfErr, IfOk, not, true};
+ghost use Rattle.std.specs.Prelude.{◌≡◌, ◌&&◌, IfErr, IfOk, false, not, true};
 ghost use Rattle.std.specs.List.{list_any};
 ghost use Rattle.bio.specs.Lawful.{all_aligned, is_lawful};
 ghost use Rattle.bio.specs.Sizes.{bytes_of};
@@ -85,7 +85,7 @@ fn is_ample(asked: bool, events: &[CoreEvent]) -> bool
 // Of any type, so that what it may drop isn't looked into.
 fn kept_if<T: Drop>(ample: bool, made: T) -> Result<T, RunError>
     ensures kept { IfOk result (λ it. (it ≡ made) × (ample ≡ true)) }
-    ensures refused { IfErr result (λ fault. fault ≡ memory_error) }
+    ensures refused { IfErr result (λ fault. (fault ≡ memory_error) × (ample ≡ false)) }
 {
     if !ample {
         return Err(RunError::from(Refusal::Memory));

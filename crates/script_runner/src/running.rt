@@ -3,17 +3,18 @@
 //! Its clauses are written in specs/; its theorems in proofs/running/.
 ghost use Rattle.std.specs.Prelude.{IsTrue};
 ghost use Rattle.std.specs.List.{list_all};
-ghost use Rattle.script_runner.specs.Submissions.{fits_device, is_asked};
+ghost use Rattle.script_runner.specs.Submissions.{fits_device};
 
 use crate::asking::{ask, complete_request};
 use crate::handing::{do_request, read_sectors};
 use crate::last_data::LastData;
 use crate::print::{name_of, print_mark, print_outcome, print_read, print_submission};
 use crate::request::{Request, are_asked};
+use crate::shortage::{is_memory_end, is_refusal, is_starved, last_turn};
 use crate::step_error::StepError;
-use bio::{Bytes, DevError, End, Event, Ms};
+use bio::{Bytes, Event, Ms};
 use blockdev::{BlockDev, Message};
-use recorder::{Recorder, Reply, Turn, laws};
+use recorder::{Recorder, Reply, laws};
 use refusals::Refusal;
 use script_reader::{Command, DiskName, ScriptId, Step, Submission};
 use std::alloc::{AllocError, Global};
@@ -38,7 +39,8 @@ pub struct Running<D: BlockDev + Drop, L: BlockDev + Drop> {
 }
 
 impl<D: BlockDev + Drop, L: BlockDev + Drop> Running<D, L> {
-    ghost use Rattle.std.specs.Prelude.{◌≡◌, IfOk, [], true};
+    ghost use Rattle.std.specs.Prelude.{◌≡◌, IfOk, [], false};
+    ghost use Rattle.script_runner.specs.Lines.{is_ample};
 
     /// The run of a script before its first line, at moment 0, with room for so many requests.
     pub fn new(
@@ -49,7 +51,7 @@ impl<D: BlockDev + Drop, L: BlockDev + Drop> Running<D, L> {
     ) -> Result<Running<D, L>, AllocError>
         ensures made { IfOk result
             (λ run. (run.recorder ≡ recorder) × (run.disk ≡ disk) × (run.requests.items ≡ [])
-            × (run.moment ≡ 0)) }
+            × (run.moment ≡ 0) × (run.short ≡ false)) }
     {
         Ok(Running {
             alloc,
@@ -72,7 +74,7 @@ impl<D: BlockDev + Drop, L: BlockDev + Drop> Running<D, L> {
     /// Whether all that the lines asked for found memory, but for reads: one that finds none prints
     /// that it failed, and the recorder isn't asked.
     pub fn is_ample(&self) -> bool
-        ensures { result ≡ true → list_all is_asked self.now.requests.items ≡ true }
+        ensures { result ≡ is_ample self.now }
     {
         !self.short && are_asked(self.requests.as_slice())
     }
@@ -158,7 +160,7 @@ impl<D: Message + Drop, L: Message + Drop> Running<D, L> {
             Request::Asked { bio, id } => {
                 let answer = do_request(&mut self.disk, self.moment, bio);
                 let ok = answer.is_ok();
-                self.short = self.short || matches!(answer, Err(DevError::Memory));
+                self.short |= is_starved(&answer);
                 complete_request(&mut self.recorder, *id, ok);
                 print_outcome(name_of(names, request), ok, out)
             }
@@ -189,7 +191,7 @@ impl<D: Message + Drop, L: Message + Drop> Running<D, L> {
             (recorder_view self.new.recorder) }
     {
         let turn = self.recorder.turn();
-        self.short = self.short || matches!(turn, Turn::Ended(End::Memory));
+        self.short |= is_memory_end(&turn);
     }
 
     // Tells the recorder of a mark, and says so where there is no memory for it.
@@ -204,7 +206,7 @@ impl<D: Message + Drop, L: Message + Drop> Running<D, L> {
             (RecorderFrame (recorder_view self.old.recorder) (recorder_view self.new.recorder)) }
     {
         let reply = self.recorder.event(Event::Mark(text.clone()?));
-        self.short = self.short || matches!(reply, Reply::Refused(_));
+        self.short |= is_refusal(&reply);
         print_mark(reply, out)
     }
 
@@ -236,7 +238,7 @@ impl<D: Message + Drop, L: Message + Drop> Running<D, L> {
             return Err(StepError::AtLine(refusal));
         }
         let ended = self.recorder.drain();
-        self.short = self.short || matches!(ended, Err(End::Memory));
+        self.short |= is_memory_end(&last_turn(ended));
         Ok(())
     }
 

@@ -9,13 +9,16 @@ use refusals::Refusal;
 use run_error::RunError;
 use std::alloc::{AllocError, AllocFailed};
 use std::io;
+use thiserror::Error;
 
 /// Why a line stops the run of its script.
-#[derive(Clone, Copy, Debug, PartialEq, Eq)]
+#[derive(Clone, Copy, Debug, PartialEq, Eq, Error)]
 pub enum StepError {
     /// The line itself is refused.
+    #[error("the line is refused: {0}")]
     AtLine(Refusal),
     /// Something else, for which no line is named.
+    #[error("{0}")]
     Whole(RunError),
 }
 

@@ -1,7 +1,6 @@
 -- What playing a script comes to, on any data device and a new log on any other device.
 -- Its own crate alone cites it.
-use Rattle.std.specs.Prelude.{◌≡◌, ℕ, Bool, true, List, [], Option}
-use Rattle.std.specs.List.{list_all}
+use Rattle.std.specs.Prelude.{◌≡◌, ℕ, Bool, false, List, [], Option}
 use Rattle.std.specs.Io.KnownBytes.{Appends, Keeps}
 use Rattle.blockdev.specs.declared.device.BlockDev.{Ghosts}
 use Rattle.script_reader.specs.Plans.{Disk, ScriptValue}
@@ -11,11 +10,10 @@ use Rattle.run_error.specs.declared.run_error.RunError.{RunError}
 use Rattle.run_error.specs.Errors.{IsFileError}
 use Rattle.script_runner.specs.declared.running.Running.{Running}
 use Rattle.script_runner.specs.NewRecorder.{IsNewOn}
-use Rattle.script_runner.specs.Lines.{Answering}
+use Rattle.script_runner.specs.Lines.{Answering, is_ample}
 use Rattle.layer_table.specs.Layers.{on_stack}
 use Rattle.script_runner.specs.DiskRun.{IsStackOf}
 use Rattle.script_runner.specs.Runs.{EndsRun, RunsLines}
-use Rattle.script_runner.specs.Submissions.{is_asked}
 
 -- A script's run before its first line, at moment 0: on this data device, and on a new log on this
 -- device, with sectors of so many bytes.
@@ -25,6 +23,7 @@ pub record StartsOn {D L : Type 0} {d : Ghosts D} {l : Ghosts L} (bytes : ℕ) (
   pub begun : IsNewOn bytes log run.recorder
   pub none : run.requests.items ≡ []
   pub moment : run.moment ≡ 0
+  pub short : run.short ≡ false
 
 -- The same, on a data disk of zeroes under its layers.
 pub record StartsBeside {L : Type 0} {l : Ghosts L} (bytes : ℕ) (data_disk : Disk) (log : L)
@@ -33,10 +32,11 @@ pub record StartsBeside {L : Type 0} {l : Ghosts L} (bytes : ℕ) (data_disk : D
   pub begun : IsNewOn bytes log run.recorder
   pub none : run.requests.items ≡ []
   pub moment : run.moment ≡ 0
+  pub short : run.short ≡ false
 
 -- A script was played from such a start: its lines ran, what they print was added to what a writer
 -- holds, and it left this recorder and so many calls of the data device that were dropped and told
--- as done; where it is said to have found memory, each request was asked.
+-- as done; and it is said whether it found memory.
 pub record IsPlayed {D L : Type 0} {d : Ghosts D} {l : Ghosts L} (m : Answering D L)
     (plan : ScriptValue) (Start : Running D L d l → Type 0) (before after : Option (List ℕ))
     (recorder : Recorder L l) (lies : ℕ) (ample : Bool) : Type 0 where
@@ -48,7 +48,7 @@ pub record IsPlayed {D L : Type 0} {d : Ghosts D} {l : Ghosts L} (m : Answering 
   pub printed : Appends before after text
   pub left : recorder ≡ last.recorder
   pub lied : lies ≡ (d.shown last.disk).lies
-  pub asked : ample ≡ true → list_all is_asked last.requests.items ≡ true
+  pub found : ample ≡ is_ample last
 
 -- Why playing a script, which was read from a text, fails: there is no
 -- memory, or the output can't be written; no log could be made, and nothing

@@ -1,16 +1,18 @@
 -- Answers to the goals of `events_of_run` (src/rehearsing.rt) that the search leaves.
-use Rattle.std.proofs.Common.{◌≡◌, ℕ, ◌∙◌, Bool, Err, IfErr, IfOk, Ok, Result, true, false, ap, inr}
-use Rattle.std.proofs.Common.{not, refl, subst, sym}
+use Rattle.std.proofs.Common.{◌≡◌, ◌⊎◌, ◌&&◌, ℕ, ◌∙◌, Bool, Err, IfErr, IfOk, List, Ok, Result}
+use Rattle.std.proofs.Common.{true, false, ap, inl, inr, not, refl, subst, sym}
 use Rattle.std.proofs.lemmas.Bool.{and_parts}
-use Rattle.std.specs.List.{list_any}
+use Rattle.std.specs.List.{list_all, list_any}
+use Rattle.bio.specs.declared.event.CoreEvent.{CoreEvent}
 use Rattle.bio.specs.Lawful.{all_aligned, is_lawful, is_well_formed}
 use Rattle.bio.specs.SizeLaws.{lawful_parts}
 use Rattle.bio.specs.Sizes.{bytes_of}
 use Rattle.script_reader.specs.Plans.{top_of}
 use Rattle.pending.specs.CoreState.{CoreState}
 use Rattle.script_runner.specs.CallLaws.{on_error}
-use Rattle.script_runner.specs.DiskRun.{DiskRecorder, file}
+use Rattle.script_runner.specs.DiskRun.{DiskRecorder}
 use Rattle.script_runner.specs.Rehearsals.{FailsRehearsal, is_memory_stop}
+use Rattle.script_runner.specs.Submissions.{is_asked}
 use Rattle.script_runner.proofs.LawfulRuns.{run_lawful}
 use Rattle.script_runner.proofs.LineSteps.{if_failed}
 use Rattle.script_runner.proofs.rehearsing.events_of_run.Goals as goal
@@ -30,7 +32,7 @@ returns-in_err-played-clause-aligned c =
 pub returns-in_err-played-clause-faults : goal.returns-in_err-played-clause-faults
 returns-in_err-played-clause-faults c =
     on_error c.from_residual.result c.from_residual.ensures.1
-    (λ fault is. subst (FailsRehearsal _ _) (sym is) c.in_err-played.ensures.faults)
+    (λ fault is. subst (FailsRehearsal _ _) (sym is) (inl c.in_err-played.ensures.faults))
 
 -- what was kept has what the made has, where it was kept
 of_kept : {A E : Type 0} (r : Result A E) (P : A → Type 0) (made : A) (ample : Bool)
@@ -43,6 +45,14 @@ is_off : (b : Bool) → not b ≡ true → b ≡ false
 is_off false is = refl
 is_off true is = absurd (cc)
 
+-- what isn't ample came short in one of three ways
+ran_out : (short asked stopped : Bool) → ((not short && asked) && not stopped) ≡ false
+    → (short ≡ true) ⊎ ((asked ≡ false) ⊎ (stopped ≡ true))
+ran_out true asked stopped is = inl refl
+ran_out false false stopped is = inr (inl refl)
+ran_out false true true is = inr (inr refl)
+ran_out false true false is = absurd (cc)
+
 -- and where it wasn't, the fault is this
 of_refused : {A E : Type 0} (r : Result A E) (P Q : E → Type 0) → IfErr r P
     → ((error : E) → P error → Q error) → IfErr r Q
@@ -51,13 +61,34 @@ of_refused (Err error) P Q is gives = gives error is
 
 pub returns-clause-faults : goal.returns-clause-faults
 returns-clause-faults c =
-    of_refused c.kept_if.result _ _ c.kept_if.ensures.refused (λ fault is. file fault (inr is))
+    let played = c.in_ok-played.ensures.played in
+    let events : c.events.result.now ≡ (core_of played.last.recorder).events =
+    c.events.ensures.events ∙ ap (λ (r : DiskRecorder). (core_of r).events) played.left in
+    of_refused c.kept_if.result _ _ c.kept_if.ensures.refused (λ fault is.
+    inr (
+      record {
+        start = played.start;
+        starts = played.starts;
+        text = played.text;
+        last = played.last;
+        ran = played.ran;
+        short =
+            ran_out played.last.short (list_all is_asked played.last.requests.items) _
+            (ap (λ (a : Bool). a && not (list_any is_memory_stop (core_of played.last.recorder).events))
+            (sym played.found)
+            ∙ ap (λ (es : List CoreEvent). c.in_ok-played.played.ample
+            && not (list_any is_memory_stop es)) (sym events)
+            ∙ sym c.is_ample-ample.ensures ∙ is.1);
+      },
+      is.0,
+    ))
 
 pub returns-clause-rehearsed : goal.returns-clause-rehearsed
 returns-clause-rehearsed c =
     let played = c.in_ok-played.ensures.played in
     of_kept c.kept_if.result _ _ _ c.kept_if.ensures.kept (λ found.
     let both = and_parts c.in_ok-played.played.ample _ (sym c.is_ample-ample.ensures ∙ found) in
+    let all = and_parts (not played.last.short) _ (sym played.found ∙ both.0) in
     record {
       start = played.start;
       starts = played.starts;
@@ -65,7 +96,8 @@ returns-clause-rehearsed c =
       last = played.last;
       ran = played.ran;
       recorded = ap (λ (r : DiskRecorder). (core_of r).events) played.left;
-      asked = played.asked both.0;
+      short = is_off played.last.short all.0;
+      asked = all.1;
       ample = ap (list_any is_memory_stop) (sym c.events.ensures.events) ∙ is_off _ both.1;
     })
 

@@ -1,5 +1,6 @@
 -- Answers to the goals of `Running::close` (src/running.rt) that the search leaves.
-use Rattle.std.proofs.Common.{◌∙◌, refl}
+use Rattle.std.proofs.Common.{◌∙◌, ◌||◌, Bool, ap, refl}
+use Rattle.script_runner.specs.Lines.{is_memory_end}
 use Rattle.script_runner.proofs.LineSteps.{closed-only}
 use Rattle.script_runner.proofs.running.Running.close.Goals as goal
 
@@ -19,6 +20,9 @@ returns g c = record {
         c.in_default.not-Refused;
     answer = c.drain-ended.result;
     drains = c.drain-ended.ensures.drains;
+    short =
+        ap (λ (b : Bool). c.args.self.now.short || b)
+        (c.is_memory_end.ensures ∙ ap is_memory_end c.last_turn.ensures);
   };
   goes =
       c.several_calls_go_as_one.ensures.two c.args.self.now.recorder c.event.new.self

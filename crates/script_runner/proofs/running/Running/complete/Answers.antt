@@ -12,7 +12,7 @@ returns-in-NotAsked-clause-runs g c =
     c.requires.submitted c.index.ensures c.in-NotAsked.is in (
       [],
       record {
-        does = rw here (record { device = refl; kept = refl; prints = refl }, refl);
+        does = rw here (record { device = refl; kept = refl; prints = refl }, refl, refl);
         moment = refl;
         log_moment = refl;
         goes = c.several_calls_go_as_one.ensures.none c.args.self.now.recorder;

@@ -1,5 +1,5 @@
 -- Answers to the goals of `Running::mark` (src/running.rt) that the search leaves.
-use Rattle.std.proofs.Common.{List, refl, subst, ℕ}
+use Rattle.std.proofs.Common.{◌||◌, Bool, List, ap, refl, subst, ℕ}
 use Rattle.recorder.specs.Calls.{Marks}
 use Rattle.script_runner.specs.inside.Replies.{mark_outcome}
 use Rattle.script_runner.proofs.LineSteps.{mark_prints, on_ok}
@@ -27,6 +27,7 @@ returns-clause-runs g c = on_ok c.print_mark.result c.print_mark.ensures.output 
         kept = refl;
         reply = reply;
         marks = marks;
+        short = ap (λ (b : Bool). c.args.self.now.short || b) c.is_refusal.ensures;
         prints = mark_prints c.args.text.now reply old new marks c.requires;
       },
       printed,

@@ -43,6 +43,7 @@ returns-in-Ok-clause-tells g c =
           m c.args.layer c.args.text.now [] run now) (sym w.self-is) (record {
             log = refl;
             kept = refl;
+            short = refl;
             takes =
                 subst (λ (asked : List ℕ). g.D.Message.answers run.disk c.args.layer asked
                 (Ok tt) w.message-answer.new.self) text taken;
@@ -62,6 +63,7 @@ returns-in-Ok-clause-tells g c =
           (subst (λ (now : Running g.row.D.Denot g.row.L.Denot g.D.BlockDev g.L.BlockDev). TellsLog
           m c.args.layer c.args.text.now [] run now) (sym w.self-is) (record {
             keeps = record { device = refl; kept = refl; prints = refl };
+            short = refl;
             takes =
                 subst (λ (asked : List ℕ). g.L.Message.answers run.recorder.store.device
                 c.args.layer asked (Ok tt) last.store.device) text taken;

@@ -76,6 +76,7 @@ returns-clause-runs g c =
               request = request;
               asks = c.ask-request.ensures.asks;
               kept = c.in_ok-push.ensures.items;
+              short = refl;
               prints = refl;
             };
         moment = refl;

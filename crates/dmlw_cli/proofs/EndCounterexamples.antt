@@ -274,11 +274,11 @@ replayed_usage (Err (faults.LoggingEnded end)) same = cc
 replayed_usage (Err (faults.StoppedAfter applied refusal)) same = cc
 
 what_none : (t : ErrStream) (ended : Ended)
-    → ReplaysWhat (codes "x") None None [] None None None None t ended → ⊥
+    → ReplaysWhat (codes "x") None None None [] None None None None t ended → ⊥
 what_none t ended (upto, is, told) = no_what upto is
 
 what_usage : (t : ErrStream) (ended : Ended)
-    → ReplaysWhat (codes "flush") None None [] None None None None t ended
+    → ReplaysWhat (codes "flush") None None None [] None None None None t ended
     → ended.exit ≡ exits.Usage → ⊥
 what_usage t ended (upto, named, told) is = replayed_usage told.done (sym told.tells.exits ∙ is)
 

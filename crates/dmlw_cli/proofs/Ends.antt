@@ -159,23 +159,26 @@ printed_asks log_file first_file name upto writes_old writes_new old new count p
     (name, (prints.image, prints.asked))
 
 -- every replay ends so
-ends_replayed : (log_file first_file : Option (List ℕ)) (name : List ℕ) (upto : Upto)
+ends_replayed : (log_file first_file out_file : Option (List ℕ)) (name : List ℕ) (upto : Upto)
     (writes_old writes_new : Option (List Write)) (old new : Option (List ℕ))
-    (done : Result ℕ RunError) → Replays log_file first_file name upto writes_old writes_new old new
+    (done : Result ℕ RunError) → Replays log_file first_file out_file name upto writes_old writes_new old new
     done
     → EndsCommand writes_old writes_new (status_of (exit_by done))
-ends_replayed log_file first_file name upto writes_old writes_new old new (Ok count) prints =
+ends_replayed log_file first_file out_file name upto writes_old writes_new old new (Ok count) prints =
     image_asks writes_old writes_new (Ok count)
     (inr (printed_asks log_file first_file name upto writes_old writes_new old new count
     prints))
-ends_replayed log_file first_file name upto writes_old writes_new old new (Err stop)
+ends_replayed log_file first_file out_file name upto writes_old writes_new old new (Err stop)
     (inl (fails, kept, same)) =
     image_asks writes_old writes_new (Err stop) (inl same)
-ends_replayed log_file first_file name upto writes_old writes_new old new (Err stop)
-    (inr (inl (file, same))) =
+ends_replayed log_file first_file out_file name upto writes_old writes_new old new (Err stop)
+    (inr (inl (is, one, kept, same))) =
     image_asks writes_old writes_new (Err stop) (inl same)
-ends_replayed log_file first_file name upto writes_old writes_new old new (Err stop)
-    (inr (inr (file, count, prints))) =
+ends_replayed log_file first_file out_file name upto writes_old writes_new old new (Err stop)
+    (inr (inr (inl (file, same, replayed)))) =
+    image_asks writes_old writes_new (Err stop) (inl same)
+ends_replayed log_file first_file out_file name upto writes_old writes_new old new (Err stop)
+    (inr (inr (inr (file, count, prints)))) =
     image_asks writes_old writes_new (Err stop)
     (inr (printed_asks log_file first_file name upto writes_old writes_new old new count
     prints))
@@ -226,7 +229,8 @@ ends_task (tasks.Status log) contents writes_old writes_new old new t ended ends
 ends_task (tasks.Replay files upto) contents writes_old writes_new old new t ended ends =
     subst (λ (e : Exit). EndsCommand writes_old writes_new (status_of e)) (sym ends.tells.exits)
     (ends_replayed (contents files.log.now)
-    (contents files.first.now) files.out.now upto writes_old writes_new old new ends.done
+    (contents files.first.now) (contents files.out.now) files.out.now upto writes_old writes_new old
+    new ends.done
     ends.replayed)
 ends_task (tasks.Copy files sectors) contents writes_old writes_new old new t ended ends =
     subst (λ (e : Exit). EndsCommand writes_old writes_new (status_of e)) (sym ends.tells.exits)

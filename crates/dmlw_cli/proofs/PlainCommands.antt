@@ -172,13 +172,13 @@ showing_refused shows contents before after old new t ended ends = record {
 }
 
 -- a replay for which there was no memory
-replay_refused : (log first : Option (List ℕ)) (out : List ℕ) (upto : Upto)
+replay_refused : (log first held : Option (List ℕ)) (out : List ℕ) (upto : Upto)
     (before after : Option (List Write)) (old new : Option (List ℕ)) (t : ErrStream)
     (ended : Ended) → EndsText OutOfMemory before after old new t ended
-    → EndsReplaying log first out upto before after old new t ended
-replay_refused log first out upto before after old new t ended ends = record {
+    → EndsReplaying log first held out upto before after old new t ended
+replay_refused log first held out upto before after old new t ended ends = record {
   done = Err memory_error;
-  replayed = inl (unreplayed memory_error (inr refl), ends.silent refl, ends.unwritten);
+  replayed = inl (unreplayed memory_error (inr refl) (λ log_holds first_holds. refl), ends.silent refl, ends.unwritten);
   tells = ends.tells;
 }
 
@@ -201,7 +201,7 @@ answer_refused : {A : Type 0} (meaning : Meaning A) (asked : Question)
 answer_refused meaning asked before after old new t ended ends = record {
   unwritten = ends.unwritten;
   done = Err memory_error;
-  judged = (unjudged memory_error (inr refl), inl (ends.silent refl));
+  judged = inl (unjudged memory_error (inr refl) (λ usable. refl), ends.silent refl);
   tells = ends.tells;
 }
 
@@ -340,11 +340,11 @@ replay_ends : (task : Task) (log first out what : Text) (given : Upto)
     (old new : Option (List ℕ)) (t : ErrStream) (ended : Ended) → IsWhat what given
     → AsksBy names.Replay (plain_rows names.Replay (log ∷ first ∷ out ∷ what ∷ [])) task
     → EndsTask task contents before after old new t ended
-    → ReplaysWhat what (contents log) (contents first) out before after old new t ended
+    → ReplaysWhat what (contents log) (contents first) (contents out) out before after old new t ended
 replay_ends (tasks.Replay files upto) log first out what given contents before after old new t ended
     is asks ends =
     of_words files upto log first out what
-    (λ l f o u. EndsReplaying (contents l) (contents f) o u before after old new t ended) asks ends
+    (λ l f o u. EndsReplaying (contents l) (contents f) (contents o) o u before after old new t ended) asks ends
 replay_ends (tasks.Flawed flaws.What told) log first out what given contents before after old new t
     ended is asks ends =
     let (is_word, none) = asks in
@@ -354,7 +354,7 @@ replay_ends (tasks.Show error) log first out what given contents before after ol
     is asks ends = (
       given,
       is,
-      replay_refused (contents log) (contents first) out given before after old new t ended
+      replay_refused (contents log) (contents first) (contents out) out given before after old new t ended
           (memory_ends (kind_of error) before after old new t ended asks ends),
     )
 replay_ends task log first out what given contents before after old new t ended is asks ends =
@@ -669,7 +669,7 @@ pub replay_done : (contents later : List ℕ → Option (List ℕ)) (before afte
     → IsWhat what given
     → DoesWords (command_words program names.Replay
     (log ∷ first ∷ out ∷ what ∷ [])) contents later before after old new errors_old errors_new ended
-    → ReplaysWhat what (contents log) (contents first) out before after old new
+    → ReplaysWhat what (contents log) (contents first) (contents out) out before after old new
     (err_stream false errors_old errors_new) ended
 replay_done contents later before after old new errors_old errors_new ended program log first out
     what given plain_log plain_first plain_out is does =
@@ -682,7 +682,8 @@ replay_done contents later before after old new errors_old errors_new ended prog
     (replay_enters program log first out what plain_log plain_first plain_out plain_what)
     (refl, (refl, (refl, (refl, tt)))) does.read in
     subst (λ (explains : Bool). ReplaysWhat what (contents log)
-    (contents first) out before after old new (err_stream explains errors_old errors_new) ended)
+    (contents first) (contents out) out before after old new
+    (err_stream explains errors_old errors_new) ended)
     (stays_silent names.Replay program (log ∷ first ∷ out ∷ what ∷ []) plain)
     (replay_ends does.task log first out what given contents before after old new _ ended is asks
     does.ends)

@@ -103,12 +103,12 @@ pub record EndsPage (page : List ℕ) (writes_old writes_new : Option (List Writ
   pub told : TellsPage page old new t ended
 
 -- How the replay of the log in a file ends, up to what a word names.
-abbrev pub ReplaysWhat : List ℕ → Option (List ℕ) → Option (List ℕ) → List ℕ → Option (List Write)
-    → Option (List Write) → Option (List ℕ)
+abbrev pub ReplaysWhat : List ℕ → Option (List ℕ) → Option (List ℕ) → Option (List ℕ) → List ℕ
+    → Option (List Write) → Option (List Write) → Option (List ℕ)
     → Option (List ℕ) → ErrStream → Ended → Type 0
-ReplaysWhat what log_file first_file name writes_old writes_new old new t ended =
+ReplaysWhat what log_file first_file out_file name writes_old writes_new old new t ended =
     (upto : Upto) × IsWhat what upto
-    × EndsReplaying log_file first_file name upto writes_old writes_new old new t ended
+    × EndsReplaying log_file first_file out_file name upto writes_old writes_new old new t ended
 
 -- What the replay of the log in a file leaves in its file, up to what a word names.
 abbrev pub LeavesReplayed : List ℕ → Option (List ℕ) → Option (List ℕ) → Option (List ℕ) → Type 0
@@ -154,7 +154,7 @@ EndsTask (tasks.Status log) contents writes_old writes_new old new t ended =
     EndsShowing ShowsStatus (contents log.now) writes_old writes_new old new t ended
 EndsTask (tasks.Replay files upto) contents writes_old writes_new old new t ended =
     EndsReplaying (contents files.log.now)
-    (contents files.first.now) files.out.now upto writes_old writes_new old new t ended
+    (contents files.first.now) (contents files.out.now) files.out.now upto writes_old writes_new old new t ended
 EndsTask (tasks.Copy files sectors) contents writes_old writes_new old new t ended =
     EndsCopying (contents files.log.now) files.out.now sectors writes_old writes_new old new t ended
 EndsTask (tasks.Judge script moment image) contents writes_old writes_new old new t ended =

@@ -101,7 +101,7 @@ pub fn plain_words_replay()
         IsWhat what upto →
         DoesWords (command_words program names.Replay (log ∷ first ∷ out ∷ what ∷ [])) contents
         later before after old new errors_old errors_new ended →
-        ReplaysWhat what (contents log) (contents first) out before after old new
+        ReplaysWhat what (contents log) (contents first) (contents out) out before after old new
         (err_stream false errors_old errors_new) ended }
     // And the file OUT holds the image that came of it.
     ensures leaves { (contents later : List ℕ → Option (List ℕ))

@@ -29,7 +29,7 @@ use Rattle.run_error.specs.declared.run_error.RunError.TheVariants as faults
 use Rattle.run_error.specs.Errors.{IsFileError, refused_by}
 use Rattle.script_runner.specs.DiskRun.{DiskRun, FailsOnDisks, file as disk_file, run as disk_run}
 use Rattle.script_runner.specs.DiskRun.{stack_answering, unmade}
-use Rattle.script_runner.specs.Rehearsals.{IsRehearsed}
+use Rattle.script_runner.specs.Rehearsals.{FailsRehearsal, IsRehearsed}
 use Rattle.script_runner.specs.Runs.{RunsLines, close, file as run_file, message}
 use Rattle.dmlw_commands.specs.declared.ending.Ended.{Ended}
 use Rattle.dmlw_commands.specs.declared.exit.Exit.TheVariants as exits
@@ -146,7 +146,7 @@ answer_later meaning script image answer has none =
 -- an image's file that holds nothing is refused as a file, whatever the script
 none_by_file : (script : List ℕ) (fault : RunError) → HasNoVerdict (question script [] 0) fault
     → IsFileError fault
-none_by_file script fault (file f is) = is
+none_by_file script fault (file f is readable) = is
 none_by_file script fault (text bytes image line refusal read none first) =
     absurd (let least = read.whole.least in let same = ap length read.image_holds in omega arith)
 none_by_file script fault (run bytes image plan f read spelled fails) =
@@ -210,6 +210,18 @@ fails_otherwise bytes plan fault none
 fails_otherwise bytes plan fault none (disk_run start f starts (run_file again is)) bad =
     file_told again is bad
 
+-- nor is one that came short
+short_nowhere : (bytes : List ℕ) (plan : ScriptValue) (fault : RunError) → plan.commands ≡ []
+    → FailsRehearsal bytes plan fault → line_of fault ≡ None
+short_nowhere bytes plan fault none (inl fails) = fails_nowhere bytes plan fault none fails
+short_nowhere bytes plan fault none (inr (short, is)) = ap line_of is
+
+short_otherwise : (bytes : List ℕ) (plan : ScriptValue) (fault : RunError) → plan.commands ≡ []
+    → FailsRehearsal bytes plan fault → told fault ≡ refusals.BadMoment → ⊥
+short_otherwise bytes plan fault none (inl fails) bad = fails_otherwise bytes plan fault none fails bad
+short_otherwise bytes plan fault none (inr (short, is)) bad =
+    let same : refusals.Memory ≡ refusals.BadMoment = sym (ap told is) ∙ bad in cc
+
 -- what the law `one_script` of `script_reader` says: a text is one script's at most
 abbrev OneScript : Type 0
 OneScript = (text : List ℕ) (plan other : ScriptValue) → IsTextOf text plan → IsTextOf text other
@@ -221,7 +233,7 @@ none_at_line : OneScript → (bytes : List ℕ) (plan : ScriptValue) (image : Op
     (fault : RunError) → IsTextOf bytes plan → plan.commands ≡ []
     → HasNoVerdict (record { script = Some bytes; image = image; moment = n }) fault
     → line_of fault ≡ None
-none_at_line one_script bytes plan image n fault spelled none (file f is) = file_line f is
+none_at_line one_script bytes plan image n fault spelled none (file f is readable) = file_line f is
 none_at_line one_script bytes plan image n fault spelled none
     (text again shown line refusal read wrong first) =
     absurd (wrong plan (subst (λ (t : List ℕ). IsTextOf t plan) (sym read.script_holds) spelled))
@@ -230,7 +242,7 @@ none_at_line one_script bytes plan image n fault spelled none
     let one =
     one_script bytes plan other spelled
     (subst (λ (t : List ℕ). IsTextOf t other) read.script_holds spells) in
-    fails_nowhere again other f (ap (λ (p : ScriptValue). p.commands) (sym one) ∙ none) fails
+    short_nowhere again other f (ap (λ (p : ScriptValue). p.commands) (sym one) ∙ none) fails
 none_at_line one_script bytes plan image n fault spelled none
     (no_moment again shown other events read spells rehearsed cannot) = refl
 
@@ -248,7 +260,7 @@ names_none line same = cc
 none_of_nothing : (image : Option (List ℕ)) (n : ℕ) (fault : RunError)
     → HasNoVerdict (record { script = Some []; image = image; moment = n }) fault
     → line_of fault ≡ Some 2 → ⊥
-none_of_nothing image n fault (file f is) second = names_none 2 (sym (file_line f is) ∙ second)
+none_of_nothing image n fault (file f is readable) second = names_none 2 (sym (file_line f is) ∙ second)
 none_of_nothing image n fault (text again shown line refusal read wrong first) second =
     let same : Some line ≡ Some 2 = second in
     let two : line ≡ 2 = cc in
@@ -275,7 +287,7 @@ none_by_moment : OneScript → (bytes image : List ℕ) (plan : ScriptValue) (fa
     → IsTextOf bytes plan → plan.commands ≡ []
     → length image ≡ 512 * top_of plan.data_disk → HasNoVerdict (question bytes image 0) fault
     → told fault ≡ refusals.BadMoment → ⊥
-none_by_moment one_script bytes image plan fault spelled none size (file f is) bad =
+none_by_moment one_script bytes image plan fault spelled none size (file f is readable) bad =
     file_told f is bad
 none_by_moment one_script bytes image plan fault spelled none size
     (text again shown line refusal read wrong first) bad =
@@ -285,7 +297,7 @@ none_by_moment one_script bytes image plan fault spelled none size
     let one =
     one_script bytes plan other spelled
     (subst (λ (t : List ℕ). IsTextOf t other) read.script_holds spells) in
-    fails_otherwise again other f (ap (λ (p : ScriptValue). p.commands) (sym one) ∙ none) fails bad
+    short_otherwise again other f (ap (λ (p : ScriptValue). p.commands) (sym one) ∙ none) fails bad
 none_by_moment one_script bytes image plan fault spelled none size
     (no_moment again shown other events read spells rehearsed cannot) bad =
     let one =
@@ -303,10 +315,10 @@ judges_silent asked (has, printed) = cc
 
 answers_printing : {A : Type 0} (meaning : Meaning A) (asked : Question)
     → Answers meaning asked (Some []) (Some (1 ∷ [])) (Err (refused_by refusals.BadMoment)) → ⊥
-answers_printing meaning asked (none, inl kept) = cc
-answers_printing meaning asked (none, inr (inl is)) =
+answers_printing meaning asked (inl (none, kept)) = cc
+answers_printing meaning asked (inr (inl is, answer, has)) =
     let same : refusals.BadMoment ≡ refusals.File = ap told is in cc
-answers_printing meaning asked (none, inr (inr is)) =
+answers_printing meaning asked (inr (inr is, answer, has)) =
     let same : refusals.BadMoment ≡ refusals.Memory = ap told is in cc
 
 -- an answer on what is no image, and a fault that isn't why there is none
@@ -317,9 +329,21 @@ answers_no_image meaning script answer (has, printed) = answer_no_image meaning 
 
 answers_moment : {A : Type 0} (meaning : Meaning A) (script : List ℕ)
     → Answers meaning (question script [] 0) None None (Err (refused_by refusals.BadMoment)) → ⊥
-answers_moment meaning script (none, kept) =
+answers_moment meaning script (inl (none, kept)) =
     file_told (refused_by refusals.BadMoment)
     (none_by_file script (refused_by refusals.BadMoment) none) refl
+answers_moment meaning script (inr (is, answer, has)) =
+    file_told (refused_by refusals.BadMoment) is refl
+
+-- a fault of a file where both hold what can be used and the script's text is no script's
+answers_no_file : {A : Type 0} (meaning : Meaning A) (image : List ℕ) → IsImage image
+    → Answers meaning (question [] image 0) None None (Err (refused_by refusals.File)) → ⊥
+answers_no_file meaning image whole (inl (file f is readable, kept)) =
+    let same : refusals.File ≡ refusals.Memory = ap told (readable (omega arith, whole)) in cc
+answers_no_file meaning image whole (inl (run bytes again plan f read spelled fails, kept)) =
+    no_script plan (subst (λ (t : List ℕ). IsTextOf t plan) read.script_holds spelled)
+answers_no_file meaning image whole (inr (is, answer, has)) =
+    answer_no_script meaning (Some image) answer has
 
 -- the lines of verdicts, and how they end
 line_yes : verdict_line verdicts.Yes ≡ codes "yes\n"

@@ -1,8 +1,8 @@
 -- What a question on an image comes to.
 -- Its own crate alone cites it, for the theorems of src/judge_image/answering.rt.
 use Rattle.std.proofs.Common.{◌≡◌, ◌∙◌, ◌⊎◌, ℕ, true, Option, Some, None, List, Result, Ok, Err}
-use Rattle.std.proofs.Common.{IfErr, IfOk, ap, inl, inr, length, refl, subst, sym}
-use Rattle.std.specs.Prelude.{take}
+use Rattle.std.proofs.Common.{◌≤◌, IfErr, IfOk, ap, inl, inr, length, refl, subst, sym}
+use Rattle.std.specs.Prelude.{IsOk, take}
 use Rattle.std.specs.Io.KnownBytes.{Appends, Keeps}
 use Rattle.std.specs.Result.{IsErrAnd}
 use Rattle.bio.specs.declared.event.CoreEvent.{CoreEvent}
@@ -25,8 +25,8 @@ use Rattle.dmlw_files.specs.declared.files.FileError.TheVariants as errors
 use Rattle.dmlw_commands.specs.Ends.{ErrStream, TellsLine}
 use Rattle.dmlw_commands.specs.Exits.{told_line}
 use Rattle.dmlw_files.specs.FileErrors.{file_refusal}
-use Rattle.dmlw_files.specs.Files.{MatchesContents, Write}
-use Rattle.dmlw_files.specs.Images.{IsImage}
+use Rattle.dmlw_files.specs.Files.{IsWithin, MatchesContents, Write}
+use Rattle.dmlw_files.specs.Images.{IsImage, image_read}
 use Rattle.dmlw_commands.specs.Judgements.{Answers, CanJudge, CannotJudge, EndsAnswering, HasAnswer}
 use Rattle.dmlw_commands.specs.Judgements.{HasNoVerdict, Meaning, Question, blank, exit_answered}
 use Rattle.dmlw_commands.specs.Judgements.{file}
@@ -76,7 +76,7 @@ pub faulted_by : {A : Type 0} (text image : List ℕ) (asked sectors : ℕ) (pla
     → IfErr r (HasNoVerdict (question text image asked))
 faulted_by text image asked sectors plan events (Ok answer) whole spelled rehearsed same fails = tt
 faulted_by text image asked sectors plan events (Err fault) whole spelled rehearsed same
-    (inl memory) = file fault (inr memory)
+    (inl memory) = file fault (inr memory) (λ usable. memory)
 faulted_by text image asked sectors plan events (Err fault) whole spelled rehearsed same
     (inr (is, cannot)) =
     subst (HasNoVerdict (question text image asked)) (sym is)
@@ -105,8 +105,9 @@ failed_text text image asked error fault whole wrong only output =
         → HasNoVerdict (question text image asked)
         (Refused (record { line = line; refusal = error.refusal }))
     by_line None here memory =
-        file _ (inr (ap (λ (e : Fault). Refused
-        (record { line = None; refusal = e.refusal })) memory))
+        let none = ap (λ (e : Fault). Refused
+        (record { line = None; refusal = e.refusal })) memory in
+        file _ (inr none) (λ usable. none)
     by_line (Some number) here first =
         unread text image number error.refusal
         (record { script_holds = refl; image_holds = refl; whole = whole })
@@ -118,10 +119,13 @@ file_told : (error : FileError) → IsFileError (refused_by (file_refusal error)
 file_told errors.Unusable = inl refl
 file_told errors.Memory = inr refl
 
--- what a file can't be read for, is why there is no verdict
+-- what a script's file can't be read for is why there is no verdict
 pub failed_file : (asked : Question) (error : FileError) (fault : RunError)
+    → (IsWithin 4194304 asked.script → error ≡ errors.Memory)
     → fault ≡ refused_by (file_refusal error) → HasNoVerdict asked fault
-failed_file asked error fault is = file fault (subst IsFileError (sym is) (file_told error))
+failed_file asked error fault readable is =
+    file fault (subst IsFileError (sym is) (file_told error))
+    (λ usable. is ∙ ap (λ (e : FileError). refused_by (file_refusal e)) (readable usable.0))
 
 -- what was read of known bytes is them
 match_some : (contents : Option (List ℕ)) (bytes known : List ℕ) → MatchesContents contents bytes
@@ -146,11 +150,21 @@ answer_of_files meaning asked text image answer script bytes has = record {
   judged = has.judged;
 }
 
+-- what was read of a file that isn't too long isn't either
+within_read : (file : Option (List ℕ)) (text : List ℕ) → IsWithin 4194304 file
+    → MatchesContents file text → length text ≤ 4194304
+within_read None text few is = absurd few
+within_read (Some known) text few is = subst (λ (t : List ℕ). length t ≤ 4194304) (sym is) few
+
 -- and so is why there is none
 pub fault_of_files : (asked : Question) (text image : List ℕ) (fault : RunError)
     → MatchesContents asked.script text → MatchesContents asked.image image
     → HasNoVerdict (question text image asked.moment) fault → HasNoVerdict asked fault
-fault_of_files asked text image fault script bytes (file f is) = file f is
+fault_of_files asked text image fault script bytes (file f is readable) = file f is
+    (λ usable. readable (
+      within_read asked.script text usable.0 script,
+      image_read asked.image image usable.1 bytes,
+    ))
 fault_of_files asked text image fault script bytes
     (unread known seen line refusal read none first) =
     unread known seen line refusal (record {
@@ -179,7 +193,8 @@ pub answered_files : {A : Type 0} (meaning : Meaning A) (asked : Question) (text
     → IfOk answered (HasAnswer meaning (question text image asked.moment))
     → IfErr answered (HasNoVerdict (question text image asked.moment))
     → IfOk done (λ answer. (answered ≡ Ok answer) × Appends before after (meaning.printed answer))
-    → IfErr done (λ fault. IsFileError fault ⊎ ((answered ≡ Err fault) × Keeps before after))
+    → IfErr done (λ fault. (IsFileError fault × IsOk answered)
+    ⊎ ((answered ≡ Err fault) × Keeps before after))
     → Answers meaning asked before after done
 answered_files {A = A} meaning asked text image before after answered (Ok answer) script bytes has
     none printed fails = (
@@ -188,14 +203,18 @@ answered_files {A = A} meaning asked text image before after answered (Ok answer
           (HasAnswer meaning (question text image asked.moment))) printed.0 has),
       printed.1,
     )
-answered_files meaning asked text image before after answered (Err fault) script bytes has none
-    printed (inl is) = (file fault is, inr is)
+answered_files meaning asked text image before after (Ok answer) (Err fault) script bytes has none
+    printed (inl is) =
+    inr (is.0, answer, answer_of_files meaning asked text image answer script bytes has)
+answered_files meaning asked text image before after (Err other) (Err fault) script bytes has none
+    printed (inl is) = let never = is.1 in absurd (cc)
 answered_files {A = A} meaning asked text image before after answered (Err fault) script bytes has
-    none printed (inr (same, kept)) = (
+    none printed (inr (same, kept)) =
+    inl (
       fault_of_files asked text image fault script bytes
           (subst (λ (r : Result A RunError). IfErr r
           (HasNoVerdict (question text image asked.moment))) same none),
-      inl kept,
+      kept,
     )
 
 -- a question that ended before anything was printed
@@ -204,7 +223,8 @@ pub answered_none : {A : Type 0} (meaning : Meaning A) (asked : Question) (known
     → ((fault : RunError) → Q fault → HasNoVerdict asked fault)
     → Answers meaning asked known known r
 answered_none meaning asked known (Ok answer) fails why = absurd fails
-answered_none meaning asked known (Err fault) fails why = (why fault fails, inl (keeps_same known))
+answered_none meaning asked known (Err fault) fails why =
+    inl (why fault fails, keeps_same known)
 
 -- what is kept after an answer
 answers_kept : {A : Type 0} (meaning : Meaning A) (asked : Question) (old mid new : Option (List ℕ))
@@ -212,9 +232,9 @@ answers_kept : {A : Type 0} (meaning : Meaning A) (asked : Question) (old mid ne
     → Keeps mid new → Answers meaning asked old new done
 answers_kept meaning asked old mid new (Ok answer) (has, printed) kept =
     (has, appends_kept old mid new _ printed kept)
-answers_kept meaning asked old mid new (Err fault) (none, inl same) kept =
-    (none, inl (keeps_twice old mid new same kept))
-answers_kept meaning asked old mid new (Err fault) (none, inr is) kept = (none, inr is)
+answers_kept meaning asked old mid new (Err fault) (inl (none, same)) kept =
+    inl (none, keeps_twice old mid new same kept)
+answers_kept meaning asked old mid new (Err fault) (inr unprinted) kept = inr unprinted
 
 -- how the command ends
 pub answering_ends : {A : Type 0} (meaning : Meaning A) (asked : Question)

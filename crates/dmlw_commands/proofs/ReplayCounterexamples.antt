@@ -33,7 +33,8 @@ use Rattle.dmlw_commands.specs.declared.exit.Exit.TheVariants as exits
 use Rattle.dmlw_commands.specs.Ends.{ErrStream}
 use Rattle.dmlw_commands.specs.Exits.{exit_by, exit_of, fault_line}
 use Rattle.dmlw_files.specs.Files.{Write}
-use Rattle.dmlw_commands.specs.Replays.{AreImages, EndsReplaying, FailsReplay, HasStopCause}
+use Rattle.dmlw_commands.specs.Replays.{AreImages, EndsReplaying, FailsOnImages, FailsReplay}
+use Rattle.dmlw_commands.specs.Replays.{HasStopCause, IsReplayedFrom}
 use Rattle.dmlw_commands.specs.Replays.{HoldsReplayed, IsReplayed, PrintsReplay, Replays}
 use Rattle.dmlw_commands.specs.Replays.{StopsReplay, file, images, replay_stopped}
 use Rattle.dmlw_commands.specs.Replays.{replayed_line, unopened}
@@ -234,9 +235,9 @@ told (faults.StoppedAfter applied refusal) = refusal
 
 fails_busy : (log_file first_file : Option (List ℕ)) (upto : Upto)
     → FailsReplay log_file first_file upto (refused_by refusals.Busy) → ⊥
-fails_busy log_file first_file upto (file fault (inl is)) =
+fails_busy log_file first_file upto (file fault (inl is) readable) =
     let same : refusals.Busy ≡ refusals.File = ap told is in cc
-fails_busy log_file first_file upto (file fault (inr is)) =
+fails_busy log_file first_file upto (file fault (inr is) readable) =
     let same : refusals.Busy ≡ refusals.Memory = ap told is in cc
 fails_busy log_file first_file upto
     (images log first stop are (unopened fault (opens.BadSuper supers.BadMagic, opened, is))) =
@@ -269,19 +270,45 @@ no_file applied refusal (inl is) = cc
 no_file applied refusal (inr is) = cc
 
 -- one that stops, and printed something, or asked for a file
-stops_printing : (log_file first_file : Option (List ℕ)) (upto : Upto) (stop : ReplayFault)
-    → Replays log_file first_file [] upto None None (Some []) (Some (1 ∷ []))
+stops_printing : (log_file first_file out_file : Option (List ℕ)) (upto : Upto) (stop : ReplayFault)
+    → Replays log_file first_file out_file [] upto None None (Some []) (Some (1 ∷ []))
     (Err (replay_stopped stop)) → ⊥
-stops_printing log_file first_file upto stop (inl (fails, kept, same)) = cc
-stops_printing log_file first_file upto stop (inr (inl (is, same))) = no_file _ _ is
-stops_printing log_file first_file upto stop (inr (inr (is, count, prints))) = no_file _ _ is
+stops_printing log_file first_file out_file upto stop (inl (fails, kept, same)) = cc
+stops_printing log_file first_file out_file upto stop (inr (inl (is, same))) = cc
+stops_printing log_file first_file out_file upto stop (inr (inr (inl (is, same)))) = no_file _ _ is
+stops_printing log_file first_file out_file upto stop (inr (inr (inr (is, count, prints)))) =
+    no_file _ _ is
 
-stops_asking : (log_file first_file : Option (List ℕ)) (upto : Upto) (stop : ReplayFault)
-    → Replays log_file first_file [] upto (Some []) (Some (a_write ∷ [])) None None
+stops_asking : (log_file first_file out_file : Option (List ℕ)) (upto : Upto) (stop : ReplayFault)
+    → Replays log_file first_file out_file [] upto (Some []) (Some (a_write ∷ [])) None None
     (Err (replay_stopped stop)) → ⊥
-stops_asking log_file first_file upto stop (inl (fails, kept, same)) = cc
-stops_asking log_file first_file upto stop (inr (inl (is, same))) = no_file _ _ is
-stops_asking log_file first_file upto stop (inr (inr (is, count, prints))) = no_file _ _ is
+stops_asking log_file first_file out_file upto stop (inl (fails, kept, same)) = cc
+stops_asking log_file first_file out_file upto stop (inr (inl (is, same))) = cc
+stops_asking log_file first_file out_file upto stop (inr (inr (inl (is, same)))) = no_file _ _ is
+stops_asking log_file first_file out_file upto stop (inr (inr (inr (is, count, prints)))) =
+    no_file _ _ is
+
+-- a fault of a file where both hold images, the log isn't replayed, and OUT holds something else
+fails_no_file : (log first : List ℕ) (out_file : Option (List ℕ)) (upto : Upto) → IsImage log
+    → IsImage first → (Some log ≡ out_file → ⊥)
+    → ((count : ℕ) (image : List ℕ) → IsReplayedFrom (Some log) (Some first) upto count image → ⊥)
+    → ((fault : RunError) → FailsOnImages log first upto fault
+    → fault ≡ refused_by refusals.File → ⊥)
+    → Replays (Some log) (Some first) out_file [] upto None None None None
+    (Err (refused_by refusals.File)) → ⊥
+fails_no_file log first out_file upto log_image first_image other unreplayed fails
+    (inl (file fault is readable, kept)) =
+    let same : refusals.File ≡ refusals.Memory = ap told (readable log_image first_image) in cc
+fails_no_file log first out_file upto log_image first_image other unreplayed fails
+    (inl (images log_read first_read stop are cause, kept)) =
+    fails stop (subst (λ (l : List ℕ). FailsOnImages l first upto stop) are.log_read
+    (subst (λ (f : List ℕ). FailsOnImages log_read f upto stop) are.first_read cause)) refl
+fails_no_file log first out_file upto log_image first_image other unreplayed fails
+    (inr (inl (is, same, kept))) = other same
+fails_no_file log first out_file upto log_image first_image other unreplayed fails
+    (inr (inr (inl (is, same, count, image, replayed)))) = unreplayed count image replayed
+fails_no_file log first out_file upto log_image first_image other unreplayed fails
+    (inr (inr (inr (is, count, prints)))) = unreplayed count prints.image prints.replayed
 
 -- a file that holds no image holds none that came of a replay
 holds_none : (log_file first_file : Option (List ℕ)) (upto : Upto)
@@ -292,11 +319,11 @@ holds_none log_file first_file upto told =
     let least = told.replayed.files.first_image.least in omega arith
 
 -- a command that ends as none does
-ends_usage : (log_file first_file : Option (List ℕ)) (name : List ℕ) (upto : Upto) (t : ErrStream)
+ends_usage : (log_file first_file out_file : Option (List ℕ)) (name : List ℕ) (upto : Upto) (t : ErrStream)
     (ended : Ended)
-    → EndsReplaying log_file first_file name upto None None None None t ended
+    → EndsReplaying log_file first_file out_file name upto None None None None t ended
     → ended.exit ≡ exits.RuledOut → ⊥
-ends_usage log_file first_file name upto t ended told is =
+ends_usage log_file first_file out_file name upto t ended told is =
     ends told.done (sym told.tells.exits ∙ is)
   where
     ends : (done : Result ℕ RunError) → exit_by done ≡ exits.RuledOut → ⊥

@@ -20,15 +20,15 @@ use Rattle.judge.specs.Texts.{verdict_text}
 use Rattle.judge.specs.Verdicts.{IsVerdict}
 use Rattle.run_error.specs.declared.run_error.RunError.{RunError}
 use Rattle.run_error.specs.declared.run_error.RunError.TheVariants.{Refused}
-use Rattle.run_error.specs.Errors.{IsFileError, refused_by}
+use Rattle.run_error.specs.Errors.{IsFileError, memory_error, refused_by}
 use Rattle.script_runner.specs.Rehearsals.{FailsRehearsal, IsRehearsed}
 use Rattle.dmlw_commands.specs.declared.ending.Ended.{Ended}
 use Rattle.dmlw_commands.specs.declared.exit.Exit.{Exit}
 use Rattle.dmlw_commands.specs.declared.exit.Exit.TheVariants as exits
 use Rattle.dmlw_commands.specs.Ends.{ErrStream, TellsLine}
 use Rattle.dmlw_commands.specs.Exits.{exit_of, told_line}
-use Rattle.dmlw_files.specs.Files.{MatchesContents, Write}
-use Rattle.dmlw_files.specs.Images.{IsImage}
+use Rattle.dmlw_files.specs.Files.{IsWithin, MatchesContents, Write}
+use Rattle.dmlw_files.specs.Images.{HoldsImage, IsImage}
 use Rattle.dmlw_commands.specs.Records.{IsNoScript}
 
 -- an image of so many bytes that are zero
@@ -92,11 +92,17 @@ pub record HasAnswer {A : Type 0} (meaning : Meaning A) (asked : Question)
   pub spelled : IsTextOf text plan
   pub judged : IsAnswered meaning plan asked.moment image answer
 
--- Why there is no answer: a file can't be read, or is too long or no image, or there is no memory;
--- the text is no script's, of which the first line at fault is named; its run fails; or the moment
+-- Both files are known to be usable: the script's is no longer than a script
+-- may be, and the image's holds an image.
+abbrev pub AreUsable : Question → Type 0
+AreUsable asked = IsWithin 4194304 asked.script × HoldsImage asked.image
+
+-- Why there is no answer: a file can't be read, or is too long or no image, or there is no memory,
+-- which alone it is where both files are known to be usable; the text is no script's, of which the first line at fault is named; its run fails; or the moment
 -- is none of its moments, or the image is of another size.
 pub data HasNoVerdict (asked : Question) : RunError → Type 0 where
-  file : (fault : RunError) → IsFileError fault → HasNoVerdict asked fault
+  file : (fault : RunError) → IsFileError fault → (AreUsable asked → fault ≡ memory_error)
+      → HasNoVerdict asked fault
   text : (bytes image : List ℕ) (line : ℕ) (refusal : Refusal) → AreRead asked bytes image
       → IsNoScript bytes
       → IsFirstFault (lines_of bytes) line refusal
@@ -110,13 +116,14 @@ pub data HasNoVerdict (asked : Question) : RunError → Type 0 where
       → HasNoVerdict asked (refused_by refusals.BadMoment)
 
 -- What a question comes to: the answer, which was printed; or why there is none, and nothing was
--- printed, unless it is the output that can't be written.
+-- printed; or there is one, and the output can't be written.
 abbrev pub Answers : {A : Type 0} → Meaning A → Question → Option (List ℕ) → Option (List ℕ)
     → Result A RunError → Type 0
 Answers meaning asked before after (Ok answer) =
     HasAnswer meaning asked answer × Appends before after (meaning.printed answer)
-Answers meaning asked before after (Err fault) =
-    HasNoVerdict asked fault × (Keeps before after ⊎ IsFileError fault)
+Answers {A = A} meaning asked before after (Err fault) =
+    (HasNoVerdict asked fault × Keeps before after)
+    ⊎ (IsFileError fault × (answer : A) × HasAnswer meaning asked answer)
 
 -- how a question ends the command: as its answer does, and else by its fault
 abbrev pub exit_answered : {A : Type 0} → Meaning A → Result A RunError → Exit

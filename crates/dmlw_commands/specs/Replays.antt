@@ -21,11 +21,12 @@ use Rattle.replay.specs.Replays.{AsksTooMany, EndsShort, IsUpto, LacksFlush, Lac
 use Rattle.replay.specs.Replays.{entries_from}
 use Rattle.run_error.specs.declared.run_error.RunError.{RunError}
 use Rattle.run_error.specs.declared.run_error.RunError.TheVariants.{StoppedAfter}
-use Rattle.run_error.specs.Errors.{IsFileError, memory_error}
+use Rattle.refusals.specs.declared.refusal.Refusal.TheVariants as refusals
+use Rattle.run_error.specs.Errors.{IsFileError, memory_error, refused_by}
 use Rattle.dmlw_commands.specs.declared.ending.Ended.{Ended}
 use Rattle.dmlw_commands.specs.Ends.{ErrStream, Tells}
 use Rattle.dmlw_files.specs.Files.{MatchesContents, Write, one_more}
-use Rattle.dmlw_files.specs.Images.{IsImage}
+use Rattle.dmlw_files.specs.Images.{HoldsImage, IsImage}
 use Rattle.dmlw_commands.specs.Lists.{RefusesImage}
 
 -- the line that says how many entries were replayed
@@ -92,10 +93,11 @@ pub data FailsOnImages (log first : List ℕ) (upto : Upto) : RunError → Type 
   stopped : (stop : ReplayFault) → StopsReplay log first upto stop
       → FailsOnImages log first upto (replay_stopped stop)
 
--- Why the log in a file isn't replayed: a file can't be used, or there is no memory; or so it is of
--- the images in the files.
+-- Why the log in a file isn't replayed: a file can't be used, or there is no memory, which alone it
+-- is where both files are known to hold images; or so it is of the images in the files.
 pub data FailsReplay (log_file first_file : Option (List ℕ)) (upto : Upto) : RunError → Type 0 where
   file : (fault : RunError) → IsFileError fault
+      → (HoldsImage log_file → HoldsImage first_file → fault ≡ memory_error)
       → FailsReplay log_file first_file upto fault
   images : (log first : List ℕ) (stop : RunError) → AreImages log_file first_file log first
       → FailsOnImages log first upto stop
@@ -128,25 +130,29 @@ pub record PrintsReplay (log_file first_file : Option (List ℕ)) (name : List �
   pub printed : Appends old new (replayed_line count)
   pub asked : writes_new ≡ one_more writes_old name image
 
--- What replaying comes to: it was done; or it fails, nothing was printed, and no file was asked to
--- be written; or the output can't be written, and no file was asked to be; or the image can't be
--- written, after the printing.
-abbrev pub Replays : Option (List ℕ) → Option (List ℕ) → List ℕ → Upto → Option (List Write)
-    → Option (List Write) → Option (List ℕ) → Option (List ℕ)
+-- What replaying comes to, into a file of this name that holds this: it was done; or it fails,
+-- nothing was printed, and no file was asked to be written; or that file is the log's, and so it is
+-- too; or the log was replayed, the output can't be written, and no file was asked to be; or the
+-- image can't be written, after the printing.
+abbrev pub Replays : Option (List ℕ) → Option (List ℕ) → Option (List ℕ) → List ℕ → Upto
+    → Option (List Write) → Option (List Write) → Option (List ℕ) → Option (List ℕ)
     → Result ℕ RunError → Type 0
-Replays log_file first_file name upto writes_old writes_new old new (Ok count) =
+Replays log_file first_file out_file name upto writes_old writes_new old new (Ok count) =
     PrintsReplay log_file first_file name upto writes_old writes_new old new count
-Replays log_file first_file name upto writes_old writes_new old new (Err stop) =
+Replays log_file first_file out_file name upto writes_old writes_new old new (Err stop) =
     (FailsReplay log_file first_file upto stop × Keeps old new × (writes_new ≡ writes_old))
-    ⊎ (IsFileError stop × (writes_new ≡ writes_old))
+    ⊎ (((stop ≡ refused_by refusals.File) × (log_file ≡ out_file) × Keeps old new
+    × (writes_new ≡ writes_old))
+    ⊎ ((IsFileError stop × (writes_new ≡ writes_old) × (count : ℕ) × (image : List ℕ)
+    × IsReplayedFrom log_file first_file upto count image)
     ⊎ (IsFileError stop × (count : ℕ)
-    × PrintsReplay log_file first_file name upto writes_old writes_new old new count)
+    × PrintsReplay log_file first_file name upto writes_old writes_new old new count)))
 
 -- How the replay of the log in a file ends, of which the image
--- goes into the file of this name: as what it did has it.
-pub record EndsReplaying (log_file first_file : Option (List ℕ)) (name : List ℕ) (upto : Upto)
-    (writes_old writes_new : Option (List Write))
+-- goes into the file of this name, which holds this: as what it did has it.
+pub record EndsReplaying (log_file first_file out_file : Option (List ℕ)) (name : List ℕ)
+    (upto : Upto) (writes_old writes_new : Option (List Write))
     (old new : Option (List ℕ)) (t : ErrStream) (ended : Ended) : Type 0 where
   pub done : Result ℕ RunError
-  pub replayed : Replays log_file first_file name upto writes_old writes_new old new done
+  pub replayed : Replays log_file first_file out_file name upto writes_old writes_new old new done
   pub tells : Tells t done ended

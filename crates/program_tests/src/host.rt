@@ -25,12 +25,17 @@ fn disk_with(alloc: Global, sectors: u64, sector: u64, byte: u8) -> Result<Secto
 }
 
 // A disk of one sector, which has this byte throughout.
-fn disk_of(alloc: Global, byte: u8) -> Result<SectorDisk, Fail> {
+pub(crate) fn disk_of(alloc: Global, byte: u8) -> Result<SectorDisk, Fail> {
     disk_with(alloc, 1, 0, byte)
 }
 
 // Whether the file of a name holds these bytes.
-fn holds<R: std::rt::Files>(runtime: &R, alloc: Global, name: &str, bytes: &[u8]) -> bool {
+pub(crate) fn holds<R: std::rt::Files>(
+    runtime: &R,
+    alloc: Global,
+    name: &str,
+    bytes: &[u8],
+) -> bool {
     match HostFiles::new(runtime).read(alloc, name, LIMIT) {
         Ok(read) => read.as_slice() == bytes,
         Err(_) => false,

@@ -19,3 +19,5 @@ mod layers;
 mod runs;
 #[cfg(test)]
 mod scripts;
+#[cfg(test)]
+mod watched_files;

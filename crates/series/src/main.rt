@@ -1,6 +1,6 @@
 //! Series of commands over files in memory, each compared with what was worked out apart.
 //!
-//! Each word of this program names a series: `layers`, `logs` or `seats`. A series goes through all
+//! Each word of this program names a series: `layers`, `logs`, `seats` or `limits`. A series goes through all
 //! cases of its kind, and prints a line with its counts, and of each case that came out otherwise
 //! what was told and what was wanted.
 #![tactic(auto)]
@@ -11,6 +11,8 @@ mod devices;
 mod faults;
 mod images;
 mod layers;
+mod limits;
+mod most_seats;
 mod report;
 mod seats;
 mod targets;
@@ -45,6 +47,7 @@ fn run<H: Threads + Wait + Sync>(
         "images" => images::run(rt, alloc, report),
         "targets" => targets::run(rt, alloc, report),
         "seats" => seats::run(rt, alloc, report),
+        "limits" => limits::run(rt, alloc, report),
         _ => report.line("no such series"),
     }
 }

@@ -1,7 +1,8 @@
 //! The form that `judge` and `path` share: a question on an
 //! image is answered by the script in a file.
 //! Its clauses are written in specs/; its theorems in proofs/judge_image/answering/.
-ghost use Rattle.std.specs.Prelude.{◌≡◌, ◌⊎◌, ◌++◌, IfErr, IfOk, [], false, length, take, true};
+ghost use Rattle.std.specs.Prelude.{◌≡◌, ◌⊎◌, ◌++◌, IfErr, IfOk, IsOk, [], false, length, take};
+ghost use Rattle.std.specs.Prelude.{true};
 ghost use Rattle.std.specs.String.{string_bytes};
 ghost use Rattle.std.specs.Io.KnownBytes.{Appends, Keeps};
 ghost use Rattle.bio.specs.Lawful.{is_lawful};
@@ -162,7 +163,7 @@ fn print_answer<A: Answer, O: Write>(
         (λ answer. (answered ≡ Ok answer)
         × Appends (O.contents out.old) (O.contents out.new) (A.meaning.printed answer)) }
     ensures faults { IfErr result
-        (λ fault. IsFileError fault
+        (λ fault. (IsFileError fault × IsOk answered)
         ⊎ ((answered ≡ Err fault) × Keeps (O.contents out.old) (O.contents out.new))) }
 {
     let answer = answered?;

@@ -36,7 +36,8 @@ pub fn replay<F: Files, O: Write, E: Write>(
     session: &mut Session<F, O, E>,
 ) -> Ended
     ensures ends { EndsReplaying (F.contents session.old.files names.entry.log.now)
-        (F.contents session.old.files names.entry.first.now) names.entry.out.now upto.now
+        (F.contents session.old.files names.entry.first.now)
+        (F.contents session.old.files names.entry.out.now) names.entry.out.now upto.now
         (F.writes session.old.files) (F.writes session.new.files) (O.contents session.old.out)
         (O.contents session.new.out)
         (err_stream session.old.explains (E.contents session.old.err)
@@ -79,7 +80,8 @@ fn replay_files<F: Files, O: Write>(
     out: &mut O,
 ) -> Result<u64, RunError>
     ensures replays { Replays (F.contents files.old names.entry.log.now)
-        (F.contents files.old names.entry.first.now) names.entry.out.now upto.now
+        (F.contents files.old names.entry.first.now) (F.contents files.old names.entry.out.now)
+        names.entry.out.now upto.now
         (F.writes files.old) (F.writes files.new) (O.contents out.old) (O.contents out.new) result }
     ensures held { OnOk result
         (HoldsReplayed (F.contents files.old names.entry.log.now)

@@ -1,7 +1,8 @@
 -- Answers to the goals of `answer_files` (src/judge_image/answering.rt) that the search leaves.
-use Rattle.std.proofs.Common.{List, Option, subst, sym, ℕ}
+use Rattle.std.proofs.Common.{◌∙◌, List, Option, subst, sym, ℕ}
 use Rattle.run_error.specs.Errors.{IsFileError}
 use Rattle.dmlw_files.specs.Files.{MatchesContents}
+use Rattle.dmlw_files.specs.Images.{HoldsImage}
 use Rattle.dmlw_commands.specs.Judgements.{file}
 use Rattle.dmlw_commands.proofs.QuestionEnds.{answered_files, answered_none, failed_file}
 use Rattle.dmlw_commands.proofs.judge_image.answering.answer_files.Goals as goal
@@ -9,12 +10,14 @@ use Rattle.dmlw_commands.proofs.judge_image.answering.answer_files.Goals as goal
 pub returns-in_err-text-clause-judged : goal.returns-in_err-text-clause-judged
 returns-in_err-text-clause-judged g c =
     answered_none _ _ _ c.from_residual.result c.from_residual.ensures.1
-    (λ fault is. failed_file _ _ fault is)
+    (λ fault is. failed_file _ _ fault c.in_err-text.ensures.readable is)
 
 pub returns-in_err-image-clause-judged : goal.returns-in_err-image-clause-judged
 returns-in_err-image-clause-judged g c =
     answered_none _ _ _ c.from_residual-in_err-image.result c.from_residual-in_err-image.ensures.1
-    (λ fault is. file fault (subst IsFileError (sym is) c.in_err-image.ensures.fault))
+    (λ fault is. file fault (subst IsFileError (sym is) c.in_err-image.ensures.fault)
+    (λ usable. is ∙ c.in_err-image.ensures.readable (subst HoldsImage
+    (sym (c.in_ok-text.ensures.kept c.args.asked.image.now)) usable.1)))
 
 pub returns-clause-judged : goal.returns-clause-judged
 returns-clause-judged g c =

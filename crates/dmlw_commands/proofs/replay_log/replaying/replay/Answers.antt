@@ -19,7 +19,7 @@ returns-clause-ends g c =
     ends_told _ c.as_str.result.now _ _ c.end.result
     (λ off. c.as_str.ensures.value ∙ more.silent off) c.end.ensures.exit
     c.end.ensures.quiet c.end.ensures.told in
-    replaying_ends _ _ _ _ _ _ _ _ _ _ _ _ _ done.replays c.end.ensures.kept
+    replaying_ends _ _ _ _ _ _ _ _ _ _ _ _ _ _ done.replays c.end.ensures.kept
     more.unwritten told
 
 -- what is told of that refusal

@@ -1,0 +1,240 @@
+// How the system's files are written: what stands, and what was called in which order.
+use crate::host::{disk_of, holds};
+use dmlw_files::{FileError, Files, HostFiles};
+use std::alloc::{Allocator, Global};
+use std::cell::Cell;
+use std::fs::{Metadata, OpenFile, OpenOptions, Permissions};
+use std::io::{Read, Seek, SeekFrom, Write};
+use std::path::PathBuf;
+use std::process::Abort;
+use std::test::Fail;
+use std::{fs, io};
+
+// The call that a runtime fails.
+#[derive(Clone, Copy, PartialEq, Eq)]
+enum Failing {
+    Nothing,
+    Length,
+    Sync,
+    Rename,
+}
+
+// What was called of a runtime's files.
+#[derive(Drop)]
+struct Noted {
+    failing: Failing,
+    // Whether a file was changed since it was synced.
+    is_changed: Cell<bool>,
+    // Whether a file got another's name before it was synced.
+    is_early: Cell<bool>,
+    renames: Cell<u64>,
+}
+
+impl Noted {
+    fn new(failing: Failing) -> Noted {
+        Noted {
+            failing,
+            is_changed: Cell::new(false),
+            is_early: Cell::new(false),
+            renames: Cell::new(0),
+        }
+    }
+
+    // Fails the call that is to fail.
+    fn passes(&self, call: Failing) -> io::Result<()> {
+        if self.failing == call {
+            return Err(io::Error::from(io::ErrorKind::Other));
+        }
+        Ok(())
+    }
+}
+
+// A runtime that notes what is called of its files.
+#[derive(Drop)]
+struct Watched<'a, R: std::rt::Files> {
+    runtime: &'a R,
+    noted: &'a Noted,
+}
+
+// A file of it.
+#[derive(Drop)]
+struct WatchedFile<'a, F: Drop> {
+    file: F,
+    noted: &'a Noted,
+}
+
+impl<F: Read + Drop> Read for WatchedFile<'_, F> {
+    fn read(&mut self, buf: &mut [u8]) -> io::Result<usize> {
+        self.file.read(buf)
+    }
+}
+
+impl<F: Write + Drop> Write for WatchedFile<'_, F> {
+    fn write(&mut self, buf: &[u8]) -> io::Result<usize> {
+        self.noted.is_changed.set(true);
+        self.file.write(buf)
+    }
+
+    fn flush(&mut self) -> io::Result<()> {
+        self.file.flush()
+    }
+}
+
+impl<F: Seek + Drop> Seek for WatchedFile<'_, F> {
+    fn seek(&mut self, pos: SeekFrom) -> io::Result<u64> {
+        self.file.seek(pos)
+    }
+}
+
+impl<F: OpenFile + Drop> OpenFile for WatchedFile<'_, F> {
+    fn metadata(&self) -> io::Result<Metadata> {
+        self.file.metadata()
+    }
+
+    fn set_len(&self, size: u64) -> io::Result<()> {
+        self.noted.passes(Failing::Length)?;
+        self.noted.is_changed.set(true);
+        self.file.set_len(size)
+    }
+
+    fn sync_all(&self) -> io::Result<()> {
+        self.noted.passes(Failing::Sync)?;
+        self.noted.is_changed.set(false);
+        self.file.sync_all()
+    }
+
+    fn sync_data(&self) -> io::Result<()> {
+        self.file.sync_data()
+    }
+
+    fn set_permissions(&self, perm: Permissions) -> io::Result<()> {
+        self.file.set_permissions(perm)
+    }
+}
+
+impl<'a, R: std::rt::Files> std::rt::Files for Watched<'a, R> {
+    type File = WatchedFile<'a, R::File>;
+
+    type Dir = R::Dir;
+
+    fn open_file(&self, how: &OpenOptions, path: &str) -> io::Result<WatchedFile<'a, R::File>> {
+        let file = self.runtime.open_file(how, path)?;
+        Ok(WatchedFile {
+            file,
+            noted: self.noted,
+        })
+    }
+
+    fn open_dir(&self, path: &str) -> io::Result<R::Dir> {
+        self.runtime.open_dir(path)
+    }
+
+    fn metadata(&self, path: &str) -> io::Result<Metadata> {
+        self.runtime.metadata(path)
+    }
+
+    fn symlink_metadata(&self, path: &str) -> io::Result<Metadata> {
+        self.runtime.symlink_metadata(path)
+    }
+
+    fn copy(&self, from: &str, to: &str) -> io::Result<u64> {
+        self.runtime.copy(from, to)
+    }
+
+    fn rename(&self, from: &str, to: &str) -> io::Result<()> {
+        self.noted.passes(Failing::Rename)?;
+        self.noted
+            .renames
+            .set(self.noted.renames.get().saturating_add(1));
+        if self.noted.is_changed.get() {
+            self.noted.is_early.set(true);
+        }
+        self.runtime.rename(from, to)
+    }
+
+    fn remove_file(&self, path: &str) -> io::Result<()> {
+        self.runtime.remove_file(path)
+    }
+
+    fn create_dir(&self, path: &str) -> io::Result<()> {
+        self.runtime.create_dir(path)
+    }
+
+    fn remove_dir(&self, path: &str) -> io::Result<()> {
+        self.runtime.remove_dir(path)
+    }
+
+    fn remove_dir_all<B: Allocator>(&self, alloc: B, path: &str) -> io::Result<()> {
+        self.runtime.remove_dir_all(alloc, path)
+    }
+
+    fn canonicalize<B: Allocator>(&self, alloc: B, path: &str) -> io::Result<PathBuf<B>> {
+        self.runtime.canonicalize(alloc, path)
+    }
+}
+
+// Writes over an older file, and says whether that was done. An older
+// file that isn't replaced stands, and nothing is left beside.
+fn check_written<R: std::rt::Files + Abort>(
+    rt: &R,
+    alloc: Global,
+    name: &str,
+    noted: &Noted,
+) -> Result<bool, Fail> {
+    fs::write(rt, name, b"older".as_slice())?;
+    let watched = Watched { runtime: rt, noted };
+    let written = HostFiles::new(&watched).write(alloc, name, disk_of(alloc, 7)?);
+    let beside = format!(in alloc; "{name}.dmlw-tmp-0")?;
+    assert!(rt; !fs::exists(rt, beside.as_str())?);
+    match written {
+        Ok(()) => assert!(rt; holds(rt, alloc, name, [7; 512].as_slice())),
+        Err(error) => {
+            assert!(rt; error == FileError::Unusable);
+            assert!(rt; holds(rt, alloc, name, b"older".as_slice()));
+        }
+    }
+    fs::remove_file(rt, name)?;
+    Ok(written.is_ok())
+}
+
+// A file is on the disk before it gets the name of the older one, and gets it once.
+#[test]
+fn files_are_synced_before_they_are_renamed(rt: HostRuntime) -> Result<(), Fail> {
+    let noted = Noted::new(Failing::Nothing);
+    assert!(rt; check_written(&rt, rt.alloc(), "dmlw-test-synced", &noted)?);
+    assert!(rt; noted.renames.get() == 1 && !noted.is_early.get() && !noted.is_changed.get());
+    Ok(())
+}
+
+#[test]
+fn files_that_fail_leave_the_older_ones(rt: HostRuntime) -> Result<(), Fail> {
+    for failing in [Failing::Length, Failing::Sync, Failing::Rename] {
+        let noted = Noted::new(failing);
+        assert!(rt; !check_written(&rt, rt.alloc(), "dmlw-test-failed", &noted)?);
+        assert!(rt; noted.renames.get() == 0);
+    }
+    Ok(())
+}
+
+// Another name of an older file still has its bytes: the file
+// was replaced, and neither cut off nor written over.
+fn check_replaced<R: std::rt::Files + Abort>(
+    rt: &R,
+    alloc: Global,
+    name: &str,
+    other: &str,
+) -> Result<(), Fail> {
+    fs::write(rt, name, b"older".as_slice())?;
+    fs::hard_link(rt, name, other)?;
+    HostFiles::new(rt).write(alloc, name, disk_of(alloc, 7)?)?;
+    assert!(rt; holds(rt, alloc, name, [7; 512].as_slice()));
+    assert!(rt; holds(rt, alloc, other, b"older".as_slice()));
+    fs::remove_file(rt, name)?;
+    fs::remove_file(rt, other)?;
+    Ok(())
+}
+
+#[test]
+fn files_are_replaced_whole(rt: HostRuntime) -> Result<(), Fail> {
+    check_replaced(&rt, rt.alloc(), "dmlw-test-one", "dmlw-test-other")
+}

@@ -1,9 +1,9 @@
 -- For each clause of what a call is answered, and of what a close compares and hands back, what
 -- breaks it, and is refused by it.
 -- Nothing cites it: it is checked with its crate.
-use Rattle.std.proofs.Common.{◌≡◌, ◌==◌, ◌<◌, ◌≤◌, ℕ, Bool, true, false, true≢false, List, [], ◌∷◌}
+use Rattle.std.proofs.Common.{◌≡◌, ◌==◌, ◌<◌, ℕ, Bool, true, false, true≢false, List, [], ◌∷◌}
 use Rattle.std.proofs.Common.{Global, Option, Some, None, Vec, ap, arith, inl, inr, length, refl}
-use Rattle.std.proofs.Common.{sym, take, subst, ◌∙◌}
+use Rattle.std.proofs.Common.{sym, take, ◌∙◌}
 use Rattle.std.specs.Prelude.{slice_get}
 use Rattle.bio.specs.declared.event.CoreEvent.{CoreEvent}
 use Rattle.bio.specs.declared.event.CoreEvent.TheVariants as events
@@ -16,7 +16,7 @@ use Rattle.bio.specs.declared.request.Bio.{Bio}
 use Rattle.bio.specs.declared.request.Bio.TheVariants as bios
 use Rattle.board.specs.Posts.{MayPost, opening}
 use Rattle.log_format.specs.Entries.{end_mark}
-use Rattle.log_format.specs.LogOf.{IsLogOf, status_of}
+use Rattle.log_format.specs.LogOf.{IsLogOf}
 use Rattle.pending.specs.Prefixes.{entries_of}
 use Rattle.pending.specs.CoreState.{CoreState, items_of, sized_state}
 use Rattle.bio.specs.Content.{Content}
@@ -26,9 +26,8 @@ use Rattle.lock_state.specs.declared.note.Own.{Own}
 use Rattle.lock_state.specs.Comparison.{Receipt}
 use Rattle.lock_state.specs.Close.{IsOwn, IsShort}
 use Rattle.lock_state.specs.Comparison.{BeginsTaken, Fails, IsServed, Names}
-use Rattle.lock_state.specs.History.{Part, Queue, begun, ended, first_cause, new_part, noted}
+use Rattle.lock_state.specs.History.{Part, Queue, begun, ended, new_part, noted}
 use Rattle.lock_state.specs.History.{told_also}
-use Rattle.lock_state.specs.PlacedItems.{Stay, entries_in}
 use Rattle.shared.specs.Answers.{Answered, Marked}
 use Rattle.shared.specs.Close.{Agrees, Differs, IfBusy, IfForeign, IsReceipt, LeavesLog}
 use Rattle.shared.specs.Posts.{ArePosted, IsCurrent}

@@ -26,7 +26,7 @@ use Rattle.shared.specs.Admission.{Enters, MarkEnters}
 use Rattle.shared.specs.Posts.{IsCurrent, IsLatest, IsOfPrefix, KeepsCauses, PostsNext, TellsCause}
 use Rattle.shared.specs.Search.{Finds}
 use Rattle.shared.specs.NextItem.{FindsNext}
-use Rattle.shared.specs.declared.answer.Answer.TheVariants.{Done, Logged, NotLogged}
+use Rattle.shared.specs.declared.answer.Answer.TheVariants.{Done, Logged}
 use Rattle.shared.specs.declared.answer.MarkAnswer.TheVariants as marks
 use Rattle.shared.specs.declared.calls.Entered.TheVariants.{Recorded, Unrecorded}
 use Rattle.shared.specs.declared.marks.EnteredMark.TheVariants as entered

@@ -88,8 +88,8 @@ takes is refused as 6 BadMessage at its line, a listed block that is added as 7 
 | `run` | for each seat, in their order: `seat <k>: <n> done <n> logged <n> failed <n> not logged <n> refused`, how many of its lines were answered so; `logged` are the writes with `fua` and the marks whose entry is durable, `not logged` those for which logging ended first. Then the status and the lies as at `record` |
 | `list` | `super version 1 entries <n> sectorsize <S>`, then a line of each entry: `<number> @<log sector>`, and `mark <text>`, `discard <sector>+<sectors>`, `flush` or `write <sector>+<sectors>`, the last two with ` flush` (of a write), ` fua`, ` meta` where set |
 | `status` | `<entries> <sector>`: how many entries the log counts, and the highest sector of 512 bytes that they use; `0 0` of an empty log |
-| `replay` | `replayed <n>`: how many entries of the log were applied to the image FIRST. Then the image is written as OUT |
-| `copy` | `copied <n>`: how many entries were copied. Then the new log is written as OUT |
+| `replay` | `replayed <n>`: how many entries of the log were applied to the image FIRST. The line reports the replay, not the file: the image is written as OUT after it, and only the exit status 0 says that it was |
+| `copy` | `copied <n>`: how many entries were copied. Then the new log is written as OUT, and only the exit status 0 says that it was |
 | `judge` | `yes`, or `no sector <s> ruled out by event <p>`, or `no sector <s> holds no submitted value` where no durable request covers the sector |
 | `path` | a run of a device with a cache, a step a line: `submit <id>`, `land <id> <sector>`, `destage <sector>`, `end <id> ok` or `end <id> failed`, and at the end `power`, the ids being places of events; or `judge`'s line where that is a no |
 
@@ -168,5 +168,5 @@ each begin with two spaces: of a script's line the line itself, its number, the 
 mark, a tab, an upper case letter), or the first word that doesn't fit, or what its place asks for, and the form that the line is to have; of a
 log how many entries it has, or which comes next; of an image its size; of a file its name and the system's reason; where `judge` says no the
 line of the event that rules the sector out; of a run of `path` the script's line of each step. At status 0 it says where a script has no `close`. Their wording may change; the other lines' doesn't. A file of that very name is
-given as `./--explain`.
+given as `./--explain`. The launcher `./dmlw` adds the word at a terminal, or if the variable `DMLW_EXPLAIN` is `1`; if it is `0`, it never does.
 "#;

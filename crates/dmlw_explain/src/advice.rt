@@ -7,25 +7,34 @@ use std::fmt::Write;
 
 /// Writes what helps against a refusal of this file, if there is anything to say.
 pub(crate) fn write_advice<W: Write>(name: &str, refusal: Refusal, to: &mut W) -> fmt::Result {
-    if refusal == Refusal::BadMagic {
-        return write_magic(name, to);
-    }
     match advice(refusal) {
         "" => Ok(()),
         advice => writeln!(to, "  {name}: {advice}"),
     }
 }
 
-// Writes what this file should begin with, if it were a log.
-fn write_magic<W: Write>(name: &str, to: &mut W) -> fmt::Result {
+/// Writes what this file should begin with, if it were a log, and what it begins with.
+pub(crate) fn write_magic<W: Write>(name: &str, found: u64, to: &mut W) -> fmt::Result {
     write!(to, "  {name}: it doesn't begin with the 8 bytes of a log,")?;
-    for byte in MAGIC.to_le_bytes() {
-        write!(to, " {byte:02x}")?;
-    }
-    writeln!(to, ": it isn't a log")
+    write_bytes(MAGIC, to)?;
+    write!(to, ", but with")?;
+    write_bytes(found, to)?;
+    writeln!(to, ": it isn't a log")?;
+    writeln!(
+        to,
+        "  the kernel writes these bytes at the first FUA write or mark, and when the device is removed: `dmsetup message <device> 0 mark <text>` makes a mark"
+    )
 }
 
-/// What helps where a command is refused so: one sentence, or none where its name says it all.
+// Writes the bytes of a number, the lowest first, with a space in front of each.
+fn write_bytes<W: Write>(number: u64, to: &mut W) -> fmt::Result {
+    for byte in number.to_le_bytes() {
+        write!(to, " {byte:02x}")?;
+    }
+    Ok(())
+}
+
+/// What helps if a command is refused so: one sentence, or none if its name says it all.
 pub(crate) fn advice(refusal: Refusal) -> &'static str {
     match refusal {
         Refusal::Memory | Refusal::EndMemory =>
@@ -34,15 +43,11 @@ pub(crate) fn advice(refusal: Refusal) -> &'static str {
             "the request ends past the data disk: its first sector and its count come to more than `data` says",
         Refusal::TooLong => "a request has at most 2048 sectors",
         Refusal::NotWhole => "a request has at least one sector",
-        Refusal::UnknownTarget =>
-            "a layer's target is one of linear, error, flakey, dust, delay and fuse, its third word",
-        Refusal::WrongCount =>
-            "a layer's line is `0 <length> <target> ..`: `dmlw help formats` has the words of each target",
-        Refusal::BadNumber => "a word of the layer's line that has to be a number isn't one",
         Refusal::OutOfRange =>
             "a number of the layer's line is out of range, or the layer ends past what stands beneath it",
         Refusal::BadFeature =>
             "a flakey layer's feature is `0`, or `1` and one of error_reads, error_writes and drop_writes",
+        Refusal::BadMagic => "it isn't a log",
         Refusal::BadVersion => "the log is of another format version than 1",
         Refusal::BadSectorSize =>
             "the log's sectors aren't of 512, 1024, 2048 or 4096 bytes: its first sector is damaged",

@@ -366,7 +366,8 @@ fn write_unclosed<F: Files, W: Write>(
     let text = files
         .read(alloc, script, MAX_SCRIPT_BYTES)
         .map_err(|_| fmt::Error)?;
-    if has_line(&text, b"close") {
+    // A script that was run isn't empty: a pipe, which is read only once, has nothing left.
+    if text.is_empty() || has_line(&text, b"close") {
         return Ok(());
     }
     writeln!(

@@ -6,8 +6,8 @@ ghost use Rattle.dmlw_files.specs.Files.{KeepsFiles};
 use bio::SECTOR_BYTES;
 use dmlw_files::{FileFailure, Files, MAX_IMAGE_BYTES, MAX_SCRIPT_BYTES};
 use std::alloc::Global;
-use std::fmt;
 use std::fmt::Write;
+use std::{fmt, io};
 
 /// Writes that two names are those of one file.
 pub(crate) fn write_same<W: Write>(one: &str, other: &str, over: &str, to: &mut W) -> fmt::Result {
@@ -29,7 +29,7 @@ pub(crate) fn write_file_of_recording<F: Files, W: Write>(
         return write_same(script, log, "the log would be written over its script", to);
     }
     if let Some(FileFailure::Write(error)) = files.failure() {
-        return writeln!(to, "  {log} can't be written: {error}");
+        return write_unwritten(log, error, to);
     }
     if write_script_file(alloc, script, files, to)? {
         return Ok(());
@@ -84,15 +84,32 @@ pub(crate) fn write_file_of_writing<F: Files, W: Write>(
     ensures unwritten { F.writes files.new ≡ F.writes files.old }
 {
     if files.is_same(log, out) {
-        return write_same(log, out, "the image would be written over the log", to);
+        return write_same(log, out, "what is written would replace the log", to);
     }
     if let Some(FileFailure::Write(error)) = files.failure() {
-        return writeln!(to, "  {out} can't be written: {error}");
+        return write_unwritten(out, error, to);
     }
     if write_image_file(alloc, log, files, to)? || write_image_file(alloc, first, files, to)? {
         return Ok(());
     }
     write_output(to)
+}
+
+// Writes why a file can't be written: a regular file asks this of its folder.
+fn write_unwritten<W: Write>(name: &str, error: &io::Error, to: &mut W) -> fmt::Result {
+    writeln!(to, "  {name} can't be written: {error}")?;
+    match error.kind() {
+        io::ErrorKind::NotFound => writeln!(to, "  its folder has to be there"),
+        io::ErrorKind::PermissionDenied | io::ErrorKind::ReadOnlyFilesystem => writeln!(
+            to,
+            "  a regular file is written beside {name} first, and renamed then: its folder has to be writable, whatever the file is"
+        ),
+        io::ErrorKind::StorageFull | io::ErrorKind::QuotaExceeded => writeln!(
+            to,
+            "  a regular file is written beside {name} first: the file system needs room for the whole of it"
+        ),
+        _ => Ok(()),
+    }
 }
 
 fn write_output<W: Write>(to: &mut W) -> fmt::Result {
@@ -130,9 +147,20 @@ fn write_image_file<F: Files, W: Write>(
         Ok(bytes) => write_length(image, bytes.len() as u64, to),
         Err(_) => {
             write_unread(image, MAX_IMAGE_BYTES, "a log or an image", files, to)?;
+            if let Some(FileFailure::TooLong(_)) = files.failure() {
+                write_cut(image, to)?;
+            }
             Ok(true)
         }
     }
+}
+
+// Writes how a log that is too long is cut.
+fn write_cut<W: Write>(image: &str, to: &mut W) -> fmt::Result {
+    writeln!(
+        to,
+        "  a log can be cut, and the entries within these bytes are read: head -c {MAX_IMAGE_BYTES} {image} >cut.log"
+    )
 }
 
 // Writes that so many bytes are no image, where they aren't, and answers whether that is so.
@@ -141,7 +169,7 @@ fn write_length<W: Write>(image: &str, length: u64, to: &mut W) -> Result<bool, 
     if length == 0 {
         writeln!(
             to,
-            "  {image} is empty: a log or an image has at least {SECTOR_BYTES} bytes"
+            "  {image} is empty, or a pipe, which is read only once: a log or an image has at least {SECTOR_BYTES} bytes"
         )?;
     } else if over != 0 {
         writeln!(

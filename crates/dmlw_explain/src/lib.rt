@@ -13,6 +13,7 @@ mod advice;
 mod counted;
 mod explaining;
 mod files;
+mod layers;
 mod line;
 mod logs;
 mod messages;

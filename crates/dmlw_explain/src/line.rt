@@ -77,6 +77,16 @@ pub(crate) fn explain_line<W: Write>(
 // Writes that no line begins as this one, and how lines do.
 fn write_unknown<W: Write>(grammar: Grammar, line: &[u8], to: &mut W) -> fmt::Result {
     let word = Shown(line.split(is_space).next().unwrap_or_default());
+    if form_of(other_of(grammar), line).is_some() {
+        let (own, other) = match grammar {
+            Grammar::Recorder => ("record", "run"),
+            Grammar::Seats => ("run", "record"),
+        };
+        writeln!(
+            to,
+            "  such a line is one of a script of `dmlw {other}`, and `dmlw {own}` has no such line"
+        )?;
+    }
     match grammar {
         Grammar::Recorder => writeln!(
             to,
@@ -88,6 +98,14 @@ fn write_unknown<W: Write>(grammar: Grammar, line: &[u8], to: &mut W) -> fmt::Re
         )?,
     }
     write_forms(grammar, to)
+}
+
+// The other kind of scripts.
+fn other_of(grammar: Grammar) -> Grammar {
+    match grammar {
+        Grammar::Recorder => Grammar::Seats,
+        Grammar::Seats => Grammar::Recorder,
+    }
 }
 
 /// Writes the lines that a script can have.

@@ -3,6 +3,7 @@
 //! The search alone proves it.
 use crate::advice::advice;
 use crate::counted::{Counted, counted_sectors};
+use crate::layers::{write_bad_number, write_range, write_unknown_target, write_wrong_count};
 use crate::line::{Shown, explain_line, write_forms};
 use crate::messages::write_message;
 use crate::script_text::{
@@ -24,7 +25,10 @@ pub(crate) fn write_line<W: Write>(
     refusal: Refusal,
     to: &mut W,
 ) -> fmt::Result {
-    // An empty line is at fault only where the script ends.
+    if text.is_empty() {
+        return write_gone(grammar, script, number, to);
+    }
+    // An empty line is at fault only if the script ends there.
     let Some(line) = line_at(text, number).filter(|line| !line.is_empty()) else {
         return write_too_short(grammar, script, number, to);
     };
@@ -37,6 +41,9 @@ pub(crate) fn write_line<W: Write>(
         Refusal::PastEnd => write_past_end(grammar, text, line, to),
         Refusal::TooLong => write_too_long(grammar, line, to),
         Refusal::Busy => write_busy(text, line, to),
+        Refusal::UnknownTarget => write_unknown_target(line.text, to),
+        Refusal::WrongCount => write_wrong_count(line.text, to),
+        Refusal::BadNumber => write_bad_number(line.text, to),
         Refusal::OutOfRange => write_out_of_range(text, line, to),
         Refusal::BadMessage | Refusal::AlreadyBad | Refusal::NotBad => {
             write_message(text, line, refusal, to)
@@ -45,7 +52,31 @@ pub(crate) fn write_line<W: Write>(
     }
 }
 
-// Writes what helps against a refusal, where its name doesn't say it all.
+// Writes that a script has no text: it is empty, or a pipe, which has nothing left.
+fn write_gone<W: Write>(grammar: Grammar, script: &str, number: u64, to: &mut W) -> fmt::Result {
+    if number > 1 {
+        return writeln!(
+            to,
+            "  {script} can't be read again to show its line {number}, as a pipe can't: give the script as a file"
+        );
+    }
+    let head = head_of(grammar);
+    writeln!(
+        to,
+        "  {script} is empty, or a pipe, which is read only once; a script begins with the lines {head}:"
+    )?;
+    write_forms(grammar, to)
+}
+
+// The lines that a script begins with.
+fn head_of(grammar: Grammar) -> &'static str {
+    match grammar {
+        Grammar::Recorder => "`data` and `log`",
+        Grammar::Seats => "`data`, `log` and `seats`",
+    }
+}
+
+// Writes what helps against a refusal, if its name doesn't say it all.
 fn write_sentence<W: Write>(refusal: Refusal, to: &mut W) -> fmt::Result {
     match advice(refusal) {
         "" => Ok(()),
@@ -60,10 +91,7 @@ fn write_too_short<W: Write>(
     number: u64,
     to: &mut W,
 ) -> fmt::Result {
-    let head = match grammar {
-        Grammar::Recorder => "`data` and `log`",
-        Grammar::Seats => "`data`, `log` and `seats`",
-    };
+    let head = head_of(grammar);
     writeln!(
         to,
         "  {script} ends before its line {number}; a script begins with the lines {head}:"
@@ -184,10 +212,7 @@ fn write_out_of_range<W: Write>(text: &[u8], line: Numbered, to: &mut W) -> fmt:
                 "  the layer {offset}+{length} ends past what stands beneath it, which has {size}, from 0 on"
             )
         }
-        _ => writeln!(
-            to,
-            "  a number of the layer's line is out of range: `dmlw help formats` has the ranges"
-        ),
+        _ => write_range(line.text, to),
     }
 }
 

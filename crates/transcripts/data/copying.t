@@ -211,7 +211,7 @@ What isn't a log, files that aren't there, and a copy over the log itself.
   [1]
   $ dmlw --explain copy log log 64
   ! dmlw: 32 File
-  !   log and log are one file: the image would be written over the log
+  !   log and log are one file: what is written would replace the log
   [1]
 
 What helps: of a log that is too small, and of an entry that isn't aligned.

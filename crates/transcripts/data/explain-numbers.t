@@ -358,7 +358,8 @@ Numbers of a log and of images.
   [2]
   $ dmlw --explain list first
   ! dmlw: 13 BadMagic
-  !   first: it doesn't begin with the 8 bytes of a log, 72 68 73 77 66 73 6a 00: it isn't a log
+  !   first: it doesn't begin with the 8 bytes of a log, 72 68 73 77 66 73 6a 00, but with 00 00 00 00 00 00 00 00: it isn't a log
+  !   the kernel writes these bytes at the first FUA write or mark, and when the device is removed: `dmsetup message <device> 0 mark <text>` makes a mark
   [1]
   $ dmlw --explain list none
   ! dmlw: 32 File
@@ -432,11 +433,11 @@ A log that is cut, one that is no log, an image that is longer than the entry's 
   [1]
   $ dmlw --explain replay log first log flush
   ! dmlw: 32 File
-  !   log and log are one file: the image would be written over the log
+  !   log and log are one file: what is written would replace the log
   [1]
   $ dmlw --explain copy log log 256
   ! dmlw: 32 File
-  !   log and log are one file: the image would be written over the log
+  !   log and log are one file: what is written would replace the log
   [1]
   $ dmlw --explain record none log
   ! dmlw: 32 File

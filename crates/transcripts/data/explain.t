@@ -289,7 +289,7 @@ What --explain adds behind a fault.
   $ dmlw --explain record script log
   ! dmlw: line 3: 9 UnknownTarget
   !   line 3 of script: data-layer 0 16 zero
-  !   a layer's target is one of linear, error, flakey, dust, delay and fuse, its third word
+  !   the word `zero` is no target: a layer is one of linear, error, flakey, dust, delay and fuse
   [1]
   $ write script
   > data 16
@@ -298,7 +298,7 @@ What --explain adds behind a fault.
   $ dmlw --explain record script log
   ! dmlw: line 3: 10 WrongCount
   !   line 3 of script: log-layer 0 16
-  !   a layer's line is `0 <length> <target> ..`: `dmlw help formats` has the words of each target
+  !   the layer's line has 2 words behind its first, and it is to have at least 3: 0 <length> <target> ..
   [1]
   $ write script
   > data 16
@@ -307,7 +307,7 @@ What --explain adds behind a fault.
   $ dmlw --explain record script log
   ! dmlw: line 3: 11 BadNumber
   !   line 3 of script: log-layer 0 1x error
-  !   a word of the layer's line that has to be a number isn't one
+  !   the word `1x` isn't a decimal number below 2^64: 0 <length> error
   [1]
   $ write script
   > data 16
@@ -337,3 +337,167 @@ What --explain adds behind a fault.
   !   it has a byte that isn't ASCII text
   !   the form of the line: f <id>
   [1]
+  $ write script
+  > data 16
+  > log 32
+  > log-layer 0 32 linear disk
+  $ dmlw --explain record script log
+  ! dmlw: line 3: 10 WrongCount
+  !   line 3 of script: log-layer 0 32 linear disk
+  !   the layer's line has 4 words behind its first, and a line of this target has 5 words: 0 <length> linear <dev> <offset>
+  [1]
+  $ write script
+  > data 16
+  > log 32
+  > log-layer 0 32 fuse disk 0 1 1
+  $ dmlw --explain record script log
+  ! dmlw: line 3: 10 WrongCount
+  !   line 3 of script: log-layer 0 32 fuse disk 0 1 1
+  !   the layer's line has 7 words behind its first, and a line of this target has 6 words: 0 <length> fuse <dev> <offset> <calls>
+  [1]
+  $ write script
+  > data 16
+  > log 32
+  > log-layer 0 32 delay disk 0 1 disk x 1
+  $ dmlw --explain record script log
+  ! dmlw: line 3: 11 BadNumber
+  !   line 3 of script: log-layer 0 32 delay disk 0 1 disk x 1
+  !   the word `x` isn't a decimal number below 2^64: 0 <length> delay <dev> <offset> <ms> [<dev> <offset> <ms> [<dev> <offset> <ms>]]
+  [1]
+  $ write script
+  > data 16
+  > log 32
+  > log-layer 1 32 linear disk 0
+  $ dmlw --explain record script log
+  ! dmlw: line 3: 12 OutOfRange
+  !   line 3 of script: log-layer 1 32 linear disk 0
+  !   the start 1 isn't 0, and a layer's is
+  [1]
+  $ write script
+  > data 16
+  > log 32
+  > log-layer 0 0 error
+  $ dmlw --explain record script log
+  ! dmlw: line 3: 12 OutOfRange
+  !   line 3 of script: log-layer 0 0 error
+  !   the length 0 is out of range: it is 1 to 1048576 sectors
+  [1]
+  $ write script
+  > data 16
+  > log 32
+  > log-layer 0 32 flakey disk 0 0 0
+  $ dmlw --explain record script log
+  ! dmlw: line 3: 12 OutOfRange
+  !   line 3 of script: log-layer 0 32 flakey disk 0 0 0
+  !   the seconds up and down are out of range: together they are 1 to 4294967295
+  [1]
+  $ write script
+  > data 16
+  > log 32
+  > log-layer 0 32 dust disk 0 513
+  $ dmlw --explain record script log
+  ! dmlw: line 3: 12 OutOfRange
+  !   line 3 of script: log-layer 0 32 dust disk 0 513
+  !   the block size 513 is out of range: it is a power of two from 512 to 1073741824
+  [1]
+  $ write script
+  > data 16
+  > log 32
+  > log-layer 0 32 delay disk 0 1 disk 1 1
+  $ dmlw --explain record script log
+  ! dmlw: line 3: 12 OutOfRange
+  !   line 3 of script: log-layer 0 32 delay disk 0 1 disk 1 1
+  !   a delay is at most 4294967295 milliseconds, and each names the same device and offset
+  [1]
+  $ write script
+  > data 16
+  > log 32
+  > seats 1
+  > s0 f
+  $ dmlw --explain record script log
+  ! dmlw: line 3: 30 BadLine
+  !   line 3 of script: seats 1
+  !   such a line is one of a script of `dmlw run`, and `dmlw record` has no such line
+  !   no line begins with the word `seats`; the lines are:
+  !     data <sectors>
+  !     log <sectors> [4096]
+  !     data-layer 0 <length> <target> ..
+  !     log-layer 0 <length> <target> ..
+  !     at <ms>
+  !     w <id> <first> <count> <byte> [flush] [fua] [meta]
+  !     f <id>
+  !     d <id> <first> <count>
+  !     c <id>
+  !     r <first> <count>
+  !     turn
+  !     mark <text>
+  !     message <disk> <layer> <text>
+  !     close
+  !     crash <pick> ..
+  [1]
+  $ write script
+  > data 16
+  > log 32
+  > seats 1
+  > w a 5 1 41
+  $ dmlw --explain run script log
+  ! dmlw: line 4: 30 BadLine
+  !   line 4 of script: w a 5 1 41
+  !   such a line is one of a script of `dmlw record`, and `dmlw run` has no such line
+  !   no line begins so; a script of seats has these lines, and its first seat is s0:
+  !     data <sectors>
+  !     log <sectors> [4096]
+  !     seats <n>
+  !     data-layer 0 <length> <target> ..
+  !     log-layer 0 <length> <target> ..
+  !     s<k> w <first> <count> <byte> [flush] [fua] [meta]
+  !     s<k> f
+  !     s<k> d <first> <count>
+  !     s<k> mark <text>
+  [1]
+  $ image image 4096 0:=7268737766736a00 8:2,1,512,0
+  $ dmlw --explain status image
+  ! dmlw: 14 BadVersion
+  !   image: the log is of format version 2, and dmlw reads version 1
+  [1]
+  $ remove image
+  $ image image 4096 0:=7268737766736a00 8:1,1,8192,0
+  $ dmlw --explain status image
+  ! dmlw: 15 BadSectorSize
+  !   image: the log's sectors are of 8192 bytes, and not of 512, 1024, 2048 or 4096: its first sector is damaged
+  [1]
+  $ remove image
+  $ image image 4096 0:=7268737766736a01 8:1,1,512,0
+  $ dmlw --explain status image
+  ! dmlw: 13 BadMagic
+  !   image: it doesn't begin with the 8 bytes of a log, 72 68 73 77 66 73 6a 00, but with 72 68 73 77 66 73 6a 01: it isn't a log
+  !   the kernel writes these bytes at the first FUA write or mark, and when the device is removed: `dmsetup message <device> 0 mark <text>` makes a mark
+  [1]
+  $ remove image
+  $ image image 4096 0:=7268737766736a00 8:1,2,512,0 512:0,0,1,0 1024:0,0,8,481
+  $ dmlw --explain status image
+  ! dmlw: 16 BadMark
+  !   image: a mark has sectors, or a text that its sector has no room for: the entry is damaged
+  !   image: the first entry that can't be read is entry 1, counted from 0, at log sector 2, of 512 bytes; `entries:1` replays all before it
+  [1]
+  $ remove image
+  $ image image 4096 0:=7268737766736a00 8:1,1,512,0 512:0,9223372036854775808,0,0
+  $ dmlw --explain status image
+  ! dmlw: 17 TooLarge
+  !   image: an entry reaches past what a device can have: the entry is damaged
+  !   image: the first entry that can't be read is entry 0, counted from 0, at log sector 1, of 512 bytes; `entries:0` replays all before it
+  [1]
+  $ remove image
+  $ image image 4096 0:=7268737766736a00 8:1,2,512,0 512:3,1,0,0 1536:0,7,0,0
+  $ dmlw --explain status image
+  ! dmlw: 21 CutShort
+  !   image: it counts 2 entries: the log is shorter than it says: it was cut, or wasn't written to its end; what stands before the fault is whole
+  !   image: the first entry that can't be read is entry 1, counted from 0, at log sector 3, of 512 bytes; `entries:1` replays all before it
+  [1]
+  $ remove image
+  $ image image 4096 0:=7268737766736a00 8:1,99,512,0
+  $ dmlw --explain status image
+  ! dmlw: 21 CutShort
+  !   image: it counts 99 entries, which is more than its 4096 bytes have room for: it was cut, or its first sector is damaged
+  [1]
+  $ remove image

@@ -296,6 +296,7 @@ Texts that are shown are flushed too, and so are faults.
   
   Options:
         --explain  In any place: behind a fault's line stands what helps
+        --rebuild  Of the launcher ./dmlw, as its only word: proves and builds the program anew
     -h, --help     Print help
     -V, --version  Print version
   

@@ -4,7 +4,7 @@ Command lines with `--explain`, behind two hyphens, and of words that are none.
   > \
   $ dmlw --explain record script log
   ! dmlw: line 1: 30 BadLine
-  !   script ends before its line 1; a script begins with the lines `data` and `log`:
+  !   script is empty, or a pipe, which is read only once; a script begins with the lines `data` and `log`:
   !     data <sectors>
   !     log <sectors> [4096]
   !     data-layer 0 <length> <target> ..
@@ -23,7 +23,7 @@ Command lines with `--explain`, behind two hyphens, and of words that are none.
   [1]
   $ dmlw record --explain script log
   ! dmlw: line 1: 30 BadLine
-  !   script ends before its line 1; a script begins with the lines `data` and `log`:
+  !   script is empty, or a pipe, which is read only once; a script begins with the lines `data` and `log`:
   !     data <sectors>
   !     log <sectors> [4096]
   !     data-layer 0 <length> <target> ..
@@ -42,7 +42,7 @@ Command lines with `--explain`, behind two hyphens, and of words that are none.
   [1]
   $ dmlw record script log --explain
   ! dmlw: line 1: 30 BadLine
-  !   script ends before its line 1; a script begins with the lines `data` and `log`:
+  !   script is empty, or a pipe, which is read only once; a script begins with the lines `data` and `log`:
   !     data <sectors>
   !     log <sectors> [4096]
   !     data-layer 0 <length> <target> ..
@@ -99,6 +99,7 @@ Command lines with `--explain`, behind two hyphens, and of words that are none.
   ! 
   ! Options:
   !       --explain  In any place: behind a fault's line stands what helps
+  !       --rebuild  Of the launcher ./dmlw, as its only word: proves and builds the program anew
   !   -h, --help     Print help
   !   -V, --version  Print version
   ! 
@@ -130,7 +131,8 @@ What says why a command is refused stands behind its line.
   yes
   $ dmlw --explain list zeroes
   ! dmlw: 13 BadMagic
-  !   zeroes: it doesn't begin with the 8 bytes of a log, 72 68 73 77 66 73 6a 00: it isn't a log
+  !   zeroes: it doesn't begin with the 8 bytes of a log, 72 68 73 77 66 73 6a 00, but with 00 00 00 00 00 00 00 00: it isn't a log
+  !   the kernel writes these bytes at the first FUA write or mark, and when the device is removed: `dmsetup message <device> 0 mark <text>` makes a mark
   [1]
   $ dmlw list absent --explain
   ! dmlw: 32 File
@@ -138,7 +140,8 @@ What says why a command is refused stands behind its line.
   [1]
   $ dmlw status --explain zeroes
   ! dmlw: 13 BadMagic
-  !   zeroes: it doesn't begin with the 8 bytes of a log, 72 68 73 77 66 73 6a 00: it isn't a log
+  !   zeroes: it doesn't begin with the 8 bytes of a log, 72 68 73 77 66 73 6a 00, but with 00 00 00 00 00 00 00 00: it isn't a log
+  !   the kernel writes these bytes at the first FUA write or mark, and when the device is removed: `dmsetup message <device> 0 mark <text>` makes a mark
   [1]
   $ dmlw status absent --explain
   ! dmlw: 32 File
@@ -155,12 +158,13 @@ What says why a command is refused stands behind its line.
   $ image first 8192
   $ dmlw --explain replay first first out flush
   ! dmlw: 13 BadMagic
-  !   first: it doesn't begin with the 8 bytes of a log, 72 68 73 77 66 73 6a 00: it isn't a log
+  !   first: it doesn't begin with the 8 bytes of a log, 72 68 73 77 66 73 6a 00, but with 00 00 00 00 00 00 00 00: it isn't a log
+  !   the kernel writes these bytes at the first FUA write or mark, and when the device is removed: `dmsetup message <device> 0 mark <text>` makes a mark
   [1]
   $ image first 8192
   $ dmlw --explain replay log first log flush
   ! dmlw: 32 File
-  !   log and log are one file: the image would be written over the log
+  !   log and log are one file: what is written would replace the log
   [1]
   $ image first 8192
   $ dmlw --explain replay none first out flush
@@ -318,4 +322,5 @@ A script without a close leaves an empty log, and that is no fault. Where all is
   1 @3 flush
   ! dmlw: 21 CutShort
   !   log: it counts 3 entries: the log is shorter than it says: it was cut, or wasn't written to its end; what stands before the fault is whole
+  !   log: the first entry that can't be read is entry 2, counted from 0, at log sector 4, of 512 bytes; `entries:2` replays all before it
   [1]

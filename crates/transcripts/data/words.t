@@ -19,6 +19,7 @@ Command lines and their texts.
   
   Options:
         --explain  In any place: behind a fault's line stands what helps
+        --rebuild  Of the launcher ./dmlw, as its only word: proves and builds the program anew
     -h, --help     Print help
     -V, --version  Print version
   
@@ -43,6 +44,7 @@ Command lines and their texts.
   
   Options:
         --explain  In any place: behind a fault's line stands what helps
+        --rebuild  Of the launcher ./dmlw, as its only word: proves and builds the program anew
     -h, --help     Print help
     -V, --version  Print version
   
@@ -78,6 +80,7 @@ Command lines and their texts.
   
   Options:
         --explain  In any place: behind a fault's line stands what helps
+        --rebuild  Of the launcher ./dmlw, as its only word: proves and builds the program anew
     -h, --help     Print help
     -V, --version  Print version
   
@@ -102,6 +105,7 @@ Command lines and their texts.
   
   Options:
         --explain  In any place: behind a fault's line stands what helps
+        --rebuild  Of the launcher ./dmlw, as its only word: proves and builds the program anew
     -h, --help     Print help
     -V, --version  Print version
   
@@ -148,6 +152,7 @@ Command lines and their texts.
   
   Options:
         --explain  In any place: behind a fault's line stands what helps
+        --rebuild  Of the launcher ./dmlw, as its only word: proves and builds the program anew
     -h, --help     Print help
     -V, --version  Print version
   
@@ -172,6 +177,7 @@ Command lines and their texts.
   
   Options:
         --explain  In any place: behind a fault's line stands what helps
+        --rebuild  Of the launcher ./dmlw, as its only word: proves and builds the program anew
     -h, --help     Print help
     -V, --version  Print version
   
@@ -196,6 +202,7 @@ Command lines and their texts.
   
   Options:
         --explain  In any place: behind a fault's line stands what helps
+        --rebuild  Of the launcher ./dmlw, as its only word: proves and builds the program anew
     -h, --help     Print help
     -V, --version  Print version
   
@@ -220,6 +227,7 @@ Command lines and their texts.
   
   Options:
         --explain  In any place: behind a fault's line stands what helps
+        --rebuild  Of the launcher ./dmlw, as its only word: proves and builds the program anew
     -h, --help     Print help
     -V, --version  Print version
   
@@ -244,6 +252,7 @@ Command lines and their texts.
   
   Options:
         --explain  In any place: behind a fault's line stands what helps
+        --rebuild  Of the launcher ./dmlw, as its only word: proves and builds the program anew
     -h, --help     Print help
     -V, --version  Print version
   
@@ -466,6 +475,7 @@ Command lines and their texts.
   
   Options:
         --explain  In any place: behind a fault's line stands what helps
+        --rebuild  Of the launcher ./dmlw, as its only word: proves and builds the program anew
     -h, --help     Print help
     -V, --version  Print version
   
@@ -490,6 +500,7 @@ Command lines and their texts.
   
   Options:
         --explain  In any place: behind a fault's line stands what helps
+        --rebuild  Of the launcher ./dmlw, as its only word: proves and builds the program anew
     -h, --help     Print help
     -V, --version  Print version
   

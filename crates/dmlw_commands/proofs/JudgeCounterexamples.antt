@@ -36,6 +36,7 @@ use Rattle.dmlw_commands.specs.declared.exit.Exit.TheVariants as exits
 use Rattle.dmlw_commands.specs.Ends.{ErrStream, TellsLine, err_stream}
 use Rattle.dmlw_commands.specs.Exits.{told_line}
 use Rattle.dmlw_files.specs.Files.{Write}
+use Rattle.dmlw_files.specs.Images.{IsImage}
 use Rattle.dmlw_commands.specs.PrefixImages.{BeginsLog, IsReplayedTo}
 use Rattle.world.specs.Findings.{IsFinding}
 use Rattle.world.specs.declared.finding.Finding.{Finding}
@@ -218,7 +219,8 @@ short_nowhere bytes plan fault none (inr (short, is)) = ap line_of is
 
 short_otherwise : (bytes : List ℕ) (plan : ScriptValue) (fault : RunError) → plan.commands ≡ []
     → FailsRehearsal bytes plan fault → told fault ≡ refusals.BadMoment → ⊥
-short_otherwise bytes plan fault none (inl fails) bad = fails_otherwise bytes plan fault none fails bad
+short_otherwise bytes plan fault none (inl fails) bad =
+    fails_otherwise bytes plan fault none fails bad
 short_otherwise bytes plan fault none (inr (short, is)) bad =
     let same : refusals.Memory ≡ refusals.BadMoment = sym (ap told is) ∙ bad in cc
 
@@ -260,7 +262,8 @@ names_none line same = cc
 none_of_nothing : (image : Option (List ℕ)) (n : ℕ) (fault : RunError)
     → HasNoVerdict (record { script = Some []; image = image; moment = n }) fault
     → line_of fault ≡ Some 2 → ⊥
-none_of_nothing image n fault (file f is readable) second = names_none 2 (sym (file_line f is) ∙ second)
+none_of_nothing image n fault (file f is readable) second =
+    names_none 2 (sym (file_line f is) ∙ second)
 none_of_nothing image n fault (text again shown line refusal read wrong first) second =
     let same : Some line ≡ Some 2 = second in
     let two : line ≡ 2 = cc in

@@ -33,6 +33,7 @@ use Rattle.dmlw_commands.specs.declared.exit.Exit.TheVariants as exits
 use Rattle.dmlw_commands.specs.Ends.{ErrStream}
 use Rattle.dmlw_commands.specs.Exits.{exit_by, exit_of, fault_line}
 use Rattle.dmlw_files.specs.Files.{Write}
+use Rattle.dmlw_files.specs.Images.{IsImage}
 use Rattle.dmlw_commands.specs.Replays.{AreImages, EndsReplaying, FailsOnImages, FailsReplay}
 use Rattle.dmlw_commands.specs.Replays.{HasStopCause, IsReplayedFrom}
 use Rattle.dmlw_commands.specs.Replays.{HoldsReplayed, IsReplayed, PrintsReplay, Replays}
@@ -274,8 +275,9 @@ stops_printing : (log_file first_file out_file : Option (List ℕ)) (upto : Upto
     → Replays log_file first_file out_file [] upto None None (Some []) (Some (1 ∷ []))
     (Err (replay_stopped stop)) → ⊥
 stops_printing log_file first_file out_file upto stop (inl (fails, kept, same)) = cc
-stops_printing log_file first_file out_file upto stop (inr (inl (is, same))) = cc
-stops_printing log_file first_file out_file upto stop (inr (inr (inl (is, same)))) = no_file _ _ is
+stops_printing log_file first_file out_file upto stop (inr (inl (is, one, kept, same))) = cc
+stops_printing log_file first_file out_file upto stop
+    (inr (inr (inl (is, same, count, image, replayed)))) = no_file _ _ is
 stops_printing log_file first_file out_file upto stop (inr (inr (inr (is, count, prints)))) =
     no_file _ _ is
 
@@ -283,8 +285,9 @@ stops_asking : (log_file first_file out_file : Option (List ℕ)) (upto : Upto) 
     → Replays log_file first_file out_file [] upto (Some []) (Some (a_write ∷ [])) None None
     (Err (replay_stopped stop)) → ⊥
 stops_asking log_file first_file out_file upto stop (inl (fails, kept, same)) = cc
-stops_asking log_file first_file out_file upto stop (inr (inl (is, same))) = cc
-stops_asking log_file first_file out_file upto stop (inr (inr (inl (is, same)))) = no_file _ _ is
+stops_asking log_file first_file out_file upto stop (inr (inl (is, one, kept, same))) = cc
+stops_asking log_file first_file out_file upto stop
+    (inr (inr (inl (is, same, count, image, replayed)))) = no_file _ _ is
 stops_asking log_file first_file out_file upto stop (inr (inr (inr (is, count, prints)))) =
     no_file _ _ is
 
@@ -297,16 +300,16 @@ fails_no_file : (log first : List ℕ) (out_file : Option (List ℕ)) (upto : Up
     → Replays (Some log) (Some first) out_file [] upto None None None None
     (Err (refused_by refusals.File)) → ⊥
 fails_no_file log first out_file upto log_image first_image other unreplayed fails
-    (inl (file fault is readable, kept)) =
+    (inl (file fault is readable, kept, unwritten)) =
     let same : refusals.File ≡ refusals.Memory = ap told (readable log_image first_image) in cc
 fails_no_file log first out_file upto log_image first_image other unreplayed fails
-    (inl (images log_read first_read stop are cause, kept)) =
+    (inl (images log_read first_read stop are cause, kept, unwritten)) =
     fails stop (subst (λ (l : List ℕ). FailsOnImages l first upto stop) are.log_read
     (subst (λ (f : List ℕ). FailsOnImages log_read f upto stop) are.first_read cause)) refl
 fails_no_file log first out_file upto log_image first_image other unreplayed fails
-    (inr (inl (is, same, kept))) = other same
+    (inr (inl (is, same, kept, unwritten))) = other same
 fails_no_file log first out_file upto log_image first_image other unreplayed fails
-    (inr (inr (inl (is, same, count, image, replayed)))) = unreplayed count image replayed
+    (inr (inr (inl (is, unwritten, count, image, replayed)))) = unreplayed count image replayed
 fails_no_file log first out_file upto log_image first_image other unreplayed fails
     (inr (inr (inr (is, count, prints)))) = unreplayed count prints.image prints.replayed
 
@@ -319,8 +322,8 @@ holds_none log_file first_file upto told =
     let least = told.replayed.files.first_image.least in omega arith
 
 -- a command that ends as none does
-ends_usage : (log_file first_file out_file : Option (List ℕ)) (name : List ℕ) (upto : Upto) (t : ErrStream)
-    (ended : Ended)
+ends_usage : (log_file first_file out_file : Option (List ℕ)) (name : List ℕ) (upto : Upto)
+    (t : ErrStream) (ended : Ended)
     → EndsReplaying log_file first_file out_file name upto None None None None t ended
     → ended.exit ≡ exits.RuledOut → ⊥
 ends_usage log_file first_file out_file name upto t ended told is =

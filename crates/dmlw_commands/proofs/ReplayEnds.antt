@@ -46,14 +46,14 @@ pub done_or_refused : (log_file first_file out_file : Option (List ℕ)) (name :
     (old new : Option (List ℕ)) (done : Result ℕ RunError)
     → Replays log_file first_file out_file name upto writes_old writes_new old new done
     → (exit_by done ≡ Done) ⊎ (exit_by done ≡ Refused)
-done_or_refused log_file first_file out_file name upto writes_old writes_new old new (Ok count) prints =
-    inl refl
+done_or_refused log_file first_file out_file name upto writes_old writes_new old new (Ok count)
+    prints = inl refl
 done_or_refused log_file first_file out_file name upto writes_old writes_new old new (Err stop)
     (inl (fails, none, same)) = inr (files_refused log_file first_file upto stop fails)
 done_or_refused log_file first_file out_file name upto writes_old writes_new old new (Err stop)
-    (inr (inl (is, same))) = inr (ap exit_of is)
+    (inr (inl (is, one, none, same))) = inr (ap exit_of is)
 done_or_refused log_file first_file out_file name upto writes_old writes_new old new (Err stop)
-    (inr (inr (inl (is, same)))) = inr (file_refused stop is)
+    (inr (inr (inl (is, same, count, image, replayed)))) = inr (file_refused stop is)
 done_or_refused log_file first_file out_file name upto writes_old writes_new old new (Err stop)
     (inr (inr (inr (is, count, prints)))) = inr (file_refused stop is)
 
@@ -119,13 +119,14 @@ pub replaying_ends : (log_file first_file out_file : Option (List ℕ)) (name : 
     → Keeps middle new → writes_new ≡ writes_middle
     → Tells t done ended
     → EndsReplaying log_file first_file out_file name upto writes_old writes_new old new t ended
-replaying_ends log_file first_file out_file name upto writes_old writes_middle writes_new old middle new t
-    done ended came kept same tells = record {
+replaying_ends log_file first_file out_file name upto writes_old writes_middle writes_new old middle
+    new t done ended came kept same tells = record {
       done = done;
       replayed = replays_kept log_file first_file out_file name upto writes_old writes_new old
           middle new done
           (subst (λ (writes : Option
-          (List Write)). Replays log_file first_file out_file name upto writes_old writes old middle done)
+          (List Write)). Replays log_file first_file out_file name upto writes_old writes old middle
+          done)
           (sym same) came) kept;
       tells = tells;
     }
@@ -154,11 +155,11 @@ pub not_handed_over : (log_file first_file out_file : Option (List ℕ)) (name :
     → (writes_new ≡ writes_middle)
     ⊎ (Appends old new (replayed_line count) × (writes_new ≡ one_more writes_middle name image))
     → Replays log_file first_file out_file name upto writes_old writes_new old new (Err fault)
-not_handed_over log_file first_file out_file name upto writes_old writes_middle writes_new old new count
-    image fault replayed same is (inl none) =
+not_handed_over log_file first_file out_file name upto writes_old writes_middle writes_new old new
+    count image fault replayed same is (inl none) =
     inr (inr (inl (is, none ∙ same, count, image, replayed)))
-not_handed_over log_file first_file out_file name upto writes_old writes_middle writes_new old new count
-    image fault replayed same is (inr asked) =
+not_handed_over log_file first_file out_file name upto writes_old writes_middle writes_new old new
+    count image fault replayed same is (inr asked) =
     inr (inr (inr (
       is,
       count,

@@ -191,6 +191,15 @@ Scripts that are refused, and a log that would be written over its script.
   $ dmlw run script script
   ! dmlw: 32 File
   [1]
+  $ copy script kept
+  $ dmlw run script ./script
+  ! dmlw: 32 File
+  [1]
+  $ dmlw run ./script script
+  ! dmlw: 32 File
+  [1]
+  $ same script kept
+  same
   $ dmlw run none log
   ! dmlw: 32 File
   [1]

@@ -10,6 +10,7 @@
 mod bytes;
 mod calls;
 mod images;
+mod names;
 mod scene;
 mod tally;
 mod transcript;

@@ -2,6 +2,7 @@
 use crate::bytes::{push_sectors, unescaped};
 use crate::calls::{ask_disk, ask_stack};
 use crate::images::change;
+use crate::names::Here;
 use dmlw_cli::execute;
 use dmlw_commands::Ended;
 use dmlw_files::{Output, Session};
@@ -275,7 +276,7 @@ fn note_refusal(seen: &mut String, shown: &str, is_beginning: bool) -> Result<()
     Ok(())
 }
 
-// Executes a command line over files and outputs that are lent.
+// Executes a command line over files and outputs that are lent. `./NAME` is another name of a file.
 fn execute_over<H: Threads + Wait + Sync>(
     rt: &H,
     alloc: Global,
@@ -287,7 +288,7 @@ fn execute_over<H: Threads + Wait + Sync>(
     let mut session = Session {
         alloc,
         explains: false,
-        files: folder,
+        files: Here { folder },
         out: Output::new(out),
         err,
     };

@@ -18,13 +18,16 @@ const SCRIPT_BYTES: usize = 4_194_304;
 // How many bytes of a mark's text a log with sectors of 512 bytes keeps.
 const MARK_BYTES: usize = 479;
 
+// The bytes of an image of the largest disk.
+const IMAGE_BYTES: usize = 536_870_912;
+
 // How many requests are open at once: more than 65,536.
 const REQUESTS: u64 = 70_000;
 
 // How many entries a log has that is read.
 const ENTRIES: u64 = 400_000;
 
-// A script whose numbers have 20 digits, and one of a data disk of the largest size.
+// A script whose numbers have 20 digits, and two of disks of the largest size.
 const LONG_NUMBERS: &str = "data 00000000000000000016
 log 00000000000000000032
 at 18446744073709551615
@@ -43,6 +46,13 @@ c b
 close
 ";
 
+const LARGE_LOG: &str = "data 2048
+log 1048576
+w a 0 2048 41
+c a
+close
+";
+
 /// Takes each limit to its end, and reports the number of limits.
 pub fn run<H: Threads + Wait + Sync>(
     rt: &H,
@@ -53,12 +63,13 @@ pub fn run<H: Threads + Wait + Sync>(
     check_numbers(rt, alloc, report)?;
     check_mark(rt, alloc, report)?;
     check_data(rt, alloc, report)?;
+    check_log(rt, alloc, report)?;
     check_requests(rt, alloc, report)?;
     check_entries(rt, alloc, report)?;
     check_seats(rt, alloc, report)?;
     check_recorder(alloc, report)?;
     let differ = report.differ().saturating_sub(before);
-    let line = format!(in alloc; "limits: 7 runs, {differ} differ")?;
+    let line = format!(in alloc; "limits: 8 runs, {differ} differ")?;
     report.line(line.as_str())
 }
 
@@ -139,14 +150,38 @@ fn check_data<H: Threads + Wait + Sync>(
     report: &mut Report,
 ) -> Result<(), AllocError> {
     let mut folder = folder_of(alloc, LARGE_DATA)?;
-    let lines = [(
-        "record script log",
-        "a ok\nread 1048575+1 ok 41\nb ok\n3 2051\n",
-    )];
+    folder.put(alloc, "disk", vec![in alloc; 0; IMAGE_BYTES]?)?;
+    let recorded = "a ok\nread 1048575+1 ok 41\nb ok\n3 2051\n";
+    let lines = [
+        ("record script log", recorded),
+        ("replay log disk disk flush", "replayed 2\n"),
+        ("judge script 5 disk", "yes\n"),
+    ];
     check_lines(
         rt,
         alloc,
         "a data disk of 2^20 sectors",
+        &lines,
+        &mut folder,
+        report,
+    )
+}
+
+// A log's disk of as many sectors as it may have.
+fn check_log<H: Threads + Wait + Sync>(
+    rt: &H,
+    alloc: Global,
+    report: &mut Report,
+) -> Result<(), AllocError> {
+    let mut folder = folder_of(alloc, LARGE_LOG)?;
+    let lines = [
+        ("record script log", "a ok\n2 2050\n"),
+        ("status log", "2 2050\n"),
+    ];
+    check_lines(
+        rt,
+        alloc,
+        "a log of 2^20 sectors",
         &lines,
         &mut folder,
         report,

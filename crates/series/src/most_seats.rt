@@ -51,6 +51,7 @@ fn start_most<R: Run + Names>(
     requires ledger { (unnamed.ledger.name ≡ R.name) × (unnamed.ledger.parts ≡ R.parts)
         × (unnamed.ledger.parts ≡ 64) }
     requires table { unnamed.table ≡ R.table }
+    requires stops { unnamed.stops ≡ R.stops }
     requires board { unnamed.board ≡ R.board }
     requires sectors { (shown_of device).size ≡ R.sectors }
     requires log { R.log ≡ ground_of (shown_of log) }
@@ -65,7 +66,7 @@ fn start_most<R: Run + Names>(
         recorder,
         seats,
         writer: _,
-        mut readers,
+        readers,
     } = started;
     let none = Status {
         entries: 0,
@@ -73,8 +74,9 @@ fn start_most<R: Run + Names>(
         end: None,
     };
     let mut seen: usize = 0;
-    for reader in readers.iter_mut() {
-        if recorder.status(reader) == none {
+    for reader in readers {
+        let mut mine = reader;
+        if recorder.status(&mut mine) == none {
             seen = seen.saturating_add(1);
         }
     }

@@ -14,6 +14,7 @@ ghosts-start_most-R-Run a = record {
   sectors = 64;
   sector_bytes = 512;
   log = ground_of (shown_of a.log);
+  stops = a.unnamed.stops;
 }
 
 abbrev pub ghosts-start_most-R-Names : goal.ghosts-start_most-R-Names

@@ -164,7 +164,8 @@ ends_replayed : (log_file first_file out_file : Option (List ℕ)) (name : List 
     (done : Result ℕ RunError) → Replays log_file first_file out_file name upto writes_old writes_new old new
     done
     → EndsCommand writes_old writes_new (status_of (exit_by done))
-ends_replayed log_file first_file out_file name upto writes_old writes_new old new (Ok count) prints =
+ends_replayed log_file first_file out_file name upto writes_old writes_new old new (Ok count)
+    prints =
     image_asks writes_old writes_new (Ok count)
     (inr (printed_asks log_file first_file name upto writes_old writes_new old new count
     prints))
@@ -175,7 +176,7 @@ ends_replayed log_file first_file out_file name upto writes_old writes_new old n
     (inr (inl (is, one, kept, same))) =
     image_asks writes_old writes_new (Err stop) (inl same)
 ends_replayed log_file first_file out_file name upto writes_old writes_new old new (Err stop)
-    (inr (inr (inl (file, same, replayed)))) =
+    (inr (inr (inl (file, same, count, image, replayed)))) =
     image_asks writes_old writes_new (Err stop) (inl same)
 ends_replayed log_file first_file out_file name upto writes_old writes_new old new (Err stop)
     (inr (inr (inr (file, count, prints)))) =

@@ -178,7 +178,11 @@ replay_refused : (log first held : Option (List ℕ)) (out : List ℕ) (upto : U
     → EndsReplaying log first held out upto before after old new t ended
 replay_refused log first held out upto before after old new t ended ends = record {
   done = Err memory_error;
-  replayed = inl (unreplayed memory_error (inr refl) (λ log_holds first_holds. refl), ends.silent refl, ends.unwritten);
+  replayed = inl (
+    unreplayed memory_error (inr refl) (λ log_holds first_holds. refl),
+    ends.silent refl,
+    ends.unwritten,
+  );
   tells = ends.tells;
 }
 

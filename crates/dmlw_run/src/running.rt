@@ -1,12 +1,13 @@
 //! Running the seats of a script, from the names of its files to how it ended.
 //! Its clauses are written in specs/LogRuns; its theorems in proofs/running/.
-ghost use Rattle.std.specs.Prelude.{◌≡◌, ◌⊎◌, IfErr, IfOk, OnErr, OnOk, Some};
+ghost use Rattle.std.specs.Prelude.{◌≡◌, ◌⊎◌, Err, IfErr, IfOk, OnErr, OnOk, Some};
 ghost use Rattle.std.specs.Io.KnownBytes.{Appends};
-ghost use Rattle.run_error.specs.Errors.{IsFileError};
+ghost use Rattle.refusals.specs.declared.refusal.Refusal.TheVariants as refusals;
+ghost use Rattle.run_error.specs.Errors.{IsFileError, refused_by};
 ghost use Rattle.script_reader.specs.RunGrammar.{IsRunText};
-ghost use Rattle.dmlw_commands.specs.Ends.{err_stream};
+ghost use Rattle.dmlw_commands.specs.Ends.{TellsLine, err_stream};
 ghost use Rattle.dmlw_commands.specs.declared.exit.Exit.{Exit};
-ghost use Rattle.dmlw_commands.specs.Exits.{IsRefusal, exit_after, exit_at, exit_of};
+ghost use Rattle.dmlw_commands.specs.Exits.{IsRefusal, exit_after, exit_at, exit_of, fault_line};
 ghost use Rattle.std.specs.Result.{IsErrAnd};
 ghost use Rattle.dmlw_files.specs.Files.{AsksFor, IsTooLong, KeepsFiles};
 ghost use Rattle.dmlw_files.specs.Images.{image_of};
@@ -61,6 +62,10 @@ pub fn run<F: Files, O: Write, E: Write, H: Threads + Wait + Sync>(
         (O.contents session.old.out)
         (O.contents session.new.out) (F.contents session.new.files log.now) }
     ensures apart { script.now ≡ log.now → F.writes session.new.files ≡ F.writes session.old.files }
+    ensures same { script.now ≡ log.now →
+        TellsLine (err_stream session.old.explains (E.contents session.old.err)
+        (E.contents session.new.err)) Exit.Refused
+        (fault_line (refused_by refusals.File)) result }
     // A script whose bytes are known, and too many, is refused as a file, and nothing is printed.
     ensures within { IsTooLong 4194304 (F.contents session.old.files script.now)
         → result.exit ≡ Exit.Refused }
@@ -104,6 +109,7 @@ fn run_named<F: Files, O: Write, H: Threads + Wait + Sync>(
         (FailsRunning (F.contents files.old script.now) (O.contents out.old) (O.contents out.new)) }
     ensures kept { OnErr result (KeepsFiles (F.contents files.old) (F.contents files.new)) }
     ensures apart { script.now ≡ log.now → F.writes files.new ≡ F.writes files.old }
+    ensures same { script.now ≡ log.now → result ≡ Err (refused_by refusals.File) }
     ensures within { IsTooLong 4194304 (F.contents files.old script.now)
         → exit_after result ≡ Exit.Refused }
 {

@@ -240,18 +240,28 @@ fn has_byte(
     Ok(buffer.as_slice().iter().all(|&found| found == byte))
 }
 
-// Whether the first sector of each seat is filled with this byte.
-fn have_byte(disk: &mut SectorDisk, alloc: Global, byte: u8) -> Result<bool, AllocError> {
+// The byte that fills this sector of a seat's: one of the first three, or the number of the write.
+fn byte_of(place: u64, first: [u8; 3]) -> u8 {
+    match place {
+        0 => first[0],
+        1 => first[1],
+        2 => first[2],
+        _ => (place as u8).saturating_add(1),
+    }
+}
+
+// Whether each sector of four seats is filled with its byte.
+fn have_bytes(disk: &mut SectorDisk, alloc: Global, first: [u8; 3]) -> Result<bool, AllocError> {
     let mut have = true;
-    for seat in 0..SEATS {
-        have = has_byte(disk, alloc, seat * OWN, byte)? && have;
+    for sector in 0..SEATS * OWN {
+        have = has_byte(disk, alloc, sector, byte_of(sector % OWN, first))? && have;
     }
     Ok(have)
 }
 
-// Four seats write and read back, flush, and write again after the close
-// was asked for. Says whether each read found what was written, the
-// device has the last writes, and after a crash those that were flushed.
+// Four seats write and read back, flush, and write and discard again after the close was asked for.
+// Says whether each read found what was written, each sector of the device has its last value, and
+// after a crash the one that was flushed; the late write with FUA stays.
 fn readback<H: Threads + Wait + Clock + Print + Sync + Send + Copy + Drop>(
     rt: &H,
     alloc: Global,
@@ -272,9 +282,9 @@ fn readback<H: Threads + Wait + Clock + Print + Sync + Send + Copy + Drop>(
     let have_answered = have_answers(rt, played.tallies.as_slice(), &wanted);
     let closed = played.closed;
     let mut disk = closed.device.into_lower();
-    let has_last = have_byte(&mut disk, alloc, LATE)?;
+    let has_last = have_bytes(&mut disk, alloc, [LATE, LATE, 0])?;
     disk.crash(&[]);
-    let has_flushed = have_byte(&mut disk, alloc, 1)?;
+    let has_flushed = have_bytes(&mut disk, alloc, [1, LATE, 3])?;
     let has_last = holds(rt, has_last, "the last writes stand");
     let has_flushed = holds(rt, has_flushed, "what was flushed stands after a crash");
     Ok(have_answered && has_last && has_flushed)

@@ -361,6 +361,43 @@ def each_of_sample(room):
     trial("but not before mkfs has ended", ran.returncode == 1 and "entry 0 (flush): failed" in ran.stdout, ran)
 
 
+def installed(room):
+    home, root = room / "home", room / "root"
+    for it in ("Makefile", "README.md"):
+        shutil.copy(ROOT / it, home)
+    for it in ("packaging", "docs"):
+        shutil.copytree(ROOT / it, home / it)
+    names = re.findall(r"^  (\w+)  ", run("--help").stdout.decode().partition("Commands:\n")[2].partition("\n\n")[0], re.M)
+    for it in ("dmlw.bash", "_dmlw", "dmlw.fish"):
+        text = (ROOT / "packaging" / it).read_text(encoding="utf-8")
+        missing = [name for name in names if not re.search(rf"\b{name}\b", text)]
+        trial(f"packaging/{it} has each command of the help", names and not missing, missing)
+    if not shutil.which("make"):
+        print("--   make install: no make")
+        return
+    where = [f"DESTDIR={root}", "PREFIX=/usr"]
+    ran = subprocess.run(["make", "-s", "install", *where], cwd=home, capture_output=True)
+    trial("make install installs", (ran.returncode, ran.stderr) == (0, b""), ran)
+    ran = subprocess.run([root / "usr/bin/dmlw", "--version"], capture_output=True)
+    trial("and what it installs runs", (ran.returncode, ran.stdout) == (0, run("--version").stdout), ran)
+    for explains, wanted in (("1", run("--explain", "list", room / "none").stderr), ("0", b"dmlw: 32 File\n")):
+        ran = subprocess.run([root / "usr/bin/dmlw", "list", room / "none"], capture_output=True, env=dict(os.environ, DMLW_EXPLAIN=explains))
+        trial(f"with DMLW_EXPLAIN={explains} too", (ran.returncode, ran.stderr) == (1, wanted), ran)
+    bare = dict(os.environ, PATH=f"{root}/usr/bin:{os.environ['PATH']}")
+    ran = subprocess.run([root / "usr/share/dmlw/examples/each.sh", "all", room / "marks.log", room / "first", "true"], capture_output=True, text=True, env=bare)
+    trial("so does its each.sh, by the PATH", (ran.returncode, ran.stderr) == (0, "") and ran.stdout.endswith("5 checked, 0 failed\n"), ran)
+    if shutil.which("dpkg-deb"):
+        ran = subprocess.run([home / "packaging/deb.sh", room], capture_output=True, text=True)
+        made = ran.stdout.strip()
+        listed = subprocess.run(["dpkg-deb", "-c", made], capture_output=True, text=True).stdout
+        trial("packaging/deb.sh makes a package", ran.returncode == 0 and all(it in listed for it in ("./usr/bin/dmlw\n", "./usr/lib/dmlw/dmlw\n", "man1/dmlw.1.gz\n")), (ran, listed))
+    else:
+        print("--   packaging/deb.sh: no dpkg-deb")
+    ran = subprocess.run(["make", "-s", "uninstall", *where], cwd=home, capture_output=True)
+    left = [str(it) for it in root.rglob("*") if it.is_file()]
+    trial("make uninstall removes all of it", (ran.returncode, left) == (0, []), (ran, left))
+
+
 # A file system's tools, the size of a small one, the words that make it, and where its superblock is. Of an ext4 without checksums nothing but the
 # superblock tells of the damage, which a check is to find and not to mend.
 SYSTEMS = {
@@ -527,6 +564,6 @@ def manual(_):
 
 with tempfile.TemporaryDirectory() as at:
     make_home(pathlib.Path(at))
-    for part in (files, memory, replays, texts, terminal, shipped, each, each_of_sample, checks, each_of_ext4, devices, manual, pipes, full_disk, killed):
+    for part in (files, memory, replays, texts, terminal, shipped, each, each_of_sample, installed, checks, each_of_ext4, devices, manual, pipes, full_disk, killed):
         part(pathlib.Path(at))
 sys.exit(1 if failed else 0)

@@ -75,7 +75,7 @@ steps() {
 image_at() {
     printf "$magic$bytes$sizes" >"$room/part" || return
     said=$(dd if="$log" of="$room/part" bs="$size" skip="$begin" seek=1 count="$sectors" conv=notrunc 2>&1) || { echo "$said" && return 1; }
-    "$dmlw" replay "$room/part" "$state" /dev/fd/9 "entries:$count" 9>"$room/next" || return
+    "$dmlw" --explain replay "$room/part" "$state" /dev/fd/9 "entries:$count" 9>"$room/next" >/dev/null || return
     rm -f "$room/state" "$room/image"
     mv "$room/next" "$room/state" && copy "$room/state" "$room/image"
 }
@@ -150,7 +150,7 @@ while read -r number begin sectors count bytes text; do
     else
         said=$(reason </dev/null)
         ended=3
-        reason="the image can't be made"
+        reason="the image can't be made in $room"
     fi
     case $ended in
     0) told=passed ;;

@@ -3,7 +3,7 @@
 
   examples.py [PROGRAM]      PROGRAM: the built program, else the one that ./dmlw runs
 
-A command is a word list in backticks, or a line of an indented block, that begins with ./dmlw, truncate, printf, awk or examples/. What it prints stands behind the word `prints`: in
+A command is a word list in backticks, or a line of an indented block, that begins with ./dmlw, truncate, printf, awk, xz or examples/. What it prints stands behind the word `prints`: in
 the next indented block, or in backticks, a line each. The commands of a page run one after another in one folder. Ends with status 1 where a text differs.
 Needs nothing but Python 3.
 """
@@ -14,7 +14,7 @@ from measure import build
 ROOT = pathlib.Path(__file__).resolve().parent.parent
 PROGRAM = os.path.realpath(sys.argv[1]) if len(sys.argv) > 1 else build()
 PAGES = ("README.md", "docs/USING.md")
-IS_COMMAND = re.compile(r"^(\./dmlw|truncate|printf|awk|examples/\S+\.sh) \S")
+IS_COMMAND = re.compile(r"^(\./dmlw|truncate|printf|awk|xz|examples/\S+\.sh) \S")
 # What needs devices, a log of the reader's own, or all proofs.
 NOT_HERE = re.compile(r"my\.log|before\.img|\.ci/run|/dev/|CHECK|LOG|SCRIPT|IMAGE|bad\.script|--rebuild")
 
@@ -90,7 +90,7 @@ def main():
             for command, wanted in commands_of((ROOT / page).read_text(encoding="utf-8")):
                 if NOT_HERE.search(command):
                     continue
-                ran = subprocess.run(command, shell=True, cwd=room, capture_output=True, text=True)
+                ran = subprocess.run(command, shell=True, cwd=room, env=dict(os.environ, DMLW=PROGRAM), capture_output=True, text=True)
                 tried += 1
                 compared += wanted is not None
                 if (wanted is not None and ran.stdout != wanted) or ran.stderr.startswith("dmlw: 32"):

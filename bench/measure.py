@@ -31,9 +31,7 @@ class Measured:
 
 def build():
     """The program that ./dmlw runs: the one that was built here, or that of release/, else it is built."""
-    subprocess.run([f"{ROOT}/dmlw", "--version"], check=True, stdout=subprocess.DEVNULL)
-    programs = [it for it in (f"{ROOT}/crates/dmlw/out/dmlw", f"{ROOT}/.cache/dmlw") if os.path.isfile(it)]
-    return max(programs, key=os.path.getmtime)
+    return subprocess.run([f"{ROOT}/dmlw", "--which"], check=True, stdout=subprocess.PIPE, text=True).stdout.strip()
 
 
 def build_peer(folder):

@@ -6,7 +6,7 @@
 Prints a line for each trial, and ends with status 1 where one fails. The trials that need the right to mount or to set up a loop device, or a file system's own
 tools, are left out where these are missing, with a line that begins with `--`.
 """
-import hashlib, lzma, os, pathlib, pty, re, shutil, struct, subprocess, sys, tempfile, threading
+import hashlib, lzma, os, pathlib, pty, re, shutil, struct, subprocess, sys, tempfile, threading, time
 
 import release
 
@@ -204,6 +204,8 @@ def terminal(room):
     trial("at a terminal the launcher explains", (ran.returncode, ran.stdout, told) == (1, b"", exact) and exact.count(b"\n") > 1, (ran, told, exact))
     ran = subprocess.run([room / "home/dmlw", "list", room / "none"], capture_output=True)
     trial("and in a script it doesn't", (ran.returncode, ran.stdout, ran.stderr) == (1, b"", b"dmlw: 32 File\n"), ran)
+    ran = subprocess.run([room / "home/dmlw", "list", room / "none"], capture_output=True, env=dict(os.environ, DMLW_EXPLAIN="1"))
+    trial("unless DMLW_EXPLAIN is 1", (ran.returncode, ran.stdout, ran.stderr) == (1, b"", exact), ran)
 
 
 def ship(home):
@@ -218,15 +220,17 @@ def ship(home):
 
 
 def shipped(room):
-    home, bare = room / "shipping", dict(os.environ, PATH="/usr/bin:/bin")
+    home, bare = room / "shipping", dict(os.environ, PATH="/usr/bin:/bin", HOME=str(room / "person"))
+    for it in ("XDG_CACHE_HOME", "TMPDIR", "DMLW_EXPLAIN"):
+        bare.pop(it, None)
     (home / "crates/text_words/src").mkdir(parents=True)
     shutil.copy(ROOT / "dmlw", home)
     (home / "crates.txt").write_text("words:\n")
     source = home / "crates/text_words/src/lib.rt"
     source.write_text("//! Words.\n")
 
-    def launched(*words):
-        return subprocess.run([home / "dmlw", *words], capture_output=True, env=bare)
+    def launched(*words, **more):
+        return subprocess.run([home / "dmlw", *words], capture_output=True, env=dict(bare, **more))
 
     if not shutil.which("xz", path=bare["PATH"]) or shutil.which("rt", path=bare["PATH"]):
         print("--   release/: no xz, or rt stands among the system's commands")
@@ -236,14 +240,45 @@ def shipped(room):
     for which in ("unpacks the shipped program", "and has it then"):
         ran = launched("--version")
         trial(f"the launcher {which}", (ran.returncode, ran.stdout, ran.stderr) == (0, version, b""), ran)
+    which = launched("--which").stdout.decode().strip()
+    trial("it names it", os.path.dirname(which) == str(home / ".cache"), which)
+
+    # What keeps it from using release/ is named, with what helps.
+    def unused(name, cause, **more):
+        ran = launched("--version", **more)
+        trial(name, ran.returncode == 1 and b"isn't used: " in ran.stderr and cause in ran.stderr and b"command rt isn't" in ran.stderr, ran)
+
     source.write_text("//! Other words.\n")
-    ran = launched("--version")
-    trial("where a source differs it is not run", ran.returncode == 1 and b"toolchain is missing" in ran.stderr, ran)
+    unused("if a source differs it is not run", b"a file of crates/ isn't the one")
     ship(home)
-    packed = home / release.PACKED
-    packed.write_bytes(lzma.compress(b"another"))
-    ran = launched("--version")
-    trial("nor where it is another than was built", ran.returncode == 1 and b"is not the one" in ran.stderr, ran)
+    (home / release.PACKED).write_bytes(lzma.compress(b"another"))
+    unused("nor if it is another than was built", b"isn't the program that release/BUILT names")
+    ship(home)
+    tools = room / "tools"
+    tools.mkdir()
+    for it in pathlib.Path("/usr/bin").iterdir():
+        if it.name != "xz":
+            (tools / it.name).symlink_to(it)
+    unused("nor without xz, which it asks for", b"install xz-utils", PATH=str(tools))
+    (tools / "uname").unlink()
+    (tools / "uname").write_text("#!/bin/sh\necho Linux riscv64\n")
+    (tools / "uname").chmod(0o755)
+    unused("nor on another processor", b"a program for Linux x86_64, and this is Linux riscv64", PATH=str(tools))
+    (home / ".cache").write_text("in the way")
+    ran = launched("--which")
+    trial("if the checkout can't be written it unpacks elsewhere", ran.stdout.decode().startswith(str(room / "person/.cache/dmlw/dmlw-")), ran)
+    ran = launched("--which", XDG_CACHE_HOME=str(room / "cache"))
+    trial("and that is used again", (ran.returncode, ran.stderr) == (0, b""), ran)
+    shutil.rmtree(room / "person")
+    ran = launched("--which", XDG_CACHE_HOME=str(room / "cache"))
+    trial("in $XDG_CACHE_HOME", ran.stdout.decode().startswith(str(room / "cache/dmlw/dmlw-")), ran)
+    shutil.rmtree(room / "cache")
+    (room / "person").write_text("in the way")
+    ran = launched("--which", TMPDIR=str(room))
+    trial("or in $TMPDIR", ran.stdout.decode().startswith(f"{room}/dmlw-{os.getuid()}/dmlw-"), ran)
+    (room / f"dmlw-{os.getuid()}").rename(room / "moved")
+    (room / f"dmlw-{os.getuid()}").write_text("in the way")
+    unused("and if no folder can be written it says so", b"none of these folders can be written", TMPDIR=str(room))
 
 
 def each(room):
@@ -257,7 +292,7 @@ def each(room):
         trial(f"examples/each.sh {which} goes over its entries", (ran.returncode, ran.stdout, ran.stderr) == (0, wanted, ""), ran)
     # Only before the first write the image is the first one.
     check = ["sh", "-c", f'cmp -s "{first}" "$1" || ! echo differs', "sh"]
-    wanted = "entry 0 (mark before the flush): passed\nentry 1 (write 4+1): failed\n  replayed 2\n  differs\n"
+    wanted = "entry 0 (mark before the flush): passed\nentry 1 (write 4+1): failed\n  differs\n"
     ran = subprocess.run([each, "--stop", "all", log, first, *check], capture_output=True, text=True)
     trial("with --stop it ends at a failure", (ran.returncode, ran.stdout) == (1, wanted + "2 checked, 1 failed\n"), ran)
     ran = subprocess.run([each, "all", log, first, *check], capture_output=True, text=True)
@@ -270,6 +305,97 @@ def each(room):
     (room / "cut.log").write_bytes(log.read_bytes()[:3072])
     ran = subprocess.run([each, "all", room / "cut.log", first, "true"], capture_output=True, text=True)
     trial("of a log that is cut it tells the fault", ran.returncode == 1 and "21 CutShort" in ran.stderr and ran.stdout.startswith("entry 0 ("), ran)
+    # A replay that fails is no file system that fails.
+    (room / "small").write_bytes(bytes(2048))
+    ran = subprocess.run([each, "all", log, room / "small", "true"], capture_output=True, text=True)
+    wanted = "entry 0 (mark before the flush): passed\nentry 1 (write 4+1): not checked\n  dmlw: 27 PastTarget after 1 entries\n"
+    trial("a first image that is too small ends it", ran.returncode == 3 and ran.stdout.startswith(wanted) and ran.stdout.endswith("\n1 checked, 0 failed\n"), ran)
+    ran = subprocess.run(["sh", "-c", 'ulimit -f 12; exec "$@"', "sh", each, "all", log, first, "true"], capture_output=True, text=True)
+    trial("so does a file that can't be written", ran.returncode == 3 and "entry 0 (mark before the flush): not checked\n  " in ran.stdout and ran.stdout.endswith("\n0 checked, 0 failed\n"), ran)
+    ran = subprocess.run([each, "all", log, "/dev/null", "true"], capture_output=True, text=True)
+    trial("and a first image that is none", ran.returncode == 3 and "not checked" in ran.stdout and "32 File" in ran.stdout, ran)
+    ran = subprocess.run([each, "--from", "2", "all", log, first, "sh", "-c", 'echo "$DMLW_ENTRY/$DMLW_KIND/$DMLW_MARK"; false'], capture_output=True, text=True)
+    wanted = "".join(f"entry {it} ({told[it]}): failed\n  {it}/{told[it].split()[0]}/{told[it][5:] if it == 4 else ''}\n" for it in (2, 3, 4))
+    trial("--from leaves out what is before, and a check knows its entry", (ran.returncode, ran.stdout) == (1, wanted + "3 checked, 3 failed\n"), ran)
+    for start, count in (("mark:before the flush", 5), ("mark:dm-log-writes-end", 1), ("4", 1)):
+        ran = subprocess.run([each, "--from", start, "all", log, first, "true"], capture_output=True, text=True)
+        trial(f"--from {start} begins there", (ran.returncode, ran.stdout.split("\n")[-2]) == (0, f"{count} checked, 0 failed"), ran)
+    for start in ("mark:none", "5", "x"):
+        ran = subprocess.run([each, "--from", start, "all", log, first, "true"], capture_output=True, text=True)
+        trial(f"--from {start} doesn't begin", (ran.returncode, ran.stdout) == (2, "") and ran.stderr != "", ran)
+    (room / "each-link").symlink_to(each)
+    ran = subprocess.run([room / "each-link", "marks", log, first, "true"], capture_output=True, text=True)
+    trial("a link to it finds the program", (ran.returncode, ran.stderr) == (0, ""), ran)
+
+
+def unpacked(room, name):
+    file = room / name
+    file.write_bytes(lzma.decompress((ROOT / f"examples/{name}.xz").read_bytes()))
+    return file
+
+
+def each_of_sample(room):
+    """A log that the kernel recorded of an ext4: each state is the one that a replay from the first image gives, and its file system is whole from the end of mkfs on."""
+    each, log, first = room / "home/examples/each.sh", unpacked(room, "ext4.log"), unpacked(room, "ext4.first")
+    sums = room / "sums"
+    began = time.time()
+    ran = subprocess.run([each, "all", log, first, "sh", "-c", f'echo "$DMLW_ENTRY $(sha256sum <"$1")" >>"{sums}"', "sh"], capture_output=True, text=True)
+    seconds = time.time() - began
+    told = [it.split()[:2] for it in sums.read_text().splitlines()]
+    trial(f"examples/each.sh goes over the {len(told)} entries of the sample, in {seconds:.1f} s", ran.returncode == 0 and len(told) == 288, ran)
+    wrong, out = [], room / "ext4.out"
+    for number, (said, sum_of_state) in enumerate(told):
+        run("replay", log, first, out, f"entries:{number + 1}")
+        if int(said) != number or hashlib.sha256(out.read_bytes()).hexdigest() != sum_of_state:
+            wrong.append(number)
+    trial("and each state is the one that a replay from the first image gives", not wrong, wrong)
+    if not shutil.which("e2fsck"):
+        print("--   the sample's file system: no e2fsck")
+        return
+    for which in ("marks", "flushes"):
+        ran = subprocess.run([each, "--from", "mark:mkfs", which, log, first, ROOT / "examples/check-ext4.sh"], capture_output=True, text=True)
+        trial(f"the sample's ext4 is whole at its {which}", ran.returncode == 0 and ran.stdout.endswith(" 0 failed\n"), ran)
+    ran = subprocess.run([each, "--stop", "marks", log, first, ROOT / "examples/check-ext4.sh"], capture_output=True, text=True)
+    trial("and so it is at the first mark", ran.returncode == 0, ran)
+    ran = subprocess.run([each, "--stop", "all", log, first, ROOT / "examples/check-ext4.sh"], capture_output=True, text=True)
+    trial("but not before mkfs has ended", ran.returncode == 1 and "entry 0 (flush): failed" in ran.stdout, ran)
+
+
+def installed(room):
+    home, root = room / "home", room / "root"
+    for it in ("Makefile", "README.md"):
+        shutil.copy(ROOT / it, home)
+    for it in ("packaging", "docs"):
+        shutil.copytree(ROOT / it, home / it)
+    names = re.findall(r"^  (\w+)  ", run("--help").stdout.decode().partition("Commands:\n")[2].partition("\n\n")[0], re.M)
+    for it in ("dmlw.bash", "_dmlw", "dmlw.fish"):
+        text = (ROOT / "packaging" / it).read_text(encoding="utf-8")
+        missing = [name for name in names if not re.search(rf"\b{name}\b", text)]
+        trial(f"packaging/{it} has each command of the help", names and not missing, missing)
+    if not shutil.which("make"):
+        print("--   make install: no make")
+        return
+    where = [f"DESTDIR={root}", "PREFIX=/usr"]
+    ran = subprocess.run(["make", "-s", "install", *where], cwd=home, capture_output=True)
+    trial("make install installs", (ran.returncode, ran.stderr) == (0, b""), ran)
+    ran = subprocess.run([root / "usr/bin/dmlw", "--version"], capture_output=True)
+    trial("and what it installs runs", (ran.returncode, ran.stdout) == (0, run("--version").stdout), ran)
+    for explains, wanted in (("1", run("--explain", "list", room / "none").stderr), ("0", b"dmlw: 32 File\n")):
+        ran = subprocess.run([root / "usr/bin/dmlw", "list", room / "none"], capture_output=True, env=dict(os.environ, DMLW_EXPLAIN=explains))
+        trial(f"with DMLW_EXPLAIN={explains} too", (ran.returncode, ran.stderr) == (1, wanted), ran)
+    bare = dict(os.environ, PATH=f"{root}/usr/bin:{os.environ['PATH']}")
+    ran = subprocess.run([root / "usr/share/dmlw/examples/each.sh", "all", room / "marks.log", room / "first", "true"], capture_output=True, text=True, env=bare)
+    trial("so does its each.sh, by the PATH", (ran.returncode, ran.stderr) == (0, "") and ran.stdout.endswith("5 checked, 0 failed\n"), ran)
+    if shutil.which("dpkg-deb"):
+        ran = subprocess.run([home / "packaging/deb.sh", room], capture_output=True, text=True)
+        made = ran.stdout.strip()
+        listed = subprocess.run(["dpkg-deb", "-c", made], capture_output=True, text=True).stdout
+        trial("packaging/deb.sh makes a package", ran.returncode == 0 and all(it in listed for it in ("./usr/bin/dmlw\n", "./usr/lib/dmlw/dmlw\n", "man1/dmlw.1.gz\n")), (ran, listed))
+    else:
+        print("--   packaging/deb.sh: no dpkg-deb")
+    ran = subprocess.run(["make", "-s", "uninstall", *where], cwd=home, capture_output=True)
+    left = [str(it) for it in root.rglob("*") if it.is_file()]
+    trial("make uninstall removes all of it", (ran.returncode, left) == (0, []), (ran, left))
 
 
 # A file system's tools, the size of a small one, the words that make it, and where its superblock is. Of an ext4 without checksums nothing but the
@@ -438,6 +564,6 @@ def manual(_):
 
 with tempfile.TemporaryDirectory() as at:
     make_home(pathlib.Path(at))
-    for part in (files, memory, replays, texts, terminal, shipped, each, checks, each_of_ext4, devices, manual, pipes, full_disk, killed):
+    for part in (files, memory, replays, texts, terminal, shipped, each, each_of_sample, installed, checks, each_of_ext4, devices, manual, pipes, full_disk, killed):
         part(pathlib.Path(at))
 sys.exit(1 if failed else 0)

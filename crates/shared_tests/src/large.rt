@@ -246,7 +246,7 @@ fn byte_of(place: u64, first: [u8; 3]) -> u8 {
         0 => first[0],
         1 => first[1],
         2 => first[2],
-        _ => (place as u8).saturating_add(1),
+        _ => ((place % 251) as u8).saturating_add(1),
     }
 }
 

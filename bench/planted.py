@@ -1,10 +1,10 @@
 #!/usr/bin/env python3
 """planted: tries wrong bodies that the gate doesn't try.
 
-  bench/planted.py [--untried] [CRATE]..
-        In a copy of the repository, puts the edits of crates/CRATE/planted/ beside those of must-fail/, and runs `rt must-fail` over these crates: all that have such a
-        folder, where none is named. The copy begins with what checks in this checkout kept, so check the crates first. Status 0: each edit was refused. With --untried
-        only those of planted/ whose row in docs/lab/PLANTED.md says 'not tried yet'.
+  bench/planted.py [--untried] [CRATE | CRATE/NAME]..
+        In a copy of the repository, adds the edits of crates/CRATE/planted/ to those of must-fail/, and runs `rt must-fail` over these crates: all that have such a
+        folder, if none is named. CRATE/NAME tries that edit only, of either folder. The copy begins with what checks in this checkout kept, so check the crates first.
+        Status 0: each edit was refused. With --untried only those of planted/ whose row in docs/lab/PLANTED.md says 'not tried yet'.
 """
 import os, shutil, subprocess, sys, tempfile
 
@@ -23,6 +23,9 @@ def untried():
 def main():
     words = [it for it in sys.argv[1:] if it != "--untried"]
     wanted = set(untried()) if "--untried" in sys.argv else None
+    if any("/" in it for it in words):
+        wanted = {f"{crate}/planted/{edit}.edit" for crate, edit in (it.split("/") for it in words)}
+        words = []
     tried = sorted({it.split("/")[0] for it in wanted}) if wanted is not None else None
     named = words or tried or sorted(it for it in os.listdir(f"{root}/crates") if os.path.isdir(f"{root}/crates/{it}/planted"))
     with tempfile.TemporaryDirectory(prefix="planted-") as room:
@@ -32,8 +35,8 @@ def main():
             at = f"{copy}/crates/{name}"
             os.makedirs(f"{at}/must-fail", exist_ok=True)
             if wanted is not None:
-                shutil.rmtree(f"{at}/must-fail")
-                os.makedirs(f"{at}/must-fail")
+                for edit in os.listdir(f"{at}/must-fail"):
+                    shutil.move(f"{at}/must-fail/{edit}", f"{at}/planted/{edit}")
             for edit in os.listdir(f"{at}/planted"):
                 if wanted is not None and f"{name}/planted/{edit}" not in wanted:
                     continue

@@ -36,3 +36,4 @@ pub mod PlainQueues
 pub mod PlainMoments
 pub mod PlainOnly
 pub mod PlainBytes
+pub mod PlainExamples

@@ -50,7 +50,7 @@ returns-clause-kept g c refused =
     c.run_named-done.ensures.kept c.explain_running-more.ensures.kept
     c.end_recording.ensures.exit refused
 
--- what is told of that refusal
+-- what is printed for that refusal
 told_of_same : (t : ErrStream) (ended : Ended) (done : Result Status RunError)
     → done ≡ Err (refused_by refusals.File)
     → TellsLine t (exit_after done) (told_line done) ended

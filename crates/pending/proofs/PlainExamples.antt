@@ -6,7 +6,7 @@ use Rattle.std.proofs.Common.{subst, ◌∙◌, inl, inr, arith}
 use Rattle.std.specs.Prelude.{◌⊎◌, slice_get}
 use Rattle.byteorder.specs.Endian.{little_bytes}
 use Rattle.bio.specs.declared.event.CoreEvent.{CoreEvent}
-use Rattle.bio.specs.declared.event.CoreEvent.TheVariants.{Submit, Complete, Stop}
+use Rattle.bio.specs.declared.event.CoreEvent.TheVariants.{Submit, Complete, Stop, Close}
 use Rattle.bio.specs.declared.outcome.End.TheVariants.{Full}
 use Rattle.bio.specs.declared.request.Bio.{Bio}
 use Rattle.bio.specs.declared.request.Bio.TheVariants.{Write, Flush}
@@ -65,11 +65,10 @@ linked = Submit plain_write ∷ Complete 0 true ∷ Submit fua_write ∷ Complet
 abbrev failed : List CoreEvent
 failed = Submit fua_write ∷ Complete 0 false ∷ []
 
--- two writes that end in another order, and a flush
+-- two writes that end in another order, and a Close
 abbrev crossed : List CoreEvent
 crossed =
-    Submit plain_write ∷ Submit next_write ∷ Complete 1 true ∷ Complete 0 true ∷ Submit
-    Flush ∷ Complete 4 true ∷ []
+    Submit plain_write ∷ Submit next_write ∷ Complete 1 true ∷ Complete 0 true ∷ Close ∷ []
 
 -- a flush that ends after a Stop
 abbrev stopped : List CoreEvent
@@ -137,8 +136,7 @@ flush-early it = durable-early
 
 -- nor is one with FUA that failed
 durable-fua : Durable linked 2
-durable-fua =
-    record { bio = fua_write; end = 3; submitted = refl; ended = refl; sure = inl refl }
+durable-fua = record { bio = fua_write; end = 3; submitted = refl; ended = refl; sure = inl refl }
 
 durable-failed : Durable failed 0 → ⊥
 durable-failed it = let is : false ≡ true = plain-durable failed 0 refl it in cc
@@ -275,14 +273,17 @@ list-submitted it =
     let same = at-place 0 (0 ∷ 1 ∷ 4 ∷ []) (1 ∷ 0 ∷ 4 ∷ [])
     (plain-list 512 crossed (0 ∷ 1 ∷ 4 ∷ []) refl it) in omega arith
 
--- Belongs: all that has been queued is among these ids
+-- Belongs: these ids are neither fewer than were queued, nor more than the next event queues
 belongs : Belongs flushed (0 ∷ 2 ∷ []) 4 2
-belongs =
-    belongs-plain 512 flushed 4 2 refl (omega arith)
+belongs = belongs-plain 512 flushed 4 2 refl (omega arith)
     (record { from = omega arith; to = omega arith })
 
 belongs-few : Belongs flushed (0 ∷ 2 ∷ []) 4 1 → ⊥
 belongs-few it = let less = it.all 1 2 3 3 refl queued (omega arith) in omega arith
+
+belongs-many : Belongs flushed (0 ∷ 2 ∷ []) 2 1 → ⊥
+belongs-many it =
+    let most = it.none 0 0 1 3 refl (queues-write, queued.1) (omega arith) in omega arith
 
 -- bytes_of: the sector is counted in log sectors, and not in sectors of 512 bytes
 abbrev large : List ℕ

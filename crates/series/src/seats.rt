@@ -1,5 +1,6 @@
-// Four seats that write and mark at once, with a fuse on the log: what each is told, and what the
-// log lists. And a seat whose thousands of writes each wait for the log.
+// Four seats that write and mark at once, with a fuse on the log: what each prints, and what the
+// log lists. A seat whose thousands of writes each wait for the log. And two seats at once, whose
+// marks are mixed in the log.
 use crate::asking::{Told, ask, folder_of};
 use crate::report::Report;
 use std::alloc::{AllocError, Global};
@@ -16,7 +17,12 @@ const MOST_CALLS: u64 = 20;
 // How often the seat that is alone writes, and marks.
 const TURNS: u64 = 2_500;
 
-/// Runs the seats with each fuse, and one that is alone, and reports the number of runs.
+// How often two seats mark, and in how many runs their marks may fail to mix.
+const MARKS: u64 = 1_000;
+
+const TRIES: u64 = 20;
+
+/// Runs the seats with each fuse, one seat, and two at once, and reports the number of runs.
 pub fn run<H: Threads + Wait + Sync>(
     rt: &H,
     alloc: Global,
@@ -29,7 +35,8 @@ pub fn run<H: Threads + Wait + Sync>(
         runs = runs.saturating_add(1);
     }
     run_alone(rt, alloc, report)?;
-    runs = runs.saturating_add(1);
+    run_two(rt, alloc, report)?;
+    runs = runs.saturating_add(2);
     let differ = report.differ().saturating_sub(before);
     let line = format!(in alloc; "seats: {runs} runs, {differ} differ")?;
     report.line(line.as_str())
@@ -99,6 +106,45 @@ fn script_alone(alloc: Global) -> Result<String, AllocError> {
         text.push_str("s0 w 5 1 41 fua\ns0 mark here\n")?;
     }
     Ok(text)
+}
+
+// Runs two seats that mark again and again, until a run has a mark of each seat before the last one
+// of the other: so neither seat waited for the other's end.
+fn run_two<H: Threads + Wait + Sync>(
+    rt: &H,
+    alloc: Global,
+    report: &mut Report,
+) -> Result<(), AllocError> {
+    let script = script_of_two(alloc)?;
+    let mut folder = folder_of(alloc, script.as_str())?;
+    for _ in 0..TRIES {
+        ask(rt, alloc, "run script log", &mut folder)?;
+        let listed = ask(rt, alloc, "list log", &mut folder)?;
+        if are_mixed(listed.out.as_str(), " mark one\n", " mark two\n") {
+            return Ok(());
+        }
+    }
+    let listed = ask(rt, alloc, "list log", &mut folder)?;
+    report.differs("two seats that mark at once", &listed, "marks of both seats, mixed")
+}
+
+// The script of these two.
+fn script_of_two(alloc: Global) -> Result<String, AllocError> {
+    let mut text = String::from_str(alloc, "data 16\nlog 2002\nseats 2\n")?;
+    for _mark in 0..MARKS {
+        text.push_str("s0 mark one\ns1 mark two\n")?;
+    }
+    Ok(text)
+}
+
+// Whether each of two texts is found before the last place of the other.
+fn are_mixed(listed: &str, one: &str, other: &str) -> bool {
+    match (listed.find(one), listed.rfind(one), listed.find(other), listed.rfind(other)) {
+        (Some(first), Some(last), Some(other_first), Some(other_last)) => {
+            first < other_last && other_first < last
+        }
+        _ => false,
+    }
 }
 
 // The script: each seat writes a hundred sectors of its

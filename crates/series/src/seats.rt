@@ -125,7 +125,11 @@ fn run_two<H: Threads + Wait + Sync>(
         }
     }
     let listed = ask(rt, alloc, "list log", &mut folder)?;
-    report.differs("two seats that mark at once", &listed, "marks of both seats, mixed")
+    report.differs(
+        "two seats that mark at once",
+        &listed,
+        "marks of both seats, mixed",
+    )
 }
 
 // The script of these two.
@@ -139,7 +143,12 @@ fn script_of_two(alloc: Global) -> Result<String, AllocError> {
 
 // Whether each of two texts is found before the last place of the other.
 fn are_mixed(listed: &str, one: &str, other: &str) -> bool {
-    match (listed.find(one), listed.rfind(one), listed.find(other), listed.rfind(other)) {
+    match (
+        listed.find(one),
+        listed.rfind(one),
+        listed.find(other),
+        listed.rfind(other),
+    ) {
         (Some(first), Some(last), Some(other_first), Some(other_last)) => {
             first < other_last && other_first < last
         }

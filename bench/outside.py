@@ -15,6 +15,7 @@ PROGRAM = os.path.realpath(sys.argv[1]) if len(sys.argv) > 1 else str(ROOT / "cr
 FIRST = b"data 16\nlog 32\nw a 5 1 41\nc a\nf b\nc b\nclose\n"
 TOLD = b"a ok\nb ok\n3 4\n"
 failed = []
+os.environ.pop("DMLW_EXPLAIN", None)
 
 
 def run(*words, **how):
@@ -120,6 +121,10 @@ def texts(room):
     with open("/dev/full", "wb") as full:
         ran = subprocess.run([PROGRAM, "record", "--explain", script, room / "log"], stdout=full, stderr=subprocess.PIPE)
     trial("--explain names the output", ran.returncode == 1 and b"standard output" in ran.stderr, ran)
+    exact = run("--explain", "list", room / "none").stderr
+    for value, wanted in (("1", exact), ("0", b"dmlw: 32 File\n"), ("yes", b"dmlw: 32 File\n")):
+        ran = run("list", room / "none", env=dict(os.environ, DMLW_EXPLAIN=value))
+        trial(f"the program explains by itself only if DMLW_EXPLAIN is 1, and not {value}", (ran.returncode, ran.stderr) == (1, wanted), ran)
 
 
 def pipes(room):
@@ -147,6 +152,48 @@ def pipes(room):
     ran = run("record", script, fifo)
     reader.join()
     trial("a log in a pipe", ran.returncode == 0 and got == [log.read_bytes()] and fifo.is_fifo(), ran)
+    explained(room)
+
+
+def explained(room):
+    """What --explain says of what came through a pipe is what it says of a file of the same bytes, but for the name; of more than 4 MiB it says nothing false."""
+    log = (room / "log").read_bytes()
+    cases = (
+        ("a script with no close", ["record", "IN", room / "out"], FIRST[:-6]),
+        ("a bad word", ["record", "IN", room / "out"], FIRST.replace(b"41", b"4X")),
+        ("an empty script", ["record", "IN", room / "out"], b""),
+        ("a log that is none", ["list", "IN"], bytes(8192)),
+        ("no whole sectors", ["status", "IN"], bytes(8000)),
+        ("no such mark", ["replay", "IN", room / "script.img", room / "out", "mark:none"], log),
+        ("no first image", ["replay", "IN", room / "none", room / "out", "flush"], log),
+        ("a script of more than 4 MiB", ["record", "IN", room / "out"], b"#\n" * 2500000),
+    )
+    (room / "script.img").write_bytes(bytes(8192))
+    for name, words, data in cases:
+        (room / "in").write_bytes(data)
+        ran = run("--explain", *["/dev/stdin" if it == "IN" else it for it in words], input=data, timeout=60)
+        wanted = run("--explain", *[room / "in" if it == "IN" else it for it in words])
+        said = ran.stderr.replace(b"/dev/stdin", str(room / "in").encode())
+        if name == "a script of more than 4 MiB":
+            # The system has no length of a pipe.
+            said, exact = said.replace(b"has more than the 4194304 bytes of a script", b"SIZE"), wanted.stderr.replace(b"has 5000000 bytes, and a script at most 4194304", b"SIZE")
+        else:
+            exact = wanted.stderr
+        trial(f"in a pipe: {name}", (ran.returncode, ran.stdout, said) == (wanted.returncode, wanted.stdout, exact) and b"\n  " in b"\n" + said, (ran, wanted))
+    for name, data, wanted in (
+        ("a log that is none, of 8 MiB", bytes(1 << 23), b"dmlw: 13 BadMagic\n  /dev/stdin: it isn't a log\n"),
+        ("an odd log of 8 MiB", bytes((1 << 23) + 1), b"dmlw: 32 File\n"),
+        ("a log of 513 MiB", bytes(513 << 20), b"dmlw: 32 File\n  /dev/stdin has more than the 536870912 bytes of a log or an image\n  a log can be cut, and the entries within these bytes are read: head -c 536870912 /dev/stdin >cut.log\n"),
+    ):
+        ran = subprocess.run([PROGRAM, "--explain", "list", "/dev/stdin"], input=data, capture_output=True)
+        trial(f"in a pipe: {name}", (ran.returncode, ran.stdout, ran.stderr) == (1, b"", wanted), ran)
+    fifo = room / "script-fifo"
+    os.mkfifo(fifo)
+    writer = threading.Thread(target=lambda: fifo.write_bytes(FIRST[:-6]))
+    writer.start()
+    ran = run("--explain", "record", fifo, room / "out", timeout=60)
+    writer.join()
+    trial("a pipe with a name isn't opened again", ran.returncode == 0 and b"has no line `close`" in ran.stderr, ran)
 
 
 def full_disk(room):

@@ -28,17 +28,21 @@ fn main(rt: HostRuntime) -> ExitCode {
     ExitCode::from(status)
 }
 
-// Does the process's command line; where nobody reads the output on, the rest of it is dropped. An
-// error comes only from before a command is begun.
+// Does the process's command line, with the word `--explain` added if the variable DMLW_EXPLAIN is
+// `1`. If nobody reads the output on, the rest of it is dropped. An error comes only from before a
+// command is begun.
 fn run<R: Files + Env + Print + AllocGlobal + Threads + Wait + Sync, E: Write>(
     rt: &R,
     err: &mut E,
 ) -> io::Result<u8> {
-    let words: Vec<String> = env::args(rt)?.collect(rt.alloc())?;
+    let mut words: Vec<String> = env::args(rt)?.collect(rt.alloc())?;
+    if env::var(rt, "DMLW_EXPLAIN").is_ok_and(|value| value.as_str() == "1") {
+        words.push(String::from_str(rt.alloc(), "--explain")?)?;
+    }
     let mut session = Session {
         alloc: rt.alloc(),
         explains: false,
-        files: HostFiles::new(rt),
+        files: HostFiles::new(rt, rt.alloc()),
         out: BufWriter::new(rt.alloc(), Output::new(io::writer(rt)))?,
         err,
     };

@@ -168,5 +168,6 @@ each begin with two spaces: of a script's line the line itself, its number, the 
 mark, a tab, an upper case letter), or the first word that doesn't fit, or what its place asks for, and the form that the line is to have; of a
 log how many entries it has, or which comes next; of an image its size; of a file its name and the system's reason; where `judge` says no the
 line of the event that rules the sector out; of a run of `path` the script's line of each step. At status 0 it says where a script has no `close`. Their wording may change; the other lines' doesn't. A file of that very name is
-given as `./--explain`. The launcher `./dmlw` adds the word at a terminal, or if the variable `DMLW_EXPLAIN` is `1`; if it is `0`, it never does.
+given as `./--explain`. The program adds the word itself if the variable `DMLW_EXPLAIN` is `1`; the launcher `./dmlw` adds it at a terminal too, unless that is `0`.
+What comes through a pipe is explained from the bytes that were read, if they are at most 4,194,304.
 "#;

@@ -29,7 +29,7 @@ Commands:
   help formats  Prints the grammar of scripts, the faults and the limits
 
 Options:
-      --explain  In any place: behind a fault's line stands what helps
+      --explain  In any place: after a fault's line comes what helps. DMLW_EXPLAIN=1 adds it
       --rebuild  Of the launcher ./dmlw, as its only word: proves and builds the program anew
   -h, --help     Print help
   -V, --version  Print version

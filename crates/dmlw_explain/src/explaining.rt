@@ -19,8 +19,8 @@ use std::alloc::Global;
 use std::fmt;
 use std::fmt::Write;
 
-/// What `--explain` adds to how a recording ended: lines that each begin with two spaces. Empty
-/// where it isn't asked for, where there is nothing to add, or where there is no memory for it.
+/// What `--explain` adds to how a recording ended: lines that each begin with two spaces. Empty if
+/// it isn't asked for, if there is nothing to add, or if there is no memory for it.
 pub fn explain_recording<F: Files>(
     alloc: Global,
     explains: bool,
@@ -154,7 +154,7 @@ pub fn explain_replaying<F: Files>(
     }
 }
 
-// Writes what there is to say of a replay that ended so.
+// Writes what there is to add about a replay that ended so.
 fn write_replaying<F: Files, W: Write>(
     alloc: Global,
     done: Result<u64, RunError>,
@@ -212,7 +212,7 @@ pub fn explain_copying<F: Files>(
     }
 }
 
-// Writes what there is to say of a copy that ended so.
+// Writes what there is to add about a copy that ended so.
 fn write_copying<F: Files, W: Write>(
     alloc: Global,
     done: Result<u64, RunError>,
@@ -250,7 +250,7 @@ struct ScriptNames<'a> {
     log: &'a str,
 }
 
-// Writes what there is to say of a recording or a run that was refused so, or wasn't.
+// Writes what there is to add about a recording or a run that had this fault, or none.
 fn write_recording<F: Files, W: Write>(
     alloc: Global,
     fault: Option<Fault>,
@@ -295,7 +295,7 @@ fn write_line_of<F: Files, W: Write>(
     write_line(grammar, script, &text, number, refusal, to)
 }
 
-// Writes what there is to say of a command on a log that ended so.
+// Writes what there is to add about a command on a log that ended so.
 fn write_reading<F: Files, W: Write>(
     alloc: Global,
     done: Result<(), RunError>,
@@ -315,7 +315,7 @@ fn write_reading<F: Files, W: Write>(
     }
 }
 
-// Writes what there is to say of a judging that ended so.
+// Writes what there is to add about a judging that ended so.
 fn write_judging<F: Files, W: Write>(
     alloc: Global,
     done: Result<(), RunError>,
@@ -338,7 +338,7 @@ fn write_judging<F: Files, W: Write>(
     }
 }
 
-// What a recording ended by before its time, if it did.
+// The fault that ended a recording before its time, if one did.
 fn fault_of(done: Result<Status, RunError>) -> Option<Fault> {
     match done {
         Ok(status) => {
@@ -349,7 +349,7 @@ fn fault_of(done: Result<Status, RunError>) -> Option<Fault> {
     }
 }
 
-// Writes that a recorder's script has no `close`, where it has none.
+// Writes that a recorder's script has no `close`, if it has none.
 fn write_unclosed<F: Files, W: Write>(
     alloc: Global,
     grammar: Grammar,
@@ -366,8 +366,7 @@ fn write_unclosed<F: Files, W: Write>(
     let text = files
         .read(alloc, script, MAX_SCRIPT_BYTES)
         .map_err(|_| fmt::Error)?;
-    // A script that was run isn't empty: a pipe, which is read only once, has nothing left.
-    if text.is_empty() || has_line(&text, b"close") {
+    if has_line(&text, b"close") {
         return Ok(());
     }
     writeln!(

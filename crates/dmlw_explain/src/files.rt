@@ -1,4 +1,5 @@
-//! Which file of a command can't be used, and why. What was read is read again for it.
+//! Which file of a command can't be used, and why. What was read is read again for it; if it can't
+//! be, nothing is printed.
 //! Its clauses are in words of `dmlw_files`; the search alone proves it.
 ghost use Rattle.std.specs.Prelude.{◌≡◌};
 ghost use Rattle.dmlw_files.specs.Files.{KeepsFiles};
@@ -95,7 +96,7 @@ pub(crate) fn write_file_of_writing<F: Files, W: Write>(
     write_output(to)
 }
 
-// Writes why a file can't be written: a regular file asks this of its folder.
+// Writes why a file can't be written, and what a regular file needs of its folder.
 fn write_unwritten<W: Write>(name: &str, error: &io::Error, to: &mut W) -> fmt::Result {
     writeln!(to, "  {name} can't be written: {error}")?;
     match error.kind() {
@@ -116,7 +117,7 @@ fn write_output<W: Write>(to: &mut W) -> fmt::Result {
     writeln!(to, "  the standard output can't be written")
 }
 
-// Writes why a script's file can't be read, and answers whether there is a reason.
+// Writes why a script's file can't be read, and returns whether it can't.
 fn write_script_file<F: Files, W: Write>(
     alloc: Global,
     script: &str,
@@ -133,7 +134,7 @@ fn write_script_file<F: Files, W: Write>(
     Ok(true)
 }
 
-// Writes why a file isn't an image, and answers whether there is a reason.
+// Writes why a file isn't an image, and returns whether it isn't, or can't be read again.
 fn write_image_file<F: Files, W: Write>(
     alloc: Global,
     image: &str,
@@ -163,13 +164,13 @@ fn write_cut<W: Write>(image: &str, to: &mut W) -> fmt::Result {
     )
 }
 
-// Writes that so many bytes are no image, where they aren't, and answers whether that is so.
+// Writes that an image can't have `length` bytes, if it can't, and returns whether that is so.
 fn write_length<W: Write>(image: &str, length: u64, to: &mut W) -> Result<bool, fmt::Error> {
     let over = length % SECTOR_BYTES;
     if length == 0 {
         writeln!(
             to,
-            "  {image} is empty, or a pipe, which is read only once: a log or an image has at least {SECTOR_BYTES} bytes"
+            "  {image} is empty: a log or an image has at least {SECTOR_BYTES} bytes"
         )?;
     } else if over != 0 {
         writeln!(
@@ -180,7 +181,13 @@ fn write_length<W: Write>(image: &str, length: u64, to: &mut W) -> Result<bool, 
     Ok(length == 0 || over != 0)
 }
 
-// Writes why a file that is to be of some kind couldn't be read.
+// Whether a read fails for this reason only if the file was read before: a refusal for want of
+// memory is no refusal of a file.
+fn is_of_rereading(kind: io::ErrorKind) -> bool {
+    kind == io::ErrorKind::NotSeekable || kind == io::ErrorKind::OutOfMemory
+}
+
+// Writes why a file that is to be of some kind couldn't be read, if the first read failed for that.
 fn write_unread<F: Files, W: Write>(
     name: &str,
     limit: u64,
@@ -189,6 +196,7 @@ fn write_unread<F: Files, W: Write>(
     to: &mut W,
 ) -> fmt::Result {
     match files.failure() {
+        Some(FileFailure::Read(error)) if is_of_rereading(error.kind()) => Ok(()),
         Some(FileFailure::Read(error)) | Some(FileFailure::Write(error)) => {
             writeln!(to, "  {name} can't be read: {error}")
         }

@@ -1,5 +1,5 @@
-//! What is told of a layer's line that is none: which of its words is at fault, and the form that it
-//! is to have.
+//! What is printed of a wrong line of a layer: which of its words is at fault, and the form that
+//! the line should have.
 //! The search alone proves it.
 use crate::line::Shown;
 use crate::script_text::{is_space, number_at, word_at};
@@ -7,8 +7,8 @@ use std::fmt;
 use std::fmt::Write;
 use text_words::number_of;
 
-// The most sectors of a layer, seconds of a flakey layer's cycle, milliseconds of a delay, and bytes
-// of a dust layer's block.
+// The most sectors of a layer, seconds of a flakey layer's cycle, milliseconds of a delay, and
+// bytes of a dust layer's block.
 const MAX_SECTORS: u64 = 1_048_576;
 
 const MAX_CYCLE: u64 = 4_294_967_295;
@@ -17,8 +17,8 @@ const MAX_DELAY: u64 = 4_294_967_295;
 
 const MAX_BLOCK: u64 = 1_073_741_824;
 
-// The form of a layer's line behind its first word, and which of its words are numbers; the words
-// are counted with the first word of the script's line.
+// The form of a layer's line after its first word, and which of its words are numbers. The first
+// word of the script's line is word 0.
 #[derive(Clone, Copy)]
 struct LayerForm {
     form: &'static str,
@@ -84,7 +84,7 @@ pub(crate) fn write_unknown_target<W: Write>(line: &[u8], to: &mut W) -> fmt::Re
     )
 }
 
-/// Writes how many words a layer's line has, and how many it is to have.
+/// Writes how many words a layer's line has, and how many it should have.
 pub(crate) fn write_wrong_count<W: Write>(line: &[u8], to: &mut W) -> fmt::Result {
     let count = line
         .split(is_space)
@@ -103,7 +103,7 @@ pub(crate) fn write_wrong_count<W: Write>(line: &[u8], to: &mut W) -> fmt::Resul
     }
 }
 
-/// Writes which word of a layer's line has to be a number and is none.
+/// Writes which word of a layer's line should be a number and isn't.
 pub(crate) fn write_bad_number<W: Write>(line: &[u8], to: &mut W) -> fmt::Result {
     let Some(LayerForm { form, numbers, .. }) = form_of(line) else {
         return Ok(());

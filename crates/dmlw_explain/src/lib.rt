@@ -1,6 +1,6 @@
-//! What `--explain` adds behind a fault's line: which line of a script is at fault and the word
-//! that doesn't fit, which file can't be used and why, and what helps against a refusal. Nothing
-//! where it isn't asked for; no file is changed for it. The texts are shown by tests.
+//! What `--explain` adds after a fault's line: which line of a script is at fault and the word that
+//! doesn't fit, which file can't be used and why, and what helps against a refusal. It adds nothing
+//! if it isn't asked for, and changes no file. Tests show the texts.
 #![tactic(auto)]
 
 pub use counted::{Counted, counted_sectors};

@@ -1,4 +1,4 @@
-//! What the place of a script's line asks for, where its words alone are right.
+//! What the place of a script's line asks for, if its words alone are right.
 //! The search alone proves it.
 use crate::line::Shown;
 use crate::script_text::{
@@ -66,8 +66,8 @@ fn write_range<W: Write>(line: Numbered, to: &mut W) -> fmt::Result {
     writeln!(to, "  the number {number} is out of range: it is {range}")
 }
 
-// Writes why a line can't stand behind the head's lines, or where it stands among the layers and
-// the others.
+// Writes why a line can't come after the head's lines, or can't come here among the layers and the
+// others.
 fn write_behind_head<W: Write>(text: &[u8], line: Numbered, to: &mut W) -> fmt::Result {
     match word_at(line.text, 0) {
         Some(b"data") => write_twice(text, line, b"data", to),
@@ -81,7 +81,7 @@ fn write_behind_head<W: Write>(text: &[u8], line: Numbered, to: &mut W) -> fmt::
     }
 }
 
-// Writes that a line stands in the script already that may stand there once.
+// Writes that the script has this line already, which it may have once.
 fn write_twice<W: Write>(text: &[u8], line: Numbered, word: &[u8], to: &mut W) -> fmt::Result {
     let Some(Numbered { number, .. }) = line_of(text, line.number, word) else {
         return Ok(());
@@ -93,7 +93,7 @@ fn write_twice<W: Write>(text: &[u8], line: Numbered, word: &[u8], to: &mut W) -
     )
 }
 
-// Writes what stands before a layer's line that may not, or that its layer is too short.
+// Writes which line may not come before a layer's line, or that the layer is too short.
 fn write_layer<W: Write>(text: &[u8], line: Numbered, word: &[u8], to: &mut W) -> fmt::Result {
     if let Some(Numbered { number, .. }) = first_of_body(text, line.number) {
         return writeln!(
@@ -140,7 +140,7 @@ fn write_moment<W: Write>(text: &[u8], line: Numbered, to: &mut W) -> fmt::Resul
     )
 }
 
-// Writes which seats there are.
+// Writes that there is no such seat, and which seats there are.
 fn write_seat<W: Write>(text: &[u8], line: Numbered, seat: &[u8], to: &mut W) -> fmt::Result {
     let Some(Numbered { text: seats, .. }) = line_of(text, line.number, b"seats") else {
         return Ok(());

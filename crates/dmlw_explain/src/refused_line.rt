@@ -1,5 +1,4 @@
-//! What is told of a line of a script at which a command was refused, by what the lines before it
-//! say.
+//! What is printed of a line of a script at which a command was refused, from the lines before it.
 //! The search alone proves it.
 use crate::advice::advice;
 use crate::counted::{Counted, counted_sectors};
@@ -25,12 +24,9 @@ pub(crate) fn write_line<W: Write>(
     refusal: Refusal,
     to: &mut W,
 ) -> fmt::Result {
-    if text.is_empty() {
-        return write_gone(grammar, script, number, to);
-    }
     // An empty line is at fault only if the script ends there.
     let Some(line) = line_at(text, number).filter(|line| !line.is_empty()) else {
-        return write_too_short(grammar, script, number, to);
+        return write_too_short(grammar, script, text, number, to);
     };
     let shown = Shown(line);
     writeln!(to, "  line {number} of {script}: {shown}")?;
@@ -52,22 +48,6 @@ pub(crate) fn write_line<W: Write>(
     }
 }
 
-// Writes that a script has no text: it is empty, or a pipe, which has nothing left.
-fn write_gone<W: Write>(grammar: Grammar, script: &str, number: u64, to: &mut W) -> fmt::Result {
-    if number > 1 {
-        return writeln!(
-            to,
-            "  {script} can't be read again to show its line {number}, as a pipe can't: give the script as a file"
-        );
-    }
-    let head = head_of(grammar);
-    writeln!(
-        to,
-        "  {script} is empty, or a pipe, which is read only once; a script begins with the lines {head}:"
-    )?;
-    write_forms(grammar, to)
-}
-
 // The lines that a script begins with.
 fn head_of(grammar: Grammar) -> &'static str {
     match grammar {
@@ -76,7 +56,7 @@ fn head_of(grammar: Grammar) -> &'static str {
     }
 }
 
-// Writes what helps against a refusal, if its name doesn't say it all.
+// Writes what helps against a refusal, if there is such a sentence.
 fn write_sentence<W: Write>(refusal: Refusal, to: &mut W) -> fmt::Result {
     match advice(refusal) {
         "" => Ok(()),
@@ -84,22 +64,25 @@ fn write_sentence<W: Write>(refusal: Refusal, to: &mut W) -> fmt::Result {
     }
 }
 
-// Writes that a script ends where its head isn't whole yet.
+// Writes that a script ends before its head is whole.
 fn write_too_short<W: Write>(
     grammar: Grammar,
     script: &str,
+    text: &[u8],
     number: u64,
     to: &mut W,
 ) -> fmt::Result {
     let head = head_of(grammar);
-    writeln!(
-        to,
-        "  {script} ends before its line {number}; a script begins with the lines {head}:"
-    )?;
+    if text.is_empty() {
+        write!(to, "  {script} is empty")?;
+    } else {
+        write!(to, "  {script} ends before its line {number}")?;
+    }
+    writeln!(to, "; a script begins with the lines {head}:")?;
     write_forms(grammar, to)
 }
 
-// Writes why an id can't be submitted or ended: which line did so before.
+// Writes why an id can't be submitted or ended: an earlier line did so, or none submitted it.
 fn write_id<W: Write>(text: &[u8], line: Numbered, to: &mut W) -> fmt::Result {
     let id = word_at(line.text, 1).unwrap_or_default();
     let shown = Shown(id);
@@ -127,10 +110,9 @@ fn write_id<W: Write>(text: &[u8], line: Numbered, to: &mut W) -> fmt::Result {
     }
 }
 
-// The first sector and the number of sectors that a line's request names, where it names them.
+// The first sector and the number of sectors of a line's request, if the line names them.
 fn range_of(grammar: Grammar, line: &[u8]) -> Option<(u64, u64)> {
-    // (of a line `r <first> <count>` they are its second and third words, and else the third and
-    // the fourth)
+    // A line `r <first> <count>` has them as words 1 and 2, any other as words 2 and 3.
     let place = match grammar {
         Grammar::Recorder if word_at(line, 0) == Some(b"r".as_slice()) => 1,
         _ => 2,
@@ -197,8 +179,8 @@ fn write_busy<W: Write>(text: &[u8], line: Numbered, to: &mut W) -> fmt::Result 
     )
 }
 
-// Writes that a layer ends past what stands beneath it, where it does, and else that one of its
-// numbers is out of range.
+// Writes that a layer ends past what is beneath it, if it does, and else that one of its numbers is
+// out of range.
 fn write_out_of_range<W: Write>(text: &[u8], line: Numbered, to: &mut W) -> fmt::Result {
     let beneath = match word_at(line.text, 0) {
         Some(b"data-layer") => sectors_of(text, line.number, b"data", b"data-layer"),
@@ -216,8 +198,8 @@ fn write_out_of_range<W: Write>(text: &[u8], line: Numbered, to: &mut W) -> fmt:
     }
 }
 
-// Where a layer begins on what stands beneath it, and its length, where its line says so; an error
-// layer begins at 0.
+// The place on what is beneath a layer at which it begins, and its length, if its line has both. An
+// error layer begins at 0.
 fn layer_range(line: &[u8]) -> Option<(u64, u64)> {
     let length = number_at(line, 2)?;
     match word_at(line, 5) {

@@ -60,7 +60,7 @@ impl From<FileError> for RunError {
 pub enum FileFailure {
     /// It can't be read.
     Read(io::Error),
-    /// It is longer than it may be: so many bytes, as the
+    /// It is longer than it may be: this many bytes, as the
     /// system has it. A pipe or a device has fewer there.
     TooLong(u64),
     /// It can't be written.
@@ -69,17 +69,17 @@ pub enum FileFailure {
 
 /// The files that a command reads and writes, by name.
 pub trait Files {
-    /// What the file of a name holds, where it is known.
+    /// What the file of a name holds, if it is known.
     ghost contents: { Self → List ℕ → Option (List ℕ) };
 
-    /// The writes that were asked for, in order, where they are known.
+    /// The writes that were asked for, in order, if they are known.
     ghost writes: { Self → Option (List Write) };
 
     /// Whether there is a reason why the last call failed.
     ghost has_failure: { Self → Bool };
 
-    /// The whole of a file of at most `limit` bytes. A longer file is refused; where a file's bytes
-    /// are known and aren't too many, only memory can refuse it.
+    /// The whole of a file of at most `limit` bytes. A longer file is refused. If a file's bytes
+    /// are known and aren't too many, only want of memory refuses it.
     fn read(&mut self, alloc: Global, name: &str, limit: u64) -> Result<Vec<u8>, FileError>
         ensures contents { IfOk result
             (λ bytes. MatchesContents (contents self.old name.now) bytes.items) }
@@ -91,16 +91,16 @@ pub trait Files {
         // A reason of an earlier call is gone.
         ensures cleared { OnOk result (has_failure self.new ≡ false) };
 
-    /// Makes the file hold the image of a disk and no other bytes, or, where it fails, leaves each
-    /// file as it was. The disk goes: its bytes may be taken out of it piece by piece, so that the
-    /// image needs not be in memory as a whole.
+    /// Makes the file hold the image of a disk and no other bytes, or, if it fails, leaves each
+    /// file as it was. The disk is dropped: its bytes may be taken out of it piece by piece, so
+    /// that the image need not be in memory as a whole.
     fn write(&mut self, alloc: Global, name: &str, disk: SectorDisk) -> Result<(), FileError>
         ensures holds { OnOk result (MatchesContents (contents self.new name.now) (image_of disk)) }
         ensures kept { OnErr result (KeepsFiles (contents self.old) (contents self.new)) }
         ensures writes { writes self.new ≡ one_more (writes self.old) name.now (image_of disk) }
         ensures cleared { OnOk result (has_failure self.new ≡ false) };
 
-    /// Why the last read or write failed, where it did and that is known.
+    /// Why the last read or write failed, if it did and that is known.
     fn failure(&self) -> Option<&FileFailure>
         ensures { is_some result ≡ has_failure self.now };
 

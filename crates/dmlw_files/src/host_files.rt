@@ -5,16 +5,17 @@ ghost use Rattle.std.specs.Prelude.{is_some, length, take, vec_len};
 
 use crate::files::{FileError, FileFailure, Files};
 use crate::pieces::{PIECE, used_sectors, write_sectors};
+use crate::text::MAX_SCRIPT_BYTES;
 use bio::SECTOR_BYTES;
 use blockdev::BlockDev;
 use sector_disk::SectorDisk;
 use std::alloc::Global;
 use std::fs::{File, OpenFile, OpenOptions, Permissions};
 use std::io::Read;
-use std::os::unix::fs::MetadataExt;
+use std::os::unix::fs::{FileTypeExt, MetadataExt};
 use std::{fs, io};
 
-// How many names are tried for the file beside a log.
+// How many names are tried for the new file in a log's folder.
 const MAX_BESIDE: u32 = 1000;
 
 // How many bytes of a file are read at a time: few enough to stay in a cache of the processor.
@@ -22,22 +23,92 @@ const READ_BYTES: usize = 65_536;
 
 /// The system's files. No clause knows what they hold.
 ///
-/// A regular file is written whole or not at all: beside it, as `NAME.dmlw-tmp-<n>`, and then
+/// A regular file is written whole or not at all: as `NAME.dmlw-tmp-<n>` in its folder, and then
 /// renamed over it. A link stays, and the file that it leads to is replaced. A pipe or a device is
-/// written as it is, and so is, after what it holds, a file that a stream of the process leads to,
-/// as `/dev/stdout`.
+/// written as it is. So is a file that a stream of the process leads to, as `/dev/stdout`, after
+/// what it holds.
+///
+/// A pipe, a socket or a character device gives its bytes once. They are kept under its name for as
+/// long as this value lives, if they are at most 4,194,304 bytes: each later read of the name
+/// returns a copy of them. If they weren't kept, it fails with `NotSeekable`, or, if they are more
+/// than it may read, with `TooLong(0)`.
 #[derive(Drop)]
 pub struct HostFiles<'a, R: std::rt::Files> {
     runtime: &'a R,
     failure: Option<FileFailure>,
+    spent: Vec<Spent>,
+}
+
+// A file that was read to its end, or over the limit, and that can't be read again.
+#[derive(Drop)]
+struct Spent {
+    name: String,
+    // How many bytes it has at least: all of them, or one more than the read's limit.
+    length: u64,
+    // All its bytes, unless they are too many or there was no memory for a copy.
+    bytes: Option<Vec<u8>>,
+}
+
+impl Spent {
+    // The bytes of the file, or 0 if they are more than the limit.
+    fn read(&self, limit: u64) -> io::Result<Result<Vec<u8>, u64>>
+        ensures { IfOk result (λ found. IfOk found (λ bytes. vec_len bytes ≤ limit)) }
+    {
+        match &self.bytes {
+            Some(bytes) if bytes.len() as u64 <= limit => Ok(Ok(bytes.clone()?)),
+            _ if self.length > limit => Ok(Err(0)),
+            _ => Err(io::Error::from(io::ErrorKind::NotSeekable)),
+        }
+    }
 }
 
 impl<'a, R: std::rt::Files> HostFiles<'a, R> {
-    pub fn new(runtime: &'a R) -> HostFiles<'a, R> {
+    pub fn new(runtime: &'a R, alloc: Global) -> HostFiles<'a, R> {
         HostFiles {
             runtime,
             failure: None,
+            spent: Vec::new(alloc),
         }
+    }
+
+    // The whole of a file, or how long it is, as the system has it, if it is longer than the limit.
+    fn find(&mut self, alloc: Global, name: &str, limit: u64) -> io::Result<Result<Vec<u8>, u64>>
+        ensures within { IfOk result (λ found. IfOk found (λ bytes. vec_len bytes ≤ limit)) }
+        ensures failure { self.new.failure ≡ self.old.failure }
+    {
+        if let Some(spent) = self.spent.iter().find(|spent| spent.name.as_str() == name) {
+            return spent.read(limit);
+        }
+        if reads_again(self.runtime, name) {
+            return read_file(self.runtime, alloc, name, limit);
+        }
+        self.read_once(alloc, name, limit)
+    }
+
+    // Reads a file that can't be read again, and keeps what it had.
+    fn read_once(
+        &mut self,
+        alloc: Global,
+        name: &str,
+        limit: u64,
+    ) -> io::Result<Result<Vec<u8>, u64>>
+        ensures within { IfOk result (λ found. IfOk found (λ bytes. vec_len bytes ≤ limit)) }
+        ensures failure { self.new.failure ≡ self.old.failure }
+    {
+        // Memory for its name is there before it is read.
+        let kept_name = String::from_str(alloc, name)?;
+        self.spent.reserve(1)?;
+        let found = read_file(self.runtime, alloc, name, limit)?;
+        let (length, bytes) = match &found {
+            Ok(bytes) => (bytes.len() as u64, kept(bytes)),
+            Err(_) => (limit.saturating_add(1), None),
+        };
+        self.spent.push_reserved(Spent {
+            name: kept_name,
+            length,
+            bytes,
+        });
+        Ok(found)
     }
 
     // Keeps why a call failed.
@@ -60,7 +131,7 @@ impl<R: std::rt::Files> Files for HostFiles<'_, R> {
 
     fn read(&mut self, alloc: Global, name: &str, limit: u64) -> Result<Vec<u8>, FileError> {
         self.failure = None;
-        match read_file(self.runtime, alloc, name, limit) {
+        match self.find(alloc, name, limit) {
             Ok(Ok(bytes)) => Ok(bytes),
             Ok(Err(length)) => Err(self.keep(FileFailure::TooLong(length))),
             Err(error) => Err(self.keep(FileFailure::Read(error))),
@@ -93,7 +164,23 @@ impl<R: std::rt::Files> Files for HostFiles<'_, R> {
     }
 }
 
-// The whole of a file, or how long it is, as the system has it, where it is longer than this.
+// Whether a later read of a file finds its bytes again, or fails as the first one did.
+fn reads_again<R: std::rt::Files>(runtime: &R, name: &str) -> bool {
+    match fs::metadata(runtime, name) {
+        Ok(found) => found.is_file() || found.is_dir() || found.file_type().is_block_device(),
+        Err(_) => true,
+    }
+}
+
+// A copy of these bytes, if they are few enough to be kept and there is memory.
+fn kept(bytes: &Vec<u8>) -> Option<Vec<u8>> {
+    if bytes.len() as u64 > MAX_SCRIPT_BYTES {
+        return None;
+    }
+    bytes.clone().ok()
+}
+
+// The whole of a file, or how long it is, as the system has it, if it is longer than the limit.
 fn read_file<R: std::rt::Files>(
     runtime: &R,
     alloc: Global,
@@ -116,7 +203,7 @@ fn read_file<R: std::rt::Files>(
     Ok(Ok(bytes))
 }
 
-// Appends what a reader has left, of at most so many bytes.
+// Appends what a reader has left, if that is at most `most` bytes.
 fn append_rest<R: Read>(reader: &mut R, most: u64, bytes: &mut Vec<u8>) -> io::Result<()>
     ensures { OnOk result (IfSome (R.remaining reader.old) (λ rest. length rest ≤ most
         → bytes.new.items ≡ bytes.old.items ++ rest)) }
@@ -129,8 +216,8 @@ fn append_rest<R: Read>(reader: &mut R, most: u64, bytes: &mut Vec<u8>) -> io::R
     Ok(())
 }
 
-// Appends the next bytes that a reader has, and says how many: none only at the end. The kit's
-// `Read` fills what is set already, so the room for a piece is set to zero first; that way the
+// Appends the next bytes that a reader has, and returns how many: none only at the end. The kit's
+// `Read` fills what is set already, so the room for a piece is set to zero first. That way the
 // piece goes from the file to its place at once.
 fn append_piece<R: Read>(reader: &mut R, bytes: &mut Vec<u8>) -> io::Result<usize>
     ensures moved { IfOk result (λ count. IfSome (R.remaining reader.old) (λ rest.
@@ -160,7 +247,7 @@ fn write_file<R: std::rt::Files>(
     write_image(runtime, alloc, name, &mut disk, &mut buffer)
 }
 
-// Writes the file of a name, as what stands there asks for.
+// Writes the file of a name in the way that its kind asks for.
 fn write_image<R: std::rt::Files>(
     runtime: &R,
     alloc: Global,
@@ -181,7 +268,7 @@ fn write_image<R: std::rt::Files>(
         }
         Ok(_) => write_through(runtime, name, disk, buffer),
         Err(error) => {
-            // A link that leads nowhere has a name, and no file.
+            // A link to no file has a name.
             if error.kind() != io::ErrorKind::NotFound
                 || fs::symlink_metadata(runtime, name).is_ok()
             {
@@ -235,7 +322,7 @@ fn replace<R: std::rt::Files>(
     done
 }
 
-// A new file beside another one, and its name, which nobody else has.
+// A new file in the folder of another one, and its name, which no other file has.
 fn create_beside<R: std::rt::Files>(
     runtime: &R,
     alloc: Global,
@@ -255,7 +342,7 @@ fn create_beside<R: std::rt::Files>(
     Err(io::Error::from(io::ErrorKind::AlreadyExists))
 }
 
-// Writes a new file, and sees it on the disk. Zeroes at its end take no time and no room.
+// Writes a new file, and waits until it is on the disk. Zeroes at its end take no time and no room.
 fn fill<R: std::rt::Files>(
     file: R::File,
     permissions: Option<Permissions>,

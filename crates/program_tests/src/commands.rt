@@ -293,6 +293,6 @@ fn check_reasons<F: Files>(
 // The system's reason for a file of it.
 #[test]
 fn explains_files(rt: HostRuntime) -> Result<(), Fail> {
-    let mut files = HostFiles::new(&rt);
+    let mut files = HostFiles::new(&rt, rt.alloc());
     check_reasons(&rt, rt.alloc(), &mut files)
 }

@@ -36,7 +36,7 @@ pub(crate) fn holds<R: std::rt::Files>(
     name: &str,
     bytes: &[u8],
 ) -> bool {
-    match HostFiles::new(runtime).read(alloc, name, LIMIT) {
+    match HostFiles::new(runtime, alloc).read(alloc, name, LIMIT) {
         Ok(read) => read.as_slice() == bytes,
         Err(_) => false,
     }
@@ -120,7 +120,12 @@ fn check_files<R: std::rt::Files + Abort, F: Files>(
 
 #[test]
 fn files_are_read_as_they_were_written(rt: HostRuntime) -> Result<(), Fail> {
-    check_files(&rt, rt.alloc(), &mut HostFiles::new(&rt), "dmlw-test-file")
+    check_files(
+        &rt,
+        rt.alloc(),
+        &mut HostFiles::new(&rt, rt.alloc()),
+        "dmlw-test-file",
+    )
 }
 
 // Makes a file of a mode of its own, and a link to it.
@@ -172,7 +177,7 @@ fn check_links<R: std::rt::Files + Abort, F: Files>(
 
 #[test]
 fn links_and_modes_are_kept(rt: HostRuntime) -> Result<(), Fail> {
-    let mut files = HostFiles::new(&rt);
+    let mut files = HostFiles::new(&rt, rt.alloc());
     check_links(
         &rt,
         rt.alloc(),
@@ -200,7 +205,7 @@ fn check_beside<R: std::rt::Files + Abort, F: Files>(
 
 #[test]
 fn files_beside_are_kept(rt: HostRuntime) -> Result<(), Fail> {
-    check_beside(&rt, rt.alloc(), &mut HostFiles::new(&rt))
+    check_beside(&rt, rt.alloc(), &mut HostFiles::new(&rt, rt.alloc()))
 }
 
 // A file in the memory of the machine is a file as any
@@ -209,7 +214,7 @@ fn files_beside_are_kept(rt: HostRuntime) -> Result<(), Fail> {
 fn files_in_memory_are_replaced(rt: HostRuntime) -> Result<(), Fail> {
     let alloc = rt.alloc();
     let name = "/dev/shm/dmlw-test-memory";
-    let mut files = HostFiles::new(&rt);
+    let mut files = HostFiles::new(&rt, rt.alloc());
     // Not every machine has such a folder.
     if fs::write(&rt, name, b"older and longer".as_slice()).is_ok() {
         files.write(alloc, name, disk_of(alloc, 6)?)?;

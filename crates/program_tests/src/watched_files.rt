@@ -1,14 +1,19 @@
-// How the system's files are written: what stands, and what was called in which order.
+// How the system's files are written: what they hold, and what was called in which order. How a
+// file is read that gives its bytes once.
+use crate::commands::output_of;
 use crate::host::{disk_of, holds};
-use dmlw_files::{FileError, Files, HostFiles};
+use dmlw_files::{FileError, FileFailure, Files, HostFiles};
 use std::alloc::{Allocator, Global};
 use std::cell::Cell;
 use std::fs::{Metadata, OpenFile, OpenOptions, Permissions};
-use std::io::{Read, Seek, SeekFrom, Write};
+use std::io::{Print, Read, Seek, SeekFrom, Write};
 use std::path::PathBuf;
 use std::process::Abort;
+use std::sync::Wait;
 use std::test::Fail;
+use std::thread::Threads;
 use std::{fs, io};
+use test_devices::is_told;
 
 // The call that a runtime fails.
 #[derive(Clone, Copy, PartialEq, Eq)]
@@ -49,7 +54,8 @@ impl Noted {
     }
 }
 
-// A runtime that notes what is called of its files.
+// A runtime that notes what is called of its files. A file whose name ends with `-pipe` is no
+// regular file, and is empty once it was opened.
 #[derive(Drop)]
 struct Watched<'a, R: std::rt::Files> {
     runtime: &'a R,
@@ -119,6 +125,10 @@ impl<'a, R: std::rt::Files> std::rt::Files for Watched<'a, R> {
 
     fn open_file(&self, how: &OpenOptions, path: &str) -> io::Result<WatchedFile<'a, R::File>> {
         let file = self.runtime.open_file(how, path)?;
+        if path.ends_with("-pipe") {
+            self.runtime.remove_file(path)?;
+            fs::write(self.runtime, path, b"".as_slice())?;
+        }
         Ok(WatchedFile {
             file,
             noted: self.noted,
@@ -130,6 +140,9 @@ impl<'a, R: std::rt::Files> std::rt::Files for Watched<'a, R> {
     }
 
     fn metadata(&self, path: &str) -> io::Result<Metadata> {
+        if path.ends_with("-pipe") {
+            return Ok(Metadata::of_symlink(0));
+        }
         self.runtime.metadata(path)
     }
 
@@ -183,7 +196,7 @@ fn check_written<R: std::rt::Files + Abort>(
 ) -> Result<bool, Fail> {
     fs::write(rt, name, b"older".as_slice())?;
     let watched = Watched { runtime: rt, noted };
-    let written = HostFiles::new(&watched).write(alloc, name, disk_of(alloc, 7)?);
+    let written = HostFiles::new(&watched, alloc).write(alloc, name, disk_of(alloc, 7)?);
     let beside = format!(in alloc; "{name}.dmlw-tmp-0")?;
     assert!(rt; !fs::exists(rt, beside.as_str())?);
     match written {
@@ -226,7 +239,7 @@ fn check_replaced<R: std::rt::Files + Abort>(
 ) -> Result<(), Fail> {
     fs::write(rt, name, b"older".as_slice())?;
     fs::hard_link(rt, name, other)?;
-    HostFiles::new(rt).write(alloc, name, disk_of(alloc, 7)?)?;
+    HostFiles::new(rt, alloc).write(alloc, name, disk_of(alloc, 7)?)?;
     assert!(rt; holds(rt, alloc, name, [7; 512].as_slice()));
     assert!(rt; holds(rt, alloc, other, b"older".as_slice()));
     fs::remove_file(rt, name)?;
@@ -237,4 +250,106 @@ fn check_replaced<R: std::rt::Files + Abort>(
 #[test]
 fn files_are_replaced_whole(rt: HostRuntime) -> Result<(), Fail> {
     check_replaced(&rt, rt.alloc(), "dmlw-test-one", "dmlw-test-other")
+}
+
+// Whether a file is read as these bytes.
+fn reads<F: Files>(files: &mut F, alloc: Global, name: &str, limit: u64, bytes: &[u8]) -> bool {
+    match files.read(alloc, name, limit) {
+        Ok(read) => read.as_slice() == bytes,
+        Err(_) => false,
+    }
+}
+
+// What was read of two pipes is found again, though both are empty.
+#[test]
+fn pipes_are_read_again(rt: HostRuntime) -> Result<(), Fail> {
+    let alloc = rt.alloc();
+    let (one, other) = ("dmlw-test-one-pipe", "dmlw-test-other-pipe");
+    fs::write(&rt, one, b"first".as_slice())?;
+    fs::write(&rt, other, b"second".as_slice())?;
+    let noted = Noted::new(Failing::Nothing);
+    let watched = Watched {
+        runtime: &rt,
+        noted: &noted,
+    };
+    let mut files = HostFiles::new(&watched, alloc);
+    for _ in 0..2 {
+        assert!(rt; reads(&mut files, alloc, one, 5, b"first".as_slice()));
+        assert!(rt; reads(&mut files, alloc, other, 6, b"second".as_slice()));
+    }
+    assert!(rt; !reads(&mut files, alloc, one, 4, b"first".as_slice()));
+    assert!(rt; matches!(files.failure(), Some(FileFailure::TooLong(0))));
+    assert!(rt; holds(&rt, alloc, one, b"".as_slice()) && holds(&rt, alloc, other, b"".as_slice()));
+    fs::remove_file(&rt, one)?;
+    fs::remove_file(&rt, other)?;
+    Ok(())
+}
+
+// A pipe of more than 4 MiB, or one that was too long for its first read, isn't read again.
+#[test]
+fn long_pipes_are_read_once(rt: HostRuntime) -> Result<(), Fail> {
+    let alloc = rt.alloc();
+    let (long, cut) = ("dmlw-test-long-pipe", "dmlw-test-cut-pipe");
+    let bytes = vec![in alloc; 7; 4_194_305]?;
+    fs::write(&rt, long, bytes.as_slice())?;
+    fs::write(&rt, cut, b"first".as_slice())?;
+    let noted = Noted::new(Failing::Nothing);
+    let watched = Watched {
+        runtime: &rt,
+        noted: &noted,
+    };
+    let mut files = HostFiles::new(&watched, alloc);
+    assert!(rt; reads(&mut files, alloc, long, 5_000_000, bytes.as_slice()));
+    assert!(rt; matches!(files.read(alloc, long, 5_000_000), Err(FileError::Unusable)));
+    assert!(rt; is_unseekable(&files));
+    for _ in 0..2 {
+        assert!(rt; matches!(files.read(alloc, cut, 4), Err(FileError::Unusable)));
+        assert!(rt; matches!(files.failure(), Some(FileFailure::TooLong(_))));
+    }
+    assert!(rt; matches!(files.read(alloc, cut, 5), Err(FileError::Unusable)));
+    assert!(rt; is_unseekable(&files));
+    fs::remove_file(&rt, long)?;
+    fs::remove_file(&rt, cut)?;
+    Ok(())
+}
+
+// Whether the last read failed since its file gives its bytes once.
+fn is_unseekable<F: Files>(files: &F) -> bool {
+    match files.failure() {
+        Some(FileFailure::Read(error)) => error.kind() == io::ErrorKind::NotSeekable,
+        _ => false,
+    }
+}
+
+// What `--explain` adds to a recording of this script, which comes through a pipe.
+fn check_explained<R: std::rt::Files + Abort + Print + Threads + Wait + Sync>(
+    rt: &R,
+    alloc: Global,
+    script: &str,
+    wanted: &str,
+) -> Result<(), Fail> {
+    let name = "dmlw-test-script-pipe";
+    fs::write(rt, name, script)?;
+    let noted = Noted::new(Failing::Nothing);
+    let watched = Watched {
+        runtime: rt,
+        noted: &noted,
+    };
+    let line = "--explain record dmlw-test-script-pipe dmlw-test-log";
+    let told = output_of(rt, alloc, line, &mut HostFiles::new(&watched, alloc))?;
+    assert!(rt; is_told(rt, told.as_str(), wanted, script));
+    fs::remove_file(rt, name)?;
+    Ok(())
+}
+
+#[test]
+fn explains_scripts_of_pipes(rt: HostRuntime) -> Result<(), Fail> {
+    let alloc = rt.alloc();
+    let unclosed =
+        "0|a ok;0 0;|  dmlw-test-script-pipe has no line `close`: what waits isn't written to the log;";
+    check_explained(&rt, alloc, "data 16\nlog 32\nw a 5 1 41\nc a\n", unclosed)?;
+    fs::remove_file(&rt, "dmlw-test-log")?;
+    let bad =
+        "1||dmlw: line 1: 30 BadLine;  line 1 of dmlw-test-script-pipe: data;  the word <sectors> is missing;  the form of the line: data <sectors>;";
+    check_explained(&rt, alloc, "data\n", bad)
 }

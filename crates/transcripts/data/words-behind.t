@@ -4,7 +4,7 @@ Command lines with `--explain`, behind two hyphens, and of words that are none.
   > \
   $ dmlw --explain record script log
   ! dmlw: line 1: 30 BadLine
-  !   script is empty, or a pipe, which is read only once; a script begins with the lines `data` and `log`:
+  !   script is empty; a script begins with the lines `data` and `log`:
   !     data <sectors>
   !     log <sectors> [4096]
   !     data-layer 0 <length> <target> ..
@@ -23,7 +23,7 @@ Command lines with `--explain`, behind two hyphens, and of words that are none.
   [1]
   $ dmlw record --explain script log
   ! dmlw: line 1: 30 BadLine
-  !   script is empty, or a pipe, which is read only once; a script begins with the lines `data` and `log`:
+  !   script is empty; a script begins with the lines `data` and `log`:
   !     data <sectors>
   !     log <sectors> [4096]
   !     data-layer 0 <length> <target> ..
@@ -42,7 +42,7 @@ Command lines with `--explain`, behind two hyphens, and of words that are none.
   [1]
   $ dmlw record script log --explain
   ! dmlw: line 1: 30 BadLine
-  !   script is empty, or a pipe, which is read only once; a script begins with the lines `data` and `log`:
+  !   script is empty; a script begins with the lines `data` and `log`:
   !     data <sectors>
   !     log <sectors> [4096]
   !     data-layer 0 <length> <target> ..
@@ -98,7 +98,7 @@ Command lines with `--explain`, behind two hyphens, and of words that are none.
   !   help formats  Prints the grammar of scripts, the faults and the limits
   ! 
   ! Options:
-  !       --explain  In any place: behind a fault's line stands what helps
+  !       --explain  In any place: after a fault's line comes what helps. DMLW_EXPLAIN=1 adds it
   !       --rebuild  Of the launcher ./dmlw, as its only word: proves and builds the program anew
   !   -h, --help     Print help
   !   -V, --version  Print version

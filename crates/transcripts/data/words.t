@@ -18,7 +18,7 @@ Command lines and their texts.
     help formats  Prints the grammar of scripts, the faults and the limits
   
   Options:
-        --explain  In any place: behind a fault's line stands what helps
+        --explain  In any place: after a fault's line comes what helps. DMLW_EXPLAIN=1 adds it
         --rebuild  Of the launcher ./dmlw, as its only word: proves and builds the program anew
     -h, --help     Print help
     -V, --version  Print version
@@ -43,7 +43,7 @@ Command lines and their texts.
     help formats  Prints the grammar of scripts, the faults and the limits
   
   Options:
-        --explain  In any place: behind a fault's line stands what helps
+        --explain  In any place: after a fault's line comes what helps. DMLW_EXPLAIN=1 adds it
         --rebuild  Of the launcher ./dmlw, as its only word: proves and builds the program anew
     -h, --help     Print help
     -V, --version  Print version
@@ -79,7 +79,7 @@ Command lines and their texts.
     help formats  Prints the grammar of scripts, the faults and the limits
   
   Options:
-        --explain  In any place: behind a fault's line stands what helps
+        --explain  In any place: after a fault's line comes what helps. DMLW_EXPLAIN=1 adds it
         --rebuild  Of the launcher ./dmlw, as its only word: proves and builds the program anew
     -h, --help     Print help
     -V, --version  Print version
@@ -104,7 +104,7 @@ Command lines and their texts.
     help formats  Prints the grammar of scripts, the faults and the limits
   
   Options:
-        --explain  In any place: behind a fault's line stands what helps
+        --explain  In any place: after a fault's line comes what helps. DMLW_EXPLAIN=1 adds it
         --rebuild  Of the launcher ./dmlw, as its only word: proves and builds the program anew
     -h, --help     Print help
     -V, --version  Print version
@@ -151,7 +151,7 @@ Command lines and their texts.
     help formats  Prints the grammar of scripts, the faults and the limits
   
   Options:
-        --explain  In any place: behind a fault's line stands what helps
+        --explain  In any place: after a fault's line comes what helps. DMLW_EXPLAIN=1 adds it
         --rebuild  Of the launcher ./dmlw, as its only word: proves and builds the program anew
     -h, --help     Print help
     -V, --version  Print version
@@ -176,7 +176,7 @@ Command lines and their texts.
     help formats  Prints the grammar of scripts, the faults and the limits
   
   Options:
-        --explain  In any place: behind a fault's line stands what helps
+        --explain  In any place: after a fault's line comes what helps. DMLW_EXPLAIN=1 adds it
         --rebuild  Of the launcher ./dmlw, as its only word: proves and builds the program anew
     -h, --help     Print help
     -V, --version  Print version
@@ -201,7 +201,7 @@ Command lines and their texts.
     help formats  Prints the grammar of scripts, the faults and the limits
   
   Options:
-        --explain  In any place: behind a fault's line stands what helps
+        --explain  In any place: after a fault's line comes what helps. DMLW_EXPLAIN=1 adds it
         --rebuild  Of the launcher ./dmlw, as its only word: proves and builds the program anew
     -h, --help     Print help
     -V, --version  Print version
@@ -226,7 +226,7 @@ Command lines and their texts.
     help formats  Prints the grammar of scripts, the faults and the limits
   
   Options:
-        --explain  In any place: behind a fault's line stands what helps
+        --explain  In any place: after a fault's line comes what helps. DMLW_EXPLAIN=1 adds it
         --rebuild  Of the launcher ./dmlw, as its only word: proves and builds the program anew
     -h, --help     Print help
     -V, --version  Print version
@@ -251,7 +251,7 @@ Command lines and their texts.
     help formats  Prints the grammar of scripts, the faults and the limits
   
   Options:
-        --explain  In any place: behind a fault's line stands what helps
+        --explain  In any place: after a fault's line comes what helps. DMLW_EXPLAIN=1 adds it
         --rebuild  Of the launcher ./dmlw, as its only word: proves and builds the program anew
     -h, --help     Print help
     -V, --version  Print version
@@ -474,7 +474,7 @@ Command lines and their texts.
     help formats  Prints the grammar of scripts, the faults and the limits
   
   Options:
-        --explain  In any place: behind a fault's line stands what helps
+        --explain  In any place: after a fault's line comes what helps. DMLW_EXPLAIN=1 adds it
         --rebuild  Of the launcher ./dmlw, as its only word: proves and builds the program anew
     -h, --help     Print help
     -V, --version  Print version
@@ -499,7 +499,7 @@ Command lines and their texts.
     help formats  Prints the grammar of scripts, the faults and the limits
   
   Options:
-        --explain  In any place: behind a fault's line stands what helps
+        --explain  In any place: after a fault's line comes what helps. DMLW_EXPLAIN=1 adds it
         --rebuild  Of the launcher ./dmlw, as its only word: proves and builds the program anew
     -h, --help     Print help
     -V, --version  Print version

@@ -44,7 +44,7 @@ fn main(rt: HostRuntime) -> io::Result<ExitCode> {
 
 // The text of the transcript of this name; one that can't be read is empty.
 fn transcript_of<R: std::rt::Files + AllocGlobal>(rt: &R, name: &str) -> io::Result<String> {
-    let bytes = HostFiles::new(rt)
+    let bytes = HostFiles::new(rt, rt.alloc())
         .read(rt.alloc(), name, MAX_TRANSCRIPT)
         .unwrap_or(Vec::new(rt.alloc()));
     Ok(String::from_utf8(bytes).unwrap_or(String::new(rt.alloc())))

@@ -2,8 +2,8 @@
 -- Its own crate alone cites it, for the theorems of src/rows.rt and src/table.rt.
 use Rattle.std.proofs.Common.{◌≡◌, ℕ, zero, suc, ◌+◌, ◌-◌, ◌<◌, ◌≤◌, max, List, [], ◌∷◌, ◌++◌}
 use Rattle.std.proofs.Common.{length, map, get_or, set, drop, replicate, Option, Some, None, refl}
-use Rattle.std.proofs.Common.{ap, sym, ◌∙◌, subst, arith, length-append}
-use Rattle.std.proofs.lemmas.List.{length-map, length-replicate, get_or_at, set_at}
+use Rattle.std.proofs.Common.{ap, sym, ◌∙◌, subst, arith, length-append, min, vec_capacity}
+use Rattle.std.proofs.lemmas.List.{length-map, length-replicate, get_or_at, get_or-set_other, set_at}
 use Rattle.std.proofs.lemmas.List.Sums.{sum_by-cons}
 use Rattle.std.specs.List.{sum_by}
 use Rattle.std.specs.Prelude.{slice_get, OnSome, Bool, true, false, not, is_some, ◌==◌}
@@ -11,11 +11,11 @@ use Rattle.std.proofs.lemmas.Bool.{ne_eqb}
 use Rattle.chains.specs.declared.links.Links.{Links}
 use Rattle.chains.specs.declared.walk.Walk.{Walk}
 use Rattle.chains.specs.Edits.{chain_in, lengthened, preceded, shortened}
-use Rattle.chains.specs.ChainsView.{count_in}
+use Rattle.chains.specs.ChainsView.{count_in, new_rows_room}
 use Rattle.chains.specs.inside.Rings.{after, last_in, times, Holds}
 use Rattle.chains.specs.inside.Steps.{Changes, IsLoose}
 use Rattle.chains.specs.inside.Tables.{chains_of, seen_chains, seen_lasts, value_at, values_of}
-use Rattle.chains.specs.inside.Tables.{walked_in, IsOpen, IsSound, IsTable, IsWalk}
+use Rattle.chains.specs.inside.Tables.{shown_of, walked_in, IsOpen, IsSound, IsTable, IsWalk}
 use Rattle.chains.proofs.ListLaws.{in-put, in-other, there}
 use Rattle.chains.proofs.RingLaws.{times-same}
 use Rattle.chains.proofs.HoldsLaws.{none-at, chain-at, default-grown, first-of, holds-more}
@@ -29,6 +29,18 @@ use Rattle.chains.proofs.OpenLaws.{nothing-cut, open-taken}
 pub on-some : {A : Type 0} (found : Option A) (P : Type 0) → P → OnSome found P
 on-some None P p = tt
 on-some (Some x) P p = p
+
+-- a walk hides no free row
+seen-free : (lasts : List (Option ℕ)) (walk : Option Walk) → IsWalk lasts walk
+    → last_in (seen_lasts lasts walk) 0 ≡ last_in lasts 0
+seen-free lasts None walks = refl
+seen-free lasts (Some walk) walks =
+    let some = walks.0 in get_or-set_other lasts walk.chain 0 walk.at None (λ e. absurd (omega arith))
+
+-- what is none, by a test
+not-some : (found : Option ℕ) → is_some found ≡ false → found ≡ None
+not-some None none = refl
+not-some (Some x) none = cc
 
 -- a value put into the chain that was begun last
 pub begun-filled : {X : Type 0} (chains : List (List X)) (chain : ℕ) (x : X) → chain ≡ length chains
@@ -204,6 +216,24 @@ module _ {T : Type 0} where
       → length rows ≡ max before (count_in (map (values_of rows) chains))
   table-rows {next} {lasts} {rows} {chains} t before free grew few less =
       let count = table-count t in omega arith
+
+  -- the room for new rows is that of the links and of the values
+  pub room-of : {links : Links} {rows : List (Option T)} {walk : Option Walk} → (capacity : ℕ)
+      → IsSound links rows walk
+      → new_rows_room (shown_of links rows capacity walk)
+      ≡ min (vec_capacity links.next - length links.next.items) (capacity - length rows)
+  room-of capacity s = let count = table-count s.table in omega arith
+
+  -- if no row is free, all room is for new rows
+  pub all-new : {links : Links} {rows : List (Option T)} {walk : Option Walk} → (capacity : ℕ)
+      → IsSound links rows walk → is_some (last_in links.lasts.items 0) ≡ false
+      → new_rows_room (shown_of links rows capacity walk)
+      ≡ (shown_of links rows capacity walk).spare
+  all-new {links} {rows} {walk} capacity s none =
+      let last =
+      seen-free links.lasts.items walk s.walks ∙ not-some (last_in links.lasts.items 0) none in
+      let free = ap length (none-at s.table.holds 0 last) in
+      let count = table-count s.table in omega arith
 
   -- no more rows are free than there are
   pub free-few : {next : List ℕ} {lasts : List (Option ℕ)} {rows : List (Option T)}

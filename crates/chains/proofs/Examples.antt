@@ -4,7 +4,7 @@ use Rattle.std.proofs.Common.{◌≡◌, ◌≢◌, ℕ, List, [], ◌∷◌, Op
 use Rattle.chains.specs.Edits.{chain_in, fronted, joined, lengthened, lifted, shortened, turned}
 use Rattle.chains.specs.Edits.{with_first}
 use Rattle.chains.specs.Lends.{with_value}
-use Rattle.chains.specs.ChainsView.{count_in, ChangesFew, KeepsRoom, Shown}
+use Rattle.chains.specs.ChainsView.{count_in, new_rows_room, ChangesFew, KeepsRoom, Shown}
 use Rattle.chains.specs.inside.Rings.{times_in}
 use Rattle.chains.specs.inside.Tables.{chains_of, seen_lasts, values_of}
 
@@ -70,6 +70,22 @@ beyond = refl
 shown : ℕ → ℕ → Shown ℕ
 shown changed spare =
     record { chains = three; changed = changed; walked = None; rows = 3; room = 0; spare = spare }
+
+-- each of the 3 rows has a value: all room is for new rows
+room-new : new_rows_room (shown 0 5) ≡ 5
+unfolding shown three
+room-new = refl
+
+-- of the room for 2 values, one is in the row that is free
+room-free : new_rows_room {T = ℕ} (record {
+  chains = [] ∷ [];
+  changed = 0;
+  walked = None;
+  rows = 1;
+  room = 0;
+  spare = 2;
+}) ≡ 1
+room-free = refl
 
 few : ChangesFew (shown 5 0) (shown 8 0) 3
 unfolding shown

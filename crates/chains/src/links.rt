@@ -1,7 +1,8 @@
 //! The links between rows, and the one call that changes them.
 //! Its clauses are written in specs/; the search alone proves it.
 ghost use Rattle.std.specs.Prelude.{◌≡◌, ◌+◌, ◌-◌, ◌^◌, ◌<◌, ◌≤◌, min, None, [], ◌∷◌, ◌++◌};
-ghost use Rattle.std.specs.Prelude.{length, replicate, IfOk, OnOk, vec_len, vec_capacity};
+ghost use Rattle.std.specs.Prelude.{length, replicate, IfOk, IsOk, OnErr, OnOk, vec_len};
+ghost use Rattle.std.specs.Prelude.{vec_capacity};
 ghost use Rattle.chains.specs.inside.Rings.{after, last_in};
 ghost use Rattle.chains.specs.inside.Changes.{IsWithin, lasts_after, next_after};
 
@@ -81,7 +82,7 @@ impl Links {
         self.changed = self.changed.saturating_add(1);
     }
 
-    /// Makes room for so many more chains.
+    /// Makes room for `more` chains.
     pub fn reserve_chains(&mut self, more: usize) -> Result<(), AllocError>
         ensures next { self.new.next ≡ self.old.next }
         ensures lasts { self.new.lasts.items ≡ self.old.lasts.items }
@@ -89,17 +90,27 @@ impl Links {
         ensures ok { OnOk result
             (length self.new.lasts.items + more ≤ vec_capacity self.new.lasts) }
         ensures room { vec_capacity self.old.lasts ≤ vec_capacity self.new.lasts }
+        ensures succeeds { length self.old.lasts.items + more ≤ vec_capacity self.old.lasts
+            → IsOk result }
+        ensures full { OnErr result
+            (vec_capacity self.old.lasts < length self.old.lasts.items + more) }
+        ensures err { OnErr result (vec_capacity self.new.lasts ≡ vec_capacity self.old.lasts) }
     {
         self.lasts.reserve(more)
     }
 
-    /// Makes room for so many more rows.
+    /// Makes room for `more` rows.
     pub fn reserve_rows(&mut self, more: usize) -> Result<(), AllocError>
         ensures next { self.new.next.items ≡ self.old.next.items }
         ensures lasts { self.new.lasts ≡ self.old.lasts }
         ensures changed { self.new.changed ≡ self.old.changed }
         ensures ok { OnOk result (length self.new.next.items + more ≤ vec_capacity self.new.next) }
         ensures room { vec_capacity self.old.next ≤ vec_capacity self.new.next }
+        ensures succeeds { length self.old.next.items + more ≤ vec_capacity self.old.next
+            → IsOk result }
+        ensures full { OnErr result
+            (vec_capacity self.old.next < length self.old.next.items + more) }
+        ensures err { OnErr result (vec_capacity self.new.next ≡ vec_capacity self.old.next) }
     {
         self.next.reserve(more)
     }

@@ -1,12 +1,12 @@
 //! Chains of values, and the calls that change them.
 //! Its clauses are written in specs/; its theorems in proofs/table/.
 ghost use Rattle.std.specs.Prelude.{◌≡◌, ◌≢◌, ◌+◌, ◌<◌, ◌≤◌, ◌==◌, None, Some, Option, []};
-ghost use Rattle.std.specs.Prelude.{◌∷◌, ◌++◌, length, replicate, max, IfOk, OnOk, OnErr};
+ghost use Rattle.std.specs.Prelude.{◌∷◌, ◌++◌, length, replicate, max, IfOk, IsOk, OnOk, OnErr};
 ghost use Rattle.std.specs.Prelude.{OnSome, slice_get};
 ghost use Rattle.std.specs.Option.{option_copied};
 ghost use Rattle.chains.specs.Edits.{chain_in, fronted, joined, lengthened, shortened};
 ghost use Rattle.chains.specs.Edits.{with_first};
-ghost use Rattle.chains.specs.ChainsView.{ChangesFew, KeepsRoom, count_in};
+ghost use Rattle.chains.specs.ChainsView.{ChangesFew, KeepsRoom, count_in, new_rows_room};
 
 use crate::links::Links;
 use crate::rings;
@@ -61,7 +61,7 @@ impl<T: Drop> Chains<T> {
         })
     }
 
-    /// Makes room for so many more chains to be begun without memory.
+    /// Makes room for `more` chains to be begun without memory.
     ///
     /// # Errors
     ///
@@ -70,11 +70,14 @@ impl<T: Drop> Chains<T> {
         ensures same { self.new ≡ record self.old { room = self.new.room } }
         ensures room { OnOk result (more ≤ self.new.room) }
         ensures kept { self.old.room ≤ self.new.room }
+        ensures succeeds { more ≤ self.old.room → IsOk result }
+        ensures full { OnErr result (self.old.room < more) }
+        ensures err { OnErr result (self.new ≡ self.old) }
     {
         self.links.reserve_chains(more)
     }
 
-    /// Makes room for so many more values to be put in without memory.
+    /// Makes room for `more` values to be put into new rows without memory.
     ///
     /// # Errors
     ///
@@ -83,12 +86,14 @@ impl<T: Drop> Chains<T> {
         ensures same { self.new ≡ record self.old { spare = self.new.spare } }
         ensures spare { OnOk result (more ≤ self.new.spare) }
         ensures kept { self.old.spare ≤ self.new.spare }
+        ensures succeeds { more ≤ new_rows_room self.old → IsOk result }
+        ensures full { OnErr result (new_rows_room self.old < more) }
     {
         self.links.reserve_rows(more)?;
         self.rows.reserve(more)
     }
 
-    /// Makes room for one more value, where no row is free.
+    /// Makes room for one more value, if no row is free.
     ///
     /// # Errors
     ///
@@ -97,6 +102,8 @@ impl<T: Drop> Chains<T> {
         ensures same { self.new ≡ record self.old { spare = self.new.spare } }
         ensures spare { OnOk result (0 < self.new.spare) }
         ensures kept { self.old.spare ≤ self.new.spare }
+        ensures succeeds { 0 < self.old.spare → IsOk result }
+        ensures full { OnErr result (self.old.spare ≡ 0) }
     {
         if self.links.last(FREE).is_some() {
             return Ok(());

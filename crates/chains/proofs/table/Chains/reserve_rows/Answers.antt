@@ -1,6 +1,6 @@
 -- Answers to the goals of `Chains::reserve_rows` (src/table.rt) that the search leaves.
-use Rattle.std.proofs.Common.{refl, ap}
-use Rattle.chains.proofs.CallLaws.{sound-same}
+use Rattle.std.proofs.Common.{refl, ap, arith, vec_capacity}
+use Rattle.chains.proofs.CallLaws.{room-of, sound-same}
 use Rattle.chains.proofs.table.Chains.reserve_rows.Goals as goal
 
 pub invariant_of-self : goal.invariant_of-self
@@ -16,3 +16,23 @@ invariant_of-self-2 g c =
     c.reserve.new.self.items c.self.inside.walk
     c.reserve_rows.ensures.next
     (ap (λ v. v.items) c.reserve_rows.ensures.lasts) c.reserve.ensures.items c.self.invariant
+
+pub returns-in_err-reserve_rows-clause-succeeds : goal.returns-in_err-reserve_rows-clause-succeeds
+returns-in_err-reserve_rows-clause-succeeds g c =
+    let room = room-of (vec_capacity c.self.inside.rows) c.self.invariant in
+    grind (arith, room, c.self.view_is, c.in_err-reserve_rows.ensures.full)
+
+pub returns-in_err-reserve_rows-clause-full : goal.returns-in_err-reserve_rows-clause-full
+returns-in_err-reserve_rows-clause-full g c =
+    let room = room-of (vec_capacity c.self.inside.rows) c.self.invariant in
+    grind (arith, room, c.self.view_is, c.in_err-reserve_rows.ensures.full)
+
+pub returns-clause-succeeds : goal.returns-clause-succeeds
+returns-clause-succeeds g c =
+    let room = room-of (vec_capacity c.self.inside.rows) c.self.invariant in
+    grind (arith, room, c.self.view_is, c.reserve.ensures.succeeds)
+
+pub returns-clause-full : goal.returns-clause-full
+returns-clause-full g c =
+    let room = room-of (vec_capacity c.self.inside.rows) c.self.invariant in
+    grind (arith, room, c.self.view_is, c.reserve.ensures.full)

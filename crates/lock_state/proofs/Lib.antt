@@ -2,6 +2,7 @@
 pub mod Lists
 pub mod OpenRequests
 pub mod LogLock
+pub mod ShownCauses
 pub mod RecordingEnd
 pub mod QueueLock
 pub mod DataLock

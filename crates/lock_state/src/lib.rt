@@ -14,9 +14,9 @@ pub use log::{LogParts, LogState, Receipt};
 pub use note::{Done, Item, Own, PassedCall, Told, Unplaced, Unrecorded};
 pub use part::{Seat, SeatPart, WriterPart};
 pub use queue::{QueueParts, QueueState};
-pub use run::{Run, Stops};
+pub use run::{Ends, Run, Stops};
 pub use served::{Seen, is_served};
-pub use stop::{FirstStop, ShownStop, StopPart};
+pub use stop::{FirstStop, Shown, StopPart};
 
 mod checking;
 mod closing;

@@ -1,5 +1,7 @@
 // What seats note, and why a step wasn't taken.
 // The search alone proves it.
+use crate::run::{Ends, Run};
+use crate::stop::Shown;
 use bio::{Bio, CoreEvent, End, Id};
 use log_format::Entry;
 
@@ -52,10 +54,10 @@ pub enum Unrecorded {
 }
 
 /// Why an item wasn't placed.
-#[derive(Clone, Copy, Debug, PartialEq, Eq)]
-pub enum Unplaced {
+#[derive(Drop)]
+pub enum Unplaced<R: Run> {
     /// There was no memory for the list of items: nothing is changed.
     NoRoom,
-    /// Logging has ended, by this cause.
-    Ended(End),
+    /// The log has ended, by this cause.
+    Ended(Shown<Ends<R>>),
 }

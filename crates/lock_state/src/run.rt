@@ -4,10 +4,11 @@ use holders::Whose;
 use std::marker::{Brand, PhantomData};
 use std::sync::ledger::Ledger;
 
-/// Names one shared recorder: the ledger of its seats, the table on which its queue and seats
-/// agree, that on which its queue and log agree about the first stop, how many sectors of 512 bytes its recorded device has, how many bytes a sector of its log
-/// has, and what its log's device was before the log was begun. So a seat of another recorder is
-/// refused by its type.
+/// Names one shared recorder: the ledger of its seats, and three tables. On one its queue and seats
+/// agree, on one its queue and log about the first stop, and on one about the log's end. It also
+/// has the count of 512-byte sectors of the recorded device and that of bytes in a log sector, and
+/// what the log's device was before the log was begun. So the type refuses a seat of another
+/// recorder.
 pub trait Run: Ledger + Whose {
     ghost use Rattle.std.specs.Prelude.{ℕ};
     ghost use Rattle.lock_state.specs.PlacedItems.{Ground};
@@ -21,6 +22,8 @@ pub trait Run: Ledger + Whose {
     ghost use Rattle.atomic_table.specs.Seated.{TableId};
 
     ghost stops: { TableId };
+
+    ghost ends: { TableId };
 }
 
 /// Names the table on which the queue and the log of a recorder agree about the first stop.
@@ -32,11 +35,22 @@ impl<R: Run> Whose for Stops<R> {
     ghost table = { R.stops };
 }
 
+/// Names the table on which the queue and the log of a recorder agree about the log's end.
+pub struct Ends<R: Run> {
+    run: PhantomData<R>,
+}
+
+impl<R: Run> Whose for Ends<R> {
+    ghost table = { R.ends };
+}
+
 impl Run for Brand {
     ghost use Rattle.std.specs.Prelude.{false};
     ghost use Rattle.holders.specs.Rules.{no_table};
 
     ghost stops = { no_table };
+
+    ghost ends = { no_table };
 
     ghost sectors = { 0 };
 

@@ -1,32 +1,95 @@
-// The first stop, and how the writer shows it to the log.
-// Its clauses are written in specs/FirstStop and specs/History; the search alone proves it.
-ghost use Rattle.std.specs.Prelude.{◌≡◌, ◌⊎◌, false, true, None, Some, IfSome};
+// The first stop, and the causes that the queue and the log show each other.
+// Its clauses are written in specs/FirstStop and specs/History; its theorems in proofs/stop/.
+ghost use Rattle.std.specs.Prelude.{◌≡◌, ◌⊎◌, [], Option, false, true, None, Some, IfSome};
+ghost use Rattle.bio.specs.declared.outcome.End.{End as Cause};
+ghost use Rattle.bio.specs.declared.outcome.End.TheVariants.{Memory};
 ghost use Rattle.lock_state.specs.History.{first_cause};
-ghost use Rattle.lock_state.specs.FirstStop.{end_number};
+ghost use Rattle.lock_state.specs.FirstStop.{HasStopCause, IsShown, end_number};
 
-use crate::run::{Run, Stops};
+use crate::run::{Ends, Run, Stops};
 use bio::End;
-use holders::{Fresh, Holder, Keeper};
+use holders::{Fresh, Holder, Keeper, Whose};
 use std::marker::Model;
 
-/// The cause of the first stop, if there was one. Contracts see it as that. A keeper beside it
-/// knows whether the writer was shown it.
+/// Shows a cause to the one who has it: that of the first stop, or of the log's end. Contracts see
+/// it as the cause. Only `QueueState::show_stop` and `LogState::place` make one.
+#[derive(Drop)]
+pub struct Shown<W: Whose> {
+    cause: End,
+    holder: Holder<W>,
+}
+
+impl<W: Whose> Model for Shown<W> {
+    ghost use Rattle.std.specs.Prelude.{◌≡◌, Some};
+    ghost use Rattle.bio.specs.declared.outcome.End.{End};
+    ghost use Rattle.lock_state.specs.FirstStop.{end_number};
+
+    ghost Value = { End };
+
+    ghost view = { λ s. s.cause };
+
+    ghost invariant = { λ s. s.holder.held ≡ Some (end_number s.cause) };
+}
+
+impl<W: Whose> Shown<W> {
+    /// The cause.
+    pub fn cause(&self) -> End
+        ensures { result ≡ self.now }
+    {
+        self.cause
+    }
+
+    // Shows this cause to a new holder. The keeper shows no other.
+    pub(crate) fn new(keeper: &mut Keeper<W>, cause: End) -> Shown<W>
+        requires { IsShown (Some cause) keeper.old }
+        ensures shown { IsShown (Some cause) keeper.new }
+        ensures cause { result ≡ cause }
+    {
+        let holder = keeper.enrol();
+        Shown::to(holder, keeper, cause)
+    }
+
+    // Shows this cause to the holder. The keeper shows no other.
+    fn to(holder: Holder<W>, keeper: &mut Keeper<W>, cause: End) -> Shown<W>
+        requires { IsShown (Some cause) keeper.old }
+        ensures shown { IsShown (Some cause) keeper.new }
+        ensures cause { result ≡ cause }
+    {
+        let mut holder = holder;
+        keeper.begin(&mut holder, number_of(cause));
+        Shown { cause, holder }
+    }
+
+    // Where the keeper shows one cause alone, it is this one. Nothing changes.
+    pub(crate) fn confirm(&mut self, keeper: &mut Keeper<W>)
+        ensures same { (self.new ≡ self.old) × (keeper.new ≡ keeper.old) }
+        ensures shown { (shown : Option Cause) → IsShown shown keeper.old
+            → shown ≡ Some self.old }
+    {
+        keeper.agree(&mut self.holder);
+    }
+}
+
+/// The cause of the first stop, if there was one. Contracts see it as that. A keeper knows whether
+/// the writer was shown it. Unless the cause is Memory, it is that of the log's end, as the log
+/// showed it.
 #[derive(Drop)]
 pub struct FirstStop<R: Run> {
     cause: Option<End>,
+    ended: Option<Shown<Ends<R>>>,
     keeper: Keeper<Stops<R>>,
 }
 
 impl<R: Run> Model for FirstStop<R> {
     ghost use Rattle.std.specs.Prelude.{Option};
     ghost use Rattle.bio.specs.declared.outcome.End.{End};
-    ghost use Rattle.lock_state.specs.FirstStop.{IsShown};
+    ghost use Rattle.lock_state.specs.FirstStop.{HasStopCause, IsShown};
 
     ghost Value = { Option End };
 
     ghost view = { λ s. s.cause };
 
-    ghost invariant = { λ s. IsShown s.cause s.keeper };
+    ghost invariant = { λ s. IsShown s.cause s.keeper × HasStopCause s.cause s.ended };
 }
 
 /// Lets the writer be shown the first stop, once. Contracts see it as whether it wasn't yet.
@@ -37,33 +100,10 @@ pub struct StopPart<R: Run> {
 
 impl<R: Run> Model for StopPart<R> {
     ghost use Rattle.std.specs.Prelude.{Bool, is_some};
-    ghost use Rattle.lock_state.specs.FirstStop.{IsIdle};
 
     ghost Value = { Bool };
 
     ghost view = { λ p. is_some p.holder };
-
-    ghost invariant = { λ p. IsIdle p.holder };
-}
-
-/// Shows that logging stopped. Contracts see it as the cause of the first stop. Only
-/// `FirstStop::show` makes one.
-#[derive(Drop)]
-pub struct ShownStop<R: Run> {
-    cause: End,
-    holder: Holder<Stops<R>>,
-}
-
-impl<R: Run> Model for ShownStop<R> {
-    ghost use Rattle.std.specs.Prelude.{◌≡◌, Some};
-    ghost use Rattle.bio.specs.declared.outcome.End.{End};
-    ghost use Rattle.lock_state.specs.FirstStop.{end_number};
-
-    ghost Value = { End };
-
-    ghost view = { λ s. s.cause };
-
-    ghost invariant = { λ s. s.holder ≡ record { number = 0; held = Some (end_number s.cause) } };
 }
 
 impl<R: Run> FirstStop<R> {
@@ -78,6 +118,7 @@ impl<R: Run> FirstStop<R> {
         (
             FirstStop {
                 cause: None,
+                ended: None,
                 keeper,
             },
             StopPart {
@@ -93,17 +134,20 @@ impl<R: Run> FirstStop<R> {
         self.cause
     }
 
-    /// Logging stops by this cause. The first cause stays.
-    pub fn keep(&mut self, cause: End)
+    // Logging stops by this cause: Memory, or what was shown of the log's end. The first cause
+    // stays.
+    pub(crate) fn keep(&mut self, cause: End, ended: Option<Shown<Ends<R>>>)
+        requires { (cause ≡ Memory) ⊎ (ended ≡ Some cause) }
         ensures { self.new ≡ first_cause self.old (Some cause) }
     {
         if self.cause.is_none() {
             self.cause = Some(cause);
+            self.ended = ended;
         }
     }
 
     /// Shows the first stop to the writer. None if there is none, or if it was shown before.
-    pub fn show(&mut self, mine: &mut StopPart<R>) -> Option<ShownStop<R>>
+    pub fn show(&mut self, mine: &mut StopPart<R>) -> Option<Shown<Stops<R>>>
         ensures same { self.new ≡ self.old }
         ensures shown { IfSome result (λ cause. self.old ≡ Some cause) }
         ensures none { result ≡ None → (self.old ≡ None) ⊎ (mine.old ≡ false) }
@@ -111,28 +155,28 @@ impl<R: Run> FirstStop<R> {
         let Some(cause) = self.cause else {
             return None;
         };
-        let Some(mut holder) = mine.holder.take() else {
+        let Some(holder) = mine.holder.take() else {
             return None;
         };
-        self.keeper.begin(&mut holder, number_of(cause));
-        Some(ShownStop { cause, holder })
+        Some(Shown::to(holder, &mut self.keeper, cause))
     }
 
     /// What was shown to the writer is the first stop. Nothing changes.
-    pub fn confirm(&mut self, stopped: &mut ShownStop<R>)
+    pub fn confirm(&mut self, stopped: &mut Shown<Stops<R>>)
         ensures same { (self.new ≡ self.old) × (stopped.new ≡ stopped.old) }
         ensures shown { self.old ≡ Some stopped.old }
     {
-        self.keeper.agree(&mut stopped.holder);
+        stopped.confirm(&mut self.keeper);
     }
-}
 
-impl<R: Run> ShownStop<R> {
-    /// The cause of the first stop.
-    pub fn cause(&self) -> End
-        ensures { result ≡ self.now }
+    // The first stop was for want of memory, or by the log's end. Nothing changes.
+    pub(crate) fn confirm_cause(&mut self, ends: &mut Keeper<Ends<R>>)
+        ensures same { (self.new ≡ self.old) × (ends.new ≡ ends.old) }
+        ensures cause { (end : Option Cause) → IsShown end ends.old → HasStopCause self.old end }
     {
-        self.cause
+        if let Some(ended) = &mut self.ended {
+            ended.confirm(ends);
+        }
     }
 }
 

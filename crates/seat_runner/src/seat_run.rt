@@ -79,7 +79,8 @@ fn run_on<R: Run + Names + Send + Sync, H: Threads + Wait + Sync>(
         × (unnamed.ledger.parts ≡ script.now.seats) }
     requires some { 0 < script.now.seats }
     requires script { IsRunPlan script.now }
-    requires table { (unnamed.table ≡ R.table) × (unnamed.stops ≡ R.stops) }
+    requires table { (unnamed.table ≡ R.table) × (unnamed.stops ≡ R.stops)
+        × (unnamed.ends ≡ R.ends) }
     requires board { unnamed.board ≡ R.board }
     requires fits { FitsRecorder R.sector_bytes R.sectors script.now }
     requires device { IsStackOf script.now.data_disk device }
@@ -117,7 +118,8 @@ fn start<R: Run + Names>(
 ) -> Result<Started<Stack, Stack, R>, RunError>
     requires ledger { (unnamed.ledger.name ≡ R.name) × (unnamed.ledger.parts ≡ R.parts)
         × (unnamed.ledger.parts ≡ script.now.seats) }
-    requires table { (unnamed.table ≡ R.table) × (unnamed.stops ≡ R.stops) }
+    requires table { (unnamed.table ≡ R.table) × (unnamed.stops ≡ R.stops)
+        × (unnamed.ends ≡ R.ends) }
     requires board { unnamed.board ≡ R.board }
     requires fits { FitsRecorder R.sector_bytes R.sectors script.now }
     requires device { IsStackOf script.now.data_disk device }

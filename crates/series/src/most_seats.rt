@@ -52,6 +52,7 @@ fn start_most<R: Run + Names>(
         × (unnamed.ledger.parts ≡ 64) }
     requires table { unnamed.table ≡ R.table }
     requires stops { unnamed.stops ≡ R.stops }
+    requires ends { unnamed.ends ≡ R.ends }
     requires board { unnamed.board ≡ R.board }
     requires sectors { (shown_of device).size ≡ R.sectors }
     requires log { R.log ≡ ground_of (shown_of log) }

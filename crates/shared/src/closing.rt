@@ -10,6 +10,7 @@ ghost use Rattle.bio.specs.declared.outcome.End.TheVariants.{Full};
 ghost use Rattle.lock_state.specs.Calls.{Holds};
 ghost use Rattle.lock_state.specs.Close.{HasNoRoom, IsShort, StopsWithLog};
 ghost use Rattle.lock_state.specs.Comparison.{BeginsTaken, Each, Receipt as Naming};
+ghost use Rattle.lock_state.specs.FirstStop.{HasStopCause};
 ghost use Rattle.lock_state.specs.History.{KeepsCause, Part, first_cause, named, owned};
 ghost use Rattle.lock_state.specs.LegalHistory.{LegalHistory};
 ghost use Rattle.lock_state.specs.PlacedItems.{HasCause, LeavesBeginning, StandsOn, Stay};
@@ -172,6 +173,7 @@ impl<D: BlockDev + Drop, L: BlockDev + Drop, R: Run + Names> Shared<D, L, R> {
             → HasNoRoom R.sector_bytes R.log.size c.closed.core.state c.closed.placed.items) }
         ensures released { IfOk result (λ c. (cause : Cause) → c.released ≡ Some cause
             → c.closed.stop ≡ Some cause) }
+        ensures stop_cause { IfOk result (λ c. HasStopCause c.closed.stop c.closed.store_end) }
         ensures causes { IfOk result (λ c.
             HasCause L.does R.log (L.shown c.closed.log).faults c.closed.store_end) }
         ensures ends { IfOk result
@@ -215,6 +217,8 @@ impl<D: BlockDev + Drop, L: BlockDev + Drop, R: Run + Names> Shared<D, L, R> {
             }) f.posts)) }
         ensures foreign_released { IfErr result (λ e. IfForeign e (λ f. (cause : Cause)
             → f.released ≡ Some cause → f.closed.stop ≡ Some cause)) }
+        ensures foreign_stop_cause { IfErr result
+            (λ e. IfForeign e (λ f. HasStopCause f.closed.stop f.closed.store_end)) }
         ensures foreign_causes { IfErr result (λ e. IfForeign e (λ f.
             HasCause L.does R.log (L.shown f.closed.log).faults f.closed.store_end)) }
         ensures foreign_hazard { IfErr result (λ e. IfForeign e (λ f. f.closed.hazard ≡ None)) }
@@ -257,7 +261,7 @@ impl<D: BlockDev + Drop, L: BlockDev + Drop, R: Run + Names> Shared<D, L, R> {
         let mut seats = seats;
         queue.audit(&mut seats);
         let notes = notes.as_mut_slice();
-        log.confirm_release(&mut queue);
+        log.confirm_causes(&mut queue);
         let released = log.released();
         let written = log.placed().len() as u64;
         let found = first_of(queue.stop_cause(), log.end());
@@ -400,6 +404,8 @@ fn finish<D: BlockDev + Drop, L: BlockDev + Drop, R: Run>(
         × (result.stop ≡ queue.stop) }
     ensures drained { queue.stop ≡ None → log.end ≡ None
         → StopsWithLog result.stop result.store_end }
+    ensures stop_cause { HasStopCause queue.stop log.end
+        → HasStopCause result.stop result.store_end }
     ensures full { queue.stop ≡ None → log.end ≡ None → result.store_end ≡ Some Full
         → HasNoRoom R.sector_bytes R.log.size result.core.state result.placed.items }
     ensures causes { HasCause L.does R.log (L.shown result.log).faults result.store_end }

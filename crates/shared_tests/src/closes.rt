@@ -24,7 +24,8 @@ fn start<R: Run + Names>(
 ) -> Result<Option<Started<SectorDisk, SectorDisk, R>>, AllocError>
     requires ledger { (unnamed.ledger.name ≡ R.name) × (unnamed.ledger.parts ≡ R.parts)
         × (unnamed.ledger.parts ≡ 1) }
-    requires table { (unnamed.table ≡ R.table) × (unnamed.stops ≡ R.stops) }
+    requires table { (unnamed.table ≡ R.table) × (unnamed.stops ≡ R.stops)
+        × (unnamed.ends ≡ R.ends) }
     requires board { unnamed.board ≡ R.board }
     requires sectors { (R.sectors ≡ 16) × (R.log ≡ disk_ground 16) }
     requires sector_size { R.sector_bytes ≡ 512 }
@@ -72,7 +73,8 @@ fn unasked<R: Run + Names, H: Wait>(
 ) -> Result<bool, AllocError>
     requires ledger { (unnamed.ledger.name ≡ R.name) × (unnamed.ledger.parts ≡ R.parts)
         × (unnamed.ledger.parts ≡ 1) }
-    requires table { (unnamed.table ≡ R.table) × (unnamed.stops ≡ R.stops) }
+    requires table { (unnamed.table ≡ R.table) × (unnamed.stops ≡ R.stops)
+        × (unnamed.ends ≡ R.ends) }
     requires board { unnamed.board ≡ R.board }
     requires sectors { (R.sectors ≡ 16) × (R.log ≡ disk_ground 16) }
     requires sector_size { R.sector_bytes ≡ 512 }
@@ -121,7 +123,8 @@ fn recorded<R: Run + Names, H: Wait>(
 ) -> Result<bool, AllocError>
     requires ledger { (unnamed.ledger.name ≡ R.name) × (unnamed.ledger.parts ≡ R.parts)
         × (unnamed.ledger.parts ≡ 1) }
-    requires table { (unnamed.table ≡ R.table) × (unnamed.stops ≡ R.stops) }
+    requires table { (unnamed.table ≡ R.table) × (unnamed.stops ≡ R.stops)
+        × (unnamed.ends ≡ R.ends) }
     requires board { unnamed.board ≡ R.board }
     requires sectors { (R.sectors ≡ 16) × (R.log ≡ disk_ground 16) }
     requires sector_size { R.sector_bytes ≡ 512 }
@@ -187,7 +190,8 @@ fn start_and_write<R: Run + Names, H: Wait>(
 ) -> Result<Option<Wrote<R>>, AllocError>
     requires ledger { (unnamed.ledger.name ≡ R.name) × (unnamed.ledger.parts ≡ R.parts)
         × (unnamed.ledger.parts ≡ 1) }
-    requires table { (unnamed.table ≡ R.table) × (unnamed.stops ≡ R.stops) }
+    requires table { (unnamed.table ≡ R.table) × (unnamed.stops ≡ R.stops)
+        × (unnamed.ends ≡ R.ends) }
     requires board { unnamed.board ≡ R.board }
     requires sectors { (R.sectors ≡ 16) × (R.log ≡ disk_ground 16) }
     requires sector_size { R.sector_bytes ≡ 512 }
@@ -242,7 +246,8 @@ fn stopped<R: Run + Names, H: Wait>(
 ) -> Result<bool, AllocError>
     requires ledger { (unnamed.ledger.name ≡ R.name) × (unnamed.ledger.parts ≡ R.parts)
         × (unnamed.ledger.parts ≡ 1) }
-    requires table { (unnamed.table ≡ R.table) × (unnamed.stops ≡ R.stops) }
+    requires table { (unnamed.table ≡ R.table) × (unnamed.stops ≡ R.stops)
+        × (unnamed.ends ≡ R.ends) }
     requires board { unnamed.board ≡ R.board }
     requires sectors { (R.sectors ≡ 16) × (R.log ≡ disk_ground 16) }
     requires sector_size { R.sector_bytes ≡ 512 }
@@ -285,14 +290,14 @@ fn foreign_seats<B: Run + Names, C: Run + Names, H: Wait>(
 ) -> Result<bool, AllocError>
     requires ledger { (unnamed.ledger.name ≡ B.name) × (unnamed.ledger.parts ≡ B.parts)
         × (unnamed.ledger.parts ≡ 1) }
-    requires table { (unnamed.table ≡ B.table) × (unnamed.stops ≡ B.stops)
+    requires table { (unnamed.table ≡ B.table) × (unnamed.stops ≡ B.stops) × (unnamed.ends ≡ B.ends)
         × (unnamed.board ≡ B.board) }
     requires sectors { (B.sectors ≡ 16) × (C.sectors ≡ 16) }
     requires logs { (B.log ≡ disk_ground 16) × (C.log ≡ disk_ground 16) }
     requires sector_size { (B.sector_bytes ≡ 512) × (C.sector_bytes ≡ 512) }
     requires other_ledger { (other.ledger.name ≡ C.name) × (other.ledger.parts ≡ C.parts)
         × (other.ledger.parts ≡ 1) }
-    requires other_table { (other.table ≡ C.table) × (other.stops ≡ C.stops)
+    requires other_table { (other.table ≡ C.table) × (other.stops ≡ C.stops) × (other.ends ≡ C.ends)
         × (other.board ≡ C.board) }
 {
     let Some(mut one) = start_and_write::<B, H>(rt, alloc, unnamed, 1)? else {
@@ -339,7 +344,8 @@ fn closed<R: Run + Names, H: Wait>(
 ) -> Result<bool, AllocError>
     requires ledger { (unnamed.ledger.name ≡ R.name) × (unnamed.ledger.parts ≡ R.parts)
         × (unnamed.ledger.parts ≡ 1) }
-    requires table { (unnamed.table ≡ R.table) × (unnamed.stops ≡ R.stops) }
+    requires table { (unnamed.table ≡ R.table) × (unnamed.stops ≡ R.stops)
+        × (unnamed.ends ≡ R.ends) }
     requires board { unnamed.board ≡ R.board }
     requires sectors { (R.sectors ≡ 16) × (R.log ≡ disk_ground 16) }
     requires sector_size { R.sector_bytes ≡ 512 }

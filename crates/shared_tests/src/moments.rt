@@ -85,7 +85,8 @@ fn is_handed_on<R: Run + Names, H: Wait>(
 ) -> Result<bool, AllocError>
     requires ledger { (unnamed.ledger.name ≡ R.name) × (unnamed.ledger.parts ≡ R.parts)
         × (unnamed.ledger.parts ≡ 1) }
-    requires table { (unnamed.table ≡ R.table) × (unnamed.stops ≡ R.stops) }
+    requires table { (unnamed.table ≡ R.table) × (unnamed.stops ≡ R.stops)
+        × (unnamed.ends ≡ R.ends) }
     requires board { unnamed.board ≡ R.board }
     requires sectors { (R.sectors ≡ 16) × (R.log ≡ disk_ground 16) }
     requires sector_size { R.sector_bytes ≡ 512 }

@@ -297,7 +297,8 @@ pub fn play<
     requires readers { readers ≤ 64 }
     requires ledger { (unnamed.ledger.name ≡ R.name) × (unnamed.ledger.parts ≡ R.parts)
         × (unnamed.ledger.parts ≡ count) }
-    requires table { (unnamed.table ≡ R.table) × (unnamed.stops ≡ R.stops) }
+    requires table { (unnamed.table ≡ R.table) × (unnamed.stops ≡ R.stops)
+        × (unnamed.ends ≡ R.ends) }
     requires board { unnamed.board ≡ R.board }
     requires sectors { (D.shown device).size ≡ R.sectors }
     requires log { R.log ≡ ground_of (L.shown log) }

@@ -159,13 +159,13 @@ fn two_seats_record<R: Run>(
     rt: &impl Print,
     alloc: Global,
     blank: Blank,
-    fresh: (Fresh, Fresh),
+    fresh: (Fresh, Fresh, Fresh),
     size: SectorSize,
     store: LogStore<SectorDisk>,
     device: SectorDisk,
 ) -> Result<bool, AllocError>
     requires ledger { (blank.name ≡ R.name) × (blank.parts ≡ R.parts) × (blank.parts ≡ 2) }
-    requires holders { (fresh.0 ≡ R.table) × (fresh.1 ≡ R.stops) }
+    requires holders { (fresh.0 ≡ R.table) × (fresh.1 ≡ R.stops) × (fresh.2 ≡ R.ends) }
     requires size { bytes_of size ≡ R.sector_bytes }
     requires sectors { R.sectors ≡ 64 }
     requires store { ((store_of store).sector_bytes ≡ R.sector_bytes)
@@ -173,9 +173,9 @@ fn two_seats_record<R: Run>(
     requires empty { ((store_of store).placed ≡ 0) × ((store_of store).end ≡ None) }
     requires device { (shown_of device).size ≡ 64 }
 {
-    let mut log = LogState::new(alloc, store);
+    let (table, stops, ends) = fresh;
+    let mut log = LogState::new(alloc, store, ends);
     let mut data_state = DataState::<SectorDisk, R>::new(alloc, device);
-    let (table, stops) = fresh;
     let (mut queue, mut seats, _) = QueueState::<R>::start(alloc, blank, table, stops, size, 2)?;
     let (Some(mut one), Some(mut other)) = (seats.pop(), seats.pop()) else {
         return Ok(false);
@@ -203,7 +203,11 @@ fn two_seats_record<R: Run>(
 // The same, by a new recorder.
 fn two_seats(rt: &impl Print, alloc: Global, size: SectorSize) -> Result<bool, AllocError> {
     let blank = Blank::new(2);
-    let fresh = (Fresh::new(alloc)?, Fresh::new(alloc)?);
+    let fresh = (
+        Fresh::new(alloc)?,
+        Fresh::new(alloc)?,
+        Fresh::new(alloc)?,
+    );
     let device = SectorDisk::new(alloc, SECTORS)?;
     let Ok(store) = LogStore::create_sized(SectorDisk::new(alloc, LOG_SECTORS)?, size) else {
         return Ok(false);

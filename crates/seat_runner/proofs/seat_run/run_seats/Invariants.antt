@@ -17,6 +17,7 @@ ghosts-run_on-R-Run g a = record {
   sector_bytes = bytes_of a.script.now.log_size;
   log = ground_of (stack_shown a.log);
   stops = a.unnamed.stops;
+  ends = a.unnamed.ends;
 }
 
 abbrev pub ghosts-run_on-R-Names : goal.ghosts-run_on-R-Names

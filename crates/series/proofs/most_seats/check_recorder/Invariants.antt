@@ -15,6 +15,7 @@ ghosts-start_most-R-Run a = record {
   sector_bytes = 512;
   log = ground_of (shown_of a.log);
   stops = a.unnamed.stops;
+  ends = a.unnamed.ends;
 }
 
 abbrev pub ghosts-start_most-R-Names : goal.ghosts-start_most-R-Names

@@ -1,8 +1,9 @@
 -- Answers to the goals of `finish` (src/closing.rt) that the search leaves.
-use Rattle.std.proofs.Common.{List, subst, sym}
-use Rattle.lock_state.specs.PlacedItems.{Stay}
+use Rattle.std.proofs.Common.{List, ap, subst, sym}
+use Rattle.lock_state.specs.History.{Queue}
+use Rattle.lock_state.specs.PlacedItems.{Log, Stay}
 use Rattle.lock_state.specs.declared.note.Item.{Item}
-use Rattle.shared.proofs.ClosedLog.{agrees_finally, leaves_finally}
+use Rattle.shared.proofs.ClosedLog.{agrees_finally, leaves_finally, stop_finally}
 use Rattle.shared.proofs.closing.finish.Goals as goal
 
 pub returns-clause-agrees : goal.returns-clause-agrees
@@ -34,3 +35,14 @@ pub returns-clause-stay : goal.returns-clause-stay
 returns-clause-stay g c =
     subst (λ (items : List Item). Stay c.args.log.placed items)
     (sym c.take_apart.ensures.placed.0) c.drain.ensures.goes.stay
+
+pub returns-clause-stop_cause : goal.returns-clause-stop_cause
+returns-clause-stop_cause g c =
+    let ended = c.drain.ensures.ended in
+    stop_finally c.args.queue.stop c.args.log.end c.drain.new.queue.stop c.drain.new.log.end _ _
+    (ap (λ (q : Queue). q.stop) c.take_apart.ensures.queue) c.take_apart.ensures.store_end
+    c.drain.ensures.cause
+    (λ is. (
+      ap (λ (q : Queue). q.stop) (ended is).0,
+      ap (λ (log : Log). log.end) (ended is).1,
+    ))

@@ -15,6 +15,7 @@ ghosts-closed-R-Run g a = record {
   sector_bytes = 512;
   log = disk_ground 16;
   stops = a.unnamed.stops;
+  ends = a.unnamed.ends;
 }
 
 abbrev pub ghosts-closed-R-Names : goal.ghosts-closed-R-Names

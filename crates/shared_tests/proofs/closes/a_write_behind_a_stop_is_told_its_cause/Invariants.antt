@@ -15,6 +15,7 @@ ghosts-stopped-R-Run g a = record {
   sector_bytes = 512;
   log = disk_ground 16;
   stops = a.unnamed.stops;
+  ends = a.unnamed.ends;
 }
 
 abbrev pub ghosts-stopped-R-Names : goal.ghosts-stopped-R-Names

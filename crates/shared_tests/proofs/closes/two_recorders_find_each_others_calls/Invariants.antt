@@ -15,6 +15,7 @@ ghosts-foreign_seats-B-Run g a = record {
   sector_bytes = 512;
   log = disk_ground 16;
   stops = a.unnamed.stops;
+  ends = a.unnamed.ends;
 }
 
 abbrev pub ghosts-foreign_seats-B-Names : goal.ghosts-foreign_seats-B-Names
@@ -33,6 +34,7 @@ ghosts-foreign_seats-C-Run g a = record {
   sector_bytes = 512;
   log = disk_ground 16;
   stops = a.other.stops;
+  ends = a.other.ends;
 }
 
 abbrev pub ghosts-foreign_seats-C-Names : goal.ghosts-foreign_seats-C-Names

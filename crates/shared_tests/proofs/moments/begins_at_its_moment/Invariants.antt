@@ -15,6 +15,7 @@ ghosts-is_handed_on-R-Run g a = record {
   sector_bytes = 512;
   log = disk_ground 16;
   stops = a.unnamed.stops;
+  ends = a.unnamed.ends;
 }
 
 abbrev pub ghosts-is_handed_on-R-Names : goal.ghosts-is_handed_on-R-Names

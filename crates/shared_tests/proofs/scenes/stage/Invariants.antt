@@ -15,6 +15,7 @@ ghosts-play-R-Run g a = record {
   sector_bytes = 512;
   log = ground_of (shown_of a.log.lower);
   stops = a.unnamed.stops;
+  ends = a.unnamed.ends;
 }
 
 abbrev pub ghosts-play-R-Names : goal.ghosts-play-R-Names

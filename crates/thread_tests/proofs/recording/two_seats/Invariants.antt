@@ -17,4 +17,5 @@ ghosts-two_seats_record-R-Run g a =
       sector_bytes = bytes_of a.size;
       log = ground_of (store_of a.store).device;
       stops = a.fresh.1;
+      ends = a.fresh.2;
     }

@@ -5,7 +5,7 @@ use Rattle.lock_state.specs.Comparison.{Each}
 use Rattle.lock_state.specs.History.{Queue}
 use Rattle.lock_state.specs.PlacedItems.{Log}
 use Rattle.lock_state.specs.declared.note.Item.{Item}
-use Rattle.shared.proofs.ClosedLog.{agrees_of, differs_apart, differs_of, receipts_there}
+use Rattle.shared.proofs.ClosedLog.{agrees_of, differs_apart, differs_of, receipts_there, stop_same}
 use Rattle.shared.proofs.PostedStatus.{current_of, ended_of, found_of, none_of_both, posted_stays}
 use Rattle.shared.proofs.PostedStatus.{told_within}
 use Rattle.shared.specs.Posts.{ArePosted, IsCurrent, IsLatest, IsOfPrefix, TellsCause, end_before}
@@ -31,18 +31,18 @@ pub returns-then-agrees-clause-posted : goal.returns-then-agrees-clause-posted
 returns-then-agrees-clause-posted g c =
     posted_stays _ _ _ _ c.finish-closed.ensures.stay
     (subst (λ (log : Log). ArePosted g.R.Run.sector_bytes log.placed c.in-Ok.held.posts)
-    (sym c.confirm_release.ensures.same.0) c.in-Ok.ensures.posted)
+    (sym c.confirm_causes.ensures.same.0) c.in-Ok.ensures.posted)
 
 pub returns-clause-foreign_posted : goal.returns-clause-foreign_posted
 returns-clause-foreign_posted g c =
     subst (λ (items : List Item). ArePosted g.R.Run.sector_bytes items c.in-Ok.held.posts)
     (sym (c.take_apart.ensures.placed.0 ∙ ap (λ (log : Log). log.placed)
-    c.confirm_release.ensures.same.0)) c.in-Ok.ensures.posted
+    c.confirm_causes.ensures.same.0)) c.in-Ok.ensures.posted
 
 pub returns-clause-foreign : goal.returns-clause-foreign
 returns-clause-foreign g c =
     let a = c.take_apart.ensures in
-    differs_apart _ c.confirm_release.new.self _ _ _ _ _ _ _ _ _ _
+    differs_apart _ c.confirm_causes.new.self _ _ _ _ _ _ _ _ _ _
     (record {
       same_queue = a.queue;
       same_placed = a.placed.0;
@@ -56,44 +56,44 @@ returns-clause-foreign g c =
 
 pub returns-then-agrees-clause-ends : goal.returns-then-agrees-clause-ends
 returns-then-agrees-clause-ends g c k status there cause is other =
-    let log = c.confirm_release.ensures.same.0 in
+    let log = c.confirm_causes.ensures.same.0 in
     c.released-released.ensures ∙ ap (λ (log : Log). log.released) log
     ∙ c.in-Ok.ensures.ends k status there cause is
     (λ end. other (c.finish-closed.ensures.end_stays cause (ap (λ (log : Log). log.end) log ∙ end)))
 
 pub returns-clause-foreign_ends : goal.returns-clause-foreign_ends
 returns-clause-foreign_ends g c k status there cause is other =
-    let log = c.confirm_release.ensures.same.0 in
+    let log = c.confirm_causes.ensures.same.0 in
     c.released-released.ensures ∙ ap (λ (log : Log). log.released) log
     ∙ c.in-Ok.ensures.ends k status there cause is
     (λ end. other (c.take_apart.ensures.store_end ∙ ap (λ (log : Log). log.end) log ∙ end))
 
 pub returns-then-agrees-clause-released : goal.returns-then-agrees-clause-released
 returns-then-agrees-clause-released g c cause is =
-    let same = c.confirm_release.ensures.same in
+    let same = c.confirm_causes.ensures.same in
     c.finish-closed.ensures.stop_stays cause
     (ap (λ (q : Queue). q.stop) same.1
-    ∙ c.confirm_release.ensures.released cause
+    ∙ c.confirm_causes.ensures.released cause
     (ap (λ (log : Log). log.released) (sym same.0) ∙ sym c.released-released.ensures ∙ is))
 
 pub returns-clause-foreign_released : goal.returns-clause-foreign_released
 returns-clause-foreign_released g c cause is =
-    let same = c.confirm_release.ensures.same in
+    let same = c.confirm_causes.ensures.same in
     ap (λ (q : Queue). q.stop) (c.take_apart.ensures.queue ∙ same.1)
-    ∙ c.confirm_release.ensures.released cause
+    ∙ c.confirm_causes.ensures.released cause
     (ap (λ (log : Log). log.released) (sym same.0) ∙ sym c.released-released.ensures ∙ is)
 
 pub returns-then-agrees-clause-drained : goal.returns-then-agrees-clause-drained
 returns-then-agrees-clause-drained g c none =
     let on =
-    none_of_both c.confirm_release.new.queue.stop c.confirm_release.new.self.end
+    none_of_both c.confirm_causes.new.queue.stop c.confirm_causes.new.self.end
     _ (found_of _ _ _ _ _ c.first_of-found.ensures c.stop_cause.ensures c.end.ensures) none in
     c.finish-closed.ensures.drained on.0 on.1
 
 pub returns-then-agrees-clause-full : goal.returns-then-agrees-clause-full
 returns-then-agrees-clause-full g c none =
     let on =
-    none_of_both c.confirm_release.new.queue.stop c.confirm_release.new.self.end
+    none_of_both c.confirm_causes.new.queue.stop c.confirm_causes.new.self.end
     _ (found_of _ _ _ _ _ c.first_of-found.ensures c.stop_cause.ensures c.end.ensures) none in
     c.finish-closed.ensures.full on.0 on.1
 
@@ -110,11 +110,11 @@ returns-then-agrees-clause-current g c =
     (c.as_slice.ensures.value
     ∙ c.audit.ensures.same.1) c.as_slice-2.ensures.value c.if-agrees.ensures.agrees in
     let bytes = g.R.Run.sector_bytes in
-    let log = c.confirm_release.new.self in
+    let log = c.confirm_causes.new.self in
     let closed = c.finish-closed.result in
-    let same : c.in-Ok.held.log ≡ log = sym c.confirm_release.ensures.same.0 in
+    let same : c.in-Ok.held.log ≡ log = sym c.confirm_causes.ensures.same.0 in
     let current =
-    current_of bytes log closed.placed.items c.confirm_release.new.queue.stop
+    current_of bytes log closed.placed.items c.confirm_causes.new.queue.stop
     c.first_of-found.result closed.store_end
     c.args.receipts.items c.in-Ok.held.posts c.finish-closed.ensures.stay
     (subst (λ (l : Log). Each (IsOfPrefix bytes l.placed) c.in-Ok.held.posts) same
@@ -129,3 +129,28 @@ returns-then-agrees-clause-current g c =
     (end_before c.first_of-found.result closed.store_end) x.1 c.args.receipts.items
     c.in-Ok.held.posts)
     (λ i. (sym (ap length c.placed.ensures.items) i, sym c.released-released.ensures i)) current
+
+pub returns-then-agrees-clause-stop_cause : goal.returns-then-agrees-clause-stop_cause
+returns-then-agrees-clause-stop_cause g c =
+    let same = c.confirm_causes.ensures.same in
+    c.finish-closed.ensures.stop_cause
+    (stop_same _ _ _ _ (ap (λ (q : Queue). q.stop) same.1) (ap (λ (log : Log). log.end) same.0)
+    c.confirm_causes.ensures.stopped)
+
+pub returns-clause-foreign_stop_cause : goal.returns-clause-foreign_stop_cause
+returns-clause-foreign_stop_cause g c =
+    let same = c.confirm_causes.ensures.same in
+    stop_same _ _ _ _ (ap (λ (q : Queue). q.stop) (c.take_apart.ensures.queue ∙ same.1))
+    (c.take_apart.ensures.store_end ∙ ap (λ (log : Log). log.end) same.0)
+    c.confirm_causes.ensures.stopped
+
+pub returns-clause-foreign_latest : goal.returns-clause-foreign_latest
+returns-clause-foreign_latest g c =
+    let a = c.take_apart.ensures in
+    subst (λ (log : Log). IsLatest g.R.Run.sector_bytes log c.in-Ok.held.posts)
+    (sym c.confirm_causes.ensures.same.0 ∙ (λ i. record {
+      placed = sym a.placed.0 i;
+      settled = sym a.placed.1 i;
+      end = sym a.store_end i;
+      released = sym c.released-released.ensures i;
+    })) c.in-Ok.ensures.latest

@@ -264,7 +264,7 @@ fn reads<F: Files>(files: &mut F, alloc: Global, name: &str, limit: u64, bytes: 
 #[test]
 fn pipes_are_read_again(rt: HostRuntime) -> Result<(), Fail> {
     let alloc = rt.alloc();
-    let (one, other) = ("dmlw-test-one-pipe", "dmlw-test-other-pipe");
+    let (one, other) = ("dmlw-test-one-pipe", "dmlw-test-one-pipe-other-pipe");
     fs::write(&rt, one, b"first".as_slice())?;
     fs::write(&rt, other, b"second".as_slice())?;
     let noted = Noted::new(Failing::Nothing);
@@ -285,12 +285,32 @@ fn pipes_are_read_again(rt: HostRuntime) -> Result<(), Fail> {
     Ok(())
 }
 
-// A pipe of more than 4 MiB, or one that was too long for its first read, isn't read again.
+// A regular file is read anew each time.
+#[test]
+fn regular_files_are_read_anew(rt: HostRuntime) -> Result<(), Fail> {
+    let alloc = rt.alloc();
+    let name = "dmlw-test-regular";
+    let mut files = HostFiles::new(&rt, alloc);
+    fs::write(&rt, name, b"first".as_slice())?;
+    assert!(rt; reads(&mut files, alloc, name, 6, b"first".as_slice()));
+    fs::write(&rt, name, b"second".as_slice())?;
+    assert!(rt; reads(&mut files, alloc, name, 6, b"second".as_slice()));
+    fs::remove_file(&rt, name)?;
+    Ok(())
+}
+
+// A pipe of 4 MiB is read again. One of more, or one that was too long for its first read, isn't.
 #[test]
 fn long_pipes_are_read_once(rt: HostRuntime) -> Result<(), Fail> {
     let alloc = rt.alloc();
-    let (long, cut) = ("dmlw-test-long-pipe", "dmlw-test-cut-pipe");
+    let (most, long, cut) = (
+        "dmlw-test-most-pipe",
+        "dmlw-test-long-pipe",
+        "dmlw-test-cut-pipe",
+    );
     let bytes = vec![in alloc; 7; 4_194_305]?;
+    let (kept, _) = bytes.as_slice().split_at(4_194_304);
+    fs::write(&rt, most, kept)?;
     fs::write(&rt, long, bytes.as_slice())?;
     fs::write(&rt, cut, b"first".as_slice())?;
     let noted = Noted::new(Failing::Nothing);
@@ -299,6 +319,9 @@ fn long_pipes_are_read_once(rt: HostRuntime) -> Result<(), Fail> {
         noted: &noted,
     };
     let mut files = HostFiles::new(&watched, alloc);
+    for _ in 0..2 {
+        assert!(rt; reads(&mut files, alloc, most, 5_000_000, kept));
+    }
     assert!(rt; reads(&mut files, alloc, long, 5_000_000, bytes.as_slice()));
     assert!(rt; matches!(files.read(alloc, long, 5_000_000), Err(FileError::Unusable)));
     assert!(rt; is_unseekable(&files));
@@ -308,6 +331,7 @@ fn long_pipes_are_read_once(rt: HostRuntime) -> Result<(), Fail> {
     }
     assert!(rt; matches!(files.read(alloc, cut, 5), Err(FileError::Unusable)));
     assert!(rt; is_unseekable(&files));
+    fs::remove_file(&rt, most)?;
     fs::remove_file(&rt, long)?;
     fs::remove_file(&rt, cut)?;
     Ok(())

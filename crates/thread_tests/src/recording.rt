@@ -203,11 +203,7 @@ fn two_seats_record<R: Run>(
 // The same, by a new recorder.
 fn two_seats(rt: &impl Print, alloc: Global, size: SectorSize) -> Result<bool, AllocError> {
     let blank = Blank::new(2);
-    let fresh = (
-        Fresh::new(alloc)?,
-        Fresh::new(alloc)?,
-        Fresh::new(alloc)?,
-    );
+    let fresh = (Fresh::new(alloc)?, Fresh::new(alloc)?, Fresh::new(alloc)?);
     let device = SectorDisk::new(alloc, SECTORS)?;
     let Ok(store) = LogStore::create_sized(SectorDisk::new(alloc, LOG_SECTORS)?, size) else {
         return Ok(false);

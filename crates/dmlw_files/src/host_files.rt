@@ -39,11 +39,12 @@ pub struct HostFiles<'a, R: std::rt::Files> {
     spent: Vec<Spent>,
 }
 
-// A file that was read to its end, or over the limit, and that can't be read again.
+// A file that was opened and read, to its end or not, and that can't be read again.
 #[derive(Drop)]
 struct Spent {
     name: String,
-    // How many bytes it has at least: all of them, or one more than the read's limit.
+    // How many bytes it has at least: all of them, or one more than the read's limit; 0 if the read
+    // failed.
     length: u64,
     // All its bytes, unless they are too many or there was no memory for a copy.
     bytes: Option<Vec<u8>>,
@@ -98,17 +99,20 @@ impl<'a, R: std::rt::Files> HostFiles<'a, R> {
         // Memory for its name is there before it is read.
         let kept_name = String::from_str(alloc, name)?;
         self.spent.reserve(1)?;
-        let found = read_file(self.runtime, alloc, name, limit)?;
+        let file = fs::open(self.runtime, name)?;
+        let found = read_open::<R>(file, alloc, limit);
         let (length, bytes) = match &found {
-            Ok(bytes) => (bytes.len() as u64, kept(bytes)),
-            Err(_) => (limit.saturating_add(1), None),
+            Ok(Ok(bytes)) => (bytes.len() as u64, kept(bytes)),
+            Ok(Err(_)) => (limit.saturating_add(1), None),
+            // Some of its bytes may be gone.
+            Err(_) => (0, None),
         };
         self.spent.push_reserved(Spent {
             name: kept_name,
             length,
             bytes,
         });
-        Ok(found)
+        found
     }
 
     // Keeps why a call failed.
@@ -190,6 +194,17 @@ fn read_file<R: std::rt::Files>(
     ensures { IfOk result (λ found. IfOk found (λ bytes. vec_len bytes ≤ limit)) }
 {
     let file = fs::open(runtime, name)?;
+    read_open::<R>(file, alloc, limit)
+}
+
+// The whole of an open file, likewise.
+fn read_open<R: std::rt::Files>(
+    file: R::File,
+    alloc: Global,
+    limit: u64,
+) -> io::Result<Result<Vec<u8>, u64>>
+    ensures { IfOk result (λ found. IfOk found (λ bytes. vec_len bytes ≤ limit)) }
+{
     let length = file.metadata()?.len();
     // One byte more than the limit says a file that is too long.
     let most = limit.saturating_add(1);

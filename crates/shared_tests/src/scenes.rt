@@ -136,7 +136,14 @@ fn gated<H: Threads + Wait + Clock + Print + Sync + Send + Copy + Drop>(
         "the call was held until the other was answered",
     );
     let is_status = is_same(rt, &played.closed.status, &scene.status, "a scene's status");
-    Ok(are_answered(rt, played.tallies.as_slice(), scene.tallies) && is_let_go && is_status)
+    let is_end = is_same(
+        rt,
+        &played.released,
+        &scene.status.end,
+        "why waiters are let go",
+    );
+    let are_tallies = are_answered(rt, played.tallies.as_slice(), scene.tallies);
+    Ok(are_tallies && is_let_go && is_status && is_end)
 }
 
 // A log that goes on, with this number of entries up to this sector.
@@ -183,6 +190,37 @@ fn a_taken_entry_is_written_after_a_stop(rt: HostRuntime) -> Result<(), Fail> {
         status: Status {
             end: Some(End::Memory),
             ..goes_on(1, 1)
+        },
+    };
+    assert!(rt; gated(&rt, rt.alloc(), scene)?);
+    Ok(())
+}
+
+// A Stop while the device holds a write with FUA: its seat doesn't wait for the log for ever.
+#[test]
+fn a_write_is_let_go_after_a_stop(rt: HostRuntime) -> Result<(), Fail> {
+    let scene = Scene {
+        held: Held::Device,
+        sector: 1,
+        passes: 0,
+        calls: (
+            Call::Write {
+                first: 1,
+                byte: 1,
+                fua: true,
+            },
+            Call::GiveUp,
+        ),
+        tallies: (
+            Tally {
+                not_logged: 1,
+                ..tally(0, 0, 0)
+            },
+            tally(1, 0, 0),
+        ),
+        status: Status {
+            end: Some(End::Memory),
+            ..goes_on(0, 0)
         },
     };
     assert!(rt; gated(&rt, rt.alloc(), scene)?);

@@ -1,19 +1,15 @@
 // How the system's files are written: what they hold, and what was called in which order. How a
 // file is read that gives its bytes once.
-use crate::commands::output_of;
 use crate::host::{disk_of, holds};
 use dmlw_files::{FileError, FileFailure, Files, HostFiles};
 use std::alloc::{Allocator, Global};
 use std::cell::Cell;
 use std::fs::{Metadata, OpenFile, OpenOptions, Permissions};
-use std::io::{Print, Read, Seek, SeekFrom, Write};
+use std::io::{Read, Seek, SeekFrom, Write};
 use std::path::PathBuf;
 use std::process::Abort;
-use std::sync::Wait;
 use std::test::Fail;
-use std::thread::Threads;
 use std::{fs, io};
-use test_devices::is_told;
 
 // The call that a runtime fails.
 #[derive(Clone, Copy, PartialEq, Eq)]
@@ -252,37 +248,40 @@ fn files_are_replaced_whole(rt: HostRuntime) -> Result<(), Fail> {
     check_replaced(&rt, rt.alloc(), "dmlw-test-one", "dmlw-test-other")
 }
 
-// Whether a file is read as these bytes.
-fn reads<F: Files>(files: &mut F, alloc: Global, name: &str, limit: u64, bytes: &[u8]) -> bool {
-    match files.read(alloc, name, limit) {
+// Whether a file was read as these bytes.
+fn is_read(found: Result<Vec<u8>, FileError>, bytes: &[u8]) -> bool {
+    match found {
         Ok(read) => read.as_slice() == bytes,
         Err(_) => false,
     }
 }
 
 // What was read of two pipes is found again, though both are empty.
-#[test]
-fn pipes_are_read_again(rt: HostRuntime) -> Result<(), Fail> {
-    let alloc = rt.alloc();
+fn check_pipes<R: std::rt::Files + Abort>(rt: &R, alloc: Global) -> Result<(), Fail> {
     let (one, other) = ("dmlw-test-one-pipe", "dmlw-test-one-pipe-other-pipe");
-    fs::write(&rt, one, b"first".as_slice())?;
-    fs::write(&rt, other, b"second".as_slice())?;
+    fs::write(rt, one, b"first".as_slice())?;
+    fs::write(rt, other, b"second".as_slice())?;
     let noted = Noted::new(Failing::Nothing);
     let watched = Watched {
-        runtime: &rt,
+        runtime: rt,
         noted: &noted,
     };
     let mut files = HostFiles::new(&watched, alloc);
     for _ in 0..2 {
-        assert!(rt; reads(&mut files, alloc, one, 5, b"first".as_slice()));
-        assert!(rt; reads(&mut files, alloc, other, 6, b"second".as_slice()));
+        assert!(rt; is_read(files.read(alloc, one, 5), b"first".as_slice()));
+        assert!(rt; is_read(files.read(alloc, other, 6), b"second".as_slice()));
     }
-    assert!(rt; !reads(&mut files, alloc, one, 4, b"first".as_slice()));
+    assert!(rt; files.read(alloc, one, 4).is_err());
     assert!(rt; matches!(files.failure(), Some(FileFailure::TooLong(0))));
-    assert!(rt; holds(&rt, alloc, one, b"".as_slice()) && holds(&rt, alloc, other, b"".as_slice()));
-    fs::remove_file(&rt, one)?;
-    fs::remove_file(&rt, other)?;
+    assert!(rt; holds(rt, alloc, one, b"".as_slice()) && holds(rt, alloc, other, b"".as_slice()));
+    fs::remove_file(rt, one)?;
+    fs::remove_file(rt, other)?;
     Ok(())
+}
+
+#[test]
+fn pipes_are_read_again(rt: HostRuntime) -> Result<(), Fail> {
+    check_pipes(&rt, rt.alloc())
 }
 
 // A regular file is read anew each time.
@@ -292,88 +291,56 @@ fn regular_files_are_read_anew(rt: HostRuntime) -> Result<(), Fail> {
     let name = "dmlw-test-regular";
     let mut files = HostFiles::new(&rt, alloc);
     fs::write(&rt, name, b"first".as_slice())?;
-    assert!(rt; reads(&mut files, alloc, name, 6, b"first".as_slice()));
+    assert!(rt; is_read(files.read(alloc, name, 6), b"first".as_slice()));
     fs::write(&rt, name, b"second".as_slice())?;
-    assert!(rt; reads(&mut files, alloc, name, 6, b"second".as_slice()));
+    assert!(rt; is_read(files.read(alloc, name, 6), b"second".as_slice()));
     fs::remove_file(&rt, name)?;
     Ok(())
 }
 
 // A pipe of 4 MiB is read again. One of more, or one that was too long for its first read, isn't.
-#[test]
-fn long_pipes_are_read_once(rt: HostRuntime) -> Result<(), Fail> {
-    let alloc = rt.alloc();
-    let (most, long, cut) = (
-        "dmlw-test-most-pipe",
-        "dmlw-test-long-pipe",
-        "dmlw-test-cut-pipe",
-    );
+fn check_long_pipes<R: std::rt::Files + Abort>(rt: &R, alloc: Global) -> Result<(), Fail> {
+    let most = "dmlw-test-most-pipe";
+    let long = "dmlw-test-long-pipe";
+    let cut = "dmlw-test-cut-pipe";
     let bytes = vec![in alloc; 7; 4_194_305]?;
     let (kept, _) = bytes.as_slice().split_at(4_194_304);
-    fs::write(&rt, most, kept)?;
-    fs::write(&rt, long, bytes.as_slice())?;
-    fs::write(&rt, cut, b"first".as_slice())?;
-    let noted = Noted::new(Failing::Nothing);
-    let watched = Watched {
-        runtime: &rt,
-        noted: &noted,
-    };
-    let mut files = HostFiles::new(&watched, alloc);
-    for _ in 0..2 {
-        assert!(rt; reads(&mut files, alloc, most, 5_000_000, kept));
-    }
-    assert!(rt; reads(&mut files, alloc, long, 5_000_000, bytes.as_slice()));
-    assert!(rt; matches!(files.read(alloc, long, 5_000_000), Err(FileError::Unusable)));
-    assert!(rt; is_unseekable(&files));
-    for _ in 0..2 {
-        assert!(rt; matches!(files.read(alloc, cut, 4), Err(FileError::Unusable)));
-        assert!(rt; matches!(files.failure(), Some(FileFailure::TooLong(_))));
-    }
-    assert!(rt; matches!(files.read(alloc, cut, 5), Err(FileError::Unusable)));
-    assert!(rt; is_unseekable(&files));
-    fs::remove_file(&rt, most)?;
-    fs::remove_file(&rt, long)?;
-    fs::remove_file(&rt, cut)?;
-    Ok(())
-}
-
-// Whether the last read failed since its file gives its bytes once.
-fn is_unseekable<F: Files>(files: &F) -> bool {
-    match files.failure() {
-        Some(FileFailure::Read(error)) => error.kind() == io::ErrorKind::NotSeekable,
-        _ => false,
-    }
-}
-
-// What `--explain` adds to a recording of this script, which comes through a pipe.
-fn check_explained<R: std::rt::Files + Abort + Print + Threads + Wait + Sync>(
-    rt: &R,
-    alloc: Global,
-    script: &str,
-    wanted: &str,
-) -> Result<(), Fail> {
-    let name = "dmlw-test-script-pipe";
-    fs::write(rt, name, script)?;
+    fs::write(rt, most, kept)?;
+    fs::write(rt, long, bytes.as_slice())?;
+    fs::write(rt, cut, b"first".as_slice())?;
     let noted = Noted::new(Failing::Nothing);
     let watched = Watched {
         runtime: rt,
         noted: &noted,
     };
-    let line = "--explain record dmlw-test-script-pipe dmlw-test-log";
-    let told = output_of(rt, alloc, line, &mut HostFiles::new(&watched, alloc))?;
-    assert!(rt; is_told(rt, told.as_str(), wanted, script));
-    fs::remove_file(rt, name)?;
+    let mut files = HostFiles::new(&watched, alloc);
+    for _ in 0..2 {
+        assert!(rt; is_read(files.read(alloc, most, 5_000_000), kept));
+    }
+    assert!(rt; is_read(files.read(alloc, long, 5_000_000), bytes.as_slice()));
+    assert!(rt; files.read(alloc, long, 5_000_000).is_err());
+    assert!(rt; is_unseekable(files.failure()));
+    for _ in 0..2 {
+        assert!(rt; files.read(alloc, cut, 4).is_err());
+        assert!(rt; matches!(files.failure(), Some(FileFailure::TooLong(_))));
+    }
+    assert!(rt; files.read(alloc, cut, 5).is_err());
+    assert!(rt; is_unseekable(files.failure()));
+    fs::remove_file(rt, most)?;
+    fs::remove_file(rt, long)?;
+    fs::remove_file(rt, cut)?;
     Ok(())
 }
 
 #[test]
-fn explains_scripts_of_pipes(rt: HostRuntime) -> Result<(), Fail> {
-    let alloc = rt.alloc();
-    let unclosed =
-        "0|a ok;0 0;|  dmlw-test-script-pipe has no line `close`: what waits isn't written to the log;";
-    check_explained(&rt, alloc, "data 16\nlog 32\nw a 5 1 41\nc a\n", unclosed)?;
-    fs::remove_file(&rt, "dmlw-test-log")?;
-    let bad =
-        "1||dmlw: line 1: 30 BadLine;  line 1 of dmlw-test-script-pipe: data;  the word <sectors> is missing;  the form of the line: data <sectors>;";
-    check_explained(&rt, alloc, "data\n", bad)
+fn long_pipes_are_read_once(rt: HostRuntime) -> Result<(), Fail> {
+    check_long_pipes(&rt, rt.alloc())
+}
+
+// Whether a read failed since its file gives its bytes once.
+fn is_unseekable(failure: Option<&FileFailure>) -> bool {
+    match failure {
+        Some(FileFailure::Read(error)) => error.kind() == io::ErrorKind::NotSeekable,
+        _ => false,
+    }
 }

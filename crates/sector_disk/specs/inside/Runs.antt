@@ -1,4 +1,5 @@
 -- The list that runs of one value each make.
+-- Its own crate alone cites it.
 use Rattle.std.specs.Prelude.{ℕ, List, [], ◌∷◌, ◌++◌, replicate}
 use Rattle.sector_disk.specs.declared.runs.Run.{Run}
 

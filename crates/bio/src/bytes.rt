@@ -1,7 +1,7 @@
 //! The data of a request and the text of a mark: bytes that clones can share.
 //! Its clauses are written in specs/inside/Storage; the search alone proves it.
-ghost use Rattle.std.specs.Prelude.{◌≡◌, ◌==◌, IfOk, length};
-ghost use Rattle.std.specs.Arc.{arc_value};
+ghost use Rattle.std.specs.Prelude.{◌≡◌, ◌==◌, IfOk, length, take};
+ghost use Rattle.bio.specs.inside.Storage.{stored};
 
 use std::alloc::AllocError;
 use std::marker::Model;
@@ -21,8 +21,8 @@ pub struct Bytes {
 enum Storage {
     // In a vector of their own.
     Alone(Vec<u8>),
-    // In a vector that clones of these bytes have too.
-    Shared(Arc<Vec<u8>>),
+    // The first bytes of a vector, and how many. Clones and prefixes share the vector.
+    Shared(Arc<Vec<u8>>, usize),
 }
 
 impl Model for Bytes {
@@ -50,12 +50,11 @@ impl Bytes {
         ensures { IfOk result (λ shared. shared ≡ self) }
     {
         let Bytes { storage } = self;
-        let shared = match storage {
-            Storage::Alone(bytes) => share(bytes)?,
-            Storage::Shared(bytes) => bytes,
-        };
         Ok(Bytes {
-            storage: Storage::Shared(shared),
+            storage: match storage {
+                Storage::Alone(bytes) => share(bytes)?,
+                shared => shared,
+            },
         })
     }
 
@@ -67,7 +66,11 @@ impl Bytes {
         let Bytes { storage } = self;
         match storage {
             Storage::Alone(bytes) => Ok(bytes),
-            Storage::Shared(bytes) => Arc::unwrap_or_clone(bytes),
+            Storage::Shared(bytes, length) => {
+                let mut bytes = Arc::unwrap_or_clone(bytes)?;
+                bytes.truncate(length);
+                Ok(bytes)
+            }
         }
     }
 
@@ -76,8 +79,21 @@ impl Bytes {
     {
         match &self.storage {
             Storage::Alone(bytes) => bytes.as_slice(),
-            Storage::Shared(bytes) => bytes.as_slice(),
+            Storage::Shared(bytes, length) => &bytes.as_slice()[..(*length).min(bytes.len())],
         }
+    }
+
+    /// The first `length` bytes, or all if there are fewer. Takes no memory if they are shared;
+    /// else they are copied.
+    pub fn prefix(&self, length: usize) -> Result<Bytes, AllocError>
+        ensures { IfOk result (λ prefix. prefix ≡ take length self.now) }
+    {
+        let mut storage = self.clone()?.storage;
+        match &mut storage {
+            Storage::Alone(bytes) => bytes.truncate(length),
+            Storage::Shared(_, shown) => *shown = (*shown).min(length),
+        }
+        Ok(Bytes { storage })
     }
 
     pub fn len(&self) -> usize
@@ -94,11 +110,12 @@ impl Bytes {
 }
 
 // Puts a vector where clones can share it.
-fn share(bytes: Vec<u8>) -> Result<Arc<Vec<u8>>, AllocError>
-    ensures { IfOk result (λ shared. (arc_value shared).items ≡ bytes.items) }
+fn share(bytes: Vec<u8>) -> Result<Storage, AllocError>
+    ensures { IfOk result (λ shared. stored shared ≡ bytes.items) }
 {
     let alloc = bytes.allocator().clone()?;
-    Ok(Arc::new(alloc, bytes)?)
+    let length = bytes.len();
+    Ok(Storage::Shared(Arc::new(alloc, bytes)?, length))
 }
 
 impl Clone for Bytes {
@@ -111,8 +128,8 @@ impl Clone for Bytes {
     {
         let storage = match &self.storage {
             Storage::Alone(bytes) if bytes.is_empty() => Storage::Alone(bytes.clone()?),
-            Storage::Alone(bytes) => Storage::Shared(share(bytes.clone()?)?),
-            Storage::Shared(bytes) => Storage::Shared(bytes.clone()?),
+            Storage::Alone(bytes) => share(bytes.clone()?)?,
+            Storage::Shared(bytes, length) => Storage::Shared(bytes.clone()?, *length),
         };
         Ok(Bytes { storage })
     }

@@ -7,8 +7,8 @@ ghost use Rattle.recorder.specs.Fields.{core_of, recorder_view};
 ghost use Rattle.script_runner.specs.Lines.{Asks, HearsEnd};
 ghost use Rattle.script_runner.specs.Submissions.{bio_of};
 
-use crate::last_data::LastData;
 use crate::request::{Request, bio_of};
+use crate::write_data::WriteData;
 use bio::{Event, Id};
 use blockdev::BlockDev;
 use recorder::{Recorder, Reply};
@@ -17,7 +17,7 @@ use script_reader::Submission;
 // Asks the recorder of the request that a line submits, which suits its log's sectors.
 pub(crate) fn ask<L: BlockDev + Drop>(
     recorder: &mut Recorder<L>,
-    last: &mut LastData,
+    data: &mut WriteData,
     submission: Submission,
 ) -> Request
     requires { submission_answer (core_of recorder.old).sector_bytes 1048576 submission ≡ Ok tt }
@@ -25,7 +25,7 @@ pub(crate) fn ask<L: BlockDev + Drop>(
     ensures goes { RecorderFrame (recorder_view recorder.old) (recorder_view recorder.new) }
     ensures log_moment { recorder.new.store.moment ≡ recorder.old.store.moment }
 {
-    let Ok(bio) = bio_of(last, submission) else {
+    let Ok(bio) = bio_of(data, submission) else {
         return Request::NotAsked;
     };
     let Ok(asked) = bio.clone() else {

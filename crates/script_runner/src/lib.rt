@@ -7,7 +7,6 @@
 //! all lines come to.
 #![tactic(auto)]
 
-pub use last_data::LastData;
 pub use playing::new_stack;
 pub use recording::{Lies, RunResult, record};
 pub use rehearsing::{Rehearsed, events_of_run};
@@ -15,10 +14,10 @@ pub use request::{Request, bio_of};
 pub use run_script::run;
 pub use running::Running;
 pub use step_error::StepError;
+pub use write_data::WriteData;
 
 mod asking;
 mod handing;
-mod last_data;
 pub mod laws;
 mod playing;
 mod print;
@@ -29,3 +28,4 @@ mod run_script;
 mod running;
 mod shortage;
 mod step_error;
+mod write_data;

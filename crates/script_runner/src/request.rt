@@ -7,7 +7,7 @@ ghost use Rattle.bio.specs.Requests.{has_data};
 ghost use Rattle.script_reader.specs.Plans.{submission_answer};
 ghost use Rattle.script_runner.specs.Submissions.{bio_of, is_asked};
 
-use crate::last_data::LastData;
+use crate::write_data::WriteData;
 use bio::{Bio, Id};
 use script_reader::Submission;
 use std::alloc::AllocError;
@@ -21,10 +21,9 @@ pub enum Request {
     NotAsked,
 }
 
-/// The request that a script's line submits. Its bytes lie in memory once however many hold them,
-/// and those of the write before are used again.
+/// The request that a script's line submits. The writes of one byte share its data.
 #[tactic(auto, using(crate::proofs::SubmitLines::bio_suits))]
-pub fn bio_of(last: &mut LastData, submission: Submission) -> Result<Bio, AllocError>
+pub fn bio_of(data: &mut WriteData, submission: Submission) -> Result<Bio, AllocError>
     requires { (bytes sectors : ℕ) × (submission_answer bytes sectors submission ≡ Ok tt) }
     ensures made { IfOk result (λ bio. bio ≡ bio_of submission) }
     ensures no_data { has_data (bio_of submission) ≡ false → IsOk result }
@@ -40,7 +39,7 @@ pub fn bio_of(last: &mut LastData, submission: Submission) -> Result<Bio, AllocE
             options,
         } => Ok(Bio::Write {
             first,
-            bytes: last.sectors_of(count, byte)?,
+            bytes: data.sectors_of(count, byte)?,
             flush: options.flush,
             fua: options.fua,
             meta: options.meta,

@@ -7,11 +7,11 @@ ghost use Rattle.script_runner.specs.Submissions.{fits_device};
 
 use crate::asking::{ask, complete_request};
 use crate::handing::{do_request, read_sectors};
-use crate::last_data::LastData;
 use crate::print::{name_of, print_mark, print_outcome, print_read, print_submission};
 use crate::request::{Request, are_asked};
 use crate::shortage::{is_memory_end, is_refusal, is_starved, last_turn};
 use crate::step_error::StepError;
+use crate::write_data::WriteData;
 use bio::{Bytes, Event, Ms};
 use blockdev::{BlockDev, Message};
 use recorder::{Recorder, Reply, laws};
@@ -28,7 +28,7 @@ pub struct Running<D: BlockDev + Drop, L: BlockDev + Drop> {
     alloc: Global,
     recorder: Recorder<L>,
     disk: D,
-    last: LastData,
+    write_data: WriteData,
     requests: Vec<Request>,
     // At which the calls of both devices begin.
     moment: Ms,
@@ -57,7 +57,7 @@ impl<D: BlockDev + Drop, L: BlockDev + Drop> Running<D, L> {
             alloc,
             recorder,
             disk,
-            last: LastData::none(alloc),
+            write_data: WriteData::none(alloc),
             requests: Vec::with_capacity(alloc, requests)?,
             moment: Ms::new(0),
             short: false,
@@ -130,7 +130,7 @@ impl<D: Message + Drop, L: Message + Drop> Running<D, L> {
         ensures count { OnOk result
             (length self.new.requests.items ≡ length self.old.requests.items + 1) }
     {
-        let request = ask(&mut self.recorder, &mut self.last, submission);
+        let request = ask(&mut self.recorder, &mut self.write_data, submission);
         print_submission(name_of(names, self.requests.len()), &request, out)?;
         self.requests.push(request)?;
         Ok(())

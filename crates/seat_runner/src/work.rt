@@ -15,7 +15,7 @@ use blockdev::BlockDev;
 use board::Names;
 use lock_state::{Receipt, Run, Seat};
 use script_reader::{Call, RunScript, SeatCall, Submission};
-use script_runner::{LastData, bio_of};
+use script_runner::{WriteData, bio_of};
 use shared::{Answer, MarkAnswer, Shared};
 use std::alloc::Global;
 use std::marker::Model;
@@ -29,7 +29,7 @@ pub struct Work<R: Run + Names> {
     pub(crate) tally: Tally,
     // Those that its calls were answered with, in their order.
     pub(crate) receipts: Vec<Receipt<R>>,
-    last: LastData,
+    write_data: WriteData,
 }
 
 impl<R: Run + Names> Model for Work<R> {
@@ -56,7 +56,7 @@ impl<R: Run + Names> Work<R> {
             seat,
             tally: Tally::none(),
             receipts: Vec::new(alloc),
-            last: LastData::none(alloc),
+            write_data: WriteData::none(alloc),
         }
     }
 
@@ -125,7 +125,7 @@ impl<R: Run + Names> Work<R> {
         if self.receipts.reserve(1).is_err() {
             return Outcome::Failed;
         }
-        let Ok(bio) = bio_of(&mut self.last, submission) else {
+        let Ok(bio) = bio_of(&mut self.write_data, submission) else {
             return Outcome::Failed;
         };
         let answer = recorder.submit(rt, &mut self.seat, bio, Ms::new(0));

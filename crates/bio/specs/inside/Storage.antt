@@ -1,6 +1,6 @@
 -- The list of bytes that contracts see of a `Bytes`, whether it is held alone or shared.
 -- Its own crate alone cites it.
-use Rattle.std.specs.Prelude.{ℕ, List}
+use Rattle.std.specs.Prelude.{ℕ, List, take}
 use Rattle.std.specs.Arc.{arc_value}
 use Rattle.bio.specs.declared.bytes.Storage.{Storage}
 use Rattle.bio.specs.declared.bytes.Storage.TheVariants.{Alone, Shared}
@@ -8,4 +8,4 @@ use Rattle.bio.specs.declared.bytes.Storage.TheVariants.{Alone, Shared}
 -- the bytes, wherever they lie
 abbrev pub stored : Storage → List ℕ
 stored (Alone bytes) = bytes.items
-stored (Shared bytes) = (arc_value bytes).items
+stored (Shared bytes length) = take length (arc_value bytes).items

@@ -1,0 +1,14 @@
+-- The data that the writes of a script share.
+-- Its own crate alone cites it.
+use Rattle.std.specs.Prelude.{◌≡◌, ◌<◌, ◌≤◌, ℕ, [], Some, List, get_or, length, replicate, slice_get}
+
+-- the data in each row is of the row's byte
+abbrev pub AreFilled : List (List ℕ) → Type 0
+AreFilled rows =
+    (byte : ℕ) (bytes : List ℕ) → slice_get rows byte ≡ Some bytes
+    → bytes ≡ replicate (length bytes) byte
+
+-- a byte has a row, of at least so much data
+pub record HasRow (least byte : ℕ) (rows : List (List ℕ)) : Type 0 where
+  pub within : byte < length rows
+  pub long : least ≤ length (get_or rows byte [])

@@ -88,6 +88,23 @@ impl Image {
         Ok(bytes)
     }
 
+    /// The bytes as a vector. Each piece is let go as it is copied.
+    ///
+    /// # Errors
+    ///
+    /// There was no memory.
+    pub fn into_vec(self, alloc: Global) -> Result<Vec<u8>, AllocError>
+        ensures { IfOk result (λ bytes. bytes.items ≡ self) }
+    {
+        let Image { mut pieces, count } = self;
+        let mut bytes = Vec::with_capacity(alloc, count)?;
+        pieces.reverse();
+        while let Some(piece) = pieces.pop() {
+            piece.append_to(&mut bytes)?;
+        }
+        Ok(bytes)
+    }
+
     /// How many bytes there are.
     pub fn len(&self) -> usize
         ensures { result ≡ length self.now }

@@ -32,6 +32,19 @@ def script_of_a_mark():
     return head + "x" * (4_194_304 - len(head) - 7) + "\nclose\n"
 
 
+def longest(line):
+    """A script of 4 MiB, all of it requests that this makes of their numbers, each ended at once, over a log that is soon full."""
+    lines, size = ["data 4096", "log 64"], 0
+    while size < 4_194_304 - 64:
+        name = f"{len(lines):x}"
+        lines.append(f"{line(name, len(lines))}\nc {name}")
+        size += len(lines[-1]) + 1
+    return "\n".join([*lines, ""])
+
+
+# Each is of 2,048 sectors, or 1 MiB: 200,000 of them or so.
+LARGE_WRITES = longest(lambda name, number: f"w {name} {number % 2048} 2048 {number * 7 % 256:02x}")
+LARGE_DISCARDS = longest(lambda name, number: f"d {name} {number % 2048} 2048")
 LARGE_DATA = "data 1048576\nlog 4096\nw a 1046528 2048 41\nc a\nf b\nc b\nclose\n"
 LARGE_LOG = "data 2048\nlog 1048576\nw a 0 2048 41\nc a\nclose\n"
 SHARED = "data 2048\nlog 32\n" + "".join(f"w a{it} 0 2048 41\n" for it in range(WRITES))

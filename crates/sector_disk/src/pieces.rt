@@ -37,11 +37,11 @@ impl Model for Image {
 
     ghost Value = { List ℕ };
 
-    ghost use Rattle.sector_disk.specs.inside.Pieces.{IsImage, joined};
+    ghost use Rattle.sector_disk.specs.inside.Pieces.{IsHeldIn, joined};
 
     ghost view = { λ i. joined i.pieces.items };
 
-    ghost invariant = { λ i. IsImage i.pieces.items i.count };
+    ghost invariant = { λ i. IsHeldIn i.pieces.items i.count };
 }
 
 impl Image {

@@ -2,7 +2,7 @@
 //! Its clauses are written in specs/inside/Runs; its theorems in proofs/runs/.
 ghost use Rattle.std.specs.Prelude.{◌≡◌, ◌≤◌, ◌<◌, ◌++◌, [], IfOk, drop, length, replicate};
 ghost use Rattle.std.specs.Prelude.{slice_get};
-ghost use Rattle.sector_disk.specs.inside.Runs.{values_of};
+ghost use Rattle.sector_disk.specs.inside.Runs.{unrolled};
 
 use std::alloc::{AllocError, Global};
 use std::marker::Model;
@@ -26,9 +26,9 @@ impl Model for Runs {
 
     ghost Value = { List ℕ };
 
-    ghost use Rattle.sector_disk.specs.inside.Runs.{values_of};
+    ghost use Rattle.sector_disk.specs.inside.Runs.{unrolled};
 
-    ghost view = { λ r. replicate r.first.count r.first.value ++ values_of r.later.items };
+    ghost view = { λ r. replicate r.first.count r.first.value ++ unrolled r.later.items };
 }
 
 // The first run of a list.
@@ -47,7 +47,7 @@ fn first_run(values: &[usize]) -> Run
 
 // The value at an index in runs.
 fn value_at(runs: &[Run], index: usize) -> Option<usize>
-    ensures { result ≡ slice_get (values_of runs.now) index }
+    ensures { result ≡ slice_get (unrolled runs.now) index }
 {
     let mut rest = runs;
     let mut left = index;

@@ -4,6 +4,6 @@ use Rattle.std.specs.Prelude.{ℕ, List, [], ◌∷◌, ◌++◌, replicate}
 use Rattle.sector_disk.specs.declared.runs.Run.{Run}
 
 -- the values of runs, one after another
-abbrev pub values_of : List Run → List ℕ
-values_of [] = []
-values_of (run ∷ rest) = replicate run.count run.value ++ values_of rest
+abbrev pub unrolled : List Run → List ℕ
+unrolled [] = []
+unrolled (run ∷ rest) = replicate run.count run.value ++ unrolled rest

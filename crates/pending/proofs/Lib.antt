@@ -8,6 +8,7 @@ pub mod Counts
 pub mod OneStep
 pub mod WaitingSteps
 pub mod EndRelease
+pub mod SectorLaws
 pub mod WaitingSpan
 pub mod LaneLaws
 pub mod RequestLaws

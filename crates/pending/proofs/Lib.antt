@@ -13,6 +13,8 @@ pub mod WaitingSpan
 pub mod LaneLaws
 pub mod RequestLaws
 pub mod Walk
+pub mod OldestLaws
+pub mod WaitingFalls
 pub mod Rooms
 pub mod Views
 pub mod EndLaws

@@ -3,6 +3,7 @@
 pub mod Release
 pub mod SectorBits
 pub mod Covers
+pub mod Oldest
 pub mod Requests
 pub mod WaitingList
 pub mod Steps

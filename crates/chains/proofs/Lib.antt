@@ -8,5 +8,6 @@ pub mod TableLaws
 pub mod OpenLaws
 pub mod CallLaws
 pub mod WalkLaws
+pub mod BackLaws
 pub mod LookLaws
 mod Examples

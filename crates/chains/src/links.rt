@@ -1,12 +1,14 @@
 //! The links between rows, and the one call that changes them.
-//! Its clauses are written in specs/; the search alone proves it.
-ghost use Rattle.std.specs.Prelude.{◌≡◌, ◌+◌, ◌-◌, ◌^◌, ◌<◌, ◌≤◌, min, None, [], ◌∷◌, ◌++◌};
-ghost use Rattle.std.specs.Prelude.{length, replicate, IfOk, IsOk, OnErr, OnOk, vec_len};
+//! Its clauses are written in specs/; its theorems in proofs/links/.
+ghost use Rattle.std.specs.Prelude.{◌≡◌, ℕ, ◌+◌, ◌-◌, ◌^◌, ◌<◌, ◌≤◌, min, None, [], ◌∷◌, ◌++◌};
+ghost use Rattle.std.specs.Prelude.{length, replicate, slice_set, IfOk, IsOk, OnErr, OnOk, vec_len};
 ghost use Rattle.std.specs.Prelude.{vec_capacity};
 ghost use Rattle.chains.specs.inside.Rings.{after, last_in};
 ghost use Rattle.chains.specs.inside.Changes.{IsWithin, lasts_after, next_after};
 
 use std::alloc::{AllocError, Global};
+use std::fmt::{self, Debug, Formatter};
+use std::marker::Model;
 
 /// A change of one link.
 #[derive(Clone, Copy, Debug)]
@@ -17,10 +19,57 @@ pub enum Change {
     Next(usize, usize),
 }
 
+/// Where the link of a row leads. It notes, too, which row's link last came to lead to this row;
+/// contracts don't see that.
+#[derive(Drop)]
+struct Link {
+    to: usize,
+    from: usize,
+}
+
+impl Model for Link {
+    ghost use Rattle.std.specs.Prelude.{ℕ};
+
+    ghost Value = { ℕ };
+
+    ghost view = { λ link. link.to };
+}
+
+impl Debug for Link {
+    fn fmt<W: fmt::Write>(&self, f: &mut Formatter<W>) -> fmt::Result {
+        Debug::fmt(&self.to, f)
+    }
+}
+
+impl Link {
+    fn to(&self) -> usize
+        ensures { result ≡ self.now }
+    {
+        self.to
+    }
+
+    // The row from which a link leads to this row, if it was noted right.
+    fn from(&self) -> usize {
+        self.from
+    }
+
+    fn lead(&mut self, to: usize)
+        ensures { self.new ≡ to }
+    {
+        self.to = to;
+    }
+
+    fn note(&mut self, from: usize)
+        ensures { self.new ≡ self.old }
+    {
+        self.from = from;
+    }
+}
+
 /// Where the link of each row leads, and which row is the last of each chain.
 #[derive(Debug, Drop)]
 pub struct Links {
-    next: Vec<usize>,
+    next: Vec<Link>,
     lasts: Vec<Option<usize>>,
     // How many links were changed, or 2^64 - 1 where there were more.
     changed: u64,
@@ -47,7 +96,29 @@ impl Links {
         requires { row < length self.now.next.items }
         ensures { result ≡ after self.now.next.items row }
     {
-        self.next[row]
+        self.next[row].to()
+    }
+
+    /// The row whose link leads to this one. `write` notes it at this row, so
+    /// that no search is needed; that the note is right is tried, and not proved.
+    pub fn before(&self, row: usize) -> usize
+        requires { (some : ℕ) × (some < length self.now.next.items)
+            × (after self.now.next.items some ≡ row) }
+        ensures within { result < length self.now.next.items }
+        ensures leads { after self.now.next.items result ≡ row }
+    {
+        if row < self.next.len() {
+            let noted = self.next[row].from();
+            if noted < self.next.len() && self.next(noted) == row {
+                return noted;
+            }
+        }
+        for other in 0..self.next.len() {
+            if self.next(other) == row {
+                return other;
+            }
+        }
+        unreachable!()
     }
 
     /// The last row of a chain, if it has rows.
@@ -77,9 +148,22 @@ impl Links {
     {
         match change {
             Change::Last(chain, row) => self.lasts[chain] = row,
-            Change::Next(row, to) => self.next[row] = to,
+            Change::Next(row, to) => self.lead(row, to),
         }
         self.changed = self.changed.saturating_add(1);
+    }
+
+    // The link of this row leads to that one, which notes it.
+    fn lead(&mut self, row: usize, to: usize)
+        requires { row < length self.old.next.items }
+        ensures next { self.new.next.items ≡ slice_set self.old.next.items row to }
+        ensures rest { self.new ≡ record self.old { next = self.new.next } }
+        ensures room { vec_capacity self.new.next ≡ vec_capacity self.old.next }
+    {
+        self.next[row].lead(to);
+        if to < self.next.len() {
+            self.next[to].note(row);
+        }
     }
 
     /// Makes room for `more` chains.
@@ -134,7 +218,7 @@ impl Links {
         ensures changed { self.new.changed ≡ self.old.changed }
         ensures room { vec_capacity self.new.next ≡ vec_capacity self.old.next }
     {
-        self.next.push_reserved(0);
+        self.next.push_reserved(Link { to: 0, from: 0 });
     }
 
     /// How many chains there are, with chain 0.

@@ -45,6 +45,27 @@ impl<T: Drop> Chains<T> {
         });
     }
 
+    /// Goes back before the last value of the chain that is being walked: it's
+    /// the first then, and to go past it makes the chain as it was. No link is changed.
+    pub fn turn_back(&mut self)
+        ensures chains { (chain : ℕ) → self.old.walked ≡ Some chain
+            → self.old.chains ≡ turned self.new.chains chain }
+        ensures rest { self.new ≡ record self.old { chains = self.new.chains } }
+        ensures none { self.old.walked ≡ None → self.new ≡ self.old }
+    {
+        let Some(walk) = self.walk else {
+            return;
+        };
+        let Some(at) = walk.at else {
+            return;
+        };
+        let before = self.links.before(at);
+        self.walk = Some(Walk {
+            chain: walk.chain,
+            at: Some(before),
+        });
+    }
+
     /// Puts the first value of the chain that is being walked before the first of another: at most
     /// 3 links are changed, and no value is moved.
     pub fn lift(&mut self, onto: usize)

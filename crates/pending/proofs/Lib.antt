@@ -8,10 +8,13 @@ pub mod Counts
 pub mod OneStep
 pub mod WaitingSteps
 pub mod EndRelease
+pub mod SectorLaws
 pub mod WaitingSpan
 pub mod LaneLaws
 pub mod RequestLaws
 pub mod Walk
+pub mod OldestLaws
+pub mod WaitingFalls
 pub mod Rooms
 pub mod Views
 pub mod EndLaws

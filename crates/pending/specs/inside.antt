@@ -1,6 +1,9 @@
 -- The definitions of `pending` that its proofs alone use: no other crate cites them.
 -- Any crate above may cite it.
 pub mod Release
+pub mod SectorBits
+pub mod Covers
+pub mod Oldest
 pub mod Requests
 pub mod WaitingList
 pub mod Steps

@@ -214,6 +214,7 @@ impl<D: BlockDev + Drop, L: BlockDev + Drop, R: Run + Names> Shared<D, L, R> {
               settled = f.closed.settled;
               end = f.closed.store_end;
               released = f.released;
+              room = 0;
             }) f.posts)) }
         ensures foreign_released { IfErr result (λ e. IfForeign e (λ f. (cause : Cause)
             → f.released ≡ Some cause → f.closed.stop ≡ Some cause)) }

@@ -56,7 +56,7 @@ pub enum Unrecorded {
 /// Why an item wasn't placed.
 #[derive(Drop)]
 pub enum Unplaced<R: Run> {
-    /// There was no memory for the list of items: nothing is changed.
+    /// There was no room in the list of items: nothing is changed.
     NoRoom,
     /// The log has ended, by this cause.
     Ended(Shown<Ends<R>>),

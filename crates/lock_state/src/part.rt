@@ -2,7 +2,7 @@
 // Its clauses are written in specs/History and specs/PlacedItems; the search alone proves it.
 ghost use Rattle.std.specs.Prelude.{◌≡◌, ◌==◌, None, is_none, length, true, false};
 ghost use Rattle.lock_state.specs.History.{new_part, told_also, with_calls};
-ghost use Rattle.lock_state.specs.PlacedItems.{settles_hand};
+ghost use Rattle.lock_state.specs.PlacedItems.{awaited_in, settles_hand};
 
 use crate::note::{Item, Own, PassedCall, Told};
 use crate::run::Run;
@@ -191,6 +191,16 @@ impl<R: Run> WriterPart<R> {
         match &self.hand {
             None => false,
             Some(item) => item.entry.flags.fua || item.entry.flags.mark,
+        }
+    }
+
+    /// The id of what is in hand, if that is to be settled at once: its seat waits for that.
+    pub fn awaited(&self) -> Option<Id>
+        ensures { result ≡ awaited_in self.now }
+    {
+        match &self.hand {
+            Some(item) if self.settles() => Some(item.id),
+            _ => None,
         }
     }
 }

@@ -207,7 +207,7 @@ other_posted is = true≢false (ap (λ (n : ℕ). n == 2) is.sector)
 
 -- a log of two items, of which both are settled, and a receipt for each
 abbrev both_placed : Log
-both_placed = record { placed = two; settled = 2; end = None; released = None }
+both_placed = record { placed = two; settled = 2; end = None; released = None; room = 0 }
 
 abbrev told_of : ℕ → Receipt
 told_of n = record { id = n; number = n }

@@ -214,6 +214,7 @@ impl<D: BlockDev + Drop, L: BlockDev + Drop, R: Run + Names> Shared<D, L, R> {
               settled = f.closed.settled;
               end = f.closed.store_end;
               released = f.released;
+              room = 0;
             }) f.posts)) }
         ensures foreign_released { IfErr result (λ e. IfForeign e (λ f. (cause : Cause)
             → f.released ≡ Some cause → f.closed.stop ≡ Some cause)) }
@@ -307,7 +308,7 @@ impl<D: BlockDev + Drop, L: BlockDev + Drop, R: Run + Names> Shared<D, L, R> {
             log,
             device,
             work,
-            settled,
+            waiters,
             board,
             sectors,
             size,
@@ -331,7 +332,7 @@ impl<D: BlockDev + Drop, L: BlockDev + Drop, R: Run + Names> Shared<D, L, R> {
             log: CachePadded::new(Mutex::new(log)),
             device: CachePadded::new(Mutex::new(device)),
             work,
-            settled,
+            waiters,
             board,
             sectors,
             size,

@@ -26,5 +26,6 @@ mod posts;
 mod seat;
 mod shared;
 mod unnamed;
+mod waiters;
 mod waiting;
 mod writing;

@@ -1,10 +1,12 @@
-//! A call that goes on while a device holds another seat's, and a log that has hardly any room.
+//! A call that goes on while a device holds another seat's, a log that has hardly any room, and one
+//! whose device fails.
 ghost use Rattle.std.specs.Prelude.{◌<◌, ◌≤◌};
 
 use crate::gate::{Gate, Sign};
 use crate::play::{Played, Table, play};
 use crate::work::{Call, Tally};
 use bio::{End, Status};
+use blockdev::BlockDev;
 use sector_disk::SectorDisk;
 use shared::Unnamed;
 use std::alloc::{AllocError, Global};
@@ -14,7 +16,7 @@ use std::sync::Wait;
 use std::test::*;
 use std::thread::Threads;
 use std::time::Clock;
-use test_devices::{holds, is_same};
+use test_devices::{Failing, holds, is_same};
 
 // How many sectors the disks of two seats have.
 const FEW: u64 = 64;
@@ -52,14 +54,18 @@ pub fn open_disk<H: Clock + Copy + Drop>(
 }
 
 /// Plays the tables on these devices.
-pub fn stage<H: Threads + Wait + Clock + Sync + Send + Copy + Drop>(
+pub fn stage<
+    D: BlockDev + Drop + Send,
+    L: BlockDev + Drop + Send,
+    H: Threads + Wait + Clock + Sync,
+>(
     rt: &H,
     alloc: Global,
     tables: Vec<Table>,
-    device: Gate<SectorDisk, H>,
-    log: Gate<SectorDisk, H>,
+    device: D,
+    log: L,
     readers: u64,
-) -> Result<Option<Played<Gate<SectorDisk, H>, Gate<SectorDisk, H>>>, AllocError>
+) -> Result<Option<Played<D, L>>, AllocError>
     requires { readers ≤ 64 }
 {
     let count = tables.len() as u64;
@@ -67,9 +73,7 @@ pub fn stage<H: Threads + Wait + Clock + Sync + Send + Copy + Drop>(
         return Ok(None);
     }
     let unnamed = Unnamed::new(alloc, count)?;
-    play::<Gate<SectorDisk, H>, Gate<SectorDisk, H>, Brand, H>(
-        rt, alloc, unnamed, device, log, tables, count, readers,
-    )
+    play::<D, L, Brand, H>(rt, alloc, unnamed, device, log, tables, count, readers)
 }
 
 // Where a call is held.
@@ -383,5 +387,45 @@ fn one_seat_finds_room_for_a_write_alone(rt: HostRuntime) -> Result<(), Fail> {
         end: Some(End::Full),
     };
     assert!(rt; small_log(&rt, rt.alloc(), 4, write, tally(0, 1, 0), status)?);
+    Ok(())
+}
+
+// A seat's mark, over a log whose device passes the one write that begins the log, and fails at each
+// later one. By that the log ends, logging stops, and the waiter is let go.
+fn failing_log<H: Threads + Wait + Clock + Print + Sync>(
+    rt: &H,
+    alloc: Global,
+) -> Result<bool, AllocError> {
+    let mut tables = Vec::new(alloc);
+    tables.push(alone(alloc, Call::Mark { byte: 120 }, None)?)?;
+    let device = SectorDisk::new(alloc, FEW)?;
+    let log = Failing::in_changes(SectorDisk::new(alloc, FEW)?, 1);
+    let Some(played) = stage(rt, alloc, tables, device, log, 1)? else {
+        return Ok(holds(rt, false, "one seat plays"));
+    };
+    let end = Some(End::Device);
+    let status = Status {
+        end,
+        ..goes_on(0, 0)
+    };
+    let not_logged = Tally {
+        not_logged: 1,
+        ..tally(0, 0, 0)
+    };
+    let is_log = is_same(rt, &played.closed.store_end, &end, "why the log ended");
+    let is_stop = is_same(rt, &played.closed.stop, &end, "why logging stopped");
+    let is_told = is_same(rt, &played.released, &end, "why a waiter is let go");
+    let is_status = is_same(rt, &played.closed.status, &status, "a failed log's status");
+    let ([found], [seen]) = (played.tallies.as_slice(), played.seen.as_slice()) else {
+        return Ok(holds(rt, false, "one tally, and one reader"));
+    };
+    let is_seen = is_same(rt, seen, &status, "the status that was seen last");
+    let is_answered = is_same(rt, found, &not_logged, "one seat's answer");
+    Ok(is_log && is_stop && is_told && is_status && is_seen && is_answered)
+}
+
+#[test]
+fn a_log_whose_device_fails_ends_by_that(rt: HostRuntime) -> Result<(), Fail> {
+    assert!(rt; failing_log(&rt, rt.alloc())?);
     Ok(())
 }

@@ -3,7 +3,7 @@ use Rattle.std.proofs.Common.{◌≡◌, ℕ, List, Option, length, ◌∙◌, a
 use Rattle.bio.specs.declared.outcome.End.{End}
 use Rattle.lock_state.specs.Comparison.{Each}
 use Rattle.lock_state.specs.History.{Queue}
-use Rattle.lock_state.specs.PlacedItems.{Log}
+use Rattle.lock_state.specs.PlacedItems.{Log, with_room}
 use Rattle.lock_state.specs.declared.note.Item.{Item}
 use Rattle.shared.proofs.ClosedLog.{agrees_of, differs_apart, differs_of, receipts_there, stop_same}
 use Rattle.shared.proofs.PostedStatus.{current_of, ended_of, found_of, none_of_both, posted_stays}
@@ -148,9 +148,10 @@ pub returns-clause-foreign_latest : goal.returns-clause-foreign_latest
 returns-clause-foreign_latest g c =
     let a = c.take_apart.ensures in
     subst (λ (log : Log). IsLatest g.R.Run.sector_bytes log c.in-Ok.held.posts)
-    (sym c.confirm_causes.ensures.same.0 ∙ (λ i. record {
+    (ap (λ (log : Log). with_room log 0) (sym c.confirm_causes.ensures.same.0) ∙ (λ i. record {
       placed = sym a.placed.0 i;
       settled = sym a.placed.1 i;
       end = sym a.store_end i;
       released = sym c.released-released.ensures i;
+      room = 0;
     })) c.in-Ok.ensures.latest

@@ -4,14 +4,15 @@ ghost use Rattle.std.specs.Prelude.{◌≡◌, ◌≤◌, ◌++◌, [], IfOk, If
 ghost use Rattle.std.specs.Prelude.{is_some, length, take, vec_len};
 
 use crate::files::{FileError, FileFailure, Files};
-use crate::pieces::{PIECE, used_sectors, write_sectors};
+use crate::holes::{Holes, NewFile};
+use crate::pieces::{PIECE, write_sectors};
 use crate::text::MAX_SCRIPT_BYTES;
 use bio::SECTOR_BYTES;
 use blockdev::BlockDev;
 use sector_disk::SectorDisk;
 use std::alloc::Global;
 use std::fs::{File, OpenFile, OpenOptions, Permissions};
-use std::io::Read;
+use std::io::{Read, Seek, Write};
 use std::os::unix::fs::{FileTypeExt, MetadataExt};
 use std::{fs, io};
 
@@ -270,7 +271,7 @@ fn write_image<R: std::rt::Files>(
     disk: &mut SectorDisk,
     buffer: &mut [u8],
 ) -> io::Result<()>
-    requires { length buffer.old ≡ 262144 }
+    requires { length buffer.old ≡ 65536 }
 {
     if is_stream(name) {
         return write_through(runtime, name, disk, buffer);
@@ -309,7 +310,7 @@ fn write_through<R: std::rt::Files>(
     disk: &mut SectorDisk,
     buffer: &mut [u8],
 ) -> io::Result<()>
-    requires { length buffer.old ≡ 262144 }
+    requires { length buffer.old ≡ 65536 }
 {
     let mut file = OpenOptions::new().append(true).open(runtime, name)?;
     write_sectors(disk, disk.sectors(), buffer, &mut file)
@@ -324,10 +325,10 @@ fn replace<R: std::rt::Files>(
     disk: &mut SectorDisk,
     buffer: &mut [u8],
 ) -> io::Result<()>
-    requires { length buffer.old ≡ 262144 }
+    requires { length buffer.old ≡ 65536 }
 {
     let (beside, file) = create_beside(runtime, alloc, target)?;
-    let mut done = fill::<R>(file, permissions, disk, buffer);
+    let mut done = fill::<R>(alloc, file, permissions, disk, buffer);
     if done.is_ok() {
         done = fs::rename(runtime, beside.as_str(), target);
     }
@@ -357,21 +358,35 @@ fn create_beside<R: std::rt::Files>(
     Err(io::Error::from(io::ErrorKind::AlreadyExists))
 }
 
-// Writes a new file, and waits until it is on the disk. Zeroes at its end take no time and no room.
+// Writes a new file, and waits until it is on the disk. Pieces of zeroes take no room in it.
 fn fill<R: std::rt::Files>(
+    alloc: Global,
     file: R::File,
     permissions: Option<Permissions>,
     disk: &mut SectorDisk,
     buffer: &mut [u8],
 ) -> io::Result<()>
-    requires { length buffer.old ≡ 262144 }
+    requires { length buffer.old ≡ 65536 }
 {
     let mut file = file;
-    let used = used_sectors(disk, buffer);
-    write_sectors(disk, used, buffer, &mut file)?;
+    write_pieces(alloc, &mut file, disk, buffer)?;
+    // Zeroes that were skipped at the end are there only then.
     file.set_len(disk.sectors().saturating_mul(SECTOR_BYTES))?;
     if let Some(permissions) = permissions {
         let _ = file.set_permissions(permissions);
     }
     file.sync_all()
+}
+
+// Writes the image of a disk to a new file, and skips pieces of zeroes.
+fn write_pieces<F: Write + Seek>(
+    alloc: Global,
+    file: &mut F,
+    disk: &mut SectorDisk,
+    buffer: &mut [u8],
+) -> io::Result<()>
+    requires { length buffer.old ≡ 65536 }
+{
+    let mut holes = Holes::new(alloc, NewFile::new(file), PIECE)?;
+    write_sectors(disk, disk.sectors(), buffer, &mut holes)
 }

@@ -13,7 +13,7 @@ use Rattle.bio.specs.ContentLaws.{over-after, over-before, over-in}
 use Rattle.bio.specs.PlaceLaws.{length-snoc, slice_get-append_front, slice_get-append_here}
 use Rattle.sector_disk.specs.declared.call.Call.{Call}
 use Rattle.sector_disk.specs.declared.call.Change.{Change}
-use Rattle.sector_disk.specs.declared.call.Change.TheVariants.{Write, Discard}
+use Rattle.sector_disk.specs.declared.call.Change.TheVariants.{Write, Image, Discard}
 use Rattle.sector_disk.specs.Candidates.{Cache, Puts, Step, cache_after, candidates_after}
 use Rattle.sector_disk.specs.inside.CallTable.{IsFilled, count_of}
 use Rattle.sector_disk.specs.inside.Storage.{AreWithin, ArePlaced, IsKept, IsPlaced, back}
@@ -257,7 +257,8 @@ values-in call sector low high = at call.change high
 
     at : (change : Change) → sector < call.first + count_of change
         → (value : List ℕ) × (change_values call.first change sector ≡ Some value)
-    at (Write bytes) less = within (length bytes.items / 512) (sector_of bytes.items) less
+    at (Write bytes) less = within (length bytes / 512) (sector_of bytes) less
+    at (Image bytes) less = within (length bytes / 512) (sector_of bytes) less
     at (Discard count) less = within count (λ _. replicate 512 0) less
 
 values-out : (call : Call) (sector : ℕ)
@@ -275,7 +276,8 @@ values-out call sector outside = at call.change outside
 
     at : (change : Change) → (sector < call.first) ⊎ (call.first + count_of change ≤ sector)
         → change_values call.first change sector ≡ None
-    at (Write bytes) side = without (length bytes.items / 512) (sector_of bytes.items) side
+    at (Write bytes) side = without (length bytes / 512) (sector_of bytes) side
+    at (Image bytes) side = without (length bytes / 512) (sector_of bytes) side
     at (Discard count) side = without count (λ _. replicate 512 0) side
 
 -- the new call stands last
@@ -394,7 +396,7 @@ pub kept-put : (sectors : ℕ) (calls : List Call) (newest filled base : List �
     (flushed : Bool) (call : Call)
     → IsKept sectors calls newest base begun synced flushed → length newest ≡ sectors
     → call.after_flush ≡ flushed
-    → call.before.items ≡ take (count_of call.change) (drop call.first newest)
+    → call.before ≡ take (count_of call.change) (drop call.first newest)
     → IsFilled call.first (count_of call.change) (length calls) newest filled
     → IsKept sectors (calls ++ call ∷ []) filled base begun synced false
 kept-put sectors calls newest filled base begun synced flushed call kept opened after before fills =
@@ -451,7 +453,7 @@ kept-put sectors calls newest filled base begun synced flushed call kept opened 
                 subst Value (sym value.1) (
                 placed-new calls call synced sector
                 (place_of newest sector) now value.0 may old kept.synced_within value.1
-                (came-before newest call.before.items call.first
+                (came-before newest call.before call.first
                 (count_of call.change) sector before from high)
                 )
                 )
@@ -464,7 +466,7 @@ pub kept_added : (sectors : ℕ) (calls all : List Call) (newest filled base : L
     (begun synced count : ℕ) (flushed : Bool) (call : Call)
     → all ≡ calls ++ call ∷ [] → IsKept sectors calls newest base begun synced flushed
     → length newest ≡ sectors → call.after_flush ≡ flushed
-    → count ≡ count_of call.change → call.before.items ≡ take count (drop call.first newest)
+    → count ≡ count_of call.change → call.before ≡ take count (drop call.first newest)
     → IsFilled call.first count (length calls) newest filled
     → IsKept sectors all filled base begun synced false
 kept_added sectors calls all newest filled base begun synced count flushed call added kept opened

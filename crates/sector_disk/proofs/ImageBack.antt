@@ -1,7 +1,7 @@
 -- An image that is given back with what was put over it.
 -- Its own crate alone cites it, for the theorems of src/call.rt.
 use Rattle.std.proofs.Common.{◌≡◌, ℕ, suc, zero, ◌+◌, ◌-◌, ◌*◌, ◌/◌, ◌<◌, ◌≤◌, ◌&&◌, Bool, false}
-use Rattle.std.proofs.Common.{true, get_or, List, [], ◌∷◌, ◌++◌, Vec, Global, length, take, drop}
+use Rattle.std.proofs.Common.{true, get_or, List, [], ◌∷◌, ◌++◌, length, take, drop}
 use Rattle.std.proofs.Common.{replicate, ap, refl, sym, ◌∙◌, arith}
 use Rattle.std.specs.Prelude.{◌==◌, Option, slice_get, unwrap_or}
 use borrow.Rule.Slice.PartMut.{put_mid}
@@ -81,8 +81,8 @@ gather-kept content index old first rest is earlier =
 
 -- an image over which later calls were put is the content
 pub given : (calls : List Call) (places : List ℕ) (sectors : ℕ) (first : Call)
-    (bytes : Vec ℕ Global) (image : List ℕ) → first ≡ get_or calls 0 first
-    → first.change ≡ Write bytes → image ≡ bytes.items
+    (bytes image : List ℕ) → first ≡ get_or calls 0 first
+    → first.change ≡ Write bytes → image ≡ bytes
     → is_image_in (slice_get calls 0) sectors ≡ true
     → gather (put_over (take (length calls - 1) (drop 1 calls)) places image) 0 sectors
     ≡ gather (content_at calls places) 0 sectors
@@ -105,9 +105,9 @@ given (call ∷ later) places sectors first bytes image at is same covers =
     zero_is : call.first ≡ 0
     zero_is = eqb-true call.first 0 parts.0
 
-    size_is : length bytes.items ≡ sectors * 512
+    size_is : length bytes ≡ sectors * 512
     size_is =
-        eqb-true (length bytes.items) (sectors * 512)
+        eqb-true (length bytes) (sectors * 512)
         (sym (ap (λ (change : Change). is_write_of change sectors) change_is) ∙ parts.1)
 
     each : (place sector : ℕ) → sector < sectors
@@ -121,7 +121,7 @@ given (call ∷ later) places sectors first bytes image at is same covers =
         (replicate 512 0)) zero_is
         ∙ ap (λ (change : Change). unwrap_or (change_values 0 change sector)
         (replicate 512 0)) change_is
-        ∙ written_whole bytes.items sector (omega arith)
+        ∙ written_whole bytes sector (omega arith)
         )
     each (suc place) sector within =
         let whole : length later ≤ length (call ∷ later) - 1 = omega arith in

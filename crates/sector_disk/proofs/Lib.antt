@@ -7,5 +7,6 @@ pub mod DeviceLaw
 pub mod NewPast
 pub mod Lawful
 pub mod Examples
+pub mod PieceAt
 mod ImageBack
 mod Counterexamples

@@ -12,7 +12,7 @@ use Rattle.bio.specs.ContentLaws.{over-after, over-before, over-in, over_cases, 
 use Rattle.bio.specs.ContentLaws.{writes-whole}
 use Rattle.sector_disk.specs.declared.call.Call.{Call}
 use Rattle.sector_disk.specs.declared.call.Change.{Change}
-use Rattle.sector_disk.specs.declared.call.Change.TheVariants.{Write, Discard}
+use Rattle.sector_disk.specs.declared.call.Change.TheVariants.{Write, Image, Discard}
 use Rattle.sector_disk.specs.inside.Storage.{change_values, value_at, value_in, values_of}
 
 -- a sector before or after a write's range has no bytes of it
@@ -32,17 +32,13 @@ written-none first sector bytes outside = elim outside [
 -- a sector within it has its part
 pub written-some : (first sector : ℕ) (bytes : List ℕ) → first ≤ sector
     → sector - first < length bytes / 512
-    → writes first bytes sector
-    ≡ Some (take ((sector - first) * 512 + 512 - (sector - first) * 512)
-    (drop ((sector - first) * 512) bytes))
+    → writes first bytes sector ≡ Some (take 512 (drop ((sector - first) * 512) bytes))
 written-some first sector bytes low high =
     let place : sector ≡ first + (sector - first) = omega arith in
     let from : 512 * (sector - first) ≡ (sector - first) * 512 = omega arith in
-    let count : 512 ≡ (sector - first) * 512 + 512 - (sector - first) * 512 = omega arith in
     ap (over first (length bytes / 512) (sector_of bytes)) place
     ∙ over-in first (length bytes / 512) (sector_of bytes) (sector - first) high
     ∙ ap (λ (n : ℕ). Some (take 512 (drop n bytes))) from
-    ∙ ap (λ (n : ℕ). Some (take n (drop ((sector - first) * 512) bytes))) count
 
 -- a discard leaves zeroes, where it has no value too
 pub discarded : (first count sector : ℕ)
@@ -84,7 +80,8 @@ length-value_at calls place sector = at (slice_get calls place)
     values call = by_change call.first call.change
       where
         by_change : (from : ℕ) (change : Change) → HasWholeValues (change_values from change)
-        by_change from (Write bytes) = writes-whole from bytes.items
+        by_change from (Write bytes) = writes-whole from bytes
+        by_change from (Image bytes) = writes-whole from bytes
         by_change from (Discard count) = discards-whole from count
 
     there : (o : Option (List ℕ)) → ((x : List ℕ) → o ≡ Some x → length x ≡ 512)

@@ -8,7 +8,7 @@ use Rattle.bio.specs.ContentLaws.{discards-whole, writes-whole}
 use Rattle.blockdev.specs.View.{IsLawful}
 use Rattle.sector_disk.specs.declared.call.Call.{Call}
 use Rattle.sector_disk.specs.declared.call.Change.{Change}
-use Rattle.sector_disk.specs.declared.call.Change.TheVariants.{Write, Discard}
+use Rattle.sector_disk.specs.declared.call.Change.TheVariants.{Write, Image, Discard}
 use Rattle.sector_disk.specs.declared.disk.SectorDisk.{SectorDisk}
 use Rattle.sector_disk.specs.Candidates.{Step}
 use Rattle.sector_disk.specs.CandidateLaws.{HasWholeSteps, view-lawful}
@@ -22,7 +22,8 @@ values-whole : (call : Call) → HasWholeValues (values_of call)
 values-whole call = at call.first call.change
   where
     at : (first : ℕ) (change : Change) → HasWholeValues (change_values first change)
-    at first (Write bytes) = writes-whole first bytes.items
+    at first (Write bytes) = writes-whole first bytes
+    at first (Image bytes) = writes-whole first bytes
     at first (Discard count) = discards-whole first count
 
 -- so is each value that a disk holds

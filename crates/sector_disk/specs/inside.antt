@@ -4,3 +4,5 @@ pub mod Storage
 pub mod Choice
 pub mod CallTable
 pub mod Overlay
+pub mod Pieces
+pub mod Runs

@@ -1,14 +1,17 @@
 //! The writes and discards that a disk keeps, and how its sectors are read back from them.
 //! Its clauses are written in specs/; its theorems in proofs/call/.
 ghost use Rattle.std.specs.Prelude.{true, ◌∷◌, ◌++◌, ◌≡◌, ◌%◌, ◌*◌, ◌+◌, ◌/◌, ◌≤◌, IfOk};
-ghost use Rattle.std.specs.Prelude.{MatchOption, None, OnErr, OnOk, Some, [], drop, length};
-ghost use Rattle.std.specs.Prelude.{slice_get, take};
+ghost use Rattle.std.specs.Prelude.{None, OnErr, OnOk, Some, [], drop, length};
+ghost use Rattle.std.specs.Prelude.{replicate, slice_get, take, unwrap_or};
 ghost use Rattle.sector_disk.specs.inside.CallTable.{IsFilled, count_of};
 ghost use Rattle.sector_disk.specs.inside.Overlay.{is_image_in, is_write_of, put_over};
 ghost use Rattle.sector_disk.specs.inside.Storage.{before_at, content_at, is_open, place_of};
 ghost use Rattle.sector_disk.specs.inside.Storage.{value_at, value_in};
 ghost use Rattle.bio.specs.Content.{gather, writes};
 
+use crate::filled::FilledBytes;
+use crate::pieces::Image;
+use crate::runs::Runs;
 use bio::SECTOR_BYTES;
 use std::alloc::{AllocError, Global};
 use std::mem;
@@ -19,8 +22,10 @@ pub const SECTOR: usize = SECTOR_BYTES as usize;
 /// What a call puts in its sectors.
 #[derive(Debug, Drop)]
 pub enum Change {
-    /// These bytes, as many whole sectors as they are.
-    Write(Vec<u8>),
+    /// The bytes of a write: whole sectors.
+    Write(FilledBytes),
+    /// The bytes of an image in pieces: whole sectors.
+    Image(Image),
     /// Zeroes, in so many sectors.
     Discard(u64),
 }
@@ -32,6 +37,7 @@ impl Change {
     {
         match self {
             Change::Write(bytes) => (bytes.len() / SECTOR) as u64,
+            Change::Image(image) => (image.len() / SECTOR) as u64,
             Change::Discard(count) => *count,
         }
     }
@@ -47,20 +53,33 @@ pub struct Call {
     /// Whether a flush came between the call before it and this one.
     pub after_flush: bool,
     /// For each of its sectors, the place of the call that put the value before.
-    pub before: Vec<usize>,
+    pub before: Runs,
 }
 
-// The bytes that a write has for a sector.
-fn written(bytes: &[u8], first: u64, sector: u64) -> Option<&[u8]>
-    ensures { MatchOption result (writes first bytes.now sector ≡ None)
-        (λ part. writes first bytes.now sector ≡ Some part.now) }
+// Reads a sector as a write from `first` on left it: zeroes if it wrote nothing there.
+fn read_written(bytes: &FilledBytes, first: u64, sector: u64, buffer: &mut [u8])
+    requires { length buffer.old ≡ 512 }
+    ensures { buffer.new ≡ unwrap_or (writes first bytes.now sector) (replicate 512 0) }
 {
     let count = (bytes.len() / SECTOR) as u64;
     if sector < first || sector - first >= count {
-        return None;
+        buffer.fill(0);
+        return;
     }
-    let from = (sector - first) as usize * SECTOR;
-    Some(&bytes[from..from + SECTOR])
+    bytes.read((sector - first) as usize * SECTOR, buffer);
+}
+
+// Reads a sector as an image from `first` on left it: zeroes if it has nothing there.
+fn read_image(image: &Image, first: u64, sector: u64, buffer: &mut [u8])
+    requires { length buffer.old ≡ 512 }
+    ensures { buffer.new ≡ unwrap_or (writes first image.now sector) (replicate 512 0) }
+{
+    let count = (image.len() / SECTOR) as u64;
+    if sector < first || sector - first >= count {
+        buffer.fill(0);
+        return;
+    }
+    image.read_sector((sector - first) as usize * SECTOR, buffer);
 }
 
 // Reads a sector as a call left it: zeroes where the call wrote nothing there.
@@ -69,10 +88,8 @@ fn read_call(call: &Call, sector: u64, buffer: &mut [u8])
     ensures { buffer.new ≡ value_in (Some call.now) sector }
 {
     match &call.change {
-        Change::Write(bytes) => match written(bytes, call.first, sector) {
-            Some(part) => buffer.copy_from_slice(part),
-            None => buffer.fill(0),
-        },
+        Change::Write(bytes) => read_written(bytes, call.first, sector, buffer),
+        Change::Image(image) => read_image(image, call.first, sector, buffer),
         Change::Discard(_) => buffer.fill(0),
     }
 }
@@ -132,7 +149,7 @@ fn is_write_of(change: &Change, sectors: usize) -> bool
 {
     match change {
         Change::Write(bytes) => bytes.len() == sectors * SECTOR,
-        Change::Discard(_) => false,
+        Change::Image(_) | Change::Discard(_) => false,
     }
 }
 
@@ -166,20 +183,26 @@ fn put_in(later: &[Call], places: &[usize], sectors: usize, image: &mut Vec<u8>)
 }
 
 /// The bytes of all sectors, each as the call at its place left it, in the bytes of the first call,
-/// which is a write of all of them.
-pub fn take_image(alloc: Global, calls: &mut [Call], places: &[usize], sectors: usize) -> Vec<u8>
+/// which is a write of all of them. Want of memory is an error.
+pub fn take_image(
+    alloc: Global,
+    calls: &mut [Call],
+    places: &[usize],
+    sectors: usize,
+) -> Result<Vec<u8>, AllocError>
     requires image { is_image_in (slice_get calls.old 0) sectors ≡ true }
     requires few { sectors ≤ 1048576 }
-    ensures { result.items ≡ gather (content_at calls.old places.now) 0 sectors }
+    ensures { IfOk result (λ image. image.items
+        ≡ gather (content_at calls.old places.now) 0 sectors) }
 {
-    let mut image = Vec::new(alloc);
     if let [first, later @ ..] = calls {
         if let Change::Write(bytes) = &mut first.change {
-            image = mem::replace(bytes, image);
+            let mut image = mem::replace(bytes, FilledBytes::empty(alloc)).into_vec()?;
             put_in(later, places, sectors, &mut image);
+            return Ok(image);
         }
     }
-    image
+    Ok(Vec::new(alloc))
 }
 
 /// The places of a range of sectors. Want of memory is an error.
@@ -188,11 +211,11 @@ pub fn copy_places(
     places: &[usize],
     first: usize,
     count: usize,
-) -> Result<Vec<usize>, AllocError>
+) -> Result<Runs, AllocError>
     requires { first + count ≤ length places.now }
-    ensures { IfOk result (λ copy. copy.items ≡ take count (drop first places.now)) }
+    ensures { IfOk result (λ copy. copy ≡ take count (drop first places.now)) }
 {
-    places[first..first + count].to_vec(alloc)
+    Runs::from_slice(alloc, &places[first..first + count])
 }
 
 // Gives a range of sectors one place.
@@ -240,5 +263,5 @@ pub fn before(calls: &[Call], place: usize, sector: usize) -> usize
         return 0;
     };
     let index = (sector as u64).saturating_sub(call.first);
-    call.before.get(index as usize).copied().unwrap_or(0)
+    call.before.get(index as usize).unwrap_or(0)
 }

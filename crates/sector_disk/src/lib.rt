@@ -6,8 +6,13 @@
 #![tactic(auto)]
 
 pub use disk::SectorDisk;
+pub use filled::FilledBytes;
+pub use pieces::Image;
 
 mod call;
 mod choice;
 mod disk;
+mod filled;
 pub mod laws;
+mod pieces;
+mod runs;

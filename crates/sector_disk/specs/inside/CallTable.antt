@@ -2,12 +2,13 @@
 -- Its own crate alone cites it.
 use Rattle.std.specs.Prelude.{◌≡◌, ◌⊎◌, ℕ, ◌+◌, ◌/◌, ◌<◌, ◌≤◌, List, length}
 use Rattle.sector_disk.specs.declared.call.Change.{Change}
-use Rattle.sector_disk.specs.declared.call.Change.TheVariants.{Write, Discard}
+use Rattle.sector_disk.specs.declared.call.Change.TheVariants.{Write, Image, Discard}
 use Rattle.sector_disk.specs.inside.Storage.{place_of}
 
 -- how many sectors a change is of
 abbrev pub count_of : Change → ℕ
-count_of (Write bytes) = length bytes.items / 512
+count_of (Write bytes) = length bytes / 512
+count_of (Image bytes) = length bytes / 512
 count_of (Discard count) = count
 
 -- the sectors of a range have this place now, and the others the place that they had

@@ -5,12 +5,13 @@ use Rattle.std.specs.Prelude.{length}
 use Rattle.bio.specs.Content.{Content, sector_of}
 use Rattle.sector_disk.specs.declared.call.Call.{Call}
 use Rattle.sector_disk.specs.declared.call.Change.{Change}
-use Rattle.sector_disk.specs.declared.call.Change.TheVariants.{Write, Discard}
+use Rattle.sector_disk.specs.declared.call.Change.TheVariants.{Write, Image, Discard}
 use Rattle.sector_disk.specs.inside.Storage.{place_of, value_at}
 
 -- the change is a write of so many sectors
 abbrev pub is_write_of : Change → ℕ → Bool
-is_write_of (Write bytes) count = length bytes.items == count * 512
+is_write_of (Write bytes) count = length bytes == count * 512
+is_write_of (Image bytes) count = false
 is_write_of (Discard n) count = false
 
 -- the call is a write of so many sectors from the first one on

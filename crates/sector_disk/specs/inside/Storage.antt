@@ -7,12 +7,13 @@ use Rattle.std.specs.Prelude.{◌∷◌, ◌++◌, length, replicate, slice_get}
 use Rattle.bio.specs.Content.{Content, Patch, discards, writes}
 use Rattle.sector_disk.specs.declared.call.Call.{Call}
 use Rattle.sector_disk.specs.declared.call.Change.{Change}
-use Rattle.sector_disk.specs.declared.call.Change.TheVariants.{Write, Discard}
+use Rattle.sector_disk.specs.declared.call.Change.TheVariants.{Write, Image, Discard}
 use Rattle.sector_disk.specs.Candidates.{Cache, Flushes, Puts, Step, cache_after}
 
 -- the values that a change from this sector on puts
 abbrev pub change_values : ℕ → Change → Patch
-change_values first (Write bytes) = writes first bytes.items
+change_values first (Write bytes) = writes first bytes
+change_values first (Image bytes) = writes first bytes
 change_values first (Discard count) = discards first count
 
 -- the values that a call puts
@@ -31,7 +32,7 @@ value_at calls place = value_in (slice_get calls place)
 -- the place of the call that put a sector's value before a call did
 abbrev pub before_in : Option Call → ℕ → ℕ
 before_in None sector = 0
-before_in (Some call) sector = unwrap_or (slice_get call.before.items (sector - call.first)) 0
+before_in (Some call) sector = unwrap_or (slice_get call.before (sector - call.first)) 0
 
 abbrev pub before_at : List Call → ℕ → ℕ → ℕ
 before_at calls place = before_in (slice_get calls place)

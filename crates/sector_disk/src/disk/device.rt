@@ -9,6 +9,7 @@ ghost use Rattle.sector_disk.specs.DiskViewLaws.{disk_lawful};
 
 use crate::call::{Call, Change, add_call, copy_places, read_places};
 use crate::disk::SectorDisk;
+use crate::filled::FilledBytes;
 use bio::{DevError, Ms};
 use blockdev::BlockDev;
 use std::alloc::AllocError;
@@ -68,7 +69,7 @@ impl BlockDev for SectorDisk {
     }
 
     fn write(&mut self, now: Ms, first: u64, bytes: &[u8], fua: bool) -> Result<Ms, DevError> {
-        let change = Change::Write(bytes.to_vec(self.alloc)?);
+        let change = Change::Write(FilledBytes::from_slice(self.alloc, bytes)?);
         self.put(first, change, fua)?;
         Ok(now)
     }

@@ -9,6 +9,9 @@ ghost use Rattle.bio.specs.Content.{AgreeBelow, gather, put, sector_of};
 
 use crate::call::{Call, Change, SECTOR, begins_with_image, read_places, take_image};
 use crate::disk::SectorDisk;
+use crate::filled::FilledBytes;
+use crate::pieces::Image;
+use crate::runs::Runs;
 use std::alloc::{AllocError, Global};
 
 // A disk that is one change, which covers it from its first sector on.
@@ -25,7 +28,7 @@ fn make(alloc: Global, change: Change) -> Result<SectorDisk, AllocError>
         change,
         fua: false,
         after_flush: false,
-        before: Vec::new(alloc),
+        before: Runs::empty(alloc),
     })?;
     Ok(SectorDisk {
         alloc,
@@ -63,7 +66,7 @@ fn give_all(
 {
     let mut calls = calls;
     if begins_with_image(&calls, sectors) {
-        return Ok(take_image(alloc, &mut calls, places, sectors));
+        return take_image(alloc, &mut calls, places, sectors);
     }
     let mut image = vec![in alloc; 0; sectors * SECTOR]?;
     read_all(&calls, places, &mut image);
@@ -86,7 +89,17 @@ impl SectorDisk {
         ensures { IfOk result (λ disk.
             Begins (length bytes.items / 512) (sector_of bytes.items) (shown_of disk)) }
     {
-        make(alloc, Change::Write(bytes))
+        make(alloc, Change::Write(FilledBytes::from_vec(bytes)))
+    }
+
+    /// A disk of the sectors of an image: 1 to 1,048,576 whole sectors. The image isn't copied. Want
+    /// of memory is an error.
+    pub fn from_image(alloc: Global, image: Image) -> Result<SectorDisk, AllocError>
+        requires { IsImageSize (length image) }
+        ensures { IfOk result (λ disk.
+            Begins (length image / 512) (sector_of image) (shown_of disk)) }
+    {
+        make(alloc, Change::Image(image))
     }
 
     /// The image of the disk: the bytes of all its sectors. Want of memory is an error.

@@ -1,19 +1,13 @@
 -- Answers to the goals of `read_call` (src/call.rt) that the search leaves.
 use Rattle.std.proofs.Common.{ap, replicate, sym, ◌∙◌}
 use Rattle.std.specs.Prelude.{unwrap_or}
-use Rattle.bio.specs.ContentLaws.{writes-whole}
 use Rattle.sector_disk.specs.inside.Storage.{change_values}
 use Rattle.sector_disk.proofs.SectorValues.{discarded}
 use Rattle.sector_disk.proofs.call.read_call.Goals as goal
 
-pub copy_from_slice-requires : goal.copy_from_slice-requires
-copy_from_slice-requires c =
-    c.requires ∙ sym (writes-whole c.args.call.now.first c.deref.result.now c.args.sector
-    c.in-Some.part.now c.in-Some.ensures)
-
 pub returns-in-Discard : goal.returns-in-Discard
 returns-in-Discard c =
-    c.fill-in-Discard.ensures.after (λ y same. same)
+    c.fill.ensures.after (λ y same. same)
     ∙ ap (λ n. replicate n 0) c.requires
     ∙ sym (discarded c.args.call.now.first c.in-Discard.field-0 c.args.sector)
     ∙ ap (λ change. unwrap_or (change_values c.args.call.now.first change c.args.sector)

@@ -6,5 +6,5 @@ use Rattle.sector_disk.proofs.disk.SectorDisk.from_bytes.Goals as goal
 
 pub returns : goal.returns
 returns c =
-    IfOk-weaker c.make.result _ _
-    (λ disk begins. image_made c.args.bytes.items (shown_of disk) begins) c.make.ensures
+    rw (← c.from_vec.ensures) (IfOk-weaker c.make.result _ _
+    (λ disk begins. image_made c.from_vec.result (shown_of disk) begins) c.make.ensures)

@@ -1,0 +1,90 @@
+-- The piece that a sector of the bytes stands in.
+-- Its own crate alone cites it, for the theorems of src/pieces.rt.
+use Rattle.std.proofs.Common.{◌≡◌, ℕ, suc, zero, ◌+◌, ◌-◌, ◌*◌, ◌%◌, ◌<◌, ◌≤◌, List, [], ◌∷◌, ◌++◌, ◌∙◌, ap}
+use Rattle.std.proofs.Common.{append_assoc, sym}
+use Rattle.std.proofs.lemmas.Grind.{common_steps}
+use Rattle.std.proofs.Common.{arith, drop, length, length-append, length-drop, refl, take, Some}
+use Rattle.std.proofs.Math.Seq.{drop-append-add}
+use Rattle.std.proofs.lemmas.List.{drop-append-le, take-append-le}
+use Rattle.std.specs.Prelude.{slice_get}
+use Rattle.sector_disk.specs.inside.Pieces.{AreWhole, joined}
+
+-- the sector at this place stands in this piece, from this place of it on
+pub record StandsIn (pieces : List (List ℕ)) (from k r : ℕ) : Type 0 where
+  pub piece : List ℕ
+  pub is : slice_get pieces k ≡ Some piece
+  pub within : r + 512 ≤ length piece
+  pub part : take 512 (drop from (joined pieces)) ≡ take 512 (drop r piece)
+
+first : (piece rest : List ℕ) (r : ℕ) → r + 512 ≤ length piece
+    → take 512 (drop r (piece ++ rest)) ≡ take 512 (drop r piece)
+first piece rest r within =
+    ap (take 512) (drop-append-le r piece rest (omega arith))
+    ∙ take-append-le 512 (drop r piece) rest (omega (arith, length-drop r piece))
+
+later : (piece rest : List ℕ) (from : ℕ) → length piece ≡ 65536 → 65536 ≤ from
+    → drop from (piece ++ rest) ≡ drop (from - 65536) rest
+later piece rest from size past =
+    let place : from ≡ length piece + (from - 65536) = omega arith in
+    ap (λ (n : ℕ). drop n (piece ++ rest)) place ∙ drop-append-add piece rest (from - 65536)
+
+pub stands_in : (pieces : List (List ℕ)) (from k r : ℕ) → from ≡ 65536 * k + r → r + 512 ≤ 65536
+    → AreWhole pieces → from + 512 ≤ length (joined pieces) → StandsIn pieces from k r
+stands_in [] from k r place small whole within = absurd (omega arith)
+stands_in (p ∷ []) from zero r place small whole within =
+    let same : from ≡ r = omega arith in
+    let size : r + 512 ≤ length p = omega (arith, length-append p []) in
+    record {
+      piece = p;
+      is = refl;
+      within = size;
+      part = ap (λ (n : ℕ). take 512 (drop n (p ++ []))) same ∙ first p [] r size;
+    }
+stands_in (p ∷ []) from (suc k) r place small whole within =
+    let few = whole.1 in
+    absurd (omega (arith, length-append p []))
+stands_in (p ∷ (q ∷ ps)) from zero r place small whole within =
+    let same : from ≡ r = omega arith in
+    let full = whole.0 in
+    let size : r + 512 ≤ length p = omega arith in
+    record {
+      piece = p;
+      is = refl;
+      within = size;
+      part = ap (λ (n : ℕ). take 512 (drop n (p ++ joined (q ∷ ps)))) same
+          ∙ first p (joined (q ∷ ps)) r size;
+    }
+stands_in (p ∷ (q ∷ ps)) from (suc k) r place small whole within =
+    let full = whole.0 in
+    let there = stands_in (q ∷ ps) (from - 65536) k r (omega arith) small whole.1
+    (omega (arith, length-append p (joined (q ∷ ps)))) in
+    record {
+      piece = there.piece;
+      is = there.is;
+      within = there.within;
+      part = ap (take 512) (later p (joined (q ∷ ps)) from full (omega arith)) ∙ there.part;
+    }
+
+-- the bytes of one more piece come after the others
+pub joined-more : (pieces : List (List ℕ)) (piece : List ℕ)
+    → joined (pieces ++ piece ∷ []) ≡ joined pieces ++ piece
+joined-more [] piece = grind (arith, common_steps)
+joined-more (x ∷ xs) piece =
+    ap (λ (rest : List ℕ). x ++ rest) (joined-more xs piece)
+    ∙ sym (append_assoc x (joined xs) piece)
+
+-- behind whole pieces one more may stand
+pub AreWhole-more : (pieces : List (List ℕ)) (piece : List ℕ) → AreWhole pieces
+    → length (joined pieces) % 65536 ≡ 0 → 0 < length piece → length piece ≤ 65536
+    → AreWhole (pieces ++ piece ∷ [])
+AreWhole-more [] piece whole full some few = (some, few)
+AreWhole-more (x ∷ []) piece whole full some few =
+    let low = whole.0 in
+    let high = whole.1 in
+    (omega (arith, length-append x []), (some, few))
+AreWhole-more (x ∷ (y ∷ ys)) piece whole full some few =
+    let size = whole.0 in (
+      size,
+      AreWhole-more (y ∷ ys) piece whole.1
+          (omega (arith, length-append x (joined (y ∷ ys)))) some few,
+    )

@@ -1,0 +1,8 @@
+-- What holds at the turns of the loop of `Image::to_vec` (src/pieces.rt).
+use Rattle.std.proofs.Common.{◌≡◌, ◌++◌, drop}
+use Rattle.sector_disk.specs.inside.Pieces.{joined}
+use Rattle.sector_disk.proofs.pieces.Image.to_vec.Given as goal
+
+abbrev pub invariant-loop-piece : goal.invariant-loop-piece
+invariant-loop-piece l =
+    l.bytes.items ++ joined (drop l.piece-index l.piece-items) ≡ joined l.piece-items

@@ -1,0 +1,36 @@
+-- Answers to the goals of `Runs::from_slice` (src/runs.rt) that the search leaves.
+use Rattle.std.proofs.Common.{◌≡◌, ℕ, ◌-◌, ◌≤◌, List, [], ◌∷◌, ◌++◌, ◌∙◌, ap, append_assoc, arith}
+use Rattle.std.proofs.Common.{drop, length, length-drop, replicate, sym, take}
+use Rattle.std.proofs.lemmas.Grind.{common_steps}
+use Rattle.std.proofs.lemmas.List.{take_all}
+use Rattle.sector_disk.specs.declared.runs.Run.{Run}
+use Rattle.sector_disk.specs.inside.Runs.{values_of}
+use Rattle.sector_disk.proofs.runs.Runs.from_slice.Goals as goal
+
+-- the values of runs, and of one more
+values_of-more : (runs : List Run) (run : Run)
+    → values_of (runs ++ run ∷ []) ≡ values_of runs ++ replicate run.count run.value
+values_of-more [] run = grind (arith, common_steps)
+values_of-more (x ∷ xs) run =
+    ap (λ (rest : List ℕ). replicate x.count x.value ++ rest) (values_of-more xs run)
+    ∙ sym (append_assoc (replicate x.count x.value) (values_of xs) (replicate run.count run.value))
+
+-- the first run of the rest goes to the runs
+more : (front all rest : List ℕ) (runs new : List Run) (run : Run) (n : ℕ)
+    → length rest - run.count ≤ n → new ≡ runs ++ run ∷ []
+    → rest ≡ replicate run.count run.value ++ drop run.count rest
+    → front ++ (values_of runs ++ rest) ≡ all
+    → front ++ (values_of new ++ take n (drop run.count rest)) ≡ all
+more front all rest runs new run n enough pushed split earlier =
+    let whole = take_all n (drop run.count rest) (omega (arith, length-drop run.count rest)) in
+    let last = values_of-more runs run in
+    let joined =
+    append_assoc (values_of runs) (replicate run.count run.value) (drop run.count rest) in
+    cc
+
+pub loop-rest-preserved : goal.loop-rest-preserved
+loop-rest-preserved c =
+    more (replicate c.first_run-first.result.count c.first_run-first.result.value)
+    c.args.values.now c.loop-rest.rest.now c.loop-rest.later.items c.push.new.self.items
+    c.first_run-run.result _ (omega arith) c.in_ok-push.ensures.items c.first_run-run.ensures.run
+    c.loop-rest.invariant

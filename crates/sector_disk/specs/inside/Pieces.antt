@@ -1,0 +1,19 @@
+-- A list of bytes in pieces of 65,536, of which the last may have fewer.
+-- Its own crate alone cites it.
+use Rattle.std.specs.Prelude.{◌≡◌, ℕ, ◌<◌, ◌≤◌, List, [], ◌∷◌, ◌++◌, length}
+
+-- the bytes of the pieces, one after another
+abbrev pub joined : List (List ℕ) → List ℕ
+joined [] = []
+joined (piece ∷ rest) = piece ++ joined rest
+
+-- each piece but the last has 65,536 bytes, and that one some, and no more
+abbrev pub AreWhole : List (List ℕ) → Type 0
+AreWhole [] = Unit {0}
+AreWhole (piece ∷ []) = (0 < length piece) × (length piece ≤ 65536)
+AreWhole (piece ∷ (next ∷ rest)) = (length piece ≡ 65536) × AreWhole (next ∷ rest)
+
+-- what always holds of an image's fields
+pub record IsImage (pieces : List (List ℕ)) (count : ℕ) : Type 0 where
+  pub whole : AreWhole pieces
+  pub counted : count ≡ length (joined pieces)

@@ -1,0 +1,147 @@
+//! Bytes of which the last are often all the same, as those of a sector: the others are held, and
+//! that one byte once.
+//! Its theorems are in proofs/filled/.
+ghost use Rattle.std.specs.Prelude.{◌≡◌, ◌+◌, ◌++◌, ◌-◌, ◌<◌, ◌≤◌, IfOk, OnOk, drop, length, replicate, take};
+
+use std::alloc::{AllocError, Global};
+use std::marker::Model;
+
+/// A list of bytes. The bytes at its end take no memory if they are all the same.
+#[derive(Debug, Drop)]
+pub struct FilledBytes {
+    // The first bytes.
+    bytes: Vec<u8>,
+    // The byte in all places behind those.
+    fill: u8,
+    // How many bytes there are in all.
+    count: usize,
+}
+
+impl Model for FilledBytes {
+    ghost use Rattle.std.specs.Prelude.{◌-◌, ◌≤◌, ◌++◌, List, length, replicate, ℕ};
+
+    ghost Value = { List ℕ };
+
+    ghost view = { λ b. b.bytes.items ++ replicate (b.count - length b.bytes.items) b.fill };
+
+    ghost invariant = { λ b. length b.bytes.items ≤ b.count };
+}
+
+// The end of the bytes without the groups of N at it in which each byte is this one. Behind `end`
+// each byte is this one already.
+fn without_groups<const N: usize>(bytes: &[u8], end: usize, fill: u8) -> usize
+    requires some { 0 < N }
+    requires within { end ≤ length bytes.now }
+    requires filled { drop end bytes.now ≡ replicate (length bytes.now - end) fill }
+    ensures within { result ≤ length bytes.now }
+    ensures filled { drop result bytes.now ≡ replicate (length bytes.now - result) fill }
+{
+    let group = [fill; N];
+    let mut end = end;
+    while end >= N && &bytes[end - N..end] == group.as_slice() {
+        end -= N;
+    }
+    end
+}
+
+// The end of the bytes without those at it that are this one.
+fn count_before(bytes: &[u8], fill: u8) -> usize
+    ensures within { result ≤ length bytes.now }
+    ensures filled { drop result bytes.now ≡ replicate (length bytes.now - result) fill }
+{
+    let end = without_groups::<512>(bytes, bytes.len(), fill);
+    let end = without_groups::<32>(bytes, end, fill);
+    without_groups::<1>(bytes, end, fill)
+}
+
+impl FilledBytes {
+    /// No bytes. Takes no memory.
+    pub fn empty(alloc: Global) -> FilledBytes
+        ensures { length result ≡ 0 }
+    {
+        FilledBytes {
+            bytes: Vec::new(alloc),
+            fill: 0,
+            count: 0,
+        }
+    }
+
+    /// The bytes of a vector, which is kept. Takes no memory.
+    pub fn from_vec(bytes: Vec<u8>) -> FilledBytes
+        ensures { result ≡ bytes.items }
+    {
+        let count = bytes.len();
+        FilledBytes {
+            bytes,
+            fill: 0,
+            count,
+        }
+    }
+
+    /// The bytes of a slice. Takes memory for those up to the last that differs from the byte at the
+    /// end.
+    ///
+    /// # Errors
+    ///
+    /// There was no memory.
+    pub fn from_slice(alloc: Global, bytes: &[u8]) -> Result<FilledBytes, AllocError>
+        ensures { IfOk result (λ copy. copy ≡ bytes.now) }
+    {
+        let fill = bytes.last().copied().unwrap_or(0);
+        let end = count_before(bytes, fill);
+        Ok(FilledBytes {
+            bytes: bytes[..end].to_vec(alloc)?,
+            fill,
+            count: bytes.len(),
+        })
+    }
+
+    /// How many bytes there are.
+    pub fn len(&self) -> usize
+        ensures { result ≡ length self.now }
+    {
+        self.count
+    }
+
+    /// Reads bytes from a place on, until the buffer is full.
+    pub fn read(&self, from: usize, buffer: &mut [u8])
+        requires { from + length buffer.old ≤ length self.now }
+        ensures { buffer.new ≡ take (length buffer.old) (drop from self.now) }
+    {
+        let from = from.min(self.bytes.len());
+        let held = (self.bytes.len() - from).min(buffer.len());
+        let (first, rest) = buffer.split_at_mut(held);
+        first.copy_from_slice(&self.bytes[from..from + held]);
+        rest.fill(self.fill);
+    }
+
+    /// Appends the bytes to a vector. If there is no memory, a beginning of them may be appended.
+    ///
+    /// # Errors
+    ///
+    /// There was no memory.
+    pub(crate) fn append_to(&self, to: &mut Vec<u8>) -> Result<(), AllocError>
+        requires { length to.old.items + length self.now < 18446744073709551616 }
+        ensures { OnOk result (to.new.items ≡ to.old.items ++ self.now) }
+    {
+        to.extend_from_slice(&self.bytes)?;
+        to.resize(to.len() + (self.count - self.bytes.len()), self.fill)
+    }
+
+    /// The bytes as a vector. Takes no memory if they were made from one.
+    ///
+    /// # Errors
+    ///
+    /// There was no memory.
+    pub fn into_vec(self) -> Result<Vec<u8>, AllocError>
+        ensures { IfOk result (λ bytes. bytes.items ≡ self) }
+    {
+        let FilledBytes {
+            mut bytes,
+            fill,
+            count,
+        } = self;
+        bytes.resize(count, fill)?;
+        Ok(bytes)
+    }
+}

@@ -65,6 +65,13 @@ def files(room):
     script.write_bytes(b"data 16\nlog 1048576\nclose\n")
     run("record", script, log)
     trial("zeroes at the end take no room", log.stat().st_size == 1 << 29 and log.stat().st_blocks < 1000, log.stat())
+    script.write_bytes(b"data 131072\nlog 32\nw a 131000 1 41\nc a\nf b\nc b\nclose\n")
+    first, out = room / "first", room / "out"
+    first.write_bytes(bytes(1 << 26))
+    run("record", script, log)
+    run("replay", log, first, out, "entries:2")
+    image = bytes(131000 * 512) + b"A" * 512 + bytes(71 * 512)
+    trial("zeroes before a write take no room", out.read_bytes() == image and out.stat().st_blocks < 1000, out.stat())
     script.write_bytes(FIRST)
 
 

@@ -17,18 +17,18 @@ use log_format::{Entry, Placed};
 use log_reader::LogReader;
 use refusals::Refusal;
 use run_error::RunError;
-use sector_disk::SectorDisk;
+use sector_disk::{Image, SectorDisk};
 use std::alloc::Global;
 
 // The reader of the log that an image holds.
-pub(crate) fn open_image(alloc: Global, image: Vec<u8>) -> Result<LogReader<SectorDisk>, RunError>
-    requires { IsImage image.items }
-    ensures opened { IfOk result (λ reader. Opens image.items (reader_of reader)) }
+pub(crate) fn open_image(alloc: Global, image: Image) -> Result<LogReader<SectorDisk>, RunError>
+    requires { IsImage image }
+    ensures opened { IfOk result (λ reader. Opens image (reader_of reader)) }
     ensures refused { IfErr result
-        (λ fault. (fault ≡ memory_error) ⊎ RefusesImage image.items fault) }
+        (λ fault. (fault ≡ memory_error) ⊎ RefusesImage image fault) }
 {
     crashes_leave_whole_sectors::<SectorDisk>();
-    let disk = SectorDisk::from_bytes(alloc, image)?;
+    let disk = SectorDisk::from_image(alloc, image)?;
     match LogReader::open(alloc, disk) {
         Ok(reader) => Ok(reader),
         Err((_disk, error)) => Err(RunError::from(Refusal::from(error))),

@@ -12,7 +12,7 @@ use crate::logs::{write_log, write_next, write_size};
 use crate::refused_line::write_line;
 use crate::script_text::{Grammar, has_line};
 use bio::Status;
-use dmlw_files::{Files, MAX_SCRIPT_BYTES};
+use dmlw_files::{Files, read_text};
 use refusals::{Fault, Refusal};
 use run_error::RunError;
 use std::alloc::Global;
@@ -289,9 +289,7 @@ fn write_line_of<F: Files, W: Write>(
     ensures kept { KeepsFiles (F.contents files.old) (F.contents files.new) }
     ensures unwritten { F.writes files.new ≡ F.writes files.old }
 {
-    let text = files
-        .read(alloc, script, MAX_SCRIPT_BYTES)
-        .map_err(|_| fmt::Error)?;
+    let text = read_text(alloc, script, files).map_err(|_| fmt::Error)?;
     write_line(grammar, script, &text, number, refusal, to)
 }
 
@@ -363,9 +361,7 @@ fn write_unclosed<F: Files, W: Write>(
     if grammar == Grammar::Seats {
         return Ok(());
     }
-    let text = files
-        .read(alloc, script, MAX_SCRIPT_BYTES)
-        .map_err(|_| fmt::Error)?;
+    let text = read_text(alloc, script, files).map_err(|_| fmt::Error)?;
     if has_line(&text, b"close") {
         return Ok(());
     }

@@ -145,7 +145,7 @@ fn write_image_file<F: Files, W: Write>(
     ensures unwritten { F.writes files.new ≡ F.writes files.old }
 {
     match files.read(alloc, image, MAX_IMAGE_BYTES) {
-        Ok(bytes) => write_length(image, bytes.len() as u64, to),
+        Ok(read) => write_length(image, read.len() as u64, to),
         Err(_) => {
             write_unread(image, MAX_IMAGE_BYTES, "a log or an image", files, to)?;
             if let Some(FileFailure::TooLong(_)) = files.failure() {

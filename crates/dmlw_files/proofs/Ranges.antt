@@ -1,14 +1,10 @@
 -- What the pieces of a disk's image come to.
 -- Its own crate alone cites it, for the theorems of src/pieces.rt.
-use Rattle.std.proofs.Common.{◌≡◌, ◌∙◌, ℕ, zero, suc, ◌+◌, ◌-◌, ◌<◌, ◌≤◌, ◌++◌, List, Option, None}
+use Rattle.std.proofs.Common.{◌≡◌, ◌∙◌, ℕ, zero, suc, ◌+◌, ◌++◌, List, Option, None}
 use Rattle.std.proofs.Common.{Some, ap, arith, sym}
 use Rattle.std.proofs.lemmas.List.{append_assoc, append-nil}
 use Rattle.std.specs.Io.KnownBytes.{Appends}
-use Rattle.bio.specs.Content.{Content, HasWholeSectors, gather, moved, sector_of}
-use Rattle.bio.specs.SectorLaws.{gather-shift, sector_of-gather}
-use Rattle.sector_disk.specs.declared.disk.SectorDisk.{SectorDisk}
-use Rattle.sector_disk.specs.DiskView.{shown_of}
-use Rattle.sector_disk.specs.DiskViewLaws.{content_whole}
+use Rattle.bio.specs.Content.{Content, gather}
 
 -- two ranges, of which one begins where the other ends, have the bytes of both
 gather_joined : (c : Content) (m n : ℕ) → gather c 0 (m + n) ≡ gather c 0 m ++ gather c m n
@@ -44,18 +40,3 @@ written_more c d (Some a) (Some b)
     (before ∙ ap (λ (n : ℕ). a ++ gather c 0 n) begins)
     ∙ append_assoc a (gather c 0 first) (gather c first size)
     ∙ ap (λ (xs : List ℕ). a ++ xs) (sym (gather_joined c first size) ∙ ap (gather c 0) ends)
-
--- a sector of a piece is a sector of its disk
-pub piece_sector : (disk : SectorDisk) (first count sector : ℕ)
-    → first + count ≤ (shown_of disk).size → first ≤ sector → sector < first + count
-    → sector_of (gather (shown_of disk).content first count) (sector - first)
-    ≡ (shown_of disk).content sector
-piece_sector disk first count sector within from to =
-    let c = (shown_of disk).content in
-    let same : gather (moved first c) 0 count ≡ gather c first count =
-    gather-shift first c 0 count ∙ ap (λ (n : ℕ). gather c n count) (omega arith) in
-    let whole : HasWholeSectors count (moved first c) =
-    λ s below. content_whole disk (first + s) (omega (arith, within, below)) in
-    ap (λ (bytes : List ℕ). sector_of bytes (sector - first)) (sym same)
-    ∙ sector_of-gather count (moved first c) whole (sector - first) (omega arith)
-    ∙ ap c (omega arith)

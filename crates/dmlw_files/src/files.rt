@@ -1,7 +1,7 @@
 //! The files that a command reads and writes, by their names, and why one isn't read or written.
 //! Its clauses are written in specs/; the search alone proves it.
 ghost use Rattle.std.specs.Prelude.{◌≡◌, ◌≤◌, Bool, IfErr, IfOk, List, OnErr, OnOk, Option, false};
-ghost use Rattle.std.specs.Prelude.{is_some, true, vec_len, ℕ};
+ghost use Rattle.std.specs.Prelude.{is_some, length, true, ℕ};
 ghost use Rattle.run_error.specs.Errors.{refused_by};
 ghost use Rattle.dmlw_files.specs.Files.{IsWithin, KeepsFiles, MatchesContents, Write, one_more};
 ghost use Rattle.dmlw_files.specs.FileErrors.{file_error, file_refusal};
@@ -9,7 +9,7 @@ ghost use Rattle.dmlw_files.specs.Images.{image_of};
 
 use refusals::Refusal;
 use run_error::RunError;
-use sector_disk::SectorDisk;
+use sector_disk::{Image, SectorDisk};
 use std::alloc::Global;
 use std::io;
 use thiserror::Error;
@@ -80,10 +80,10 @@ pub trait Files {
 
     /// The whole of a file of at most `limit` bytes. A longer file is refused. If a file's bytes
     /// are known and aren't too many, only want of memory refuses it.
-    fn read(&mut self, alloc: Global, name: &str, limit: u64) -> Result<Vec<u8>, FileError>
+    fn read(&mut self, alloc: Global, name: &str, limit: u64) -> Result<Image, FileError>
         ensures contents { IfOk result
-            (λ bytes. MatchesContents (contents self.old name.now) bytes.items) }
-        ensures within { IfOk result (λ bytes. vec_len bytes ≤ limit) }
+            (λ image. MatchesContents (contents self.old name.now) image) }
+        ensures within { IfOk result (λ image. length image ≤ limit) }
         ensures readable { IsWithin limit (contents self.old name.now)
             → IfErr result (λ error. error ≡ FileError.Memory) }
         ensures kept { KeepsFiles (contents self.old) (contents self.new) }
@@ -120,7 +120,7 @@ impl<F: Files> Files for &mut F {
 
     ghost has_failure = { λ files. F.has_failure files.now };
 
-    fn read(&mut self, alloc: Global, name: &str, limit: u64) -> Result<Vec<u8>, FileError> {
+    fn read(&mut self, alloc: Global, name: &str, limit: u64) -> Result<Image, FileError> {
         Files::read(&mut **self, alloc, name, limit)
     }
 

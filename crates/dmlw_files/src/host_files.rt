@@ -1,25 +1,30 @@
 //! The system's files.
 //! Its theorems are in proofs/host_files/.
-ghost use Rattle.std.specs.Prelude.{◌≡◌, ◌≤◌, ◌++◌, [], IfOk, IfSome, None, OnOk, Some, drop};
-ghost use Rattle.std.specs.Prelude.{is_some, length, take, vec_len};
+ghost use Rattle.std.specs.Prelude.{◌≡◌, ◌≤◌, ◌<◌, ◌+◌, ◌++◌, ◌%◌, IfOk, IfSome, None, OnOk};
+ghost use Rattle.std.specs.Prelude.{is_some, length, take};
+ghost use Rattle.std.specs.Io.KnownBytes.{Consumes, IsAtEnd};
 
 use crate::files::{FileError, FileFailure, Files};
-use crate::pieces::{PIECE, used_sectors, write_sectors};
+use crate::holes::{Holes, NewFile};
+use crate::pieces::{PIECE, write_sectors};
 use crate::text::MAX_SCRIPT_BYTES;
 use bio::SECTOR_BYTES;
 use blockdev::BlockDev;
-use sector_disk::SectorDisk;
-use std::alloc::Global;
+use sector_disk::{FilledBytes, Image, SectorDisk};
+use std::alloc::{AllocError, Global};
 use std::fs::{File, OpenFile, OpenOptions, Permissions};
-use std::io::Read;
+use std::io::{Read, Seek, Write};
 use std::os::unix::fs::{FileTypeExt, MetadataExt};
 use std::{fs, io};
 
 // How many names are tried for the new file in a log's folder.
 const MAX_BESIDE: u32 = 1000;
 
-// How many bytes of a file are read at a time: few enough to stay in a cache of the processor.
+// How many bytes of a file are read at a time: those of a piece of an `Image`.
 const READ_BYTES: usize = 65_536;
+
+// The most bytes that a file can have.
+const MAX_FILE_BYTES: u64 = 9_223_372_036_854_775_807;
 
 /// The system's files. No clause knows what they hold.
 ///
@@ -52,11 +57,13 @@ struct Spent {
 
 impl Spent {
     // The bytes of the file, or 0 if they are more than the limit.
-    fn read(&self, limit: u64) -> io::Result<Result<Vec<u8>, u64>>
-        ensures { IfOk result (λ found. IfOk found (λ bytes. vec_len bytes ≤ limit)) }
+    fn read(&self, alloc: Global, limit: u64) -> io::Result<Result<Image, u64>>
+        ensures { IfOk result (λ found. IfOk found (λ image. length image ≤ limit)) }
     {
         match &self.bytes {
-            Some(bytes) if bytes.len() as u64 <= limit => Ok(Ok(bytes.clone()?)),
+            Some(bytes) if bytes.len() as u64 <= limit => {
+                Ok(Ok(Image::from_slice(alloc, bytes)?))
+            }
             _ if self.length > limit => Ok(Err(0)),
             _ => Err(io::Error::from(io::ErrorKind::NotSeekable)),
         }
@@ -73,12 +80,12 @@ impl<'a, R: std::rt::Files> HostFiles<'a, R> {
     }
 
     // The whole of a file, or how long it is, as the system has it, if it is longer than the limit.
-    fn find(&mut self, alloc: Global, name: &str, limit: u64) -> io::Result<Result<Vec<u8>, u64>>
-        ensures within { IfOk result (λ found. IfOk found (λ bytes. vec_len bytes ≤ limit)) }
+    fn find(&mut self, alloc: Global, name: &str, limit: u64) -> io::Result<Result<Image, u64>>
+        ensures within { IfOk result (λ found. IfOk found (λ image. length image ≤ limit)) }
         ensures failure { self.new.failure ≡ self.old.failure }
     {
         if let Some(spent) = self.spent.iter().find(|spent| spent.name.as_str() == name) {
-            return spent.read(limit);
+            return spent.read(alloc, limit);
         }
         if reads_again(self.runtime, name) {
             return read_file(self.runtime, alloc, name, limit);
@@ -87,13 +94,8 @@ impl<'a, R: std::rt::Files> HostFiles<'a, R> {
     }
 
     // Reads a file that can't be read again, and keeps what it had.
-    fn read_once(
-        &mut self,
-        alloc: Global,
-        name: &str,
-        limit: u64,
-    ) -> io::Result<Result<Vec<u8>, u64>>
-        ensures within { IfOk result (λ found. IfOk found (λ bytes. vec_len bytes ≤ limit)) }
+    fn read_once(&mut self, alloc: Global, name: &str, limit: u64) -> io::Result<Result<Image, u64>>
+        ensures within { IfOk result (λ found. IfOk found (λ image. length image ≤ limit)) }
         ensures failure { self.new.failure ≡ self.old.failure }
     {
         // Memory for its name is there before it is read.
@@ -102,7 +104,7 @@ impl<'a, R: std::rt::Files> HostFiles<'a, R> {
         let file = fs::open(self.runtime, name)?;
         let found = read_open::<R>(file, alloc, limit);
         let (length, bytes) = match &found {
-            Ok(Ok(bytes)) => (bytes.len() as u64, kept(bytes)),
+            Ok(Ok(image)) => (image.len() as u64, kept(alloc, image)),
             Ok(Err(_)) => (limit.saturating_add(1), None),
             // Some of its bytes may be gone.
             Err(_) => (0, None),
@@ -133,10 +135,10 @@ impl<R: std::rt::Files> Files for HostFiles<'_, R> {
 
     ghost has_failure = { λ files. is_some files.failure };
 
-    fn read(&mut self, alloc: Global, name: &str, limit: u64) -> Result<Vec<u8>, FileError> {
+    fn read(&mut self, alloc: Global, name: &str, limit: u64) -> Result<Image, FileError> {
         self.failure = None;
         match self.find(alloc, name, limit) {
-            Ok(Ok(bytes)) => Ok(bytes),
+            Ok(Ok(image)) => Ok(image),
             Ok(Err(length)) => Err(self.keep(FileFailure::TooLong(length))),
             Err(error) => Err(self.keep(FileFailure::Read(error))),
         }
@@ -177,11 +179,11 @@ fn reads_again<R: std::rt::Files>(runtime: &R, name: &str) -> bool {
 }
 
 // A copy of these bytes, if they are few enough to be kept and there is memory.
-fn kept(bytes: &Vec<u8>) -> Option<Vec<u8>> {
-    if bytes.len() as u64 > MAX_SCRIPT_BYTES {
+fn kept(alloc: Global, image: &Image) -> Option<Vec<u8>> {
+    if image.len() as u64 > MAX_SCRIPT_BYTES {
         return None;
     }
-    bytes.clone().ok()
+    image.to_vec(alloc).ok()
 }
 
 // The whole of a file, or how long it is, as the system has it, if it is longer than the limit.
@@ -190,8 +192,8 @@ fn read_file<R: std::rt::Files>(
     alloc: Global,
     name: &str,
     limit: u64,
-) -> io::Result<Result<Vec<u8>, u64>>
-    ensures { IfOk result (λ found. IfOk found (λ bytes. vec_len bytes ≤ limit)) }
+) -> io::Result<Result<Image, u64>>
+    ensures { IfOk result (λ found. IfOk found (λ image. length image ≤ limit)) }
 {
     let file = fs::open(runtime, name)?;
     read_open::<R>(file, alloc, limit)
@@ -202,50 +204,93 @@ fn read_open<R: std::rt::Files>(
     file: R::File,
     alloc: Global,
     limit: u64,
-) -> io::Result<Result<Vec<u8>, u64>>
-    ensures { IfOk result (λ found. IfOk found (λ bytes. vec_len bytes ≤ limit)) }
+) -> io::Result<Result<Image, u64>>
+    ensures { IfOk result (λ found. IfOk found (λ image. length image ≤ limit)) }
 {
     let length = file.metadata()?.len();
-    // One byte more than the limit says a file that is too long.
-    let most = limit.saturating_add(1);
-    // The piece that finds the end has room too.
-    let room = (length.min(most) as usize).saturating_add(READ_BYTES);
-    let mut bytes = Vec::with_capacity(alloc, room)?;
-    append_rest(&mut file.take(most), most, &mut bytes)?;
-    if bytes.len() as u64 > limit {
+    // One byte more than the limit says a file that is too long. No file has 2 ^ 63 bytes.
+    let most = limit.min(MAX_FILE_BYTES) + 1;
+    let mut room = vec![in alloc; 0; READ_BYTES]?;
+    let image = read_rest(alloc, &mut file.take(most), most, &mut room)?;
+    if image.len() as u64 > limit {
         return Ok(Err(length));
     }
-    Ok(Ok(bytes))
+    Ok(Ok(image))
 }
 
-// Appends what a reader has left, if that is at most `most` bytes.
-fn append_rest<R: Read>(reader: &mut R, most: u64, bytes: &mut Vec<u8>) -> io::Result<()>
-    ensures { OnOk result (IfSome (R.remaining reader.old) (λ rest. length rest ≤ most
-        → bytes.new.items ≡ bytes.old.items ++ rest)) }
+// What a reader has left, if that is at most `most` bytes. It is read into `room`, piece by piece.
+fn read_rest<R: Read>(
+    alloc: Global,
+    reader: &mut R,
+    most: u64,
+    room: &mut [u8],
+) -> io::Result<Image>
+    requires most { most ≤ 9223372036854775808 }
+    requires room { length room.old ≡ 65536 }
+    ensures { IfOk result (λ image. IfSome (R.remaining reader.old)
+        (λ rest. length rest ≤ most → image ≡ rest)) }
 {
-    for _ in 0..most {
-        if append_piece(reader, bytes)? == 0 {
+    let mut image = Image::empty(alloc);
+    for _ in 0..most.div_ceil(READ_BYTES as u64) {
+        if append_piece(alloc, reader, room, &mut image)? < READ_BYTES {
             break;
         }
     }
-    Ok(())
+    Ok(image)
 }
 
-// Appends the next bytes that a reader has, and returns how many: none only at the end. The kit's
-// `Read` fills what is set already, so the room for a piece is set to zero first. That way the
-// piece goes from the file to its place at once.
-fn append_piece<R: Read>(reader: &mut R, bytes: &mut Vec<u8>) -> io::Result<usize>
-    ensures moved { IfOk result (λ count. IfSome (R.remaining reader.old) (λ rest.
-        (count ≤ length rest) × (bytes.new.items ≡ bytes.old.items ++ take count rest)
-        × (R.remaining reader.new ≡ Some (drop count rest)))) }
-    ensures end { IfOk result
-        (λ count. IfSome (R.remaining reader.old) (λ rest. count ≡ 0 → rest ≡ [])) }
+// Appends the next bytes that a reader has, 65,536 or, at its end, fewer, and returns how many.
+fn append_piece<R: Read>(
+    alloc: Global,
+    reader: &mut R,
+    room: &mut [u8],
+    image: &mut Image,
+) -> io::Result<usize>
+    requires room { length room.old ≡ 65536 }
+    requires whole { length image.old % 65536 ≡ 0 }
+    requires fits { length image.old + 65536 < 18446744073709551616 }
+    ensures few { IfOk result (λ count. count ≤ 65536) }
+    ensures moved { IfOk result
+        (λ count. Consumes (R.remaining reader.old) (R.remaining reader.new) (take count room.new)
+        × (image.new ≡ image.old ++ take count room.new)) }
+    ensures end { IfOk result (λ count. count < 65536 → IsAtEnd (R.remaining reader.new)) }
 {
-    let start = bytes.len();
-    bytes.resize(start + READ_BYTES, 0)?;
-    let (_, room) = bytes.split_at_mut(start);
-    let count = reader.read(room)?;
-    bytes.truncate(start + count);
+    let count = fill(reader, room)?;
+    push_piece(alloc, &room[..count], image)?;
+    Ok(count)
+}
+
+// Appends a piece to an image, unless it is empty.
+fn push_piece(alloc: Global, piece: &[u8], image: &mut Image) -> Result<(), AllocError>
+    requires whole { length image.old % 65536 ≡ 0 }
+    requires few { length piece.now ≤ 65536 }
+    requires fits { length image.old + length piece.now < 18446744073709551616 }
+    ensures { OnOk result (image.new ≡ image.old ++ piece.now) }
+{
+    if piece.is_empty() {
+        return Ok(());
+    }
+    image.push(FilledBytes::from_slice(alloc, piece)?)
+}
+
+// Reads until a buffer is full or the reader at its end, and returns how many bytes were read.
+fn fill<R: Read>(reader: &mut R, buffer: &mut [u8]) -> io::Result<usize>
+    ensures few { IfOk result (λ count. count ≤ length buffer.old) }
+    ensures moved { IfOk result
+        (λ count. Consumes (R.remaining reader.old) (R.remaining reader.new)
+        (take count buffer.new)) }
+    ensures end { IfOk result
+        (λ count. count < length buffer.old → IsAtEnd (R.remaining reader.new)) }
+{
+    let mut count = 0;
+    while count < buffer.len() {
+        let (_, room) = buffer.split_at_mut(count);
+        let read = reader.read(room)?;
+        if read == 0 {
+            break;
+        }
+        count += read;
+    }
     Ok(count)
 }
 
@@ -270,7 +315,7 @@ fn write_image<R: std::rt::Files>(
     disk: &mut SectorDisk,
     buffer: &mut [u8],
 ) -> io::Result<()>
-    requires { length buffer.old ≡ 262144 }
+    requires { length buffer.old ≡ 65536 }
 {
     if is_stream(name) {
         return write_through(runtime, name, disk, buffer);
@@ -309,7 +354,7 @@ fn write_through<R: std::rt::Files>(
     disk: &mut SectorDisk,
     buffer: &mut [u8],
 ) -> io::Result<()>
-    requires { length buffer.old ≡ 262144 }
+    requires { length buffer.old ≡ 65536 }
 {
     let mut file = OpenOptions::new().append(true).open(runtime, name)?;
     write_sectors(disk, disk.sectors(), buffer, &mut file)
@@ -324,10 +369,10 @@ fn replace<R: std::rt::Files>(
     disk: &mut SectorDisk,
     buffer: &mut [u8],
 ) -> io::Result<()>
-    requires { length buffer.old ≡ 262144 }
+    requires { length buffer.old ≡ 65536 }
 {
     let (beside, file) = create_beside(runtime, alloc, target)?;
-    let mut done = fill::<R>(file, permissions, disk, buffer);
+    let mut done = fill_file::<R>(alloc, file, permissions, disk, buffer);
     if done.is_ok() {
         done = fs::rename(runtime, beside.as_str(), target);
     }
@@ -357,21 +402,35 @@ fn create_beside<R: std::rt::Files>(
     Err(io::Error::from(io::ErrorKind::AlreadyExists))
 }
 
-// Writes a new file, and waits until it is on the disk. Zeroes at its end take no time and no room.
-fn fill<R: std::rt::Files>(
+// Writes a new file, and waits until it is on the disk. Pieces of zeroes take no room in it.
+fn fill_file<R: std::rt::Files>(
+    alloc: Global,
     file: R::File,
     permissions: Option<Permissions>,
     disk: &mut SectorDisk,
     buffer: &mut [u8],
 ) -> io::Result<()>
-    requires { length buffer.old ≡ 262144 }
+    requires { length buffer.old ≡ 65536 }
 {
     let mut file = file;
-    let used = used_sectors(disk, buffer);
-    write_sectors(disk, used, buffer, &mut file)?;
+    write_pieces(alloc, &mut file, disk, buffer)?;
+    // Zeroes that were skipped at the end are there only then.
     file.set_len(disk.sectors().saturating_mul(SECTOR_BYTES))?;
     if let Some(permissions) = permissions {
         let _ = file.set_permissions(permissions);
     }
     file.sync_all()
+}
+
+// Writes the image of a disk to a new file, and skips pieces of zeroes.
+fn write_pieces<F: Write + Seek>(
+    alloc: Global,
+    file: &mut F,
+    disk: &mut SectorDisk,
+    buffer: &mut [u8],
+) -> io::Result<()>
+    requires { length buffer.old ≡ 65536 }
+{
+    let mut holes = Holes::new(alloc, NewFile::new(file), PIECE)?;
+    write_sectors(disk, disk.sectors(), buffer, &mut holes)
 }

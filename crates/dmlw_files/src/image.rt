@@ -9,6 +9,7 @@ use crate::files::Files;
 use bio::SECTOR_BYTES;
 use refusals::Refusal;
 use run_error::RunError;
+use sector_disk::Image;
 use std::alloc::Global;
 
 /// The most bytes of an image: those of 1,048,576 sectors.
@@ -18,10 +19,10 @@ pub const MAX_IMAGE_BYTES: u64 = 536_870_912;
 /// refused with `File`, as is one that can't be read; where a file's bytes are known and are an
 /// image, only memory can refuse it.
 #[tactic(auto, using(crate::specs::Images::image_within, crate::specs::Images::image_read))]
-pub fn read_image<F: Files>(alloc: Global, name: &str, files: &mut F) -> Result<Vec<u8>, RunError>
+pub fn read_image<F: Files>(alloc: Global, name: &str, files: &mut F) -> Result<Image, RunError>
     ensures contents { IfOk result
-        (λ image. MatchesContents (F.contents files.old name.now) image.items) }
-    ensures whole { IfOk result (λ image. IsImage image.items) }
+        (λ image. MatchesContents (F.contents files.old name.now) image) }
+    ensures whole { IfOk result (λ image. IsImage image) }
     ensures fault { IfErr result IsFileError }
     ensures readable { HoldsImage (F.contents files.old name.now)
         → IfErr result (λ fault. fault ≡ memory_error) }
@@ -29,7 +30,7 @@ pub fn read_image<F: Files>(alloc: Global, name: &str, files: &mut F) -> Result<
     ensures unwritten { F.writes files.new ≡ F.writes files.old }
 {
     let image = files.read(alloc, name, MAX_IMAGE_BYTES)?;
-    if image.is_empty() || image.len() as u64 % SECTOR_BYTES != 0 {
+    if image.len() == 0 || image.len() as u64 % SECTOR_BYTES != 0 {
         return Err(RunError::from(Refusal::File));
     }
     Ok(image)

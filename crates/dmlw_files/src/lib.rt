@@ -14,6 +14,7 @@ pub use session::Session;
 pub use text::{MAX_SCRIPT_BYTES, read_text};
 
 mod files;
+mod holes;
 mod host_files;
 mod image;
 mod output;

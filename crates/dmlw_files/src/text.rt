@@ -21,5 +21,9 @@ pub fn read_text<F: Files>(alloc: Global, script: &str, files: &mut F) -> Result
     ensures kept { KeepsFiles (F.contents files.old) (F.contents files.new) }
     ensures unwritten { F.writes files.new ≡ F.writes files.old }
 {
-    files.read(alloc, script, MAX_SCRIPT_BYTES)
+    let text = files.read(alloc, script, MAX_SCRIPT_BYTES)?;
+    match text.into_vec(alloc) {
+        Ok(text) => Ok(text),
+        Err(_) => Err(FileError::Memory),
+    }
 }

@@ -1,7 +1,8 @@
 // How the system's files are written: what they hold, and what was called in which order. How a
-// file is read that gives its bytes once.
-use crate::host::{disk_of, holds};
+// file is read that gives its bytes once, or few at a time.
+use crate::host::{disk_with, has_bytes, holds};
 use dmlw_files::{FileError, FileFailure, Files, HostFiles};
+use sector_disk::Image;
 use std::alloc::{Allocator, Global};
 use std::cell::Cell;
 use std::fs::{Metadata, OpenFile, OpenOptions, Permissions};
@@ -15,6 +16,7 @@ use std::{fs, io};
 #[derive(Clone, Copy, PartialEq, Eq)]
 enum Failing {
     Nothing,
+    Seek,
     Length,
     Sync,
     Rename,
@@ -29,6 +31,8 @@ struct Noted {
     // Whether a file got another's name before it was synced.
     is_early: Cell<bool>,
     renames: Cell<u64>,
+    // How many bytes were written.
+    written: Cell<u64>,
 }
 
 impl Noted {
@@ -38,6 +42,7 @@ impl Noted {
             is_changed: Cell::new(false),
             is_early: Cell::new(false),
             renames: Cell::new(0),
+            written: Cell::new(0),
         }
     }
 
@@ -49,6 +54,9 @@ impl Noted {
         Ok(())
     }
 }
+
+// The most bytes that a file of the runtime below gives at a time.
+const SHORT: usize = 1000;
 
 // A runtime that notes what is called of its files. A file whose name ends with `-pipe` is no
 // regular file, and is empty once it was opened.
@@ -67,14 +75,19 @@ struct WatchedFile<'a, F: Drop> {
 
 impl<F: Read + Drop> Read for WatchedFile<'_, F> {
     fn read(&mut self, buf: &mut [u8]) -> io::Result<usize> {
-        self.file.read(buf)
+        let (front, _) = buf.split_at_mut(buf.len().min(SHORT));
+        self.file.read(front)
     }
 }
 
 impl<F: Write + Drop> Write for WatchedFile<'_, F> {
     fn write(&mut self, buf: &[u8]) -> io::Result<usize> {
         self.noted.is_changed.set(true);
-        self.file.write(buf)
+        let written = self.file.write(buf)?;
+        self.noted
+            .written
+            .set(self.noted.written.get().saturating_add(written as u64));
+        Ok(written)
     }
 
     fn flush(&mut self) -> io::Result<()> {
@@ -84,6 +97,7 @@ impl<F: Write + Drop> Write for WatchedFile<'_, F> {
 
 impl<F: Seek + Drop> Seek for WatchedFile<'_, F> {
     fn seek(&mut self, pos: SeekFrom) -> io::Result<u64> {
+        self.noted.passes(Failing::Seek)?;
         self.file.seek(pos)
     }
 }
@@ -182,8 +196,9 @@ impl<'a, R: std::rt::Files> std::rt::Files for Watched<'a, R> {
     }
 }
 
-// Writes over an older file, and says whether that was done. An older
-// file that isn't replaced stands, and nothing is left beside.
+// Writes the image of a disk, of three pieces, over an older file, and says whether that was done:
+// the last two pieces are zeroes. An older file that isn't replaced stays, and nothing is left
+// beside.
 fn check_written<R: std::rt::Files + Abort>(
     rt: &R,
     alloc: Global,
@@ -192,11 +207,13 @@ fn check_written<R: std::rt::Files + Abort>(
 ) -> Result<bool, Fail> {
     fs::write(rt, name, b"older".as_slice())?;
     let watched = Watched { runtime: rt, noted };
-    let written = HostFiles::new(&watched, alloc).write(alloc, name, disk_of(alloc, 7)?);
+    let disk = disk_with(alloc, 300, 1, 7)?;
+    let image = disk.bytes()?;
+    let written = HostFiles::new(&watched, alloc).write(alloc, name, disk);
     let beside = format!(in alloc; "{name}.dmlw-tmp-0")?;
     assert!(rt; !fs::exists(rt, beside.as_str())?);
     match written {
-        Ok(()) => assert!(rt; holds(rt, alloc, name, [7; 512].as_slice())),
+        Ok(()) => assert!(rt; holds(rt, alloc, name, image.as_slice())),
         Err(error) => {
             assert!(rt; error == FileError::Unusable);
             assert!(rt; holds(rt, alloc, name, b"older".as_slice()));
@@ -206,18 +223,25 @@ fn check_written<R: std::rt::Files + Abort>(
     Ok(written.is_ok())
 }
 
-// A file is on the disk before it gets the name of the older one, and gets it once.
+// A file is on the disk before it gets the name of the older one, and gets it once. Pieces of
+// zeroes aren't written.
 #[test]
 fn files_are_synced_before_they_are_renamed(rt: HostRuntime) -> Result<(), Fail> {
     let noted = Noted::new(Failing::Nothing);
     assert!(rt; check_written(&rt, rt.alloc(), "dmlw-test-synced", &noted)?);
     assert!(rt; noted.renames.get() == 1 && !noted.is_early.get() && !noted.is_changed.get());
+    assert!(rt; noted.written.get() == 65_536);
     Ok(())
 }
 
 #[test]
 fn files_that_fail_leave_the_older_ones(rt: HostRuntime) -> Result<(), Fail> {
-    for failing in [Failing::Length, Failing::Sync, Failing::Rename] {
+    for failing in [
+        Failing::Seek,
+        Failing::Length,
+        Failing::Sync,
+        Failing::Rename,
+    ] {
         let noted = Noted::new(failing);
         assert!(rt; !check_written(&rt, rt.alloc(), "dmlw-test-failed", &noted)?);
         assert!(rt; noted.renames.get() == 0);
@@ -235,7 +259,7 @@ fn check_replaced<R: std::rt::Files + Abort>(
 ) -> Result<(), Fail> {
     fs::write(rt, name, b"older".as_slice())?;
     fs::hard_link(rt, name, other)?;
-    HostFiles::new(rt, alloc).write(alloc, name, disk_of(alloc, 7)?)?;
+    HostFiles::new(rt, alloc).write(alloc, name, disk_with(alloc, 1, 0, 7)?)?;
     assert!(rt; holds(rt, alloc, name, [7; 512].as_slice()));
     assert!(rt; holds(rt, alloc, other, b"older".as_slice()));
     fs::remove_file(rt, name)?;
@@ -249,9 +273,9 @@ fn files_are_replaced_whole(rt: HostRuntime) -> Result<(), Fail> {
 }
 
 // Whether a file was read as these bytes.
-fn is_read(found: Result<Vec<u8>, FileError>, bytes: &[u8]) -> bool {
+fn is_read(alloc: Global, found: Result<Image, FileError>, bytes: &[u8]) -> bool {
     match found {
-        Ok(read) => read.as_slice() == bytes,
+        Ok(read) => has_bytes(alloc, &read, bytes),
         Err(_) => false,
     }
 }
@@ -268,8 +292,8 @@ fn check_pipes<R: std::rt::Files + Abort>(rt: &R, alloc: Global) -> Result<(), F
     };
     let mut files = HostFiles::new(&watched, alloc);
     for _ in 0..2 {
-        assert!(rt; is_read(files.read(alloc, one, 5), b"first".as_slice()));
-        assert!(rt; is_read(files.read(alloc, other, 6), b"second".as_slice()));
+        assert!(rt; is_read(alloc, files.read(alloc, one, 5), b"first".as_slice()));
+        assert!(rt; is_read(alloc, files.read(alloc, other, 6), b"second".as_slice()));
     }
     assert!(rt; files.read(alloc, one, 4).is_err());
     assert!(rt; matches!(files.failure(), Some(FileFailure::TooLong(0))));
@@ -291,9 +315,9 @@ fn regular_files_are_read_anew(rt: HostRuntime) -> Result<(), Fail> {
     let name = "dmlw-test-regular";
     let mut files = HostFiles::new(&rt, alloc);
     fs::write(&rt, name, b"first".as_slice())?;
-    assert!(rt; is_read(files.read(alloc, name, 6), b"first".as_slice()));
+    assert!(rt; is_read(alloc, files.read(alloc, name, 6), b"first".as_slice()));
     fs::write(&rt, name, b"second".as_slice())?;
-    assert!(rt; is_read(files.read(alloc, name, 6), b"second".as_slice()));
+    assert!(rt; is_read(alloc, files.read(alloc, name, 6), b"second".as_slice()));
     fs::remove_file(&rt, name)?;
     Ok(())
 }
@@ -315,9 +339,9 @@ fn check_long_pipes<R: std::rt::Files + Abort>(rt: &R, alloc: Global) -> Result<
     };
     let mut files = HostFiles::new(&watched, alloc);
     for _ in 0..2 {
-        assert!(rt; is_read(files.read(alloc, most, 5_000_000), kept));
+        assert!(rt; is_read(alloc, files.read(alloc, most, 5_000_000), kept));
     }
-    assert!(rt; is_read(files.read(alloc, long, 5_000_000), bytes.as_slice()));
+    assert!(rt; is_read(alloc, files.read(alloc, long, 5_000_000), bytes.as_slice()));
     assert!(rt; files.read(alloc, long, 5_000_000).is_err());
     assert!(rt; is_unseekable(files.failure()));
     for _ in 0..2 {

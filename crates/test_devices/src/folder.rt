@@ -2,7 +2,7 @@
 ghost use Rattle.std.specs.Prelude.{None, false};
 
 use dmlw_files::{FileError, FileFailure, Files};
-use sector_disk::SectorDisk;
+use sector_disk::{Image, SectorDisk};
 use std::alloc::{AllocError, Global};
 
 // A file.
@@ -53,14 +53,14 @@ impl Files for Folder {
 
     ghost has_failure = { λ _. false };
 
-    fn read(&mut self, alloc: Global, name: &str, limit: u64) -> Result<Vec<u8>, FileError> {
+    fn read(&mut self, alloc: Global, name: &str, limit: u64) -> Result<Image, FileError> {
         let Some(bytes) = self.bytes(name) else {
             return Err(FileError::Unusable);
         };
         if bytes.len() as u64 > limit {
             return Err(FileError::Unusable);
         }
-        Vec::from_slice(alloc, bytes).map_err(|_| FileError::Memory)
+        Image::from_slice(alloc, bytes).map_err(|_| FileError::Memory)
     }
 
     fn write(&mut self, alloc: Global, name: &str, disk: SectorDisk) -> Result<(), FileError> {

@@ -2,7 +2,7 @@
 ghost use Rattle.std.specs.Prelude.{None, false};
 
 use dmlw_files::{FileError, FileFailure, Files};
-use sector_disk::SectorDisk;
+use sector_disk::{Image, SectorDisk};
 use std::alloc::Global;
 
 /// Files of which "script" and "image" can be read, which hold the same, and "log" can be written.
@@ -33,12 +33,12 @@ impl Files for OneFile<'_> {
 
     ghost has_failure = { λ _. false };
 
-    fn read(&mut self, alloc: Global, name: &str, limit: u64) -> Result<Vec<u8>, FileError> {
+    fn read(&mut self, alloc: Global, name: &str, limit: u64) -> Result<Image, FileError> {
         let is_known = name == "script" || name == "image";
         if !is_known || self.length.max(self.bytes.len() as u64) > limit {
             return Err(FileError::Unusable);
         }
-        Vec::from_slice(alloc, self.bytes).map_err(|_| FileError::Memory)
+        Image::from_slice(alloc, self.bytes).map_err(|_| FileError::Memory)
     }
 
     fn write(&mut self, _alloc: Global, name: &str, disk: SectorDisk) -> Result<(), FileError> {

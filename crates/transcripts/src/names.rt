@@ -2,7 +2,7 @@
 ghost use Rattle.std.specs.Prelude.{None, false};
 
 use dmlw_files::{FileError, FileFailure, Files};
-use sector_disk::SectorDisk;
+use sector_disk::{Image, SectorDisk};
 use std::alloc::Global;
 use test_devices::Folder;
 
@@ -20,7 +20,7 @@ impl Files for Here<'_> {
 
     ghost has_failure = { λ _. false };
 
-    fn read(&mut self, alloc: Global, name: &str, limit: u64) -> Result<Vec<u8>, FileError> {
+    fn read(&mut self, alloc: Global, name: &str, limit: u64) -> Result<Image, FileError> {
         self.folder.read(alloc, plain(name), limit)
     }
 

@@ -15,7 +15,7 @@ use log_reader::LogReader;
 use log_store::LogStore;
 use refusals::Refusal;
 use run_error::RunError;
-use sector_disk::SectorDisk;
+use sector_disk::{Image, SectorDisk};
 use std::alloc::Global;
 
 /// What a copy left.
@@ -30,13 +30,13 @@ pub(crate) struct Copied {
 /// Copies the log that an image has to a new log with sectors of 4,096
 /// bytes, on a disk of so many sectors of 512 bytes, 8 to 1,048,576. In
 /// memory are both disks and one entry; the old log's disk is gone after it.
-pub(crate) fn copy_image(alloc: Global, log: Vec<u8>, sectors: u64) -> Result<Copied, RunError>
-    requires log { IsImage log.items }
+pub(crate) fn copy_image(alloc: Global, log: Image, sectors: u64) -> Result<Copied, RunError>
+    requires log { IsImage log }
     requires least { 8 ≤ sectors }
     requires most { sectors ≤ 1048576 }
     ensures copied { IfOk result
-        (λ done. IsCopied log.items done.count sectors (image_of done.disk)) }
-    ensures fails { IfErr result (FailsOnImage log.items sectors) }
+        (λ done. IsCopied log done.count sectors (image_of done.disk)) }
+    ensures fails { IfErr result (FailsOnImage log sectors) }
 {
     let mut reader = open_log(alloc, log)?;
     let mut store = begin_log(alloc, sectors)?;
@@ -60,12 +60,12 @@ fn stopped(fault: CopyFault) -> RunError
 }
 
 // Opens the log that an image has, on the disk that it is.
-fn open_log(alloc: Global, log: Vec<u8>) -> Result<LogReader<SectorDisk>, RunError>
-    requires { IsImage log.items }
-    ensures opened { IfOk result (λ reader. IsOpened log.items (reader_of reader)) }
-    ensures refused { IfErr result (RefusesOpen log.items) }
+fn open_log(alloc: Global, log: Image) -> Result<LogReader<SectorDisk>, RunError>
+    requires { IsImage log }
+    ensures opened { IfOk result (λ reader. IsOpened log (reader_of reader)) }
+    ensures refused { IfErr result (RefusesOpen log) }
 {
-    let disk = SectorDisk::from_bytes(alloc, log)?;
+    let disk = SectorDisk::from_image(alloc, log)?;
     match LogReader::open(alloc, disk) {
         Ok(reader) => Ok(reader),
         Err((_disk, error)) => Err(RunError::from(Refusal::from(error))),

@@ -12,8 +12,8 @@ ghost use Rattle.script_reader.specs.Grammar.{IsTextOf};
 ghost use Rattle.run_error.specs.Errors.{IsFileError, memory_error, refused_by};
 ghost use Rattle.dmlw_commands.specs.Ends.{err_stream};
 ghost use Rattle.dmlw_commands.specs.Exits.{told_line};
-ghost use Rattle.dmlw_files.specs.Files.{KeepsFiles};
-ghost use Rattle.dmlw_files.specs.Images.{IsImage};
+ghost use Rattle.dmlw_files.specs.Files.{KeepsFiles, MatchesContents};
+ghost use Rattle.dmlw_files.specs.Images.{HoldsImage, IsImage};
 ghost use Rattle.dmlw_commands.specs.Judgements.{Answers, CanJudge, CannotJudge, EndsAnswering};
 ghost use Rattle.dmlw_commands.specs.Judgements.{HasAnswer, HasNoVerdict, blank, exit_answered};
 ghost use Rattle.dmlw_commands.specs.Judgements.{question};
@@ -150,8 +150,23 @@ fn answer_files<A: Answer, F: Files, O: Write>(
     ensures unwritten { F.writes files.new ≡ F.writes files.old }
 {
     let text = read_text(alloc, asked.script, files)?;
-    let image = read_image(alloc, asked.image, files)?;
+    let image = read_bytes(alloc, asked.image, files)?;
     print_answer(answer_text(alloc, &text, asked.moment, &image), out)
+}
+
+// The image in the file of a name, as one vector.
+fn read_bytes<F: Files>(alloc: Global, name: &str, files: &mut F) -> Result<Vec<u8>, RunError>
+    ensures contents { IfOk result
+        (λ image. MatchesContents (F.contents files.old name.now) image.items) }
+    ensures whole { IfOk result (λ image. IsImage image.items) }
+    ensures fault { IfErr result IsFileError }
+    ensures readable { HoldsImage (F.contents files.old name.now)
+        → IfErr result (λ fault. fault ≡ memory_error) }
+    ensures kept { KeepsFiles (F.contents files.old) (F.contents files.new) }
+    ensures unwritten { F.writes files.new ≡ F.writes files.old }
+{
+    let image = read_image(alloc, name, files)?;
+    Ok(image.into_vec(alloc)?)
 }
 
 // Prints an answer, where there is one.

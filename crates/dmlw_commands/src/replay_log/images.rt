@@ -13,7 +13,7 @@ use headline::{ReopenError, reopen_and_replay};
 use refusals::Refusal;
 use replay::Upto;
 use run_error::RunError;
-use sector_disk::SectorDisk;
+use sector_disk::{Image, SectorDisk};
 use std::alloc::Global;
 
 /// What a replay left.
@@ -29,15 +29,15 @@ pub(crate) struct Replayed {
 /// carries the headline; the log's disk is gone after it.
 pub(crate) fn replay_images(
     alloc: Global,
-    log: Vec<u8>,
-    first: Vec<u8>,
+    log: Image,
+    first: Image,
     upto: &Upto,
 ) -> Result<Replayed, RunError>
-    requires log { IsImage log.items }
-    requires first { IsImage first.items }
+    requires log { IsImage log }
+    requires first { IsImage first }
     ensures replayed { IfOk result
-        (λ done. IsReplayed log.items first.items upto.now done.count (image_of done.disk)) }
-    ensures fails { IfErr result (FailsOnImages log.items first.items upto.now) }
+        (λ done. IsReplayed log first upto.now done.count (image_of done.disk)) }
+    ensures fails { IfErr result (FailsOnImages log first upto.now) }
 {
     let log = disk_of(alloc, log)?;
     let mut disk = disk_of(alloc, first)?;
@@ -62,13 +62,13 @@ fn stop_of(error: ReopenError) -> RunError
 }
 
 // The disk that an image is.
-fn disk_of(alloc: Global, image: Vec<u8>) -> Result<SectorDisk, RunError>
-    requires { IsImage image.items }
+fn disk_of(alloc: Global, image: Image) -> Result<SectorDisk, RunError>
+    requires { IsImage image }
     ensures begins { IfOk result
-        (λ disk. Begins (length image.items / 512) (sector_of image.items) (shown_of disk)) }
+        (λ disk. Begins (length image / 512) (sector_of image) (shown_of disk)) }
     ensures memory { IfErr result (λ fault. fault ≡ memory_error) }
 {
-    match SectorDisk::from_bytes(alloc, image) {
+    match SectorDisk::from_image(alloc, image) {
         Ok(disk) => Ok(disk),
         Err(error) => Err(RunError::from(error)),
     }

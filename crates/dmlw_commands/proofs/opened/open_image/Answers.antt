@@ -8,7 +8,7 @@ use Rattle.dmlw_commands.proofs.opened.open_image.Goals as goal
 
 pub returns-in-Ok-clause-opened : goal.returns-in-Ok-clause-opened
 returns-in-Ok-clause-opened c =
-    opened_on c.args.image.items (shown_of c.in_ok-disk.disk)
+    opened_on c.args.image (shown_of c.in_ok-disk.disk)
     (reader_of c.in-Ok.reader) c.in_ok-disk.ensures c.in-Ok.ensures.begins.0
     c.in-Ok.ensures.begins.1
     c.in-Ok.ensures.super_block c.in-Ok.ensures.undisturbed
@@ -18,6 +18,6 @@ pub returns-in-Err-clause-refused : goal.returns-in-Err-clause-refused
 returns-in-Err-clause-refused c =
     let v = shown_of c.in_ok-disk.disk in
     let w = shown_of c.in-Err._disk in
-    unopened_on c.args.image.items v w c.in-Err.error c.from-in-Err.result c.requires
+    unopened_on c.args.image v w c.in-Err.error c.from-in-Err.result c.requires
     c.in_ok-disk.ensures (never_failed v w refl refl)
     c.in-Err.ensures.refused (c.from-in-Err.ensures ∙ ap refused_by c.from.ensures)

@@ -17,10 +17,10 @@ loop-number-preserved g c =
       c.read_piece.ensures.content ∙ before.1,
       written_more (shown_of c.args.disk.now).content
           (shown_of c.loop-number.disk).content _ _ _ c.read_piece.new.piece
-          (min (c.loop-number.number * 512) c.args.sectors)
-          (c.loop-number.number * 512)
+          (min (c.loop-number.number * 128) c.args.sectors)
+          (c.loop-number.number * 128)
           (length (take (c.min-count.result * 512) c.loop-number.buffer) / 512)
-          c.min-count.result (min ((c.loop-number.number + 1) * 512) c.args.sectors)
+          c.min-count.result (min ((c.loop-number.number + 1) * 128) c.args.sectors)
           before.2 (omega arith) (omega arith) c.in_ok-write_all.ensures.bytes
           c.read_piece.ensures.read before.1 all,
     )

@@ -11,4 +11,4 @@ invariant-loop-number g l =
     ((shown_of l.disk).size ≡ (shown_of l.fn.disk).size)
     × ((shown_of l.disk).content ≡ (shown_of l.fn.disk).content)
     × Appends (g.W.Write.contents l.fn.out) (g.W.Write.contents l.out)
-    (gather (shown_of l.fn.disk).content 0 (min (l.number * 512) l.sectors))
+    (gather (shown_of l.fn.disk).content 0 (min (l.number * 128) l.sectors))

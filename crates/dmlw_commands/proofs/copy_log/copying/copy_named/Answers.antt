@@ -11,10 +11,10 @@ returns-in_err-log-clause-fails g c =
 
 pub returns-clause-copied : goal.returns-clause-copied
 returns-clause-copied g c =
-    copied_from _ c.in_ok-log.log.items _ c.copy_image.result c.in_ok-log.ensures.contents
+    copied_from _ c.in_ok-log.log _ c.copy_image.result c.in_ok-log.ensures.contents
     c.in_ok-log.ensures.whole c.copy_image.ensures.copied
 
 pub returns-clause-fails : goal.returns-clause-fails
 returns-clause-fails g c =
-    failed_from _ c.in_ok-log.log.items _ c.copy_image.result c.in_ok-log.ensures.contents
+    failed_from _ c.in_ok-log.log _ c.copy_image.result c.in_ok-log.ensures.contents
     c.in_ok-log.ensures.whole c.copy_image.ensures.fails

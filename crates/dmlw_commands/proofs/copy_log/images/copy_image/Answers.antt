@@ -25,7 +25,7 @@ returns-in_err-store-clause-fails c =
 
 pub copy_log-requires : goal.copy_log-requires
 copy_log-requires c =
-    log_fits c.args.log.items c.args.sectors (reader_of c.in_ok-reader.reader)
+    log_fits c.args.log c.args.sectors (reader_of c.in_ok-reader.reader)
     (store_of c.in_ok-store.store) c.in_ok-reader.ensures.opened
     c.in_ok-store.ensures.begun
 
@@ -33,11 +33,11 @@ pub returns-in-Ok-clause-copied : goal.returns-in-Ok-clause-copied
 returns-in-Ok-clause-copied c =
     let reader = c.in_ok-reader.reader in
     let store = c.copy_log.new.store in
-    image_left c.args.log.items c.args.sectors c.in-Ok.count c.into_device-disk.result
+    image_left c.args.log c.args.sectors c.in-Ok.count c.into_device-disk.result
     c.requires.least
-    (subst (λ (disk : SectorDisk). IsCopiedOn c.args.log.items c.in-Ok.count c.args.sectors
+    (subst (λ (disk : SectorDisk). IsCopiedOn c.args.log c.in-Ok.count c.args.sectors
     (shown_of disk)) (sym c.into_device-disk.ensures)
-    (copied_on c.args.log.items c.args.sectors c.in-Ok.count (reader_of reader)
+    (copied_on c.args.log c.args.sectors c.in-Ok.count (reader_of reader)
     (store_of c.in_ok-store.store) (store_of store) c.requires.log
     c.in_ok-reader.ensures.opened c.in_ok-store.ensures.begun
     (content_whole (shown_of reader.device) (disk_lawful reader.device)) refl
@@ -50,9 +50,9 @@ returns-clause-fails c =
     let last = c.copy_log.new.log in
     let begun = c.in_ok-store.store in
     let store = c.copy_log.new.store in
-    subst (FailsOnImage c.args.log.items c.args.sectors) (sym c.stopped.ensures)
+    subst (FailsOnImage c.args.log c.args.sectors) (sym c.stopped.ensures)
     (stopped c.in-Err.fault
-    (stopped_on c.args.log.items c.args.sectors c.in-Err.fault (reader_of reader) (reader_of last)
+    (stopped_on c.args.log c.args.sectors c.in-Err.fault (reader_of reader) (reader_of last)
     (store_of begun) (store_of store) c.requires.log
     c.in_ok-reader.ensures.opened c.in_ok-store.ensures.begun
     (content_whole (shown_of reader.device) (disk_lawful reader.device))

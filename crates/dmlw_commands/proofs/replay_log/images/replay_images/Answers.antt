@@ -26,9 +26,9 @@ returns-in-Ok-clause-replayed c =
     let disk = shown_of c.in_ok-log.log in
     let v = shown_of c.in_ok-disk.disk in
     let w = shown_of c.reopen_and_replay-log.new.target in
-    image_left c.args.log.items c.args.first.items c.args.upto.now c.in-Ok.count
+    image_left c.args.log c.args.first c.args.upto.now c.in-Ok.count
     c.reopen_and_replay-log.new.target c.requires.first
-    (replayed_on c.args.log.items c.args.first.items c.args.upto.now c.in-Ok.count disk v w
+    (replayed_on c.args.log c.args.first c.args.upto.now c.in-Ok.count disk v w
     c.requires.log c.in_ok-log.ensures.begins c.in_ok-disk.ensures.begins
     c.reopen_and_replay-log.ensures.target.size (honest v w refl refl)
     (subst (λ (r : Result ℕ ReopenError). IfOk r (λ n. IsReopened disk c.args.upto.now n v w))
@@ -40,7 +40,7 @@ returns-in-Err-clause-fails c =
     let last = shown_of c.reopen_and_replay-log.result.0 in
     let v = shown_of c.in_ok-disk.disk in
     let w = shown_of c.reopen_and_replay-log.new.target in
-    fails_on c.args.log.items c.args.first.items c.args.upto.now c.in-Err.error c.stop_of.result
+    fails_on c.args.log c.args.first c.args.upto.now c.in-Err.error c.stop_of.result
     disk last v w c.requires.log c.in_ok-log.ensures.begins
     c.in_ok-disk.ensures.begins (never_failed disk last refl refl) (never_failed v w refl refl)
     (honest v w refl refl)

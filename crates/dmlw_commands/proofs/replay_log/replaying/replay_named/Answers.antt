@@ -21,16 +21,16 @@ returns-in_err-first-clause-fails g c =
 
 pub returns-clause-replayed : goal.returns-clause-replayed
 returns-clause-replayed g c =
-    replayed_from _ _ c.in_ok-log.log.items c.in_ok-first.first.items _ c.replay_images.result
-    (both_images _ _ _ c.in_ok-log.log.items c.in_ok-first.first.items c.in_ok-log.ensures.contents
+    replayed_from _ _ c.in_ok-log.log c.in_ok-first.first _ c.replay_images.result
+    (both_images _ _ _ c.in_ok-log.log c.in_ok-first.first c.in_ok-log.ensures.contents
     c.in_ok-log.ensures.whole
     c.in_ok-first.ensures.contents c.in_ok-first.ensures.whole
     (c.in_ok-log.ensures.kept c.args.first.now)) c.replay_images.ensures.replayed
 
 pub returns-clause-fails : goal.returns-clause-fails
 returns-clause-fails g c =
-    failed_from _ _ c.in_ok-log.log.items c.in_ok-first.first.items _ c.replay_images.result
-    (both_images _ _ _ c.in_ok-log.log.items c.in_ok-first.first.items c.in_ok-log.ensures.contents
+    failed_from _ _ c.in_ok-log.log c.in_ok-first.first _ c.replay_images.result
+    (both_images _ _ _ c.in_ok-log.log c.in_ok-first.first c.in_ok-log.ensures.contents
     c.in_ok-log.ensures.whole
     c.in_ok-first.ensures.contents c.in_ok-first.ensures.whole
     (c.in_ok-log.ensures.kept c.args.first.now)) c.replay_images.ensures.fails

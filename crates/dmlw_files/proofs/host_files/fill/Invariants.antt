@@ -1,0 +1,13 @@
+-- What holds at the turns of the loop of `fill` (src/host_files.rt), and what gets less.
+use Rattle.std.proofs.Common.{length, ◌-◌, ◌≤◌, take}
+use Rattle.std.specs.Io.KnownBytes.{Consumes}
+use Rattle.dmlw_files.proofs.host_files.fill.Given as goal
+
+abbrev pub invariant-loop-count : goal.invariant-loop-count
+invariant-loop-count g l =
+    (l.count ≤ length l.initial.buffer)
+    × Consumes (g.R.Read.remaining l.initial.reader) (g.R.Read.remaining l.reader)
+    (take l.count l.buffer)
+
+abbrev pub decreases-loop-count : goal.decreases-loop-count
+decreases-loop-count g l = length l.initial.buffer - l.count

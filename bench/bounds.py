@@ -42,6 +42,14 @@ def longest(line):
     return "\n".join([*lines, ""])
 
 
+def ended(script):
+    """How many events the lines of such a script are."""
+    return script.count("\n") - 2
+
+
+# What `path` says of them: its answer has a step for each sector of each request.
+REFUSED = "dmlw: 2 Memory\n"
+
 # Each is of 2,048 sectors, or 1 MiB: 200,000 of them or so.
 LARGE_WRITES = longest(lambda name, number: f"w {name} {number % 2048} 2048 {number * 7 % 256:02x}")
 LARGE_DISCARDS = longest(lambda name, number: f"d {name} {number % 2048} 2048")
@@ -67,6 +75,12 @@ COMMANDS = [
     ({"script": LARGE_DATA, "disk": IMAGE}, "record script log", "3 2051\n", 16),
     ({}, "replay log disk disk flush", "replayed 2\n", 640),
     ({}, "judge script 4 disk", "yes\n", 640),
+    ({"script": LARGE_WRITES, "zeroes": 4096 * 512}, "record script log", "0 0\n", 1024),
+    ({}, f"judge script {ended(LARGE_WRITES)} zeroes", "yes\n", 1024),
+    ({}, f"path script {ended(LARGE_WRITES)} zeroes", REFUSED, 1024),
+    ({"script": LARGE_DISCARDS}, "record script log", "0 0\n", 1024),
+    ({}, f"judge script {ended(LARGE_DISCARDS)} zeroes", "yes\n", 1024),
+    ({}, f"path script {ended(LARGE_DISCARDS)} zeroes", REFUSED, 1024),
 ]
 
 
@@ -81,9 +95,11 @@ def put(folder, files):
 
 
 def is_met(program, folder, words, end, bound):
-    """Whether a command prints this end, and no fault, under a bound in MiB."""
+    """Whether a command prints this end, and no fault, or is refused as wanted, under a bound in MiB."""
     limit = bound * MIB
     ran = subprocess.run([program, *words.split(" ")], cwd=folder, capture_output=True, preexec_fn=lambda: resource.setrlimit(resource.RLIMIT_AS, (limit, limit)))
+    if end == REFUSED:
+        return ran.returncode > 0 and ran.stderr.endswith(REFUSED.encode()) and not ran.stdout
     return ran.returncode == 0 and not ran.stderr and ran.stdout.endswith(end.encode())
 
 

@@ -1,6 +1,5 @@
 -- What holds at the calls and the turns of the loops of `stage` (src/scenes.rt).
 use Rattle.lock_state.specs.PlacedItems.{ground_of}
-use Rattle.sector_disk.specs.DiskView.{shown_of}
 use Rattle.shared_tests.proofs.scenes.stage.Given as goal
 
 abbrev pub ghosts-play-R-Ledger : goal.ghosts-play-R-Ledger
@@ -11,9 +10,9 @@ ghosts-play-R-Whose g a = record { table = a.unnamed.table }
 
 abbrev pub ghosts-play-R-Run : goal.ghosts-play-R-Run
 ghosts-play-R-Run g a = record {
-  sectors = (shown_of a.device.lower).size;
+  sectors = (g.D.BlockDev.shown a.device).size;
   sector_bytes = 512;
-  log = ground_of (shown_of a.log.lower);
+  log = ground_of (g.L.BlockDev.shown a.log);
   stops = a.unnamed.stops;
   ends = a.unnamed.ends;
 }

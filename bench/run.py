@@ -82,8 +82,7 @@ def main():
                 wall, _ = clock([program, "run", "script", "log"], text)
                 other, _ = clock([peer, "script", "log"], text) if peer else (None, None)
                 rate = f"{other / wall:.2f}" if other else ""
-                image = (2 * calls + 4) * 512
-                memory = (ours.peak - always - image - 512 * calls - 16 * (3 * calls + 4)) / calls
+                memory = (ours.peak - always) / calls
                 print(f"| {kind} | {seats} | {ours.seconds:.2f} | {ours.beside(theirs).strip()} | {calls / wall:,.0f} | {rate} | {memory:.0f} |", flush=True)
 
 

@@ -17,14 +17,11 @@ mod transcript;
 
 use crate::scene::Scene;
 use crate::tally::Tally;
-use dmlw_files::{Files, HostFiles};
+use dmlw_files::{HostFiles, read_text};
 use std::process::ExitCode;
 use std::sync::Wait;
 use std::thread::Threads;
 use std::{env, io};
-
-// The longest transcript, in bytes.
-const MAX_TRANSCRIPT: u64 = 4_194_304;
 
 fn main(rt: HostRuntime) -> io::Result<ExitCode> {
     let words: Vec<String> = env::args(&rt)?.collect(rt.alloc())?;
@@ -42,12 +39,11 @@ fn main(rt: HostRuntime) -> io::Result<ExitCode> {
     Ok(ExitCode::from(u8::from(!is_again && !all.is_good())))
 }
 
-// The text of the transcript of this name; one that can't be read is empty.
+// The text of the transcript of this name, of at most 4 MiB; one that can't be read is empty.
 fn transcript_of<R: std::rt::Files + AllocGlobal>(rt: &R, name: &str) -> io::Result<String> {
-    let bytes = HostFiles::new(rt, rt.alloc())
-        .read(rt.alloc(), name, MAX_TRANSCRIPT)
-        .unwrap_or(Vec::new(rt.alloc()));
-    Ok(String::from_utf8(bytes).unwrap_or(String::new(rt.alloc())))
+    let mut files = HostFiles::new(rt, rt.alloc());
+    let text = read_text(rt.alloc(), name, &mut files).unwrap_or(Vec::new(rt.alloc()));
+    Ok(String::from_utf8(text).unwrap_or(String::new(rt.alloc())))
 }
 
 // What is to be printed of a transcript: the whole of it as
